@@ -1,0 +1,43 @@
+-- How runs of disk calls join.
+use Rattle.std.proofs.Common.{inl, inr, ⊎_elim, ℕ, ◌≤◌, ◌⊎◌, List, length, Result, Ok, subst, arith}
+use Rattle.loop_disk.specs.declared.fault.DiskFault.{DiskFault}
+use Rattle.loop_disk.specs.Medium.{Medium, written, SameOutside, TornAt, IsSettled, Elapses, LeavesOnly, IsSound}
+use Rattle.loop_disk.specs.Steps.{Stores, TornInTurn}
+
+-- before the first call
+pub started : (size : ℕ) (m : Medium) (P : List ℕ → Type 0) → IsSound size m → ((c : List ℕ) → m.may_leave c → P c) → LeavesOnly m m P
+started size m P sound here = record { later = omega arith; each = λ c left. here c (sound.only_now c left); earlier = λ t c le left. inl left }
+
+-- one call more, during which a crash leaves what has P
+pub goes_on : (old mid new : Medium) (P during : List ℕ → Type 0) → LeavesOnly old mid P → Elapses mid new during → ((c : List ℕ) → during c → P c) → LeavesOnly old new P
+goes_on old mid new P during so_far time here = record {
+  later = omega (arith, so_far.later, time.later);
+  each = λ c left. ⊎_elim (so_far.each c) (here c) (time.nothing_else old.moment c so_far.later left);
+  earlier = λ t c le left.
+      ⊎_elim (so_far.earlier t c le) (λ (now : during c). inr (here c now)) (time.nothing_else t c (omega (arith, le, so_far.later)) left);
+}
+
+-- one run after another
+pub joined : (old mid new : Medium) (P : List ℕ → Type 0) → LeavesOnly old mid P → LeavesOnly mid new P → LeavesOnly old new P
+joined old mid new P first second = record {
+  later = omega (arith, first.later, second.later);
+  each = λ c left. ⊎_elim (first.each c) (λ (p : P c). p) (second.earlier old.moment c first.later left);
+  earlier = λ t c le left. ⊎_elim (first.earlier t c le) (λ (p : P c). inr p) (second.earlier t c (omega (arith, le, first.later)) left);
+}
+
+pub weaker : (old new : Medium) (P Q : List ℕ → Type 0) → LeavesOnly old new P → ((c : List ℕ) → P c → Q c) → LeavesOnly old new Q
+weaker old new P Q run weaken = record {
+  later = run.later;
+  each = λ c left. weaken c (run.each c left);
+  earlier = λ t c le left. ⊎_elim (λ (before : old.left_since t c). inl before) (λ (p : P c). inr (weaken c p)) (run.earlier t c le left);
+}
+
+-- on a disk where a crash leaves the present bytes and nothing else, a torn write tears those
+pub torn_settled : (at n : ℕ) (m : Medium) (c : List ℕ) → IsSettled m → TornAt at n m c → SameOutside at n m.bytes c
+torn_settled at n m c settled torn = subst (λ (d : List ℕ). SameOutside at n d c) (settled torn.0 torn.1) torn.2
+
+-- a store on a disk where a crash leaves the present bytes and nothing else
+pub stored : {T : Type 0} (at : ℕ) (bytes : List ℕ) (old new : Medium) (r : Result T DiskFault) (P : List ℕ → Type 0) → IsSettled old → Stores at bytes old new r
+    → ((c : List ℕ) → SameOutside at (length bytes) old.bytes c → P c) → LeavesOnly old new P
+stored at bytes old new r P settled stores here =
+    weaker old new _ P stores.moments (λ c torn. here c (torn_settled at (length bytes) old c settled torn))

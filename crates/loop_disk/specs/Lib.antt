@@ -1,0 +1,5 @@
+pub mod Medium
+pub mod Calls
+pub mod Steps
+pub mod History
+pub mod Sound

@@ -1,0 +1,79 @@
+-- What stands on a disk, and what a crash may leave of it. An image is all the bytes of a disk.
+use Rattle.std.specs.Prelude.{◌≡◌, ◌⊎◌, ℕ, ◌+◌, ◌<◌, ◌≤◌, List, ◌++◌, length, take, drop, get_or}
+
+pub record Medium : Type 1 where
+  -- what a read gives
+  pub bytes : List ℕ
+  -- the images that a crash now may leave
+  pub may_leave : List ℕ → Type 0
+  -- the time, as a number that doesn't fall
+  pub moment : ℕ
+  -- the images that a crash at some moment from that one on might have left, during a call or between two
+  pub left_since : ℕ → List ℕ → Type 0
+
+-- the n bytes from `at` on
+abbrev pub piece : ℕ → ℕ → List ℕ → List ℕ
+piece at n image = take n (drop at image)
+
+-- the image with these bytes at `at`
+abbrev pub written : ℕ → List ℕ → List ℕ → List ℕ
+written at bytes image = take at image ++ bytes ++ drop (at + length bytes) image
+
+-- the same image but for the n bytes from `at` on, which may be any
+pub record SameOutside (at n : ℕ) (old new : List ℕ) : Type 0 where
+  pub size : length new ≡ length old
+  pub before : (i : ℕ) → i < at → get_or new i 0 ≡ get_or old i 0
+  pub behind : (i : ℕ) → at + n ≤ i → get_or new i 0 ≡ get_or old i 0
+
+-- an image that a crash might have left before, with any bytes in the n places from `at` on
+abbrev pub TornAt : ℕ → ℕ → Medium → List ℕ → Type 0
+TornAt at n old c = (d : List ℕ) × old.may_leave d × SameOutside at n d c
+
+-- a crash leaves this image and no other
+abbrev pub Only : List ℕ → (List ℕ → Type 0) → Type 0
+Only image images = (c : List ℕ) → images c → c ≡ image
+
+-- a crash leaves the present bytes
+abbrev pub IsSettled : Medium → Type 0
+IsSettled m = Only m.bytes m.may_leave
+
+-- the disk holds this image, with nothing written since a sync
+pub record IsFresh (image : List ℕ) (m : Medium) : Type 0 where
+  pub bytes : m.bytes ≡ image
+  pub settled : Only image m.may_leave
+
+-- Time goes on: a crash since t might have left what it might have left before, or what a crash during the call may leave.
+pub record Elapses (old new : Medium) (during : List ℕ → Type 0) : Type 0 where
+  pub later : old.moment ≤ new.moment
+  pub nothing_else : (t : ℕ) (c : List ℕ) → t ≤ old.moment → new.left_since t c → old.left_since t c ⊎ during c
+  pub keeps : (t : ℕ) (c : List ℕ) → t ≤ old.moment → old.left_since t c → new.left_since t c
+
+-- what holds of every honest disk of this size
+pub record IsSound (size : ℕ) (m : Medium) : Type 0 where
+  pub length_is : length m.bytes ≡ size
+  pub images_length : (c : List ℕ) → m.may_leave c → length c ≡ size
+  pub present : m.may_leave m.bytes
+  -- this moment is one of those since an earlier one
+  pub counts_now : (t : ℕ) (c : List ℕ) → t ≤ m.moment → m.may_leave c → m.left_since t c
+  -- since this moment there is no other
+  pub only_now : (c : List ℕ) → m.left_since m.moment c → m.may_leave c
+
+-- Each image of each moment since old has P.
+pub record LeavesOnly (old new : Medium) (P : List ℕ → Type 0) : Type 0 where
+  pub later : old.moment ≤ new.moment
+  pub each : (c : List ℕ) → new.left_since old.moment c → P c
+  -- for a run that began earlier
+  pub earlier : (t : ℕ) (c : List ℕ) → t ≤ old.moment → new.left_since t c → old.left_since t c ⊎ P c
+
+-- a crash may leave each image that it might have left before, with any bytes in the n places from `at` on
+abbrev pub LeavesEachTorn : ℕ → ℕ → Medium → Medium → Type 0
+LeavesEachTorn at n old new = (c : List ℕ) → TornAt at n old c → new.may_leave c
+
+-- the same bytes, and the same images now and since each moment
+pub record IsSame (old new : Medium) : Type 0 where
+  pub bytes : new.bytes ≡ old.bytes
+  pub moment : new.moment ≡ old.moment
+  pub loses_none : (c : List ℕ) → old.may_leave c → new.may_leave c
+  pub adds_none : (c : List ℕ) → new.may_leave c → old.may_leave c
+  pub forgets_none : (t : ℕ) (c : List ℕ) → old.left_since t c → new.left_since t c
+  pub invents_none : (t : ℕ) (c : List ℕ) → new.left_since t c → old.left_since t c

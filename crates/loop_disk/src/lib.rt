@@ -1,0 +1,20 @@
+//! Disks of fixed size whose contracts say what a crash may leave.
+//!
+//! `disk` has the trait: what a call does to the bytes, to the images that a crash now may leave, and to those of every moment since.
+//! What a call does to bytes and images is promised of an honest disk alone, the count of failed calls of every disk.
+//! `steps` has the stores that everything above is made of: a write and then a sync, and two of these in turn.
+//! `memory` is a disk in memory, honest, whose crashes are as bad as the model allows; `fuse` and `once` fail calls on purpose,
+//! over another disk; `file` is a disk over a file, of which no contract says what it holds.
+//! `specs/` has the definitions, `proofs/` the lemmas for callers: `Moments` joins runs of calls, `Images` has parts of images.
+#![tactic(auto)]
+
+mod disk;
+mod entry;
+mod fault;
+mod memory;
+mod steps;
+
+pub use disk::Disk;
+pub use fault::DiskFault;
+pub use memory::MemDisk;
+pub use steps::{store, store_in_turn};

@@ -1,0 +1,144 @@
+// A disk in memory. A crash may leave any bytes in each range that was written since the last sync.
+ghost use Rattle.std.specs.Prelude.{◌≡◌, ◌≤◌, ◌<◌, ◌+◌, ◌++◌, [], ◌∷◌, ◌↔◌, ℕ, List, length, IfOk, OnOk, OnErr, IsOk, IsTrue, replicate, reverse, take, drop, true, false, get_or, slice_set};
+ghost use Rattle.loop_disk.specs.declared.entry.Entry.TheVariants.{Wrote, Synced};
+ghost use Rattle.loop_disk.specs.declared.fault.DiskFault.TheVariants.{Read, Write, Sync};
+ghost use Rattle.loop_disk.specs.Medium.{written, piece, IsFresh, IsSame, LeavesEachTorn};
+ghost use Rattle.loop_disk.specs.Calls.{Counted, Stays, Writes, Syncs};
+ghost use Rattle.loop_disk.specs.History.{is_loose, medium_of};
+ghost use Rattle.loop_disk.specs.Sound.{sound_of};
+
+use crate::entry::Entry;
+use crate::{Disk, DiskFault};
+use std::alloc::{AllocError, Allocator, Global};
+
+/// A disk in memory, honest, whose crashes are as bad as the model allows.
+///
+/// It keeps a record of its writes and syncs for its contracts: 24 bytes for each, and for a write the bytes that it went over.
+/// A write or a sync for which the record can't grow fails as a device's call does, and changes nothing; no other call fails.
+#[derive(Drop)]
+pub struct MemDisk<A: Allocator = Global> {
+    bytes: Vec<u8, A>,
+    // Its writes and syncs, the newest last, and what the writes went over, that of the newest last.
+    entries: Vec<Entry, A>,
+    kept: Vec<u8, A>,
+    failed: u64,
+}
+
+impl<A: Allocator + Copy> MemDisk<A> {
+    /// A disk of so many bytes of zero. Its only error is want of memory, for a size that memory can't hold too.
+    pub fn new(alloc: A, size: u64) -> Result<Self, AllocError>
+        ensures fresh { IfOk result (λ disk. IsFresh (replicate size 0) (⟦<MemDisk<A> as Disk>⟧.medium disk)) }
+        ensures size { IfOk result (λ disk. ⟦<MemDisk<A> as Disk>⟧.extent disk ≡ size) }
+        ensures honest { IfOk result (λ disk. ⟦<MemDisk<A> as Disk>⟧.honest disk) }
+    {
+        Ok(MemDisk::of(alloc, vec![in alloc; 0; size as usize]?))
+    }
+
+    /// A disk that holds an image, all of it on the disk. It takes no memory; the record of later calls is taken from `alloc`.
+    pub fn of(alloc: A, bytes: Vec<u8, A>) -> Self
+        ensures fresh { IsFresh bytes.items (⟦<MemDisk<A> as Disk>⟧.medium result) }
+        ensures size { ⟦<MemDisk<A> as Disk>⟧.extent result ≡ length bytes.items }
+        ensures honest { ⟦<MemDisk<A> as Disk>⟧.honest result }
+    {
+        MemDisk {
+            bytes,
+            entries: Vec::new(alloc),
+            kept: Vec::new(alloc),
+            failed: 0,
+        }
+    }
+}
+
+impl<A: Allocator + Copy> Disk for MemDisk<A> {
+    ghost extent = { λ disk. length disk.bytes.items };
+
+    ghost medium = { λ disk. medium_of (reverse disk.entries.items) disk.kept.items disk.bytes.items };
+
+    ghost honest = { λ disk. Unit {0} };
+
+    ghost faults = { λ disk. disk.failed };
+
+    ghost sound = { λ disk honest. sound_of (reverse disk.entries.items) disk.kept.items disk.bytes.items };
+
+    fn size(&self) -> u64 {
+        self.bytes.len() as u64
+    }
+
+    /// It never fails.
+    fn read(&mut self, at: u64, buf: &mut [u8]) -> Result<(), DiskFault>
+        requires { at + length buf.old ≤ ⟦<MemDisk<A> as Disk>⟧.extent self.old }
+        ensures always { IsOk result }
+        ensures read { ⟦<MemDisk<A> as Disk>⟧.honest self.old → OnOk result (buf.new ≡ piece at (length buf.old) (⟦<MemDisk<A> as Disk>⟧.medium self.old).bytes) }
+        ensures disk { ⟦<MemDisk<A> as Disk>⟧.honest self.old → Stays (⟦<MemDisk<A> as Disk>⟧.medium self.old) (⟦<MemDisk<A> as Disk>⟧.medium self.new) }
+        ensures same { IsSame (⟦<MemDisk<A> as Disk>⟧.medium self.old) (⟦<MemDisk<A> as Disk>⟧.medium self.new) }
+        ensures counted { Counted Read (⟦<MemDisk<A> as Disk>⟧.faults self.old) (⟦<MemDisk<A> as Disk>⟧.faults self.new) result }
+        ensures extent { ⟦<MemDisk<A> as Disk>⟧.extent self.new ≡ ⟦<MemDisk<A> as Disk>⟧.extent self.old }
+        ensures honest { ⟦<MemDisk<A> as Disk>⟧.honest self.old ↔ ⟦<MemDisk<A> as Disk>⟧.honest self.new }
+    {
+        let at = at as usize;
+        let end = at + buf.len();
+        buf.copy_from_slice(&self.bytes[at..end]);
+        Ok(())
+    }
+
+    /// It fails where the record can't grow, and then changes nothing. At Ok a crash may leave any bytes in the range.
+    fn write_at(&mut self, at: u64, bytes: &[u8]) -> Result<(), DiskFault>
+        requires { at + length bytes.now ≤ ⟦<MemDisk<A> as Disk>⟧.extent self.old }
+        ensures disk { ⟦<MemDisk<A> as Disk>⟧.honest self.old → Writes at bytes.now (⟦<MemDisk<A> as Disk>⟧.medium self.old) (⟦<MemDisk<A> as Disk>⟧.medium self.new) result }
+        ensures torn { OnOk result (LeavesEachTorn at (length bytes.now) (⟦<MemDisk<A> as Disk>⟧.medium self.old) (⟦<MemDisk<A> as Disk>⟧.medium self.new)) }
+        ensures failed { OnErr result (IsSame (⟦<MemDisk<A> as Disk>⟧.medium self.old) (⟦<MemDisk<A> as Disk>⟧.medium self.new)) }
+        ensures counted { Counted Write (⟦<MemDisk<A> as Disk>⟧.faults self.old) (⟦<MemDisk<A> as Disk>⟧.faults self.new) result }
+        ensures extent { ⟦<MemDisk<A> as Disk>⟧.extent self.new ≡ ⟦<MemDisk<A> as Disk>⟧.extent self.old }
+        ensures honest { ⟦<MemDisk<A> as Disk>⟧.honest self.old ↔ ⟦<MemDisk<A> as Disk>⟧.honest self.new }
+    {
+        match write_noted(&mut self.entries, &mut self.kept, &mut self.bytes, at, bytes) {
+            Ok(()) => Ok(()),
+            Err(_) => {
+                self.failed = self.failed.saturating_add(1);
+                Err(DiskFault::Write)
+            }
+        }
+    }
+
+    /// It fails where the record can't grow, and then changes nothing.
+    fn sync(&mut self) -> Result<(), DiskFault>
+        ensures disk { ⟦<MemDisk<A> as Disk>⟧.honest self.old → Syncs (⟦<MemDisk<A> as Disk>⟧.medium self.old) (⟦<MemDisk<A> as Disk>⟧.medium self.new) result }
+        ensures failed { OnErr result (IsSame (⟦<MemDisk<A> as Disk>⟧.medium self.old) (⟦<MemDisk<A> as Disk>⟧.medium self.new)) }
+        ensures counted { Counted Sync (⟦<MemDisk<A> as Disk>⟧.faults self.old) (⟦<MemDisk<A> as Disk>⟧.faults self.new) result }
+        ensures extent { ⟦<MemDisk<A> as Disk>⟧.extent self.new ≡ ⟦<MemDisk<A> as Disk>⟧.extent self.old }
+        ensures honest { ⟦<MemDisk<A> as Disk>⟧.honest self.old ↔ ⟦<MemDisk<A> as Disk>⟧.honest self.new }
+    {
+        match self.entries.push(Entry::Synced) {
+            Ok(()) => Ok(()),
+            Err(_) => {
+                self.failed = self.failed.saturating_add(1);
+                Err(DiskFault::Sync)
+            }
+        }
+    }
+}
+
+// Notes a write and what it goes over, and makes it; or makes no change where a note finds no room.
+fn write_noted<A: Allocator>(
+    entries: &mut Vec<Entry, A>,
+    kept: &mut Vec<u8, A>,
+    image: &mut Vec<u8, A>,
+    at: u64,
+    bytes: &[u8],
+) -> Result<(), AllocError>
+    requires { at + length bytes.now ≤ length image.old.items }
+    ensures entry { OnOk result (entries.new.items ≡ entries.old.items ++ Wrote at (length bytes.now) ∷ []) }
+    ensures kept { OnOk result (kept.new.items ≡ kept.old.items ++ piece at (length bytes.now) image.old.items) }
+    ensures image { OnOk result (image.new.items ≡ written at bytes.now image.old.items) }
+    ensures no_entry { OnErr result (entries.new.items ≡ entries.old.items) }
+    ensures none_kept { OnErr result (kept.new.items ≡ kept.old.items) }
+    ensures same_image { OnErr result (image.new.items ≡ image.old.items) }
+{
+    let start = at as usize;
+    let end = start + bytes.len();
+    entries.reserve(1)?;
+    kept.extend_from_slice(&image[start..end])?;
+    entries.push_reserved(Entry::Wrote(at, bytes.len()));
+    image[start..end].copy_from_slice(bytes);
+    Ok(())
+}
