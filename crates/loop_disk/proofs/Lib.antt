@@ -1,3 +1,4 @@
 pub mod Moments
 pub mod Images
 pub mod Entries
+pub mod Tearing

@@ -4,6 +4,22 @@ use Rattle.loop_disk.specs.declared.fault.DiskFault.{DiskFault}
 use Rattle.loop_disk.specs.Medium.{Medium, written, SameOutside, TornAt, IsSettled, Elapses, LeavesOnly, IsSound}
 use Rattle.loop_disk.specs.Steps.{Stores, TornInTurn}
 
+-- a call, or a run of calls, after another
+pub elapses_on : (old mid new : Medium) (P Q : List ℕ → Type 0) → Elapses old mid P → Elapses mid new Q → ((c : List ℕ) → Q c → P c) → Elapses old new P
+elapses_on old mid new P Q first second within = record {
+  later = omega (arith, first.later, second.later);
+  nothing_else = λ t c le left.
+      ⊎_elim (first.nothing_else t c le) (λ (q : Q c). inr (within c q)) (second.nothing_else t c (omega (arith, le, first.later)) left);
+  keeps = λ t c le left. second.keeps t c (omega (arith, le, first.later)) (first.keeps t c le left);
+}
+
+pub elapses_weaker : (old new : Medium) (P Q : List ℕ → Type 0) → Elapses old new P → ((c : List ℕ) → P c → Q c) → Elapses old new Q
+elapses_weaker old new P Q time weaken = record {
+  later = time.later;
+  nothing_else = λ t c le left. ⊎_elim (λ (before : old.left_since t c). inl before) (λ (p : P c). inr (weaken c p)) (time.nothing_else t c le left);
+  keeps = time.keeps;
+}
+
 -- before the first call
 pub started : (size : ℕ) (m : Medium) (P : List ℕ → Type 0) → IsSound size m → ((c : List ℕ) → m.may_leave c → P c) → LeavesOnly m m P
 started size m P sound here = record { later = omega arith; each = λ c left. here c (sound.only_now c left); earlier = λ t c le left. inl left }

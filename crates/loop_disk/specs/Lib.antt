@@ -3,3 +3,4 @@ pub mod Calls
 pub mod Steps
 pub mod History
 pub mod Sound
+pub mod Failing

@@ -11,10 +11,14 @@
 mod disk;
 mod entry;
 mod fault;
+mod fuse;
 mod memory;
+mod once;
 mod steps;
 
 pub use disk::Disk;
 pub use fault::DiskFault;
+pub use fuse::FuseDisk;
 pub use memory::MemDisk;
+pub use once::OnceDisk;
 pub use steps::{store, store_in_turn};

@@ -47,6 +47,22 @@ impl<A: Allocator + Copy> MemDisk<A> {
             failed: 0,
         }
     }
+
+    /// What a read gives now, all of it.
+    pub fn bytes(&self) -> &[u8]
+        ensures { result.now ≡ (⟦<MemDisk<A> as Disk>⟧.medium self.now).bytes }
+    {
+        &self.bytes
+    }
+
+    /// Whether the byte at this place is on the disk: it wasn't written since the last sync that succeeded.
+    /// A crash then leaves the present byte there, and else any byte.
+    pub fn is_settled_at(&self, at: u64) -> bool
+        ensures settled { IsTrue result → (c : List ℕ) → (⟦<MemDisk<A> as Disk>⟧.medium self.now).may_leave c → get_or c at 0 ≡ get_or (⟦<MemDisk<A> as Disk>⟧.medium self.now).bytes at 0 }
+        ensures loose { result ≡ false → (b : ℕ) → (⟦<MemDisk<A> as Disk>⟧.medium self.now).may_leave (slice_set (⟦<MemDisk<A> as Disk>⟧.medium self.now).bytes at b) }
+    {
+        !is_loose_at(&self.entries, at)
+    }
 }
 
 impl<A: Allocator + Copy> Disk for MemDisk<A> {
@@ -116,6 +132,25 @@ impl<A: Allocator + Copy> Disk for MemDisk<A> {
             }
         }
     }
+}
+
+// Whether a place was written since the last sync. The newest entry is the last.
+fn is_loose_at(entries: &[Entry], at: u64) -> bool
+    ensures { result ≡ is_loose (reverse entries.now) at }
+{
+    let mut rest = entries;
+    while let Some((newest, earlier)) = rest.split_last() {
+        match newest {
+            Entry::Synced => return false,
+            Entry::Wrote(start, count) => {
+                if *start <= at && at - *start < *count as u64 {
+                    return true;
+                }
+            }
+        }
+        rest = earlier;
+    }
+    false
 }
 
 // Notes a write and what it goes over, and makes it; or makes no change where a note finds no room.

@@ -1,0 +1,33 @@
+-- Disks that fail calls on purpose, over another disk.
+use Rattle.std.specs.Prelude.{◌≡◌, ℕ, ◌-◌, ◌^◌, ◌<◌, Bool, true, false, ◌==◌, if◌then◌else◌, List, length, take, Option, Some, None, Result, IsErr, OnOk}
+use Rattle.loop_disk.specs.declared.fault.DiskFault.{DiskFault}
+use Rattle.loop_disk.specs.Medium.{Medium, written, SameOutside, TornAt, Elapses}
+use Rattle.loop_disk.specs.Calls.{Counted}
+
+-- A call that is due to fail fails and doesn't reach the inner disk. Any other is the inner disk's own, and fails where that one does.
+pub record FailsOrPasses {T D : Type 0} (faults : D → ℕ) (fault : DiskFault) (due : Bool) (old new : D) (result : Result T DiskFault) : Type 0 where
+  pub fails : due ≡ true → IsErr result
+  pub untouched : due ≡ true → new ≡ old
+  pub passes : due ≡ false → Counted fault (faults old) (faults new) result
+
+-- whether the call that is to fail is the next one, where so many calls come before it
+abbrev pub is_due : Option ℕ → Bool
+is_due None = false
+is_due (Some calls) = calls == 0
+
+-- how many calls come before it after one more, if it is still to come
+abbrev pub left_after : Option ℕ → Option ℕ
+left_after None = None
+left_after (Some calls) = if calls == 0 then None else Some (calls - 1)
+
+-- After a write in so many places from `at` on, done in part, the disk holds these bytes, or a call failed. All of the places count as written.
+pub record Tears {T : Type 0} (at n : ℕ) (bytes : List ℕ) (old new : Medium) (result : Result T DiskFault) : Type 0 where
+  pub done : OnOk result (new.bytes ≡ bytes)
+  pub elsewhere : SameOutside at n old.bytes new.bytes
+  pub images : (c : List ℕ) → new.may_leave c → TornAt at n old c
+  pub time : Elapses old new (TornAt at n old)
+
+-- A torn write: it fails, and unless the inner disk failed too, the first bytes are there and those behind them are as they were.
+pub record IsTorn {T D : Type 0} (faults : D → ℕ) (medium : D → Medium) (at : ℕ) (bytes : List ℕ) (keep : ℕ) (old new : D) (result : Result T DiskFault) : Type 0 where
+  pub fails : IsErr result
+  pub kept : faults old < 2 ^ 64 - 1 → faults new ≡ faults old → (medium new).bytes ≡ written at (take keep bytes) (medium old).bytes
