@@ -11,6 +11,7 @@
 mod disk;
 mod entry;
 mod fault;
+mod file;
 mod fuse;
 mod memory;
 mod once;
@@ -18,6 +19,7 @@ mod steps;
 
 pub use disk::Disk;
 pub use fault::DiskFault;
+pub use file::{FileDisk, FileFault};
 pub use fuse::FuseDisk;
 pub use memory::MemDisk;
 pub use once::OnceDisk;

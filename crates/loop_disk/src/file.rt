@@ -1,0 +1,173 @@
+// A disk over a file. No contract says what the file holds: its disk is never called honest.
+ghost use Rattle.std.specs.Prelude.{◌≡◌, IfOk};
+ghost use Rattle.loop_disk.specs.Calls.{Counted};
+ghost use Rattle.loop_disk.specs.History.{unknown};
+
+use crate::{Disk, DiskFault};
+use std::fs::{File, OpenFile, OpenOptions, TryLockError};
+use std::io;
+use std::io::ErrorKind;
+use std::os::unix::fs::FileExt;
+use std::path::Path;
+use std::rt::Files;
+use thiserror::Error;
+
+/// Why a file can't be had as a disk.
+#[derive(Clone, Copy, Debug, PartialEq, Eq, Error)]
+pub enum FileFault {
+    /// Another program, or another part of this one, holds the file's lock.
+    #[error("the file is in use")]
+    Busy,
+    /// The path names a folder.
+    #[error("this is a folder")]
+    Folder,
+    /// There is no such file, or no such folder for it.
+    #[error("there is no such file")]
+    Missing,
+    /// The file's or the folder's rights don't allow it.
+    #[error("the rights for the file are missing")]
+    Denied,
+    /// The path names a device or a pipe.
+    #[error("this is not a regular file")]
+    NotRegular,
+    /// The system refused for another cause: no room for a file of that size, for one.
+    #[error("the file can't be opened")]
+    Failed,
+}
+
+impl From<io::Error> for FileFault {
+    fn from(error: io::Error) -> FileFault {
+        match error.kind() {
+            ErrorKind::NotFound => FileFault::Missing,
+            ErrorKind::PermissionDenied | ErrorKind::ReadOnlyFilesystem => FileFault::Denied,
+            ErrorKind::IsADirectory => FileFault::Folder,
+            _ => FileFault::Failed,
+        }
+    }
+}
+
+/// A disk over a file: as many bytes as the file had when it was opened.
+///
+/// Reads and writes are positioned and go on after a short count or an interruption; a sync is the file's `sync_data`.
+/// The file's lock (advisory, as `flock` gives it) is held until the disk is dropped.
+#[derive(Drop)]
+pub struct FileDisk<F = File> {
+    file: F,
+    size: u64,
+    failed: u64,
+}
+
+impl FileDisk {
+    /// Makes the file anew, with so many bytes of zero, or makes an old one so. Its name is on the disk when this answers Ok.
+    /// A file that another program holds keeps its bytes, and so does one that can't have that size.
+    pub fn create<R: Files<File = File>>(rt: &R, path: &str, size: u64) -> Result<Self, FileFault>
+        ensures { IfOk result (λ disk. ⟦<FileDisk<File> as Disk>⟧.extent disk ≡ size) }
+    {
+        let file = OpenOptions::new()
+            .read(true)
+            .write(true)
+            .create(true)
+            .open(rt, path)?;
+        take(&file)?;
+        file.set_len(size)?;
+        file.set_len(0)?;
+        file.set_len(size)?;
+        file.sync_all()?;
+        sync_folder(rt, path)?;
+        Ok(FileDisk {
+            file,
+            size,
+            failed: 0,
+        })
+    }
+
+    /// Opens a file that is there, for reading and writing. Its length is the disk's size.
+    pub fn open<R: Files<File = File>>(rt: &R, path: &str) -> Result<Self, FileFault> {
+        let file = OpenOptions::new().read(true).write(true).open(rt, path)?;
+        take(&file)?;
+        Ok(FileDisk::over(file)?)
+    }
+}
+
+// Takes the lock of a regular file, and never waits for it.
+fn take(file: &File) -> Result<(), FileFault> {
+    let data = file.metadata()?;
+    if data.is_dir() {
+        return Err(FileFault::Folder);
+    }
+    if !data.is_file() {
+        return Err(FileFault::NotRegular);
+    }
+    match file.try_lock() {
+        Ok(()) => Ok(()),
+        Err(TryLockError::WouldBlock) => Err(FileFault::Busy),
+        Err(TryLockError::Error(error)) => Err(FileFault::from(error)),
+    }
+}
+
+// Puts a file's name on the disk.
+fn sync_folder<R: Files<File = File>>(rt: &R, path: &str) -> io::Result<()> {
+    let path = Path::new(path);
+    let folder = match path.parent() {
+        Some(folder) if !folder.as_os_str().is_empty() => folder,
+        _ => Path::new("."),
+    };
+    File::open(rt, folder)?.sync_all()
+}
+
+impl<F: OpenFile + FileExt + Drop> FileDisk<F> {
+    /// A disk over an open file, which nobody else may use. It takes no lock.
+    pub fn over(file: F) -> io::Result<Self> {
+        let size = file.metadata()?.len();
+        Ok(FileDisk {
+            file,
+            size,
+            failed: 0,
+        })
+    }
+
+    // Counts a call that failed.
+    fn count(&mut self, outcome: io::Result<()>, fault: DiskFault) -> Result<(), DiskFault>
+        ensures counted { Counted fault self.old.failed self.new.failed result }
+        ensures size { self.new.size ≡ self.old.size }
+    {
+        match outcome {
+            Ok(()) => Ok(()),
+            Err(_) => {
+                self.failed = self.failed.saturating_add(1);
+                Err(fault)
+            }
+        }
+    }
+}
+
+impl<F: OpenFile + FileExt + Drop> Disk for FileDisk<F> {
+    ghost extent = { λ disk. disk.size };
+
+    ghost medium = { λ disk. unknown };
+
+    ghost honest = { λ disk. ⊥ };
+
+    ghost faults = { λ disk. disk.failed };
+
+    ghost sound = { λ disk honest. absurd honest };
+
+    fn size(&self) -> u64 {
+        self.size
+    }
+
+    fn read(&mut self, at: u64, buf: &mut [u8]) -> Result<(), DiskFault> {
+        let outcome = self.file.read_exact_at(buf, at);
+        self.count(outcome, DiskFault::Read)
+    }
+
+    fn write_at(&mut self, at: u64, bytes: &[u8]) -> Result<(), DiskFault> {
+        let outcome = self.file.write_all_at(bytes, at);
+        self.count(outcome, DiskFault::Write)
+    }
+
+    fn sync(&mut self) -> Result<(), DiskFault> {
+        let outcome = self.file.sync_data();
+        self.count(outcome, DiskFault::Sync)
+    }
+}
