@@ -24,3 +24,6 @@ pub use fuse::FuseDisk;
 pub use memory::MemDisk;
 pub use once::OnceDisk;
 pub use steps::{store, store_in_turn};
+
+#[cfg(test)]
+mod tests;
