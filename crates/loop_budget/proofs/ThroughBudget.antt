@@ -3,11 +3,11 @@ use Rattle.std.proofs.Common.{◌≡◌, ℕ, List, [], ◌∷◌, Bool, refl, a
 use seplogic.Ra.Ura.{Ura}
 use mir.Syntax.{Args, a_type, dnil, dcons}
 use mir.Val.{Val, vptr, vbool}
-use base.Logic.{ent, emp, id⊢}
+use base.Logic.{emp, id⊢}
 use base.Fml.{Lft, Share, Fml, ftrue, fsep, feq, flft}
 use prog.Model.{Model}
 use types.Logic.{Logic}
-use types.Kit.{Goal, Seq, Step, step, Soaks, Item, ‵, raw, ◌⊛◌, some, later, ◌$◌, move, keep, use0, use1, drop, split, join, fjoin, feq_i, feq_l, fsplit, pick, await, rewrite}
+use types.Kit.{Goal, Seq, Step, step, Soaks, Item, ‵, raw, ◌⊛◌, some, later, ◌$◌, move, use0, use1, drop, split, join, fjoin, feq_i, feq_l, fsplit, pick, await, rewrite}
 use contract.BorrowLft.{◌⊑◌}
 use contract.Monad.{fact, fact_i}
 use contract.Running.{Running}

@@ -1,12 +1,11 @@
 -- The walk of `allocate`: where a block is granted it is what the allocator below answers, and else nothing is taken from it.
-use Rattle.std.proofs.Common.{◌≡◌, ℕ, List, [], ◌∷◌, Bool, true, false, refl, sym, subst, lit<, w64}
+use Rattle.std.proofs.Common.{◌≡◌, ℕ, [], ◌∷◌, Bool, true, false, refl, sym, subst, w64}
 use lib.Dec.{T}
 use mir.Syntax.{Fn}
 use mir.MapTy.{inst_fn}
-use mir.Val.{Val, vint, vptr, has_ty, WT}
+use mir.Val.{Val, vint, has_ty, WT}
 use base.Logic.{ent, emp}
-use base.Fml.{Fml, ftrue, flft}
-use prog.Wp.{WpFn}
+use base.Fml.{Fml, flft}
 use types.Logic.{sem}
 use types.Kit.{Sq, ‵, raw, ◌⊛◌, later, prop, at_ret, ◌$◌, ◌∵◌, !, qed, move, drop, use0, use1, split, split3, join, fsplit, fjoin, suffices, await, group, done}
 use types.Part.{agg}
