@@ -25,7 +25,6 @@ use denote.Signature.{plain, types_at}
 use denote.Steps.{nothing, heard, peeks, owned}
 use denote.Triple.Call.{calls_at, calls_at_last}
 use denote.Triple.Clauses.{Ended}
-use denote.Triple.Entry.{Vals}
 use denote.Triple.Table.{framed}
 use denote.Triple.Walked.{Stays, stay_dropped, walk_of, ends_at, Goes-dropped}
 use Rattle.std.specs.Prelude.{Err}
@@ -60,52 +59,55 @@ module _ (Z : Al) where
 pub allocate_spec : {M : Type 1} → statement M
 allocate_spec 𝓤 𝓛 𝓜 𝓡 wired A L g d dd met _ =
     let Z : Al = record { row = A; laws = L; g = g; d = d; drops = dd } in
-    let c = F.clauses A g d dd 𝓛 𝓜.mem 𝓡.returns in let W = walk_of 𝓛 (ended Z) (stayed Z) c in let 𝓣 = tables 𝓤 𝓛.H 𝓜 𝓡 𝓡.env in
-    proved 𝓛 (ended Z) (stayed Z) c 𝓜 𝓡
-    (Goes-dropped 𝓛 2 (self Z) yes (λ κs x f. refl), (Goes-dropped 𝓛 2 (plain (λ _. usize)) yes (λ κs x f. refl), (Goes-dropped 𝓛 2 (plain (λ _. usize)) yes (λ κs x f. refl), tt)))
+    let c = F.clauses A g d dd 𝓛 𝓜.mem 𝓡.returns in let W = walk_of 𝓛 (ended Z) (stayed Z) c in
+    let 𝓣 = tables 𝓤 𝓛.H 𝓜 𝓡 𝓡.env in let framed_calls = framed 𝓤 𝓛.H 𝓜 𝓣 in
+    let word_goes = Goes-dropped 𝓛 2 (plain (λ _. usize)) yes (λ κs x f. refl) in
+    proved 𝓛 (ended Z) (stayed Z) c 𝓜 𝓡 (Goes-dropped 𝓛 2 (self Z) yes (λ κs x f. refl), (word_goes, (word_goes, tt)))
     (key.name (args Z)) (here Z) (code.unfolded 𝓤 𝓛.H 𝓜 𝓡 wired (A, tt) d dd)
-    (λ κs. (shr_vals, (uint_vals w64, (uint_vals w64, tt)))) (λ κs. ((λ r vs is. is.0), (uint_Tells w64, (uint_Tells w64, tt))))
-    (λ κs qs bounds a τ are.
+    (λ κs. (shr_vals, (uint_vals w64, (uint_vals w64, tt)))) (λ κs. ((λ r vs is. is.0), (uint_Tells w64, (uint_Tells w64, tt)))) (λ κs qs bounds a τ are.
+    -- `&self`, the size n and the alignment m, and what is at stake: y of this call, `asked` of the call below
     let r = a.0 in let n = a.1.0 in let m = a.1.1.0 in let n_fits = are.1.0.1 in let m_fits = are.1.1.0.1 in
     let h : Handed Z = record { κ = κs.0; ρ = κs.1.0; q = qs.0; s = qs.1.0; within = bounds.0; r = r } in
-    let words : Vals (ended Z).signature κs = (shr_vals r, (vint w64 n ∷ [], (vint w64 m ∷ [], tt))) in
-    let y : W.Ghost = ((κs, qs, bounds, a, words), τ) in
+    let y : W.Ghost = ((κs, qs, bounds, a, (shr_vals r, (vint w64 n ∷ [], (vint w64 m ∷ [], tt)))), τ) in
+    let asked : ℕ × ℕ → (Takes Z 𝓛 𝓜.mem 𝓡.returns).Ghost = λ p.
+    ((κs, qs, bounds, (record { ref_ptr = p; now = r.now }, (n, (m, tt))), (vptr p.0 p.1 ∷ [], (vint w64 n ∷ [], (vint w64 m ∷ [], tt)))), τ) in
+    -- what an answer z hands over, and the function's end from it, where the machine has v for z
     let block : Answer.Denot → Fml = λ z. block_if_ok (g.dealloc_token r.now) τ z in
-    let asked : ℕ × ℕ → (Takes Z 𝓛 𝓜.mem 𝓡.returns).Ghost = λ p. ((κs, qs, bounds, (record { ref_ptr = p; now = r.now }, (n, (m, tt))), (vptr p.0 p.1 ∷ [], (vint w64 n ∷ [], (vint w64 m ∷ [], tt)))), τ) in
-    -- the function's end: from an answer z, for which the machine has v, and what z hands over
     let ends : (z : Answer.Denot) (v : Val) → Sq 𝓛 (‵ (Answer.own_val z (v ∷ [])) ∷ Tokens Z h 𝓛 ∷ ‵ (block z) ∷ []) (prop (W.post y v)) = λ z v.
     suffices ! _ (ends_at 𝓛 (ended Z) (stayed Z) c y v z (tt, (tt, (tt, tt))) (tt, (tt, (tt, tt)))) $
     nothing ! $ nothing ! $ join ! $ nothing ! $ join ! $ nothing ! $ join ! $ move ! (2 ∷ 0 ∷ 1 ∷ []) $ group ! 3 $ done ! in
-    qed 𝓛 ((Tokens Z h 𝓛 ⊛ ‵ (owns (types_at (ended Z).signature.params κs) a words)) ∷ (raw (fact 𝓤 (h.ρ ⊑ A.lives)) ⊛ raw (fact 𝓤 (HasLayout τ n m))) ∷ []) ∵
-    -- the `requires`: the layout. Of the parameters only `&self` owns something, and it is had twice, once for each call
-    move ! (1 ∷ []) $ split ! $ heard ! (h.ρ ⊑ A.lives) (λ lives. heard ! (HasLayout τ n m) (λ layout_is.
+    qed 𝓛 ((Tokens Z h 𝓛 ⊛ ‵ (owns (types_at (ended Z).signature.params κs) a y.0.4)) ∷ (raw (fact 𝓤 (h.ρ ⊑ A.lives)) ⊛ raw (fact 𝓤 (HasLayout τ n m))) ∷ []) ∵
+    -- the `requires`: n and m are the layout of τ. Of the parameters only `&self` owns something, and it is had twice, once for each call
+    move ! (1 ∷ []) $ split ! $ heard ! (h.ρ ⊑ A.lives) (λ lives. heard ! (HasLayout τ n m) (λ layout.
     split ! $ move ! (1 ∷ []) $ fsplit ! $ move ! (1 ∷ []) $ drop ! $ fsplit ! $ drop ! $
     shr_dup ! (budget Z) (the_row_laws (param 0 A) (param_laws 0 A L)).shr_laws r.now r.ref_ptr.0 r.ref_ptr.1 h.κ $ move ! (0 ∷ 2 ∷ []) $
-    -- [`&self`; the tokens; `&self`]
+    -- [`&self`; the tokens; `&self`]: `takes_block` is called
     enter ! _ _ _ _ _ $ alloc_all ! (λ l. pass_all ! refl ((tt, tt), ((tt, record { fits = n_fits }), ((tt, record { fits = m_fits }), tt))) $
+    let E = env (here Z).locals l in let rest = after 2 (here Z).body in
     hands_self Z h 𝓛 𝓜 𝓡 ! lives $
-    calls_at ! (framed 𝓤 𝓛.H 𝓜 𝓣) (TakesBlock Z h 𝓛 𝓜 𝓡) (takes_block-met 𝓤 𝓛 𝓜 𝓡 (code.calls-loop_budget::Budget::takes_block 𝓡.env wired) A L) (at_self Z h 𝓛 𝓜 𝓡)
-    (and_then ! (get ! refl) (no_more !)) (λ v. answers_bool Z h 𝓛 𝓜 𝓡 ! tt v (λ granted is. lands_as ! is refl (tt, tt) $
-    first ! $ branches ! (get ! refl)
-    -- a block is left: [the tokens; `&self`]
+    calls_at ! framed_calls (TakesBlock Z h 𝓛 𝓜 𝓡) (takes_block-met 𝓤 𝓛 𝓜 𝓡 (code.calls-loop_budget::Budget::takes_block 𝓡.env wired) A L) (at_self Z h 𝓛 𝓜 𝓡)
+    (and_then ! (get ! refl) (no_more !)) (λ v. answers_bool Z h 𝓛 𝓜 𝓡 ! tt v (λ granted is. lands_as ! is refl (tt, tt) $ first ! $ branches ! (get ! refl)
+    -- a block is left, [the tokens; `&self`]: `inner` is called
     (λ _. move ! (1 ∷ 0 ∷ []) $ hands_self Z h 𝓛 𝓜 𝓡 ! lives $
-    calls_at ! (framed 𝓤 𝓛.H 𝓜 𝓣) (Inner Z h 𝓛 𝓜 𝓡) (inner-met 𝓤 𝓛 𝓜 𝓡 (code.calls-loop_budget::Budget::inner 𝓡.env wired) A L) (at_self Z h 𝓛 𝓜 𝓡)
+    calls_at ! framed_calls (Inner Z h 𝓛 𝓜 𝓡) (inner-met 𝓤 𝓛 𝓜 𝓡 (code.calls-loop_budget::Budget::inner 𝓡.env wired) A L) (at_self Z h 𝓛 𝓜 𝓡)
     (and_then ! (get ! refl) (no_more !)) (λ w. lends_inner Z h 𝓛 𝓜 𝓡 ! tt w (λ p at. lands_as ! at refl (tt, tt) $
-    -- [the `&` to the allocator below; the tokens]: with the size and the alignment they are what `allocate` asks for
-    use0 𝓛 (raw (fact 𝓤 (HasLayout τ n m))) (fact_i 𝓤 (HasLayout τ n m) (emp 𝓤) layout_is) $ use0 𝓛 (raw (fact 𝓤 (h.ρ ⊑ A.lives))) (fact_i 𝓤 (h.ρ ⊑ A.lives) (emp 𝓤) lives) $ join ! $
+    -- [the `&` to the allocator below; the tokens]: with n, m and the layout they are what its `allocate` asks for
+    use0 𝓛 (raw (fact 𝓤 (HasLayout τ n m))) (fact_i 𝓤 (HasLayout τ n m) (emp 𝓤) layout) $
+    use0 𝓛 (raw (fact 𝓤 (h.ρ ⊑ A.lives))) (fact_i 𝓤 (h.ρ ⊑ A.lives) (emp 𝓤) lives) $ join ! $
     nothing ! $ owned ! usize _ (uint_Makes 𝓛 w64) m _ (refl, m_fits) $ join ! $ owned ! usize _ (uint_Makes 𝓛 w64) n _ (refl, n_fits) $ join ! $
     move ! (2 ∷ []) $ feq_i ! (List Val) (vptr p.0 p.1 ∷ []) (vptr p.0 p.1 ∷ []) refl $ join ! $ join ! $ move ! (2 ∷ 0 ∷ []) $ join ! $ join ! $
     use1 𝓛 (raw ((Takes Z 𝓛 𝓜.mem 𝓡.returns).pre (asked p))) (id⊢ 𝓤 _) $
-    calls_at_last ! (framed 𝓤 𝓛.H 𝓜 𝓣) (Takes Z 𝓛 𝓜.mem 𝓡.returns) (met.allocate dd) (asked p)
-    (and_then ! (get ! refl) (and_then ! (get ! refl) (and_then ! (get ! refl) (no_more !)))) (λ u.
-    -- what it answers, a block or none, is handed on
-    use1 𝓛 (later (some (λ (z : Answer.Denot). (Tokens Z h 𝓛 ⊛ ‵ (Answer.own_val z (u ∷ []))) ⊛ some (λ (_ : Unit {0} × (Unit {0} × (Unit {0} × Unit {0}))). ‵ (fsep ftrue (fsep ftrue (fsep ftrue ftrue))) ⊛ ‵ (block z))))) (id⊢ 𝓤 _) $
+    calls_at_last ! framed_calls (Takes Z 𝓛 𝓜.mem 𝓡.returns) (met.allocate dd) (asked p) (and_then ! (get ! refl) (and_then ! (get ! refl) (and_then ! (get ! refl) (no_more !)))) (λ u.
+    -- its answer z, a block or a refusal, is handed on
+    use1 𝓛 (later (some (λ (z : Answer.Denot). (Tokens Z h 𝓛 ⊛ ‵ (Answer.own_val z (u ∷ [])))
+    ⊛ some (λ (_ : Unit {0} × (Unit {0} × (Unit {0} × Unit {0}))). ‵ (fsep ftrue (fsep ftrue (fsep ftrue ftrue))) ⊛ ‵ (block z))))) (id⊢ 𝓤 _) $
     await ! tt $ pick ! (λ z. split ! $ split ! $ move ! (2 ∷ []) $ pick ! (λ _. split ! $ drop ! $
-    move ! (2 ∷ 1 ∷ 0 ∷ []) $ peeks ! Answer _ (shows 𝓛 Answer) z (u ∷ []) (λ z_is. let u_ok = (((result-laws RawPtr AE.the_row ptr_laws error-laws).lawful 𝓛).typed z (u ∷ []) z_is).0 in
-    lands_last ! refl u_ok $ exec ! 𝓣.C 𝓣.Λ (env (here Z).locals l) (after 2 (here Z).body) (at_ret (env (here Z).locals l) (W.post y)) $
+    move ! (2 ∷ 1 ∷ 0 ∷ []) $ peeks ! Answer _ (shows 𝓛 Answer) z (u ∷ []) (λ z_is.
+    let u_ok = (((result-laws RawPtr AE.the_row ptr_laws error-laws).lawful 𝓛).typed z (u ∷ []) z_is).0 in
+    lands_last ! refl u_ok $ exec ! 𝓣.C 𝓣.Λ E rest (at_ret E (W.post y)) $
     sets ! (of_opd ! (get ! refl)) refl u_ok $ returns ! (look_at ! 0 refl) $ free_all ! refl $ ends z u)))))))
-    -- no block is left: [the tokens; `&self`]
+    -- no block is left, [the tokens; `&self`]: the refusal is made of nothing
     (λ _. sets ! (agg ! (no_more !)) refl (tt, tt) $ sets_last ! (agg ! (and_then ! (lit ! tt) (and_then ! (get ! refl) (no_more !)))) refl (Answer-typed false 0 0) $
-    exec ! 𝓣.C 𝓣.Λ (env (here Z).locals l) (after 2 (here Z).body) (at_ret (env (here Z).locals l) (W.post y)) $
+    exec ! 𝓣.C 𝓣.Λ E rest (at_ret E (W.post y)) $
     sets ! (of_opd ! (get ! refl)) refl (Answer-typed false 0 0) $ returns ! (look_at ! 0 refl) $ free_all ! refl $ move ! (1 ∷ []) $ drop ! $
     nothing ! $ move ! (1 ∷ []) $ use0 𝓛 (‵ (Answer.own_val (Err alloc_error) (answer_val false 0 0 ∷ []))) (Answer-err 𝓛) $ ends (Err alloc_error) (answer_val false 0 0))))))))
