@@ -97,6 +97,7 @@ unsafe impl<A: Allocator> Allocator for Budget<A> {
         }
     }
 
+    /// Gives the block back to the allocator below, and nothing to the budget.
     unsafe fn deallocate(&self, ptr: *mut u8, size: usize, align: usize) {
         unsafe { self.inner().deallocate(ptr, size, align) }
     }
@@ -120,12 +121,17 @@ mod tests {
                 let block = Box::new(&memory, granted)?;
                 assert_eq!(rt; *block, granted);
             }
-            // Each box is gone again by now, and the budget is spent all the same.
+            // Each box has gone back by now, and the budget is spent all the same.
             for _ in 0..2 {
                 assert_eq!(rt; memory.left(), 0, "of {allowed}");
                 assert!(rt; Box::new(&memory, 9u64).is_err(), "after {allowed}");
             }
         }
+        let mut last = 1;
+        assert_eq!(rt;
+            (take_one(&mut last), take_one(&mut last), last),
+            (true, false, 0)
+        );
         Ok(())
     }
 
