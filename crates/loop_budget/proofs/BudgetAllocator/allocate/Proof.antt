@@ -73,7 +73,8 @@ allocate_spec 𝓤 𝓛 𝓜 𝓡 wired A L g d dd met _ =
     ((κs, qs, bounds, (record { ref_ptr = p; now = r.now }, (n, (m, tt))), (vptr p.0 p.1 ∷ [], (vint w64 n ∷ [], (vint w64 m ∷ [], tt)))), τ) in
     -- what an answer z hands over, and the function's end from it, where the machine has v for z
     let block : Answer.Denot → Fml = λ z. block_if_ok (g.dealloc_token r.now) τ z in
-    let ends : (z : Answer.Denot) (v : Val) → Sq 𝓛 (‵ (Answer.own_val z (v ∷ [])) ∷ Tokens Z h 𝓛 ∷ ‵ (block z) ∷ []) (prop (W.post y v)) = λ z v.
+    let ends : (z : Answer.Denot) (v : Val) → Sq 𝓛 (‵ (Answer.own_val z (v ∷ [])) ∷ Tokens Z h 𝓛 ∷ ‵ (block z) ∷ []) (prop (W.post y v)) =
+    λ z v.
     suffices ! _ (ends_at 𝓛 (ended Z) (stayed Z) c y v z (tt, (tt, (tt, tt))) (tt, (tt, (tt, tt)))) $
     nothing ! $ nothing ! $ join ! $ nothing ! $ join ! $ nothing ! $ join ! $ move ! (2 ∷ 0 ∷ 1 ∷ []) $ group ! 3 $ done ! in
     qed 𝓛 ((Tokens Z h 𝓛 ⊛ ‵ (owns (types_at (ended Z).signature.params κs) a y.0.4)) ∷ (raw (fact 𝓤 (h.ρ ⊑ A.lives)) ⊛ raw (fact 𝓤 (HasLayout τ n m))) ∷ []) ∵
@@ -86,7 +87,8 @@ allocate_spec 𝓤 𝓛 𝓜 𝓡 wired A L g d dd met _ =
     let E = env (here Z).locals l in let rest = after 2 (here Z).body in
     hands_self Z h 𝓛 𝓜 𝓡 ! lives $
     calls_at ! framed_calls (TakesBlock Z h 𝓛 𝓜 𝓡) (takes_block-met 𝓤 𝓛 𝓜 𝓡 (code.calls-loop_budget::Budget::takes_block 𝓡.env wired) A L) (at_self Z h 𝓛 𝓜 𝓡)
-    (and_then ! (get ! refl) (no_more !)) (λ v. answers_bool Z h 𝓛 𝓜 𝓡 ! tt v (λ granted is. lands_as ! is refl (tt, tt) $ first ! $ branches ! (get ! refl)
+    (and_then ! (get ! refl) (no_more !)) (λ v. answers_bool Z h 𝓛 𝓜 𝓡 ! tt v (λ granted is. lands_as ! is refl (tt, tt) $
+    first ! $ branches ! (get ! refl)
     -- a block is left, [the tokens; `&self`]: `inner` is called
     (λ _. move ! (1 ∷ 0 ∷ []) $ hands_self Z h 𝓛 𝓜 𝓡 ! lives $
     calls_at ! framed_calls (Inner Z h 𝓛 𝓜 𝓡) (inner-met 𝓤 𝓛 𝓜 𝓡 (code.calls-loop_budget::Budget::inner 𝓡.env wired) A L) (at_self Z h 𝓛 𝓜 𝓡)
@@ -97,7 +99,8 @@ allocate_spec 𝓤 𝓛 𝓜 𝓡 wired A L g d dd met _ =
     nothing ! $ owned ! usize _ (uint_Makes 𝓛 w64) m _ (refl, m_fits) $ join ! $ owned ! usize _ (uint_Makes 𝓛 w64) n _ (refl, n_fits) $ join ! $
     move ! (2 ∷ []) $ feq_i ! (List Val) (vptr p.0 p.1 ∷ []) (vptr p.0 p.1 ∷ []) refl $ join ! $ join ! $ move ! (2 ∷ 0 ∷ []) $ join ! $ join ! $
     use1 𝓛 (raw ((Takes Z 𝓛 𝓜.mem 𝓡.returns).pre (asked p))) (id⊢ 𝓤 _) $
-    calls_at_last ! framed_calls (Takes Z 𝓛 𝓜.mem 𝓡.returns) (met.allocate dd) (asked p) (and_then ! (get ! refl) (and_then ! (get ! refl) (and_then ! (get ! refl) (no_more !)))) (λ u.
+    calls_at_last ! framed_calls (Takes Z 𝓛 𝓜.mem 𝓡.returns) (met.allocate dd) (asked p)
+    (and_then ! (get ! refl) (and_then ! (get ! refl) (and_then ! (get ! refl) (no_more !)))) (λ u.
     -- its answer z, a block or a refusal, is handed on
     use1 𝓛 (later (some (λ (z : Answer.Denot). (Tokens Z h 𝓛 ⊛ ‵ (Answer.own_val z (u ∷ [])))
     ⊛ some (λ (_ : Unit {0} × (Unit {0} × (Unit {0} × Unit {0}))). ‵ (fsep ftrue (fsep ftrue (fsep ftrue ftrue))) ⊛ ‵ (block z))))) (id⊢ 𝓤 _) $
@@ -107,7 +110,9 @@ allocate_spec 𝓤 𝓛 𝓜 𝓡 wired A L g d dd met _ =
     lands_last ! refl u_ok $ exec ! 𝓣.C 𝓣.Λ E rest (at_ret E (W.post y)) $
     sets ! (of_opd ! (get ! refl)) refl u_ok $ returns ! (look_at ! 0 refl) $ free_all ! refl $ ends z u)))))))
     -- no block is left, [the tokens; `&self`]: the refusal is made of nothing
-    (λ _. sets ! (agg ! (no_more !)) refl (tt, tt) $ sets_last ! (agg ! (and_then ! (lit ! tt) (and_then ! (get ! refl) (no_more !)))) refl (Answer-typed false 0 0) $
+    (λ _. sets ! (agg ! (no_more !)) refl (tt, tt) $
+    sets_last ! (agg ! (and_then ! (lit ! tt) (and_then ! (get ! refl) (no_more !)))) refl (Answer-typed false 0 0) $
     exec ! 𝓣.C 𝓣.Λ E rest (at_ret E (W.post y)) $
     sets ! (of_opd ! (get ! refl)) refl (Answer-typed false 0 0) $ returns ! (look_at ! 0 refl) $ free_all ! refl $ move ! (1 ∷ []) $ drop ! $
-    nothing ! $ move ! (1 ∷ []) $ use0 𝓛 (‵ (Answer.own_val (Err alloc_error) (answer_val false 0 0 ∷ []))) (Answer-err 𝓛) $ ends (Err alloc_error) (answer_val false 0 0))))))))
+    nothing ! $ move ! (1 ∷ []) $ use0 𝓛 (‵ (Answer.own_val (Err alloc_error) (answer_val false 0 0 ∷ []))) (Answer-err 𝓛) $
+    ends (Err alloc_error) (answer_val false 0 0))))))))

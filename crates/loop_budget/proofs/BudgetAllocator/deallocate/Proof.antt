@@ -57,7 +57,8 @@ deallocate_spec 𝓤 𝓛 𝓜 𝓡 wired A L g d dd met _ =
     proved 𝓛 (ended Z) (stayed Z) c 𝓜 𝓡
     (Goes-dropped 𝓛 2 (self Z) yes (λ κs x f. refl), (Goes-dropped 𝓛 2 (plain (λ _. RawPtr)) yes (λ κs x f. refl), (word_goes, (word_goes, tt))))
     (key.name (args Z)) (here Z) (code.unfolded 𝓤 𝓛.H 𝓜 𝓡 wired (A, tt) d dd)
-    (λ κs. (shr_vals, (rawptr_vals, (uint_vals w64, (uint_vals w64, tt))))) (λ κs. ((λ r vs is. is.0), (rawptr_Tells, (uint_Tells w64, (uint_Tells w64, tt))))) (λ κs qs bounds a τ are.
+    (λ κs. (shr_vals, (rawptr_vals, (uint_vals w64, (uint_vals w64, tt)))))
+    (λ κs. ((λ r vs is. is.0), (rawptr_Tells, (uint_Tells w64, (uint_Tells w64, tt))))) (λ κs qs bounds a τ are.
     -- `&self`, the size n and the alignment m, and what is at stake for a pointer x: y of this call, and the block
     let r = a.0 in let n = a.1.1.0 in let m = a.1.1.1.0 in let n_fits = are.1.1.0.1 in let m_fits = are.1.1.1.0.1 in
     let h : Handed Z = record { κ = κs.0; ρ = κs.1.0; q = qs.0; s = qs.1.0; within = bounds.0; r = r } in
