@@ -61,7 +61,8 @@ impl FileDisk {
     /// Makes the file anew, with so many bytes of zero, or makes an old one so. Its name is on the disk when this answers Ok.
     /// A file that another program holds keeps its bytes, and so does one that can't have that size.
     pub fn create<R: Files<File = File>>(rt: &R, path: &str, size: u64) -> Result<Self, FileFault>
-        ensures { IfOk result (λ disk. ⟦<FileDisk<File> as Disk>⟧.extent disk ≡ size) }
+        ensures size { IfOk result (λ disk. ⟦<FileDisk<File> as Disk>⟧.extent disk ≡ size) }
+        ensures counted { IfOk result (λ disk. ⟦<FileDisk<File> as Disk>⟧.faults disk ≡ 0) }
     {
         let file = OpenOptions::new()
             .read(true)
@@ -82,7 +83,9 @@ impl FileDisk {
     }
 
     /// Opens a file that is there, for reading and writing. Its length is the disk's size.
-    pub fn open<R: Files<File = File>>(rt: &R, path: &str) -> Result<Self, FileFault> {
+    pub fn open<R: Files<File = File>>(rt: &R, path: &str) -> Result<Self, FileFault>
+        ensures { IfOk result (λ disk. ⟦<FileDisk<File> as Disk>⟧.faults disk ≡ 0) }
+    {
         let file = OpenOptions::new().read(true).write(true).open(rt, path)?;
         take(&file)?;
         Ok(FileDisk::over(file)?)
@@ -117,7 +120,9 @@ fn sync_folder<R: Files<File = File>>(rt: &R, path: &str) -> io::Result<()> {
 
 impl<F: OpenFile + FileExt + Drop> FileDisk<F> {
     /// A disk over an open file, which nobody else may use. It takes no lock.
-    pub fn over(file: F) -> io::Result<Self> {
+    pub fn over(file: F) -> io::Result<Self>
+        ensures { IfOk result (λ disk. ⟦<FileDisk<F> as Disk>⟧.faults disk ≡ 0) }
+    {
         let size = file.metadata()?.len();
         Ok(FileDisk {
             file,

@@ -30,6 +30,7 @@ impl<A: Allocator + Copy> MemDisk<A> {
         ensures fresh { IfOk result (λ disk. IsFresh (replicate size 0) (⟦<MemDisk<A> as Disk>⟧.medium disk)) }
         ensures size { IfOk result (λ disk. ⟦<MemDisk<A> as Disk>⟧.extent disk ≡ size) }
         ensures honest { IfOk result (λ disk. ⟦<MemDisk<A> as Disk>⟧.honest disk) }
+        ensures counted { IfOk result (λ disk. ⟦<MemDisk<A> as Disk>⟧.faults disk ≡ 0) }
     {
         Ok(MemDisk::of(alloc, vec![in alloc; 0; size as usize]?))
     }
@@ -39,6 +40,7 @@ impl<A: Allocator + Copy> MemDisk<A> {
         ensures fresh { IsFresh bytes.items (⟦<MemDisk<A> as Disk>⟧.medium result) }
         ensures size { ⟦<MemDisk<A> as Disk>⟧.extent result ≡ length bytes.items }
         ensures honest { ⟦<MemDisk<A> as Disk>⟧.honest result }
+        ensures counted { ⟦<MemDisk<A> as Disk>⟧.faults result ≡ 0 }
     {
         MemDisk {
             bytes,
