@@ -1,14 +1,14 @@
 -- One more entry of a memory disk.
-use Rattle.std.proofs.Common.{◌≡◌, ◌⊎◌, inl, inr, ⊎_elim, ℕ, ◌+◌, ◌-◌, ◌<◌, ◌≤◌, Bool, true, false, ◌&&◌, ◌||◌, List, [], ◌∷◌, ◌++◌, length, take, drop, get_or, Result, Ok, refl, sym, ◌∙◌, ap, subst, arith, length-append}
+use Rattle.std.proofs.Common.{◌≡◌, ◌⊎◌, inl, inr, ⊎_elim, ℕ, ◌+◌, ◌-◌, ◌<◌, ◌≤◌, false, List, [], ◌∷◌, ◌++◌, length, take, drop, get_or, Ok, refl, sym, ◌∙◌, ap, subst, arith, length-append}
 use Rattle.std.proofs.lemmas.Bool.{cases_lt, or_from, or_parts}
 use Rattle.std.proofs.lemmas.Bool.Decides.{nat_tests}
-use Rattle.std.proofs.lemmas.List.{ext_get_or, reverse-append, take-append-le}
+use Rattle.std.proofs.lemmas.List.{ext_get_or, reverse-append}
 use Rattle.std.proofs.Math.Seq.{drop-append_seam, take-append_seam}
-use Rattle.std.specs.Prelude.{reverse, nat_le, nat_lt}
+use Rattle.std.specs.Prelude.{reverse}
 use Rattle.loop_disk.specs.declared.entry.Entry.{Entry}
 use Rattle.loop_disk.specs.declared.entry.Entry.TheVariants.{Wrote, Synced}
 use Rattle.loop_disk.specs.Medium.{Medium, piece, written, SameOutside, TornAt, LeavesEachTorn, Elapses}
-use Rattle.loop_disk.specs.Calls.{Stays, Writes, Syncs}
+use Rattle.loop_disk.specs.Calls.{Writes, Syncs}
 use Rattle.loop_disk.specs.History.{is_within, is_loose, IsLeft, IsLeftSince, bytes_before, kept_before, medium_of}
 use Rattle.loop_disk.proofs.Images.{length-written, length-piece, get_or-piece, get_or-written_there, get_or-written_before, get_or-written_behind, written_outside}
 

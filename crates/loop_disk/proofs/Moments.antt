@@ -1,8 +1,8 @@
 -- How runs of disk calls join.
-use Rattle.std.proofs.Common.{inl, inr, ⊎_elim, ℕ, ◌≤◌, ◌⊎◌, List, length, Result, Ok, subst, arith}
+use Rattle.std.proofs.Common.{inl, inr, ⊎_elim, ℕ, List, length, Result, subst, arith}
 use Rattle.loop_disk.specs.declared.fault.DiskFault.{DiskFault}
-use Rattle.loop_disk.specs.Medium.{Medium, written, SameOutside, TornAt, IsSettled, Elapses, LeavesOnly, IsSound}
-use Rattle.loop_disk.specs.Steps.{Stores, TornInTurn}
+use Rattle.loop_disk.specs.Medium.{Medium, SameOutside, TornAt, IsSettled, Elapses, LeavesOnly, IsSound}
+use Rattle.loop_disk.specs.Steps.{Stores}
 
 -- a call, or a run of calls, after another
 pub elapses_on : (old mid new : Medium) (P Q : List ℕ → Type 0) → Elapses old mid P → Elapses mid new Q → ((c : List ℕ) → Q c → P c) → Elapses old new P

@@ -1,9 +1,8 @@
 -- A write that is done in part, by several calls of the inner disk.
-use Rattle.std.proofs.Common.{◌≡◌, inl, inr, ℕ, ◌+◌, ◌≤◌, min, List, length, take, Result, Ok, Err, IsErr, OnOk, refl, sym, ◌∙◌, ap, subst, arith}
+use Rattle.std.proofs.Common.{◌≡◌, inl, ℕ, ◌+◌, ◌≤◌, min, List, length, take, Result, Ok, Err, IsErr, OnOk, refl, sym, ◌∙◌, ap, subst, arith}
 use Rattle.std.proofs.lemmas.List.{take_min, length-take}
-use Rattle.std.proofs.lemmas.Result.{on_ok_weaker}
 use Rattle.loop_disk.specs.declared.fault.DiskFault.{DiskFault}
-use Rattle.loop_disk.specs.Medium.{Medium, piece, written, SameOutside, TornAt, Elapses}
+use Rattle.loop_disk.specs.Medium.{Medium, piece, written, SameOutside, TornAt}
 use Rattle.loop_disk.specs.Calls.{Stays, Writes}
 use Rattle.loop_disk.specs.Failing.{Tears}
 use Rattle.loop_disk.proofs.Images.{length-piece, written-piece, untouched, widened, both}

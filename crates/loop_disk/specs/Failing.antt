@@ -1,5 +1,5 @@
 -- Disks that fail calls on purpose, over another disk.
-use Rattle.std.specs.Prelude.{◌≡◌, ℕ, ◌-◌, ◌^◌, ◌<◌, Bool, true, false, ◌==◌, if◌then◌else◌, List, length, take, Option, Some, None, Result, IsErr, OnOk}
+use Rattle.std.specs.Prelude.{◌≡◌, ℕ, ◌-◌, ◌^◌, ◌<◌, Bool, true, false, ◌==◌, if◌then◌else◌, List, take, Option, Some, None, Result, IsErr, OnOk}
 use Rattle.loop_disk.specs.declared.fault.DiskFault.{DiskFault}
 use Rattle.loop_disk.specs.Medium.{Medium, written, SameOutside, TornAt, Elapses}
 use Rattle.loop_disk.specs.Calls.{Counted}

@@ -1,6 +1,6 @@
 -- What a memory disk keeps of its writes and syncs, and what that says of a crash. The entries stand with the newest first,
 -- and `kept` is what each write went over, that of the newest last.
-use Rattle.std.specs.Prelude.{◌≡◌, ◌⊎◌, ℕ, ◌+◌, ◌-◌, ◌≤◌, Bool, true, false, ◌&&◌, ◌||◌, nat_le, nat_lt, List, [], ◌∷◌, length, take, drop, get_or}
+use Rattle.std.specs.Prelude.{◌≡◌, ◌⊎◌, ℕ, ◌+◌, ◌-◌, ◌≤◌, Bool, false, ◌&&◌, ◌||◌, nat_le, nat_lt, List, [], ◌∷◌, length, take, drop, get_or}
 use Rattle.loop_disk.specs.declared.entry.Entry.{Entry}
 use Rattle.loop_disk.specs.declared.entry.Entry.TheVariants.{Wrote, Synced}
 use Rattle.loop_disk.specs.Medium.{Medium, written}

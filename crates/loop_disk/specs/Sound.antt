@@ -1,5 +1,5 @@
 -- A memory disk is sound.
-use Rattle.std.proofs.Common.{◌≡◌, inl, inr, ⊎_elim, ℕ, ◌+◌, ◌≤◌, List, [], ◌∷◌, length, refl, arith}
+use Rattle.std.proofs.Common.{inl, ⊎_elim, ℕ, ◌+◌, ◌≤◌, List, [], ◌∷◌, length, refl, arith}
 use Rattle.loop_disk.specs.declared.entry.Entry.{Entry}
 use Rattle.loop_disk.specs.Medium.{IsSound}
 use Rattle.loop_disk.specs.History.{IsLeft, IsLeftSince, bytes_before, kept_before, medium_of}

@@ -109,7 +109,13 @@ impl<A: Allocator + Copy> Disk for MemDisk<A> {
         ensures extent { ⟦<MemDisk<A> as Disk>⟧.extent self.new ≡ ⟦<MemDisk<A> as Disk>⟧.extent self.old }
         ensures honest { ⟦<MemDisk<A> as Disk>⟧.honest self.old ↔ ⟦<MemDisk<A> as Disk>⟧.honest self.new }
     {
-        match write_noted(&mut self.entries, &mut self.kept, &mut self.bytes, at, bytes) {
+        match write_noted(
+            &mut self.entries,
+            &mut self.kept,
+            &mut self.bytes,
+            at,
+            bytes,
+        ) {
             Ok(()) => Ok(()),
             Err(_) => {
                 self.failed = self.failed.saturating_add(1);

@@ -6,12 +6,11 @@ ghost use Rattle.loop_disk.specs.InTurn.{TornOfThree};
 use super::*;
 use loop_budget::Budget;
 use std::cell::Cell;
-use std::fs;
 use std::fs::{File, Metadata, OpenFile, OpenOptions, Permissions};
-use std::io;
 use std::io::ErrorKind;
 use std::os::unix::fs::{FileExt, PermissionsExt};
 use std::test::Fail;
+use std::{fs, io};
 
 // A caller as the layers above have them: it knows nothing of the disk but the trait.
 fn store_three<D: Disk>(disk: &mut D, at: u64, x: u8, y: u8, z: u8) -> Result<(), DiskFault>
@@ -138,14 +137,23 @@ fn one_call_fails_alone(rt: HostRuntime) -> Result<(), Fail> {
             7 => [1, 2, 3, 4],
             _ => [1, 2, 5, 4],
         };
-        assert_eq!(rt; once.into_inner().bytes(), want.as_slice(), "where {k} fails");
+        assert_eq!(rt;
+            once.into_inner().bytes(),
+            want.as_slice(),
+            "where {k} fails"
+        );
     }
     Ok(())
 }
 
 #[test]
 fn a_torn_write_keeps_its_first_bytes(rt: HostRuntime) -> Result<(), Fail> {
-    for (keep, want) in [(0, *b"old..old"), (1, *b"olN..old"), (4, *b"olNEWSld"), (9, *b"olNEWSld")] {
+    for (keep, want) in [
+        (0, *b"old..old"),
+        (1, *b"olN..old"),
+        (4, *b"olNEWSld"),
+        (9, *b"olNEWSld"),
+    ] {
         let image = b"old..old".to_vec(rt.alloc())?;
         let mut torn = OnceDisk::torn(MemDisk::of(rt.alloc(), image), 1, keep);
         assert_eq!(rt; torn.sync(), Ok(()));
@@ -153,7 +161,11 @@ fn a_torn_write_keeps_its_first_bytes(rt: HostRuntime) -> Result<(), Fail> {
         let mut disk = torn.into_inner();
         assert_eq!(rt; disk.bytes(), want.as_slice(), "keep {keep}");
         for at in 0..8u64 {
-            assert_eq!(rt; disk.is_settled_at(at), at < 2 || at >= 6, "at {at}, keep {keep}");
+            assert_eq!(rt;
+                disk.is_settled_at(at),
+                at < 2 || at >= 6,
+                "at {at}, keep {keep}"
+            );
         }
         assert_eq!(rt; disk.write_at(0, b"whole"), Ok(()));
     }
@@ -167,7 +179,10 @@ fn a_torn_write_keeps_its_first_bytes(rt: HostRuntime) -> Result<(), Fail> {
     assert_eq!(rt; torn.write_at(50, &[7; 1100]), Err(DiskFault::Write));
     let disk = torn.into_inner();
     for at in 0..1200usize {
-        assert_eq!(rt; disk.bytes().get(at).copied(), Some(if (50..60).contains(&at) { 7 } else { 0 }));
+        assert_eq!(rt;
+            disk.bytes().get(at).copied(),
+            Some(if (50..60).contains(&at) { 7 } else { 0 })
+        );
         assert_eq!(rt; disk.is_settled_at(at as u64), !(50..1150).contains(&at));
     }
     Ok(())
@@ -187,11 +202,23 @@ fn each_growth_of_the_record_is_refused_in_turn(rt: HostRuntime) -> Result<(), F
         assert_eq!(rt; disk.size(), 16);
         memory.allow(allowed);
         let answer = disk.write_at(8, b"after");
-        let want = if allowed == 2 { Ok(()) } else { Err(DiskFault::Write) };
+        let want = if allowed == 2 {
+            Ok(())
+        } else {
+            Err(DiskFault::Write)
+        };
         assert_eq!(rt; answer, want, "{allowed} allowed");
         assert_eq!(rt; memory.left(), 0);
-        let rest = if allowed == 2 { *b"after\0\0\0" } else { [0; 8] };
-        assert_eq!(rt; disk.bytes().get(8..), Some(rest.as_slice()), "{allowed} allowed");
+        let rest = if allowed == 2 {
+            *b"after\0\0\0"
+        } else {
+            [0; 8]
+        };
+        assert_eq!(rt;
+            disk.bytes().get(8..),
+            Some(rest.as_slice()),
+            "{allowed} allowed"
+        );
         assert_eq!(rt; disk.is_settled_at(8), allowed < 2);
     }
     for allowed in 0..=1u64 {
@@ -202,7 +229,11 @@ fn each_growth_of_the_record_is_refused_in_turn(rt: HostRuntime) -> Result<(), F
             assert_eq!(rt; disk.write_at(0, &[9]), Ok(()));
         }
         memory.allow(allowed);
-        let want = if allowed == 1 { Ok(()) } else { Err(DiskFault::Sync) };
+        let want = if allowed == 1 {
+            Ok(())
+        } else {
+            Err(DiskFault::Sync)
+        };
         assert_eq!(rt; disk.sync(), want);
         assert_eq!(rt; disk.is_settled_at(0), allowed == 1);
         assert_eq!(rt; disk.bytes(), [9].as_slice());
@@ -241,7 +272,10 @@ fn a_file_is_written_and_read_back(rt: HostRuntime) -> Result<(), Fail> {
     drop(disk);
 
     // No file has that size: the file is as it was.
-    assert_eq!(rt; FileDisk::create(&rt, path, u64::MAX).err(), Some(FileFault::Failed));
+    assert_eq!(rt;
+        FileDisk::create(&rt, path, u64::MAX).err(),
+        Some(FileFault::Failed)
+    );
     assert_eq!(rt; FileDisk::open(&rt, path)?.size(), 50);
     let mut disk = FileDisk::create(&rt, path, 200)?;
     let mut zeros = [1; 200];
@@ -253,11 +287,23 @@ fn a_file_is_written_and_read_back(rt: HostRuntime) -> Result<(), Fail> {
 
 #[test]
 fn what_is_no_file_of_ours_is_refused_by_name(rt: HostRuntime) -> Result<(), Fail> {
-    assert_eq!(rt; FileDisk::open(&rt, "missing.img").err(), Some(FileFault::Missing));
-    assert_eq!(rt; FileDisk::create(&rt, "missing/new.img", 1).err(), Some(FileFault::Missing));
+    assert_eq!(rt;
+        FileDisk::open(&rt, "missing.img").err(),
+        Some(FileFault::Missing)
+    );
+    assert_eq!(rt;
+        FileDisk::create(&rt, "missing/new.img", 1).err(),
+        Some(FileFault::Missing)
+    );
     assert_eq!(rt; FileDisk::open(&rt, ".").err(), Some(FileFault::Folder));
-    assert_eq!(rt; FileDisk::create(&rt, ".", 1).err(), Some(FileFault::Folder));
-    assert_eq!(rt; FileDisk::open(&rt, "/dev/null").err(), Some(FileFault::NotRegular));
+    assert_eq!(rt;
+        FileDisk::create(&rt, ".", 1).err(),
+        Some(FileFault::Folder)
+    );
+    assert_eq!(rt;
+        FileDisk::open(&rt, "/dev/null").err(),
+        Some(FileFault::NotRegular)
+    );
     let path = "denied.img";
     drop(FileDisk::create(&rt, path, 1)?);
     fs::set_permissions(&rt, path, Permissions::from_mode(0o400))?;

@@ -1,4 +1,4 @@
-use Rattle.std.proofs.Common.{◌≡◌, ◌+◌, ◌≤◌, ◌∙◌, length, take, Ok, arith}
+use Rattle.std.proofs.Common.{◌+◌, ◌≤◌, ◌∙◌, length, take, Ok, arith}
 use Rattle.std.proofs.lemmas.List.{length-take}
 use Rattle.loop_disk.proofs.Tearing.{tears_same, tears_then, tears_within, tears_failed}
 use Rattle.loop_disk.proofs.once.rewrite.Goals as goal
