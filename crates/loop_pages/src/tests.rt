@@ -4,6 +4,7 @@ ghost use Rattle.std.specs.Thread.{IsSync};
 ghost use Rattle.loop_pages.specs.Place.{IsIdle};
 
 use crate::{PageFault, PageHold, PageLedger, PageSeat};
+use loop_budget::Budget;
 use std::alloc::Global;
 use std::sync::Arc;
 use std::sync::atomic::{AtomicBool, Ordering};
@@ -72,6 +73,35 @@ fn a_ledger_of_1024_pages_is_claimed_whole_and_page_by_page(rt: HostRuntime) -> 
         panic!(rt; "no page is free")
     };
     assert_eq!(rt; fault, PageFault::NoPages);
+    Ok(())
+}
+
+#[test]
+fn a_refused_growth_changes_nothing(rt: HostRuntime) -> Result<(), Fail> {
+    let budget = Budget::new(rt.alloc());
+    budget.allow(100);
+    drop(PageLedger::new(&budget, 4)?);
+    let growths = 100u64.saturating_sub(budget.left());
+    assert!(rt; growths > 0);
+    for blocks in 0..growths {
+        budget.allow(blocks);
+        let fault = PageLedger::new(&budget, 4).err();
+        assert!(rt; matches!(fault, Some(PageFault::NoMemory)));
+    }
+    budget.allow(growths);
+    let (ledger, seat) = PageLedger::new(&budget, 4)?;
+    let Err((fault, seat)) = PageLedger::claim(&budget, &ledger, seat, 3) else {
+        panic!(rt; "no block is left for the hold's list of pages")
+    };
+    assert_eq!(rt; fault, PageFault::NoMemory);
+    budget.allow(1);
+    let Ok(mut hold) = PageLedger::claim(&budget, &ledger, seat, 3) else {
+        panic!(rt; "one block is enough")
+    };
+    assert_eq!(rt; hold.count(), 3);
+    assert_eq!(rt; budget.left(), 0);
+    hold.release();
+    assert_eq!(rt; hold.count(), 0);
     Ok(())
 }
 
