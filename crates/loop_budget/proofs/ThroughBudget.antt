@@ -1,4 +1,4 @@
--- What both walks do through `&self`: they call `takes_block` and `inner`, whose contracts own no memory.
+-- What both walks do through `&self`: they call `takes_block` and `inner`, whose contracts own no memory. A context is shown as [first; second; ..].
 use Rattle.std.proofs.Common.{◌≡◌, ℕ, List, [], ◌∷◌, Bool, refl, ap}
 use seplogic.Ra.Ura.{Ura}
 use mir.Syntax.{Args, a_type, dnil, dcons}
@@ -53,17 +53,19 @@ module _ (Z : Al) (h : Handed Z) where
   seen_budget = hidden_shr (budget Z) h.κ h.r.now h.r.ref_ptr.0 h.r.ref_ptr.1
 
   module _ {M : Type 1} {𝓤 : Ura M} (𝓛 : Logic 𝓤) where
+    -- the tokens, which say that both lifetimes are still alive. Each call below takes them and hands them back
     abbrev pub Tokens : Item 𝓤
     Tokens = ‵ (flft h.κ h.q) ⊛ ‵ (flft h.ρ h.s) ⊛ ‵ ftrue
 
     module _ (𝓜 : Model 𝓤 𝓛.H) (𝓡 : Running 𝓤 𝓛.H 𝓜) where
+      -- the contracts of the two calls
       abbrev pub Inner : Contract 𝓤
       Inner = triple_of 𝓛 (inner.signature Z.row) (inner.spec Z.row 𝓛 𝓜.mem 𝓡.returns)
 
       abbrev pub TakesBlock : Contract 𝓤
       TakesBlock = triple_of 𝓛 (takes_block.signature Z.row) (takes_block.spec Z.row 𝓛 𝓜.mem 𝓡.returns)
 
-      -- what both calls are made at
+      -- what both are called at: the lifetimes, the tokens' shares, and `&self`
       abbrev pub at_self : Inner.Ghost
       at_self = (((h.κ, (h.ρ, tt)), (h.q, (h.s, tt)), (h.within, tt), (h.r, tt), (shr_vals h.r, tt)), tt)
 
@@ -71,7 +73,9 @@ module _ (Z : Al) (h : Handed Z) where
         -- before either call: `&self` and the tokens are all that it asks for
         pub hands_self : K → h.ρ ⊑ Z.row.lives → Step K 𝓛 (raw (Inner.pre at_self) ∷ Γ) G (‵ seen_budget ∷ Tokens ∷ Γ) G
         hands_self t lives = step (λ z.
+            -- what it requires: that the allocator lives as long as ρ
             nothing t $ use0 𝓛 (raw (fact 𝓤 (h.ρ ⊑ Z.row.lives))) (fact_i 𝓤 (h.ρ ⊑ Z.row.lives) (emp 𝓤) lives) $ join t $
+            -- the parameter, and the tokens
             nothing t $ move t (2 ∷ []) $ feq_i t (List Val) (shr_vals h.r) (shr_vals h.r) refl $ fjoin t $ fjoin t $
             move t (2 ∷ 0 ∷ []) $ join t $ join t $ use1 𝓛 (raw (Inner.pre at_self)) (id⊢ 𝓤 _) $ z)
 
@@ -85,7 +89,9 @@ module _ (Z : Al) (h : Handed Z) where
             move t (1 ∷ []) $ fsplit t $ feq_l t (λ is. rewrite t 0 (λ (a : Z.row.Denot). ‵ (seen Z h.κ p.ref_ptr a)) same refl $ next p.ref_ptr (ap only is)))))
 
         -- after `takes_block`: some `bool`, of which its contract says nothing
-        pub answers_bool : K → Soaks G → (v : Val) → ((b : Bool) → v ≡ vbool b → Seq K 𝓛 (Tokens ∷ Γ) G) → Seq K 𝓛 (raw (TakesBlock.post at_self v) ∷ Γ) G
+        pub answers_bool : K → Soaks G → (v : Val) → ((b : Bool) → v ≡ vbool b → Seq K 𝓛 (Tokens ∷ Γ) G)
+            → Seq K 𝓛 (raw (TakesBlock.post at_self v) ∷ Γ) G
         answers_bool t soaks v next =
-            use1 𝓛 (later (some (λ (b : Bool). (Tokens ⊛ ‵ (bool.own_val b (v ∷ []))) ⊛ some (λ (_ : Unit {0} × Unit {0}). ‵ (fsep ftrue ftrue) ⊛ ‵ ftrue)))) (id⊢ 𝓤 _) $
+            use1 𝓛 (later (some (λ (b : Bool). (Tokens ⊛ ‵ (bool.own_val b (v ∷ [])))
+            ⊛ some (λ (_ : Unit {0} × Unit {0}). ‵ (fsep ftrue ftrue) ⊛ ‵ ftrue)))) (id⊢ 𝓤 _) $
             await t soaks $ pick t (λ b. split t $ split t $ move t (2 ∷ []) $ drop t $ move t (1 ∷ []) $ feq_l t (λ is. next b (ap only is)))

@@ -1,11 +1,11 @@
 // An allocator for tests: it grants so many more blocks of the allocator below it, and refuses each after them. A test that
-// allows 0, 1, 2, .. blocks to one call so refuses each growth of that call in turn, and sees what is left after it.
+// allows 0, 1, 2, .. blocks to a call refuses each growth of that call in turn, and sees what is left after it.
 //
-// A `&Budget` is `Allocator + Copy`, and goes to whatever is generic in its allocator. Proved is that each block is a block of
-// the allocator below, of the size and the alignment that were asked for, and goes back to it with the same two (`allocate` and
-// `deallocate`, by hand in `proofs/BudgetAllocator`), and how one block is counted (`take_one`). The count itself lies in a
-// `Cell`, so that a `&` can change it, and no contract can look into a cell: that `allocate` refuses where the count is 0,
-// `left` and `allow` are shown by the tests at the end of this file. The product itself never uses this crate.
+// A `&Budget` is `Allocator + Copy`, and goes to whatever is generic in its allocator. Proved is that each block handed out is one
+// of the allocator below, of the size and the alignment asked for, that a block is handed back there with the same two (`allocate`
+// and `deallocate`, by hand in `proofs/BudgetAllocator`), and how a block is counted (`take_one`). The count itself lies in a
+// `Cell`, so that a `&` can change it, and no contract can look into a cell: that `allocate` refuses where the count is 0, and
+// what `left` and `allow` do, is shown by the tests at the end of this file. Nothing but tests uses this crate.
 #![tactic(auto)]
 
 ghost use Rattle.std.specs.Prelude.{◌≡◌, ◌-◌, ◌<◌, ◌↔◌, IsTrue};
@@ -33,6 +33,7 @@ pub fn take_one(left: &mut u64) -> bool
 ///
 /// One block is one allocation of any size: a `Box`, or each capacity that a `Vec` grows or shrinks to, since both take a new
 /// block before the old one goes back. A block that goes back gives nothing back to the budget.
+/// A `Vec` grows to more than it needs at once, so not each `push` takes a block: a test says how many blocks it expects.
 /// A `&Budget` is an allocator that is copied. It stays in its thread.
 #[derive(Drop)]
 pub struct Budget<A = Global> {
@@ -97,6 +98,7 @@ unsafe impl<A: Allocator> Allocator for Budget<A> {
         }
     }
 
+    /// Gives the block back to the allocator below, and nothing to the budget.
     unsafe fn deallocate(&self, ptr: *mut u8, size: usize, align: usize) {
         unsafe { self.inner().deallocate(ptr, size, align) }
     }
@@ -120,12 +122,17 @@ mod tests {
                 let block = Box::new(&memory, granted)?;
                 assert_eq!(rt; *block, granted);
             }
-            // Each box is gone again by now, and the budget is spent all the same.
+            // Each box has gone back by now, and the budget is spent all the same.
             for _ in 0..2 {
                 assert_eq!(rt; memory.left(), 0, "of {allowed}");
                 assert!(rt; Box::new(&memory, 9u64).is_err(), "after {allowed}");
             }
         }
+        let mut last = 1;
+        assert_eq!(rt;
+            (take_one(&mut last), take_one(&mut last), last),
+            (true, false, 0)
+        );
         Ok(())
     }
 

@@ -124,7 +124,7 @@ fn clears_all(hold: &PageHold, marks: &[AtomicBool]) {
     }
 }
 
-// A hundred times claims `least` pages or up to `kinds - 1` more, and says whether nobody else ever held one of them.
+// A hundred times claims `least` pages or up to `kinds - 1` more, and says how often it got them. Nothing if another held one.
 fn takes_turns(
     alloc: Global,
     ledger: &Arc<PageLedger>,
@@ -132,22 +132,30 @@ fn takes_turns(
     marks: &[AtomicBool],
     least: u32,
     kinds: u32,
-) -> bool
+) -> Option<u32>
     requires seat { IsIdle (arc_value ledger.now) seat }
     requires counts { (0 < kinds) × (least + kinds < 1024) }
 {
     let mut seat = seat;
-    let mut alone = true;
+    let mut got = 0u32;
     for round in 0..100u32 {
         let (mine, rest) = ledger.split(seat);
         seat = rest;
         if let Ok(mut hold) = PageLedger::claim(alloc, ledger, mine, least + round % kinds) {
-            alone &= marks_all(&hold, marks);
+            if !marks_all(&hold, marks) {
+                return None;
+            }
             clears_all(&hold, marks);
             hold.release();
+            got = got.saturating_add(1);
         }
     }
-    alone
+    Some(got)
+}
+
+// What two threads got together.
+fn together(one: Option<u32>, two: Option<u32>) -> Option<u32> {
+    Some(one?.saturating_add(two?))
 }
 
 // Two threads that claim two pages each.
@@ -157,20 +165,20 @@ fn two_threads<R: Threads + Sync>(
     ledger: &Arc<PageLedger>,
     seat: PageSeat,
     marks: &[AtomicBool],
-) -> bool
+) -> Option<u32>
     requires { IsIdle (arc_value ledger.now) seat }
 {
     let (one, two) = ledger.split(seat);
     let (first, second) = join(
         rt,
-        || -> bool
+        || -> Option<u32>
             requires { IsIdle (arc_value ledger.now) one }
         { takes_turns(alloc, ledger, one, marks, 2, 1) },
-        || -> bool
+        || -> Option<u32>
             requires { IsIdle (arc_value ledger.now) two }
         { takes_turns(alloc, ledger, two, marks, 2, 1) },
     );
-    first && second
+    together(first, second)
 }
 
 // Three threads that claim one, two and three pages in turn.
@@ -180,31 +188,31 @@ fn three_threads<R: Threads + Sync>(
     ledger: &Arc<PageLedger>,
     seat: PageSeat,
     marks: &[AtomicBool],
-) -> bool
+) -> Option<u32>
     requires { IsIdle (arc_value ledger.now) seat }
 {
     let (one, rest) = ledger.split(seat);
     let (two, three) = ledger.split(rest);
     let (first, (second, third)) = join(
         rt,
-        || -> bool
+        || -> Option<u32>
             requires { IsIdle (arc_value ledger.now) one }
         { takes_turns(alloc, ledger, one, marks, 1, 3) },
-        || -> (bool, bool)
+        || -> (Option<u32>, Option<u32>)
             requires { IsIdle (arc_value ledger.now) two × IsIdle (arc_value ledger.now) three × IsSync R.row }
         {
             join(
                 rt,
-                || -> bool
+                || -> Option<u32>
                     requires { IsIdle (arc_value ledger.now) two }
                 { takes_turns(alloc, ledger, two, marks, 1, 3) },
-                || -> bool
+                || -> Option<u32>
                     requires { IsIdle (arc_value ledger.now) three }
                 { takes_turns(alloc, ledger, three, marks, 1, 3) },
             )
         },
     );
-    first && second && third
+    together(first, together(second, third))
 }
 
 #[test]
@@ -218,8 +226,12 @@ fn no_page_is_in_two_holds(rt: HostRuntime) -> Result<(), Fail> {
         AtomicBool::new(false),
         AtomicBool::new(false),
     ];
-    assert!(rt; two_threads(&rt, rt.alloc(), &ledger, one, &marks));
-    assert!(rt; three_threads(&rt, rt.alloc(), &ledger, two, &marks));
+    for got in [
+        two_threads(&rt, rt.alloc(), &ledger, one, &marks),
+        three_threads(&rt, rt.alloc(), &ledger, two, &marks),
+    ] {
+        assert!(rt; got.is_some_and(|got| got > 0));
+    }
     let Ok(hold) = PageLedger::claim(rt.alloc(), &ledger, seat, 4) else {
         panic!(rt; "all four pages are free")
     };
