@@ -1,0 +1,4 @@
+pub mod Place
+pub mod Words
+pub mod Holders
+pub mod Claims
