@@ -160,7 +160,7 @@ last_only-front b (x ∷ y ∷ bs) l =
     let rest = last_only-front b (y ∷ bs) l.1 in
     ap (λ (k : ℕ). list_any (λ c. eqb c b) (take k (x ∷ y ∷ bs))) n ∙ or_false (eqb x b) (list_any (λ c. eqb c b) (take (suc (length bs) - 1) (y ∷ bs))) first rest
 
-found : (p : ℕ → Bool) (b : ℕ) (xs : List ℕ) → find p xs ≡ Some b → (list_any (λ c. eqb c b) xs ≡ true) × (p b ≡ true)
+pub found : (p : ℕ → Bool) (b : ℕ) (xs : List ℕ) → find p xs ≡ Some b → (list_any (λ c. eqb c b) xs ≡ true) × (p b ≡ true)
 found p b [] e = absurd cc
 found p b (x ∷ xs) e = go (p x) refl (found p b xs) e
   where
@@ -181,7 +181,7 @@ unnot : (b : Bool) → not b ≡ false → b ≡ true
 unnot true e = refl
 unnot false e = absurd cc
 
-under-filter : (ring : Ring) (b n : ℕ) (fs : List (ℕ × Picture)) → eqb (block ring n) b ≡ false → frame_under (filter (λ f. not (eqb (block ring f.0) b)) fs) n ≡ frame_under fs n
+pub under-filter : (ring : Ring) (b n : ℕ) (fs : List (ℕ × Picture)) → eqb (block ring n) b ≡ false → frame_under (filter (λ f. not (eqb (block ring f.0) b)) fs) n ≡ frame_under fs n
 under-filter ring b n [] out = refl
 under-filter ring b n (f ∷ fs) out = go (eqb (block ring f.0) b) refl (under-filter ring b n fs out)
   where
@@ -203,7 +203,7 @@ still_all p q lo (suc len) h e =
     let rest = still_all p q (lo + 1) len (λ n l u. h n (omega (arith, l)) (omega (arith, u))) k.1 in
     λ i. first i && rest i
 
-outside_clip : (ring : Ring) (b n : ℕ) (s : Span) → 1 ≤ ring.slots → meets ring b (Some s) ≡ false → s.from ≤ n → n ≤ s.to → eqb (block ring n) b ≡ false
+pub outside_clip : (ring : Ring) (b n : ℕ) (s : Span) → 1 ≤ ring.slots → meets ring b (Some s) ≡ false → s.from ≤ n → n ≤ s.to → eqb (block ring n) b ≡ false
 outside_clip ring b n s some free low high = unequal (block ring n) b (λ is. clash (meets ring b (Some s)) (is_met is) free)
   where
     clash : (t : Bool) → t ≡ true → t ≡ false → ⊥
