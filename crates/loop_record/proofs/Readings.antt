@@ -20,7 +20,7 @@ use Rattle.loop_record.proofs.Retired.{checked-retire}
 
 -- ---- the options that an image's segments are
 
-length-range : (lo n : ℕ) → length (range_with_len lo n) ≡ n
+pub length-range : (lo n : ℕ) → length (range_with_len lo n) ≡ n
 length-range lo zero = refl
 length-range lo (suc n) = omega (arith, length-range (lo + 1) n)
 
@@ -64,7 +64,7 @@ opened_fit g image lo (suc n) = go (segment_in g image lo) (one lo) (opened_fit 
     go (Some s) f rest = λ i. f i || rest i
 
 -- no segment of an image has more slots than there are
-overfull_none : (g : Geometry) (image : List ℕ) → list_any (is_overfull g) (by_block (opened (parts_of g image).segments)) ≡ false
+pub overfull_none : (g : Geometry) (image : List ℕ) → list_any (is_overfull g) (by_block (opened (parts_of g image).segments)) ≡ false
 overfull_none g image = any-by_block (is_overfull g) (opened (parts_of g image).segments) ∙ opened_fit g image 0 g.segments
 
 -- ---- commit
