@@ -20,14 +20,14 @@ use Rattle.loop_record.proofs.Framing.{SameWithin, map_range, same_segment, same
 
 -- ---- parts of one image and of the other
 
-within_before : (at n from to : ℕ) (old new : List ℕ) → SameBut at n old new → to ≤ at → SameWithin from to new old
+pub within_before : (at n from to : ℕ) (old new : List ℕ) → SameBut at n old new → to ≤ at → SameWithin from to new old
 within_before at n from to old new s h = record { size = s.size; bytes = λ k l u. s.before k (omega (arith, u, h)) }
 
-within_behind : (at n from to : ℕ) (old new : List ℕ) → SameBut at n old new → at + n ≤ from → SameWithin from to new old
+pub within_behind : (at n from to : ℕ) (old new : List ℕ) → SameBut at n old new → at + n ≤ from → SameWithin from to new old
 within_behind at n from to old new s h = record { size = s.size; bytes = λ k l u. s.behind k (omega (arith, l, h)) }
 
 -- a list over a range, with one element another
-map_range-set : {X : Type 0} (f h : ℕ → X) (lo n j : ℕ) (x : X) → j < n → ((i : ℕ) → (i < lo + j) ⊎ (lo + j < i) → f i ≡ h i) → f (lo + j) ≡ x → map f (range_with_len lo n) ≡ set (map h (range_with_len lo n)) j x
+pub map_range-set : {X : Type 0} (f h : ℕ → X) (lo n j : ℕ) (x : X) → j < n → ((i : ℕ) → (i < lo + j) ⊎ (lo + j < i) → f i ≡ h i) → f (lo + j) ≡ x → map f (range_with_len lo n) ≡ set (map h (range_with_len lo n)) j x
 map_range-set f h lo zero j x l same is = absurd (omega (arith, l))
 map_range-set f h lo (suc n) zero x l same is =
     let at : lo ≡ lo + zero = omega arith in

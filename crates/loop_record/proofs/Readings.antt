@@ -24,7 +24,7 @@ pub length-range : (lo n : ℕ) → length (range_with_len lo n) ≡ n
 length-range lo zero = refl
 length-range lo (suc n) = omega (arith, length-range (lo + 1) n)
 
-get_or-map_range : {X : Type 0} (f : ℕ → X) (lo n j : ℕ) (d : X) → j < n → get_or (map f (range_with_len lo n)) j d ≡ f (lo + j)
+pub get_or-map_range : {X : Type 0} (f : ℕ → X) (lo n j : ℕ) (d : X) → j < n → get_or (map f (range_with_len lo n)) j d ≡ f (lo + j)
 get_or-map_range f lo zero j d l = absurd (omega (arith, l))
 get_or-map_range f lo (suc n) zero d l = ap f (omega arith)
 get_or-map_range f lo (suc n) (suc j) d l = get_or-map_range f (lo + 1) n j d (omega (arith, l)) ∙ ap f (omega arith)
