@@ -1,21 +1,24 @@
 -- What a freshly formatted image reads as, and what a part reads as once it has been written.
-use Rattle.std.proofs.Common.{◌≡◌, ◌⊎◌, inl, inr, ℕ, zero, suc, ◌+◌, ◌-◌, ◌*◌, ◌^◌, ◌<◌, ◌≤◌, Bool, true, false, cond, eqb, leb, IsTrue, Option, Some, None, Ok, Err, List, [], ◌∷◌, ◌++◌, length, take, drop, get_or, map, replicate, refl, sym, ap, ◌∙◌, subst, arith}
-use Rattle.std.proofs.lemmas.List.{take-append-drop, get_or-take, get_or-drop}
+use Rattle.std.proofs.Common.{◌≡◌, ◌⊎◌, inl, inr, ℕ, zero, suc, ◌+◌, ◌-◌, ◌*◌, ◌^◌, ◌<◌, ◌≤◌, Bool, true, false, cond, ◌&&◌, eqb, leb, IsTrue, Option, Some, None, Ok, Err, List, [], ◌∷◌, ◌++◌, length, take, drop, get_or, map, replicate, refl, sym, ap, ◌∙◌, subst, arith}
+use Rattle.std.proofs.lemmas.List.{take_all, append-nil, take-append-drop, get_or-take, get_or-drop}
 use Rattle.std.specs.Prelude.{slice_range}
 use Rattle.std.specs.List.{range_with_len}
 use Rattle.byteorder.specs.Endian.{little_from, little_bytes}
 use Rattle.byteorder.specs.Numbers.{little_number-reads_back}
 use Rattle.loop_record.specs.declared.clip.Span.{Span}
+use Rattle.loop_record.specs.declared.damage.Damage.TheVariants.{SlotHead}
 use Rattle.loop_record.specs.declared.geometry.Geometry.{Geometry}
 use Rattle.loop_record.specs.Geometry.{frame_bytes, is_good, segment_at, slot_at, clip_at}
-use Rattle.loop_record.specs.Recording.{empty}
-use Rattle.loop_record.specs.Layout.{Slot, Segment, is_open, open_gates, whole_frames, segment_in, entry_at, clip_in, header_at, super_bytes, header_bytes, entry_bytes, geometry_in, slot_in}
+use Rattle.loop_record.specs.Recording.{Picture, empty, head}
+use Rattle.loop_record.specs.Layout.{Slot, Segment, is_open, open_gates, whole_frames, segment_in, entry_at, clip_in, header_at, super_bytes, header_bytes, entry_bytes, geometry_in, slot_in, slot_bytes, slot_head, is_slot_of}
 use Rattle.loop_record.specs.Reading.{parts_of, shown, checked, by_block, opened, begun, Holds, IsFresh}
+use Rattle.loop_record.specs.Laws.{FitsSlot, WrittenIsRead}
 use Rattle.loop_record.proofs.Bounds.{limits}
+use Rattle.loop_record.proofs.Tests.{equal_test}
 use Rattle.loop_record.proofs.Framing.{map_range, prefix_range}
 use Rattle.loop_record.proofs.Gates.{open_gates-are}
 use Rattle.loop_record.proofs.Parts.{stages-reading}
-use Rattle.loop_record.proofs.Written.{geometry_in-super_bytes, little_from-slice}
+use Rattle.loop_record.proofs.Written.{slot_in-slot_bytes, geometry_in-super_bytes, little_from-slice}
 
 -- ---- a fresh image
 
@@ -99,3 +102,31 @@ entry_at-slice image at =
     let from = number-slice at 32 8 8 image (omega arith) in
     let to = number-slice at 32 16 8 image (omega arith) in
     λ i. cond (gate i) (Some (record { from = from i; to = to i })) None
+
+-- ---- written by itself
+
+written_slot : (number : ℕ) (p : Picture) → FitsSlot number p → slot_head (length p.bytes) number (slot_in (length p.bytes) (slot_bytes number p) 0) ≡ Ok (head number p)
+written_slot number p f =
+    let whole : slice_range (slot_bytes number p) 0 (0 + 32 + length p.bytes) ≡ slot_bytes number p = take_all (0 + 32 + length p.bytes - 0) (slot_bytes number p) (omega arith) in
+    let is = slot_in-slot_bytes (length p.bytes) 0 number p (slot_bytes number p) f refl whole in
+    let first = equal_test number number refl in
+    let second = equal_test (length p.bytes) (length p.bytes) refl in
+    ap (slot_head (length p.bytes) number) is ∙ (λ i. cond (first i && second i) (Ok (head number p)) (Err SlotHead))
+
+-- what was written is read again
+pub written : WrittenIsRead
+written = record {
+  slot = written_slot;
+  superblock = λ g good. ap geometry_in (sym (append-nil (super_bytes g))) ∙ geometry_in-super_bytes g [] good;
+  header = λ g b good fits. header g b (limits g good).slots.0 fits;
+  entry = λ s low high.
+    let from = little_number-reads_back 8 s.from [] low in
+    let to = little_number-reads_back 8 s.to [] high in
+    λ i. Some (record { from = from i; to = to i });
+}
+  where
+    header : (g : Geometry) (b : ℕ) → 1 ≤ g.slots → b < 2 ^ 64 → header_at g (header_bytes b) 0 ≡ Some (record { block = b; frames = 0 })
+    header g b some fits =
+        let block = little_number-reads_back 8 b [] fits in
+        let frames = open_gates-are g.slots 0 256 (header_bytes b) (λ i l. absurd (omega (arith, l))) (omega arith) (inr refl) in
+        λ i. Some (record { block = block i; frames = frames i })

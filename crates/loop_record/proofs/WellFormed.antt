@@ -1,11 +1,12 @@
 -- Legal steps keep a recording well formed.
-use Rattle.std.proofs.Common.{◌≡◌, ◌⊎◌, inl, inr, ℕ, zero, suc, ◌+◌, ◌-◌, ◌<◌, ◌≤◌, Bool, true, false, not, ◌&&◌, cond, eqb, ltb, leb, is_some, IsTrue, Option, Some, None, List, [], ◌∷◌, ◌++◌, length, set, get_or, refl, sym, ap, ◌∙◌, arith}
+use Rattle.std.proofs.Common.{◌≡◌, ◌⊎◌, inl, inr, ℕ, zero, suc, ◌+◌, ◌-◌, ◌<◌, ◌≤◌, Bool, true, false, not, ◌&&◌, cond, eqb, ltb, leb, is_some, IsTrue, Option, Some, None, List, [], ◌∷◌, ◌++◌, length, set, get_or, map, refl, sym, ap, ◌∙◌, subst, arith}
 use Rattle.std.proofs.lemmas.List.{length-set, get_or-set_same, get_or-set_other}
 use Rattle.std.specs.Prelude.{Contains}
 use Rattle.std.specs.List.{list_any, list_all, range_with_len}
 use Rattle.loop_record.specs.declared.clip.Span.{Span}
-use Rattle.loop_record.specs.Recording.{Picture, Recording, Ring, Step, store, recycle, lock, unlock, after, is_legal, holds, holds_all, frame_under, free_id, clip_of, victim, is_that, is_locked, older_blocks, meets, block, RiseBetween, IsWhole, IsWellFormed}
-use Rattle.loop_record.proofs.Tests.{both, not_true, at_most, not_below, equal}
+use Rattle.loop_record.specs.Recording.{Picture, Recording, Ring, Step, store, recycle, lock, unlock, after, is_legal, holds, holds_all, frame_under, free_id, clip_of, victim, is_that, is_locked, older_blocks, meets, block, steps, stores_after, recycling_first, needs_recycling, last_number, RiseBetween, IsWhole, IsWellFormed}
+use Rattle.loop_record.specs.Laws.{AreLegal}
+use Rattle.loop_record.proofs.Tests.{both, not_true, at_most, not_below, equal, equal_test}
 use Rattle.loop_record.proofs.Growth.{under-append}
 use Rattle.loop_record.proofs.Retired.{under-filter, outside_clip, found}
 use Rattle.loop_record.proofs.Rising.{RiseBetween-append, RiseBetween-filter, all_range-each, none-each}
@@ -81,3 +82,31 @@ after-well_formed ring r (unlock id) some w legal = record {
     go : (t : Span) → (none ≡ Some t) ⊎ Contains r.clips (Some t) → IsWhole (after ring r (unlock id)) t
     go t (inl is) = absurd cc
     go t (inr c) = record { some = (w.clips t c).some; each = (w.clips t c).each }
+
+stores-legal : (ring : Ring) (r : Recording) (ps : List Picture) → AreLegal ring r (map store ps)
+stores-legal ring r [] = tt
+stores-legal ring r (p ∷ ps) = (refl, stores-legal ring (after ring r (store p)) ps)
+
+-- the steps of an append may be made, one after the other
+pub steps-legal : (ring : Ring) (r : Recording) (group : List Picture) (list : List Step) → steps ring r group ≡ Some list → AreLegal ring r list
+steps-legal ring r group list e = spent (eqb r.next (last_number ring)) e
+  where
+    these : List Step → Option (List Step)
+    these x = Some x
+
+    same_list : (a b : List Step) → these a ≡ these b → a ≡ b
+    same_list a b e = cc
+
+    that : (b : ℕ) → is_that (Some b) b ≡ true
+    that b = equal_test b b refl
+
+    first : (t : Bool) (v : Option ℕ) → victim ring r ≡ v → stores_after (recycling_first t v) group ≡ Some list → AreLegal ring r list
+    first false v is e = subst (AreLegal ring r) (same_list (map store group) list e) (stores-legal ring r group)
+    first true None is e = absurd cc
+    first true (Some b) is e =
+        let legal : IsTrue (is_legal ring r (recycle b)) = ap (λ (o : Option ℕ). is_that o b) is ∙ that b in
+        subst (AreLegal ring r) (same_list (recycle b ∷ map store group) list e) (legal, stores-legal ring (after ring r (recycle b)) group)
+
+    spent : (t : Bool) → cond t None (stores_after (recycling_first (needs_recycling ring r) (victim ring r)) group) ≡ Some list → AreLegal ring r list
+    spent true e = absurd cc
+    spent false e = first (needs_recycling ring r) (victim ring r) refl e
