@@ -1,5 +1,5 @@
 -- The victim in words.
-use Rattle.std.proofs.Common.{◌≡◌, ◌⊎◌, inl, inr, ℕ, zero, suc, ◌+◌, ◌-◌, ◌*◌, ◌/◌, ◌<◌, ◌≤◌, Bool, true, false, not, ◌&&◌, cond, eqb, leb, is_some, IsTrue, Option, Some, None, List, [], ◌∷◌, length, take, refl, sym, ap, ◌∙◌, subst, arith}
+use Rattle.std.proofs.Common.{◌≡◌, ◌⊎◌, inl, inr, ℕ, zero, suc, ◌+◌, ◌-◌, ◌*◌, ◌/◌, ◌<◌, ◌≤◌, Bool, true, false, not, ◌&&◌, cond, eqb, leb, is_some, IsTrue, Option, Some, None, List, [], ◌∷◌, length, map, take, refl, sym, ap, ◌∙◌, subst, arith}
 use Rattle.std.proofs.Math.Nat.{div-mul-le_self, le-div_iff_mul-le, div-lt_iff_lt-mul, mul-div_cancel}
 use Rattle.std.proofs.lemmas.Bool.{cases_lt}
 use Rattle.std.proofs.lemmas.Bool.Decides.{nat_tests}
@@ -7,7 +7,7 @@ use Rattle.std.specs.Prelude.{Contains, ◌↔◌}
 use Rattle.std.specs.List.{list_any, find}
 use Rattle.loop_record.specs.declared.clip.Span.{Span}
 use Rattle.loop_record.specs.Recording.{Picture, Recording, Ring, holds, frame_under, block, meets, with_block, blocks_of, held_blocks, older_blocks, is_locked, victim, RiseBetween, IsWellFormed, IsNewest, MayGo, IsVictim}
-use Rattle.loop_record.proofs.Tests.{clash, both, not_true, untrue, equal, differ, differ_test, at_most, at_most_test}
+use Rattle.loop_record.proofs.Tests.{clash, both, not_true, untrue, equal, equal_test, differ, differ_test, at_most, at_most_test}
 use Rattle.loop_record.proofs.Retired.{outside_clip}
 use Rattle.loop_record.proofs.Rising.{Among, numbers_of, held-among, among-held, among-range, RiseBetween-lower, none-each, each-none}
 
@@ -268,3 +268,75 @@ pub victim-none : (ring : Ring) (r : Recording) → 1 ≤ ring.slots → IsWellF
 victim-none ring r some w e b m =
     let k = may_go-older ring r b some w m in
     find-none (λ c. not (is_locked ring r c)) b (older_blocks ring r) e k.0 (ap not k.1)
+
+-- ---- the victim as the first frame's block that passes
+
+-- the block of the last frame
+abbrev pub last_block : Ring → ℕ × Picture → List (ℕ × Picture) → ℕ
+last_block ring f [] = block ring f.0
+last_block ring f (g ∷ fs) = last_block ring g fs
+
+-- the block isn't this one, and no clip meets it
+abbrev pub is_candidate : Ring → List (Option Span) → ℕ → ℕ → Bool
+is_candidate ring clips top b = not (eqb b top) && not (list_any (meets ring b) clips)
+
+-- the first such block of a frame
+abbrev pub first_candidate : Ring → List (Option Span) → ℕ → List (ℕ × Picture) → Option ℕ
+first_candidate ring clips top fs = find (is_candidate ring clips top) (map (λ f. block ring f.0) fs)
+
+last_block-above : (ring : Ring) (low high : ℕ) (f : ℕ × Picture) (fs : List (ℕ × Picture)) → 1 ≤ ring.slots → RiseBetween low high (f ∷ fs) → block ring low ≤ last_block ring f fs
+last_block-above ring low high f [] some h = block-le ring low f.0 some h.0
+last_block-above ring low high f (g ∷ fs) some h = omega (arith, block-le ring low (f.0 + 1) some (omega (arith, h.0)), last_block-above ring (f.0 + 1) high g fs some h.1)
+
+with-head : (x : ℕ) (bs : List ℕ) → (rest : List ℕ) × (with_block x bs ≡ x ∷ rest)
+with-head x [] = ([], refl)
+with-head x (c ∷ cs) = go (eqb x c) refl
+  where
+    go : (t : Bool) → eqb x c ≡ t → (rest : List ℕ) × (cond t (c ∷ cs) (x ∷ c ∷ cs) ≡ x ∷ rest)
+    go true is = (cs, ap (λ (k : ℕ). k ∷ cs) (sym (equal x c is)))
+    go false is = (c ∷ cs, refl)
+
+nothing : (t : Bool) (o : Option ℕ) (b : ℕ) → t ≡ false → o ≡ cond t (Some b) o
+nothing t o b e = sym (ap (λ (s : Bool). cond s (Some b) o) e)
+
+-- what passes is found at once
+passed_first : (p : ℕ → Bool) (b : ℕ) (bs : List ℕ) → p b ≡ true → find p (b ∷ bs) ≡ Some b
+passed_first p b bs e = ap (λ (t : Bool). cond t (Some b) (find p bs)) e
+
+pub victim-first : (ring : Ring) (clips : List (Option Span)) (low high : ℕ) (f : ℕ × Picture) (fs : List (ℕ × Picture)) → 1 ≤ ring.slots → RiseBetween low high (f ∷ fs)
+    → find (λ b. not (list_any (meets ring b) clips)) (front (blocks_of ring (f ∷ fs))) ≡ first_candidate ring clips (last_block ring f fs) (f ∷ fs)
+victim-first ring clips low high f [] some h =
+    let b = block ring f.0 in
+    nothing (is_candidate ring clips b b) None b (ap (λ (t : Bool). not t && not (list_any (meets ring b) clips)) (equal_test b b refl))
+victim-first ring clips low high f (g ∷ fs) some h = go (eqb (block ring f.0) (block ring g.0)) refl (with-head (block ring g.0) (blocks_of ring fs)) (victim-first ring clips (f.0 + 1) high g fs some h.1)
+  where
+    later : Option ℕ
+    later = first_candidate ring clips (last_block ring g fs) (g ∷ fs)
+
+    below : eqb (block ring f.0) (block ring g.0) ≡ false → eqb (block ring f.0) (last_block ring g fs) ≡ false
+    below e = differ_test (block ring f.0) (last_block ring g fs) (λ is. differ (block ring f.0) (block ring g.0) e (between is))
+      where
+        between : block ring f.0 ≡ last_block ring g fs → block ring f.0 ≡ block ring g.0
+        between is = omega (arith, is, block-le ring f.0 g.0 some (omega (arith, h.1.0)), last_block-above ring g.0 high g fs some (omega arith, h.1.1))
+
+    go : (t : Bool) → eqb (block ring f.0) (block ring g.0) ≡ t → (rest : List ℕ) × (blocks_of ring (g ∷ fs) ≡ block ring g.0 ∷ rest) → find (λ b. not (list_any (meets ring b) clips)) (front (blocks_of ring (g ∷ fs))) ≡ later
+        → find (λ b. not (list_any (meets ring b) clips)) (front (blocks_of ring (f ∷ g ∷ fs))) ≡ cond (is_candidate ring clips (last_block ring g fs) (block ring f.0)) (Some (block ring f.0)) later
+    go true is (rest, e) ih =
+        let head : with_block (block ring f.0) (blocks_of ring (g ∷ fs)) ≡ blocks_of ring (g ∷ fs) = ap (with_block (block ring f.0)) e ∙ ap (λ (t : Bool). cond t (block ring g.0 ∷ rest) (block ring f.0 ∷ block ring g.0 ∷ rest)) is ∙ sym e in
+        ap (λ (bs : List ℕ). find (λ b. not (list_any (meets ring b) clips)) (front bs)) head ∙ ih ∙ again (is_candidate ring clips (last_block ring g fs) (block ring f.0)) refl
+      where
+        same : block ring f.0 ≡ block ring g.0
+        same = equal (block ring f.0) (block ring g.0) is
+
+        again : (t : Bool) → is_candidate ring clips (last_block ring g fs) (block ring f.0) ≡ t → later ≡ cond t (Some (block ring f.0)) later
+        again true e =
+            passed_first (is_candidate ring clips (last_block ring g fs)) (block ring g.0) (map (λ k. block ring k.0) fs) (sym (ap (is_candidate ring clips (last_block ring g fs)) same) ∙ e) ∙ ap (λ (b : ℕ). Some b) (sym same)
+        again false e = refl
+    go false is (rest, e) ih =
+        let head : with_block (block ring f.0) (blocks_of ring (g ∷ fs)) ≡ block ring f.0 ∷ block ring g.0 ∷ rest = ap (with_block (block ring f.0)) e ∙ ap (λ (t : Bool). cond t (block ring g.0 ∷ rest) (block ring f.0 ∷ block ring g.0 ∷ rest)) is in
+        let apart = below is in
+        ap (λ (bs : List ℕ). find (λ b. not (list_any (meets ring b) clips)) (front bs)) head
+        ∙ ap (find (λ b. not (list_any (meets ring b) clips))) (front-more (block ring f.0) (block ring g.0) rest)
+        ∙ ap (λ (bs : List ℕ). cond (not (list_any (meets ring (block ring f.0)) clips)) (Some (block ring f.0)) (find (λ b. not (list_any (meets ring b) clips)) (front bs))) (sym e)
+        ∙ ap (λ (o : Option ℕ). cond (not (list_any (meets ring (block ring f.0)) clips)) (Some (block ring f.0)) o) ih
+        ∙ ap (λ (t : Bool). cond (not t && not (list_any (meets ring (block ring f.0)) clips)) (Some (block ring f.0)) later) (sym apart)
