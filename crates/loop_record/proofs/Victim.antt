@@ -288,7 +288,7 @@ last_block-above : (ring : Ring) (low high : ℕ) (f : ℕ × Picture) (fs : Lis
 last_block-above ring low high f [] some h = block-le ring low f.0 some h.0
 last_block-above ring low high f (g ∷ fs) some h = omega (arith, block-le ring low (f.0 + 1) some (omega (arith, h.0)), last_block-above ring (f.0 + 1) high g fs some h.1)
 
-with-head : (x : ℕ) (bs : List ℕ) → (rest : List ℕ) × (with_block x bs ≡ x ∷ rest)
+pub with-head : (x : ℕ) (bs : List ℕ) → (rest : List ℕ) × (with_block x bs ≡ x ∷ rest)
 with-head x [] = ([], refl)
 with-head x (c ∷ cs) = go (eqb x c) refl
   where

@@ -2,7 +2,7 @@ use Rattle.std.proofs.Common.{arith}
 use Rattle.loop_record.specs.Recording.{ring_of}
 use Rattle.loop_record.proofs.Bounds.{limits}
 use Rattle.loop_record.proofs.Kept.{victim-found, victim-later, victim-missing}
-use Rattle.loop_record.proofs.plain.victim_of.Goals as goal
+use Rattle.loop_record.proofs.rules.victim_of.Goals as goal
 
 pub returns-then-may_go : goal.returns-then-may_go
 returns-then-may_go g c = λ next rises. victim-found (ring_of c.args.geometry.now) c.args.clips.now next c.args.frames.now c.in_ok-last.field-0.now c.kept-item.result c.loop-kept.kept-index c.block-newest.result c.block-candidate.result
