@@ -4,9 +4,9 @@ use Rattle.std.proofs.lemmas.List.{length-set, get_or-set_same, get_or-set_other
 use Rattle.std.specs.Prelude.{Contains}
 use Rattle.std.specs.List.{list_any, list_all, range_with_len}
 use Rattle.loop_record.specs.declared.clip.Span.{Span}
-use Rattle.loop_record.specs.Recording.{Picture, Recording, Ring, Step, store, recycle, lock, unlock, after, is_legal, holds, holds_all, frame_under, free_id, clip_of, victim, is_that, is_locked, older_blocks, meets, block, steps, stores_after, recycling_first, needs_recycling, last_number, RiseBetween, IsWhole, IsWellFormed}
+use Rattle.loop_record.specs.Recording.{Picture, Recording, Ring, Step, store, recycle, lock, unlock, after, is_legal, holds, holds_all, frame_under, free_id, clip_of, victim, is_that, is_locked, older_blocks, meets, block, steps, plain, empty, stores_after, recycling_first, needs_recycling, last_number, RiseBetween, IsWhole, IsWellFormed}
 use Rattle.loop_record.specs.Laws.{AreLegal}
-use Rattle.loop_record.proofs.Tests.{both, not_true, at_most, not_below, equal, equal_test}
+use Rattle.loop_record.proofs.Tests.{clash, both, not_true, at_most, not_below, equal, equal_test}
 use Rattle.loop_record.proofs.Growth.{under-append}
 use Rattle.loop_record.proofs.Retired.{under-filter, outside_clip, found}
 use Rattle.loop_record.proofs.Rising.{RiseBetween-append, RiseBetween-filter, all_range-each, none-each}
@@ -110,3 +110,15 @@ steps-legal ring r group list e = spent (eqb r.next (last_number ring)) e
     spent : (t : Bool) → cond t None (stores_after (recycling_first (needs_recycling ring r) (victim ring r)) group) ≡ Some list → AreLegal ring r list
     spent true e = absurd cc
     spent false e = first (needs_recycling ring r) (victim ring r) refl e
+
+-- after steps that may be made, one after the other, a recording is well formed
+pub plain-well_formed : (ring : Ring) (r : Recording) (list : List Step) → 1 ≤ ring.slots → IsWellFormed r → AreLegal ring r list → IsWellFormed (plain ring r list)
+plain-well_formed ring r [] some w legal = w
+plain-well_formed ring r (s ∷ ss) some w legal = plain-well_formed ring (after ring r s) ss some (after-well_formed ring r s some w legal.0) legal.1
+
+-- the empty recording is well formed
+pub empty-well_formed : IsWellFormed empty
+empty-well_formed = record { rising = omega arith; clips = λ s c. absurd (never s c); ids = refl }
+  where
+    never : (s : Span) → Contains empty.clips (Some s) → ⊥
+    never s c = clash true refl (none-each (λ (o : Option Span). is_some o) empty.clips (Some s) refl c)

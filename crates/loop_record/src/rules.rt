@@ -129,16 +129,17 @@ pub(crate) fn holds_all<A: Allocator>(frames: &[Numbered<A>], span: Span) -> boo
     holds(frames, span.to)
 }
 
-/// The least id without a clip, or 64.
-pub(crate) fn free_id(clips: &[Option<Span>]) -> usize
+/// The least id without a clip, or the count of ids.
+pub(crate) fn free_id(clips: &[Option<Span>]) -> u32
+    requires { length clips.now ≤ 64 }
     ensures { result ≡ position_or_len (λ c. not (is_some c)) clips.now }
 {
     for (id, clip) in clips.iter().enumerate() {
         if clip.is_none() {
-            return id;
+            return id as u32;
         }
     }
-    clips.len()
+    clips.len() as u32
 }
 
 /// Takes the frames of a block away.
