@@ -74,10 +74,13 @@ impl<A: Allocator + Copy> PlainRecorder<A> {
 
     /// The clip of an id, if there is one.
     pub fn clip(&self, id: u32) -> Option<Span>
-        requires { id < 64 }
         ensures { result ≡ clip_of self.now.recording id }
     {
-        self.clips[id as usize]
+        if id < 64 {
+            self.clips[id as usize]
+        } else {
+            None
+        }
     }
 
     /// How many frames the block of the next number still takes.
@@ -123,11 +126,11 @@ impl<A: Allocator + Copy> PlainRecorder<A> {
         ensures legal { result ≡ is_legal (ring_of self.old.geometry) self.old.recording (unlock id) }
         ensures new { self.new ≡ (if result then stepped self.old (unlock id) else self.old) }
     {
-        let there = id < 64 && self.clips[id as usize].is_some();
-        if there {
-            self.clips[id as usize] = None;
+        if self.clip(id).is_none() {
+            return false;
         }
-        there
+        self.clips[id as usize] = None;
+        true
     }
 
     /// Adds a frame under the next number and answers that. Where memory is refused, nothing has changed.
