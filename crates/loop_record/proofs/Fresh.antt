@@ -1,6 +1,6 @@
 -- What a freshly formatted image reads as, and what a part reads as once it has been written.
 use Rattle.std.proofs.Common.{◌≡◌, ◌⊎◌, inl, inr, ℕ, zero, suc, ◌+◌, ◌-◌, ◌*◌, ◌^◌, ◌<◌, ◌≤◌, Bool, true, false, cond, ◌&&◌, eqb, leb, IsTrue, Option, Some, None, Ok, Err, List, [], ◌∷◌, ◌++◌, length, take, drop, get_or, map, replicate, refl, sym, ap, ◌∙◌, subst, arith}
-use Rattle.std.proofs.lemmas.List.{take_all, append-nil, take-append-drop, get_or-take, get_or-drop}
+use Rattle.std.proofs.lemmas.List.{take_all, append-nil, take-append-drop, get_or-take, get_or-drop, drop-take, drop-drop, take-take}
 use Rattle.std.specs.Prelude.{slice_range}
 use Rattle.std.specs.List.{range_with_len}
 use Rattle.byteorder.specs.Endian.{little_from, little_bytes}
@@ -102,6 +102,27 @@ entry_at-slice image at =
     let from = number-slice at 32 8 8 image (omega arith) in
     let to = number-slice at 32 16 8 image (omega arith) in
     λ i. cond (gate i) (Some (record { from = from i; to = to i })) None
+
+-- a slot, cut out of its image, holds what it holds in it
+pub slot_in-slice : (n at : ℕ) (image : List ℕ) → slot_in n (slice_range image at (at + 32 + n)) 0 ≡ slot_in n image at
+slot_in-slice n at image =
+    let whole : at + 32 + n ≡ at + (32 + n) = omega arith in
+    let cut = slice_range image at (at + 32 + n) in
+    let field : (i m : ℕ) → i + m ≤ 32 → little_from i m cut ≡ little_from (at + i) m image = λ i m h. ap (λ (e : ℕ). little_from i m (slice_range image at e)) whole ∙ number-slice at (32 + n) i m image (omega (arith, h)) in
+    let number = field 0 8 (omega arith) ∙ ap (λ (k : ℕ). little_from k 8 image) (omega arith) in
+    let sequence = field 8 4 (omega arith) in
+    let flags = field 12 4 (omega arith) in
+    let timestamp = field 16 8 (omega arith) in
+    let size = field 24 4 (omega arith) in
+    let bytes : slice_range cut 32 (0 + 32 + n) ≡ slice_range image (at + 32) (at + 32 + n) = inner in
+    λ i. record { number = number i; size = size i; picture = record { sequence = sequence i; flags = flags i; timestamp = timestamp i; bytes = bytes i } }
+  where
+    inner : take (0 + 32 + n - 32) (drop 32 (take (at + 32 + n - at) (drop at image))) ≡ take (at + 32 + n - (at + 32)) (drop (at + 32) image)
+    inner =
+        let a : 0 + 32 + n - 32 ≡ n = omega arith in
+        let b : at + 32 + n - at ≡ 32 + n = omega arith in
+        let c : at + 32 + n - (at + 32) ≡ n = omega arith in
+        rw (a, b, c) (ap (take n) (drop-take 32 n (drop at image)) ∙ take-take n n (drop 32 (drop at image)) (omega arith) ∙ ap (take n) (drop-drop 32 at image))
 
 -- ---- written by itself
 

@@ -16,10 +16,10 @@ use crate::{Frame, Geometry, Numbered, Span, rules};
 /// clip of each id.
 #[derive(Drop)]
 pub struct PlainRecorder<A: Allocator = Global> {
-    geometry: Geometry,
-    next: u64,
-    frames: Vec<Numbered<A>, A>,
-    clips: [Option<Span>; 64],
+    pub(crate) geometry: Geometry,
+    pub(crate) next: u64,
+    pub(crate) frames: Vec<Numbered<A>, A>,
+    pub(crate) clips: [Option<Span>; 64],
 }
 
 impl<A: Allocator> Model for PlainRecorder<A> {
