@@ -19,7 +19,7 @@ use Rattle.loop_record.specs.declared.image.Found.{Found}
 use Rattle.loop_record.specs.declared.segment.SegmentHead.{SegmentHead}
 use Rattle.loop_record.specs.Geometry.{frame_bytes, segment_at, segment_size, slot_at, disk_size}
 use Rattle.loop_record.specs.Layout.{Slot, Segment, slot_head, is_open, is_slot_of, is_too_high, slot_in, segment_in, whole_frames, entry_at, clip_in, geometry_in, header_at, checked_header}
-use Rattle.loop_record.specs.Reading.{reading, contents, with_geometry, shown, checked, recording_of, is_bad_clip, has_bad_clip, parts_of, opened, by_block, in_place, repeats, lacks_frame, hold_from, is_bad_slot, is_high, next_after, all_frames}
+use Rattle.loop_record.specs.Reading.{reading, Contents, Holds, contents, with_geometry, shown, checked, recording_of, is_bad_clip, has_bad_clip, parts_of, opened, by_block, in_place, repeats, lacks_frame, hold_from, is_bad_slot, is_high, next_after, all_frames}
 use Rattle.loop_record.specs.Plain.{numbered, segment_of, segments_of, found_of, found_at, held_clip, with_segment, Reads, IsIn, AreIn, IsSomeHigh, IsFrameIn}
 use Rattle.loop_record.proofs.Fresh.{header_at-slice, slot_in-slice, entry_at-slice}
 use Rattle.std.proofs.Math.Nat.{mul-le-mul_right, add-mul}
@@ -459,7 +459,7 @@ pub record IsRead (g : Geometry) (image : List ℕ) (ss : List Segment) : Type 0
   pub size : length image ≡ disk_size g
   pub are : ss ≡ by_block (opened (parts_of g image).segments)
 
-abbrev clips_in : List ℕ → List (Option Span)
+abbrev pub clips_in : List ℕ → List (Option Span)
 clips_in image = map (clip_in image) (range_with_len 0 64)
 
 reading-is : (g : Geometry) (image : List ℕ) (ss : List Segment) → IsRead g image ss → reading image ≡ with_geometry g (checked g ss (clips_in image))
@@ -497,3 +497,70 @@ reading-bad_clip g image ss s bad = segments-sound g image ss s ∙ ap (with_geo
 
 pub reading-all : (g : Geometry) (image : List ℕ) (ss : List Segment) → IsSoundSo g image ss → some_bad (all_frames g ss) (clips_in image) ≡ false → reading image ≡ Ok (record { geometry = g; recording = recording_of g ss (clips_in image) })
 reading-all g image ss s good = segments-sound g image ss s ∙ ap (with_geometry g) (passed (has_bad_clip (recording_of g ss (clips_in image))) _ _ good)
+
+-- what was read of an image of this geometry
+pub record IsFoundIn (g : Geometry) (image : List ℕ) (fs xs : List Found) : Type 0 where
+  pub geometry : geometry_in image ≡ Ok g
+  pub size : length image ≡ disk_size g
+  pub are : segments_of g image fs ≡ by_block (opened (parts_of g image).segments)
+  pub within : AreIn g fs
+  pub same : xs ≡ fs
+
+found-read : (g : Geometry) (image : List ℕ) (fs xs : List Found) → IsFoundIn g image fs xs → IsRead g image (segments_of g image xs)
+found-read g image fs xs f = record { geometry = f.geometry; size = f.size; are = ap (λ (ys : List Found). segments_of g image ys) f.same ∙ f.are }
+
+found-low : (g : Geometry) (image : List ℕ) (fs xs : List Found) → IsFoundIn g image fs xs → list_any (is_high g) (segments_of g image xs) ≡ false
+found-low g image fs xs f = ap (λ (ys : List Found). list_any (is_high g) (segments_of g image ys)) f.same ∙ AreIn-low g image fs f.within
+
+pub found-within : (g : Geometry) (image : List ℕ) (fs xs : List Found) → IsFoundIn g image fs xs → AreIn g xs
+found-within g image fs xs f = subst (AreIn g) (sym f.same) f.within
+
+pub read-repeats : (g : Geometry) (image : List ℕ) (fs xs : List Found) (r : Bool) → IsFoundIn g image fs xs → r ≡ repeats (segments_of g image xs) → r ≡ true → reading image ≡ Err (Damaged RepeatedBlock)
+read-repeats g image fs xs r f is e = reading-repeats g image (segments_of g image xs) (found-read g image fs xs f) (found-low g image fs xs f) (sym is ∙ e)
+
+pub read-lacks : (g : Geometry) (image : List ℕ) (fs xs : List Found) (r s : Bool) → IsFoundIn g image fs xs → r ≡ repeats (segments_of g image xs) → r ≡ false → s ≡ lacks_frame g (segments_of g image xs) → s ≡ true → reading image ≡ Err (Damaged ClosedGate)
+read-lacks g image fs xs r s f is e lacks e' = reading-lacks g image (segments_of g image xs) (found-read g image fs xs f) (found-low g image fs xs f) (sym is ∙ e) (sym lacks ∙ e')
+
+-- the segments of the image have no repeated block and lack no frame
+pub record AreFull (g : Geometry) (image : List ℕ) (fs xs : List Found) : Type 0 where
+  pub found : IsFoundIn g image fs xs
+  pub single : repeats (segments_of g image xs) ≡ false
+  pub full : lacks_frame g (segments_of g image xs) ≡ false
+
+abbrev pub fault_is : LayoutFault → Result Contents LayoutFault
+fault_is f = Err f
+
+pub read-bad_slot : {T U : Type 0} (g : Geometry) (image : List ℕ) (fs xs : List Found) (e : ImageFault) (P : T → Type 0) (P' : U → Type 0) → AreFull g image fs xs
+    → Reads (let r : Result T ImageFault = Err e in r) P (λ fault. (fault ≡ Damaged SlotHead) × (list_any (is_bad_slot g) (segments_of g image xs) ≡ true))
+    → Reads (let r : Result U ImageFault = Err e in r) P' (λ fault. reading image ≡ Err fault)
+read-bad_slot g image fs xs e P P' a x =
+    Reads-err e P P' (λ fault. (fault ≡ Damaged SlotHead) × (list_any (is_bad_slot g) (segments_of g image xs) ≡ true)) (λ fault. reading image ≡ Err fault)
+    (λ fault q. reading-bad_slot g image (segments_of g image xs) (found-read g image fs xs a.found) (found-low g image fs xs a.found) a.single a.full q.1 ∙ ap fault_is (sym q.0)) x
+
+whole-so : (g : Geometry) (image : List ℕ) (fs xs : List Found) → AreFull g image fs xs → list_any (is_bad_slot g) (segments_of g image xs) ≡ false → IsSoundSo g image (segments_of g image xs)
+whole-so g image fs xs a right = record { read = found-read g image fs xs a.found; low = found-low g image fs xs a.found; single = a.single; full = a.full; right = right }
+
+pub read-bad_clip : (g : Geometry) (image : List ℕ) (fs xs : List Found) (frames : List (ℕ × Picture)) (d : Damage) → AreFull g image fs xs → list_any (is_bad_slot g) (segments_of g image xs) ≡ false → frames ≡ all_frames g (segments_of g image xs)
+    → d ≡ ClipRange → some_bad frames (clips_in image) ≡ true → reading image ≡ Err (Damaged d)
+read-bad_clip g image fs xs frames d a right are is bad =
+    reading-bad_clip g image (segments_of g image xs) (whole-so g image fs xs a right) (sym (ap (λ (q : List (ℕ × Picture)). some_bad q (clips_in image)) are) ∙ bad) ∙ ap (λ (x : Damage). fault_of x) (sym is)
+  where
+    fault_of : Damage → Result Contents LayoutFault
+    fault_of x = Err (Damaged x)
+
+pub read-all : (g : Geometry) (image : List ℕ) (fs xs : List Found) (next : ℕ) (frames : List (ℕ × Picture)) (clips : List (Option Span)) → AreFull g image fs xs → list_any (is_bad_slot g) (segments_of g image xs) ≡ false → frames ≡ all_frames g (segments_of g image xs)
+    → next ≡ next_after g (segments_of g image xs) → clips ≡ clips_in image → some_bad frames (clips_in image) ≡ false
+    → Holds g (record { next = next; frames = frames; clips = clips }) image
+read-all g image fs xs next frames clips a right are after clips_are good =
+    reading-all g image (segments_of g image xs) (whole-so g image fs xs a right) (sym (ap (λ (q : List (ℕ × Picture)). some_bad q (clips_in image)) are) ∙ good)
+    ∙ (λ i. Ok (record { geometry = g; recording = record { next = sym after i; frames = sym are i; clips = sym clips_are i } }))
+
+-- the frames that were read into an empty list
+pub read-into : {A : Type 0} (g : Geometry) (ss : List Segment) (old new xs : List (Numbered A)) → old ≡ [] → numbered new ≡ numbered old ++ all_frames g ss → xs ≡ new → numbered xs ≡ all_frames g ss
+read-into {A} g ss old new xs none are same = ap (λ (ys : List (Numbered A)). numbered ys) same ∙ are ∙ ap (λ (ys : List (Numbered A)). numbered ys ++ all_frames g ss) none
+
+pub same_frames : {A : Type 0} (image : List ℕ) (xs ys : List (Numbered A)) → xs ≡ ys → some_bad (numbered xs) (clips_in image) ≡ false → some_bad (numbered ys) (clips_in image) ≡ false
+same_frames {A} image xs ys e good = sym (ap (λ (zs : List (Numbered A)). some_bad (numbered zs) (clips_in image)) e) ∙ good
+
+pub fault-of : {f h : LayoutFault} → f ≡ h → fault_is f ≡ fault_is h
+fault-of e = ap fault_is e
