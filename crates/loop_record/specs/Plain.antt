@@ -11,9 +11,10 @@ use Rattle.loop_record.specs.declared.damage.ImageFault.TheVariants.{NoMemory, L
 use Rattle.loop_record.specs.declared.damage.LayoutFault.{LayoutFault}
 use Rattle.loop_record.specs.declared.geometry.Geometry.{Geometry}
 use Rattle.loop_record.specs.declared.image.Found.{Found}
+use Rattle.loop_record.specs.declared.plain.AppendFault.{AppendFault}
 use Rattle.loop_record.specs.declared.segment.SegmentHead.{SegmentHead}
 use Rattle.loop_record.specs.Geometry.{is_good, frame_bytes, segment_at, slot_at}
-use Rattle.loop_record.specs.Recording.{Picture, Recording, Step, empty, free_id, holds_all, picture, ring_of, after, steps, plain, IsWellFormed}
+use Rattle.loop_record.specs.Recording.{Picture, Recording, Step, store, recycle, empty, free_id, holds_all, picture, ring_of, after, IsWellFormed}
 use Rattle.loop_record.specs.Layout.{Slot, Segment, slot_in, is_slot_of, is_too_high, header_at, checked_header}
 use Rattle.loop_record.specs.Reading.{Contents, in_place, is_high, is_bad_clip}
 
@@ -29,14 +30,11 @@ pictures frames = map picture frames
 abbrev pub stepped : Contents → Step → Contents
 stepped c step = record c { recording = after (ring_of c.geometry) c.recording step }
 
--- the contents after steps, if there are such
-abbrev pub after_steps : Contents → Option (List Step) → Option Contents
-after_steps c None = None
-after_steps c (Some list) = Some (record c { recording = plain (ring_of c.geometry) c.recording list })
-
--- the contents after an append, or None where it is refused
-abbrev pub appended : Contents → List Picture → Option Contents
-appended c group = after_steps c (steps (ring_of c.geometry) c.recording group)
+-- the steps of an append, by what it does first
+abbrev pub append_steps : Result (Option ℕ) AppendFault → List Picture → Option (List Step)
+append_steps (Ok None) group = Some (map store group)
+append_steps (Ok (Some b)) group = Some (recycle b ∷ map store group)
+append_steps (Err fault) group = None
 
 -- the id that a clip gets, if it may be locked
 abbrev pub lock_id : Recording → Span → Option ℕ

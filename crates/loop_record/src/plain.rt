@@ -1,16 +1,28 @@
 //! The plain recorder: the definitions as a program, slow and easy to read. Other recorders are compared with it.
 
-ghost use Rattle.std.specs.Prelude.{◌≡◌, ◌+◌, ◌<◌, ◌^◌, ◌↔◌, IsTrue, IsSome, IfSome, IfNone, IfOk, OnOk, OnErr, OnSome, Some, if◌then◌else◌};
+ghost use Rattle.std.specs.Prelude.{List, Err, ◌≡◌, ◌+◌, ◌<◌, ◌^◌, ◌↔◌, IsTrue, IsSome, IfSome, IfNone, IfOk, OnOk, OnErr, OnSome, Some, if◌then◌else◌};
 ghost use Rattle.std.specs.Option.{option_map, option_copied};
 ghost use Rattle.loop_record.specs.Geometry.{is_good};
-ghost use Rattle.loop_record.specs.Recording.{Step, store, recycle, lock, unlock, ring_of, empty, picture, frame_under, holds, clip_of, free_id, room, victim, is_legal};
+ghost use Rattle.loop_record.specs.Recording.{Step, store, recycle, lock, unlock, Picture, steps, last_number, ring_of, empty, picture, frame_under, holds, clip_of, free_id, room, victim, is_legal};
 ghost use Rattle.loop_record.specs.Reading.{Contents};
-ghost use Rattle.loop_record.specs.Plain.{numbered, lock_id, stepped, IsSound};
+ghost use Rattle.loop_record.specs.Plain.{numbered, lock_id, stepped, append_steps, IsSound};
 
 use std::alloc::{AllocError, Allocator, Global};
 use std::marker::Model;
 
 use crate::{Frame, Geometry, Numbered, Span, rules};
+
+/// No frame has this number or one above it.
+const NUMBERS: u64 = 1 << 62;
+
+/// Why an append stores nothing.
+#[derive(Clone, Copy, Debug, PartialEq, Eq)]
+pub enum AppendFault {
+    /// The next number is the first of a block that would reach 2^62.
+    NumbersSpent,
+    /// A block has to be recycled first, and there is no victim.
+    AllLocked,
+}
 
 /// A recording in memory: the geometry, the number that comes next, the frames with their numbers, which rise, and the
 /// clip of each id.
@@ -153,5 +165,26 @@ impl<A: Allocator + Copy> PlainRecorder<A> {
         ensures { self.new ≡ stepped self.old (recycle block) }
     {
         rules::recycle(&self.geometry, &mut self.frames, block);
+    }
+
+    /// What an append does before it stores its frames: the block to recycle, or nothing. `NumbersSpent` where the next
+    /// number is the first of a block that would reach 2^62; otherwise `AllLocked` where a block has to be recycled and
+    /// there is no victim.
+    pub fn append_first(&self) -> Result<Option<u64>, AppendFault>
+        ensures steps { (group : List Picture) → steps (ring_of self.now.geometry) self.now.recording group ≡ append_steps result group }
+        ensures spent { (result ≡ Err AppendFault.NumbersSpent) ↔ (self.now.recording.next ≡ last_number (ring_of self.now.geometry)) }
+    {
+        let slots = u64::from(self.geometry.slots);
+        if self.next == slots * (NUMBERS / slots) {
+            return Err(AppendFault::NumbersSpent);
+        }
+        let held = rules::held_blocks(&self.geometry, &self.frames);
+        if self.next % slots != 0 || held != self.geometry.segments as usize {
+            return Ok(None);
+        }
+        match self.victim() {
+            Some(block) => Ok(Some(block)),
+            None => Err(AppendFault::AllLocked),
+        }
     }
 }
