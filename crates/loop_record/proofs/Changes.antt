@@ -1,21 +1,20 @@
 -- What the open segments show after one of them has changed.
-use Rattle.std.proofs.Common.{◌≡◌, ◌⊎◌, inl, inr, ℕ, zero, suc, ◌+◌, ◌-◌, ◌*◌, ◌/◌, ◌^◌, ◌<◌, ◌≤◌, Bool, true, false, not, cond, ◌&&◌, eqb, ltb, leb, is_some, Option, Some, None, Result, Ok, Err, List, [], ◌∷◌, ◌++◌, length, take, map, refl, sym, ap, ◌∙◌, subst, arith, append_assoc}
-use Rattle.std.proofs.Math.Nat.{mul-le-mul_right, add-mul, div-eq_of_lt-le, div-mul-le_self, le-div_iff_mul-le, div-lt_iff_lt-mul}
+use Rattle.std.proofs.Common.{◌≡◌, ℕ, ◌+◌, ◌*◌, ◌<◌, ◌≤◌, Bool, true, false, not, cond, eqb, ltb, Option, Result, Ok, Err, List, [], ◌∷◌, ◌++◌, length, map, refl, sym, ap, ◌∙◌, arith, append_assoc}
+use Rattle.std.proofs.Math.Nat.{mul-le-mul_right, add-mul}
 use Rattle.std.proofs.lemmas.Bool.Decides.{nat_tests}
-use Rattle.std.proofs.lemmas.List.{append-nil, length-map}
-use Rattle.std.proofs.lemmas.List.Elements.{filter-append}
+use Rattle.std.proofs.lemmas.List.{append-nil}
 use Rattle.std.specs.Prelude.{◌||◌}
-use Rattle.std.specs.List.{list_any, list_all, filter, find, enumerate_from, range_with_len}
+use Rattle.std.specs.List.{list_any}
 use Rattle.loop_record.specs.declared.damage.Damage.{Damage}
 use Rattle.loop_record.specs.declared.damage.Damage.TheVariants.{RepeatedBlock, ClosedGate, SlotHead, BlockTooHigh, ClipRange}
 use Rattle.loop_record.specs.declared.clip.Span.{Span}
 use Rattle.loop_record.specs.declared.geometry.Geometry.{Geometry}
 use Rattle.loop_record.specs.Geometry.{frame_bytes}
-use Rattle.loop_record.specs.Recording.{Picture, Recording, Ring, store, recycle, plain, after, holds, holds_all, frame_under, block, meets, with_block, blocks_of, held_blocks, older_blocks, is_locked, victim}
+use Rattle.loop_record.specs.Recording.{Recording, Ring, store, plain}
 use Rattle.loop_record.specs.Layout.{Slot, Segment}
-use Rattle.loop_record.specs.Reading.{frames_of, all_frames, next_after, lacks_frame, is_high, repeats, is_bad_slot, hold_from, is_bad_clip, has_bad_clip, recording_of, checked, begun}
+use Rattle.loop_record.specs.Reading.{frames_of, all_frames, next_after, lacks_frame, is_high, repeats, is_bad_slot, hold_from, has_bad_clip, recording_of, checked, begun}
 use Rattle.loop_record.proofs.Growth.{AllBelow, grown, checked-grown}
-use Rattle.loop_record.proofs.Segments.{AllAbove, Without, has_block, any_move, repeats_move}
+use Rattle.loop_record.proofs.Segments.{AllAbove, has_block, any_move, repeats_move}
 
 -- ---- no damage
 

@@ -1,21 +1,20 @@
 -- What an image reads as after one entry of the clip table has changed.
-use Rattle.std.proofs.Common.{◌≡◌, ◌⊎◌, inl, inr, ℕ, zero, suc, ◌+◌, ◌-◌, ◌*◌, ◌<◌, ◌≤◌, Bool, true, false, not, ◌&&◌, cond, eqb, ltb, leb, is_some, IsTrue, Option, Some, None, Result, Ok, Err, List, [], ◌∷◌, length, set, get_or, map, refl, sym, ap, ◌∙◌, subst, arith}
-use Rattle.std.proofs.lemmas.List.{length-map}
+use Rattle.std.proofs.Common.{◌≡◌, ◌⊎◌, inl, inr, ℕ, zero, suc, ◌+◌, ◌<◌, ◌≤◌, true, false, not, ◌&&◌, ltb, leb, IsTrue, Option, Some, None, Ok, List, [], ◌∷◌, set, get_or, map, refl, sym, ap, ◌∙◌, arith}
 use Rattle.std.specs.Prelude.{◌||◌}
 use Rattle.std.specs.List.{list_any, range_with_len}
 use Rattle.loop_record.specs.declared.clip.Span.{Span}
 use Rattle.loop_record.specs.declared.geometry.Geometry.{Geometry}
-use Rattle.loop_record.specs.Geometry.{segment_at, segment_size, clip_at, is_good}
-use Rattle.loop_record.specs.Recording.{Recording, Ring, lock, unlock, after, is_legal, holds_all, free_id, clip_of, ring_of}
+use Rattle.loop_record.specs.Geometry.{segment_at, segment_size, clip_at}
+use Rattle.loop_record.specs.Recording.{Recording, lock, unlock, after, is_legal, holds_all, free_id, clip_of, ring_of}
 use Rattle.loop_record.specs.Layout.{Segment, segment_in, clip_in}
-use Rattle.loop_record.specs.Reading.{parts_of, shown, checked, recording_of, is_bad_clip, has_bad_clip, by_block, opened, Holds}
+use Rattle.loop_record.specs.Reading.{parts_of, shown, checked, recording_of, is_bad_clip, by_block, opened, Holds}
 use Rattle.loop_record.specs.Change.{ShowsClip}
-use Rattle.loop_record.proofs.Tests.{both, neither, or_false, at_most, not_below_test}
+use Rattle.loop_record.proofs.Decided.{both, neither, or_false, at_most, not_below_test}
 use Rattle.loop_record.proofs.Bounds.{limits}
 use Rattle.loop_record.proofs.Framing.{SameWithin, map_range, same_segment, same_clip, same_geometry}
-use Rattle.loop_record.proofs.Changes.{Shown, shown_of, of_shown}
+use Rattle.loop_record.proofs.Changes.{shown_of, of_shown}
 use Rattle.loop_record.proofs.Parts.{within_before, within_behind, map_range-set, reading-stages, stages-reading, geometry-good}
-use Rattle.loop_record.proofs.Readings.{length-range, get_or-map_range}
+use Rattle.loop_record.proofs.Readings.{get_or-map_range}
 
 -- the parts of the old image but for one clip
 pub parts-clip : (g : Geometry) (id : ℕ) (c : Option Span) (old new : List ℕ) → g.slots ≤ 256 → id < 64 → ShowsClip id c old new

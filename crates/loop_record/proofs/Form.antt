@@ -1,18 +1,18 @@
 -- What an image reads as is well formed.
-use Rattle.std.proofs.Common.{◌≡◌, ◌⊎◌, inl, inr, ℕ, zero, suc, ◌+◌, ◌-◌, ◌*◌, ◌<◌, ◌≤◌, Bool, true, false, not, ◌&&◌, cond, eqb, ltb, leb, is_some, IsTrue, Option, Some, None, Ok, List, [], ◌∷◌, ◌++◌, length, map, refl, sym, ap, ◌∙◌, subst, arith}
+use Rattle.std.proofs.Common.{◌≡◌, ℕ, ◌+◌, ◌*◌, ◌≤◌, false, not, ltb, Some, List, [], ◌∷◌, length, map, sym, ap, ◌∙◌, subst, arith}
 use Rattle.std.proofs.Math.Nat.{mul-le-mul_right, add-mul}
-use Rattle.std.proofs.lemmas.List.{length-map, append-nil}
+use Rattle.std.proofs.lemmas.List.{length-map}
 use Rattle.std.specs.Prelude.{Contains}
 use Rattle.std.specs.List.{list_any, range_with_len}
 use Rattle.loop_record.specs.declared.clip.Span.{Span}
 use Rattle.loop_record.specs.declared.geometry.Geometry.{Geometry}
-use Rattle.loop_record.specs.Recording.{Picture, Recording, holds, holds_all, RiseBetween, IsWhole, IsWellFormed}
+use Rattle.loop_record.specs.Recording.{Recording, holds_all, RiseBetween, IsWhole, IsWellFormed}
 use Rattle.loop_record.specs.Layout.{Segment, clip_in}
-use Rattle.loop_record.specs.Reading.{frames_of, all_frames, next_after, recording_of, is_bad_clip, has_bad_clip, checked, shown, parts_of, opened, by_block, Holds}
-use Rattle.loop_record.proofs.Tests.{neither, not_false, not_below, at_most_test}
+use Rattle.loop_record.specs.Reading.{frames_of, all_frames, next_after, recording_of, is_bad_clip, has_bad_clip, parts_of, opened, by_block, Holds}
+use Rattle.loop_record.proofs.Decided.{neither, not_false, not_below, at_most_test}
 use Rattle.loop_record.proofs.Rising.{RiseBetween-lower, RiseBetween-append, RiseBetween-enumerate, none-each}
 use Rattle.loop_record.proofs.Segments.{Rises, Rises-by_block, repeats-by_block}
-use Rattle.loop_record.proofs.Changes.{Shown, shown_of, is_overfull}
+use Rattle.loop_record.proofs.Changes.{shown_of, is_overfull}
 use Rattle.loop_record.proofs.WellFormed.{whole_of}
 use Rattle.loop_record.proofs.Parts.{reading-stages}
 use Rattle.loop_record.proofs.Readings.{overfull_none, length-range}

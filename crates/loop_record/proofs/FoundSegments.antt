@@ -1,5 +1,5 @@
 -- Open segments as their headers were found.
-use Rattle.std.proofs.Common.{◌≡◌, ℕ, zero, suc, ◌+◌, ◌-◌, ◌*◌, ◌^◌, ◌<◌, ◌≤◌, Bool, true, false, not, ◌&&◌, append_assoc, cond, eqb, leb, IsTrue, Option, Some, None, Result, Ok, Err, List, [], ◌∷◌, ◌++◌, length, take, drop, get_or, set, map, refl, sym, ap, ◌∙◌, subst, arith}
+use Rattle.std.proofs.Common.{◌≡◌, ℕ, zero, suc, ◌+◌, ◌-◌, ◌*◌, ◌^◌, ◌<◌, ◌≤◌, Bool, true, false, not, ◌&&◌, append_assoc, cond, eqb, leb, Option, Some, None, Result, Ok, Err, List, [], ◌∷◌, ◌++◌, length, take, drop, set, map, refl, sym, ap, ◌∙◌, subst, arith}
 use Rattle.std.proofs.lemmas.List.{length-map, take_all, map-append, length-take, length-drop}
 use Rattle.std.proofs.Math.Seq.{take-suc-set}
 use Rattle.std.proofs.lemmas.List.Folds.{list_any-append}
@@ -26,12 +26,11 @@ use Rattle.std.proofs.Math.Nat.{mul-le-mul_right, add-mul}
 use Rattle.loop_record.proofs.Framing.{prefix_range-le, slot_within}
 use Rattle.loop_record.proofs.Gates.{range_append}
 use Rattle.loop_record.proofs.Segments.{any-by_block}
-use Rattle.loop_record.proofs.Tests.{equal, equal_test, differ_test, not_below}
+use Rattle.loop_record.proofs.Decided.{equal, equal_test, differ_test, not_below}
 use Rattle.std.proofs.lemmas.Bool.Decides.{nat_tests}
 use Rattle.byteorder.specs.Endian.{little_from}
 use Rattle.loop_record.proofs.Growth.{enumerate-append, hold_from-append}
 use Rattle.loop_record.specs.Recording.{Picture, picture, head, empty}
-use Rattle.loop_record.proofs.Kept.{drop-item}
 use Rattle.loop_record.proofs.Readings.{length-range}
 
 pub insert-in_place : (g : Geometry) (image : List ℕ) (x : Found) (xs : List Found)
@@ -209,10 +208,11 @@ found-some g image j f e = gate (is_open image (segment_at g j)) refl e
 
     whole : is_open image (segment_at g j) ≡ true → is_too_high g said.block ≡ false → these ≡ f → (segment_in g image j ≡ Some (segment_of g image f)) × (f.segment ≡ j) × (f.frames ≤ g.slots) × (is_too_high g f.block ≡ false)
     whole is low are = (
-        (λ i. cond (is i) (Some (segment_of g image these)) None) ∙ ap (λ (x : Found). Some (segment_of g image x)) are,
-        sym (ap (λ (x : Found). x.segment) are),
-        omega (arith, ap (λ (x : Found). x.frames) are, prefix_range-le (λ i. is_open image (segment_at g j + 256 + i)) 0 g.slots),
-        sym (ap (λ (x : Found). is_too_high g x.block) are) ∙ low)
+      (λ i. cond (is i) (Some (segment_of g image these)) None) ∙ ap (λ (x : Found). Some (segment_of g image x)) are,
+      sym (ap (λ (x : Found). x.segment) are),
+      omega (arith, ap (λ (x : Found). x.frames) are, prefix_range-le (λ i. is_open image (segment_at g j + 256 + i)) 0 g.slots),
+      sym (ap (λ (x : Found). is_too_high g x.block) are) ∙ low,
+    )
 
     high : (t : Bool) → is_too_high g said.block ≡ t → is_open image (segment_at g j) ≡ true → ok (Some f) ≡ found_of j (cond t (Err BlockTooHigh) (Ok (Some said))) → (segment_in g image j ≡ Some (segment_of g image f)) × (f.segment ≡ j) × (f.frames ≤ g.slots) × (is_too_high g f.block ≡ false)
     high true low is e = absurd cc
@@ -421,9 +421,10 @@ clips-more frames image cut clips id c l is e so_far good = go (is_bad_clip (rec
     go : (t : Bool) → is_bad_clip (record empty { frames = frames }) (clip_in image id) ≡ t → ok c ≡ cond t (Err ClipRange) (Ok (clip_in image id)) → (take (id + 1) (set clips id c) ≡ map (clip_in image) (range_with_len 0 (id + 1))) × (some_bad frames (map (clip_in image) (range_with_len 0 (id + 1))) ≡ false)
     go true bad e = absurd cc
     go false bad e =
-        let n : id + 1 ≡ suc id = omega arith in
-        (ap (λ (k : ℕ). take k (set clips id c)) n ∙ take-suc-set clips id c l ∙ (λ i. so_far i ++ same e i ∷ []) ∙ sym split,
-        ap (some_bad frames) split ∙ list_any-append (is_bad_clip (record empty { frames = frames })) (map (clip_in image) (range_with_len 0 id)) (clip_in image id ∷ []) ∙ (λ i. good i || (bad i || false)))
+        let n : id + 1 ≡ suc id = omega arith in (
+          ap (λ (k : ℕ). take k (set clips id c)) n ∙ take-suc-set clips id c l ∙ (λ i. so_far i ++ same e i ∷ []) ∙ sym split,
+          ap (some_bad frames) split ∙ list_any-append (is_bad_clip (record empty { frames = frames })) (map (clip_in image) (range_with_len 0 id)) (clip_in image id ∷ []) ∙ (λ i. good i || (bad i || false)),
+        )
 
 -- ---- the whole
 

@@ -1,20 +1,20 @@
 -- What a freshly formatted image reads as, and what a part reads as once it has been written.
-use Rattle.std.proofs.Common.{◌≡◌, ◌⊎◌, inl, inr, ℕ, zero, suc, ◌+◌, ◌-◌, ◌*◌, ◌^◌, ◌<◌, ◌≤◌, Bool, true, false, cond, ◌&&◌, eqb, leb, IsTrue, Option, Some, None, Ok, Err, List, [], ◌∷◌, ◌++◌, length, take, drop, get_or, map, replicate, refl, sym, ap, ◌∙◌, subst, arith}
+use Rattle.std.proofs.Common.{◌≡◌, inr, ℕ, zero, suc, ◌+◌, ◌-◌, ◌^◌, ◌<◌, ◌≤◌, true, false, cond, ◌&&◌, eqb, IsTrue, Option, Some, None, Ok, Err, List, [], ◌++◌, length, take, drop, get_or, map, replicate, refl, sym, ap, ◌∙◌, arith}
 use Rattle.std.proofs.lemmas.List.{take_all, append-nil, take-append-drop, get_or-take, get_or-drop, drop-take, drop-drop, take-take}
 use Rattle.std.specs.Prelude.{slice_range}
 use Rattle.std.specs.List.{range_with_len}
-use Rattle.byteorder.specs.Endian.{little_from, little_bytes}
+use Rattle.byteorder.specs.Endian.{little_from}
 use Rattle.byteorder.specs.Numbers.{little_number-reads_back}
 use Rattle.loop_record.specs.declared.clip.Span.{Span}
 use Rattle.loop_record.specs.declared.damage.Damage.TheVariants.{SlotHead}
 use Rattle.loop_record.specs.declared.geometry.Geometry.{Geometry}
 use Rattle.loop_record.specs.Geometry.{frame_bytes, is_good, segment_at, slot_at, clip_at}
 use Rattle.loop_record.specs.Recording.{Picture, empty, head}
-use Rattle.loop_record.specs.Layout.{Slot, Segment, is_open, open_gates, whole_frames, segment_in, entry_at, clip_in, header_at, super_bytes, header_bytes, entry_bytes, geometry_in, slot_in, slot_bytes, slot_head, is_slot_of}
-use Rattle.loop_record.specs.Reading.{parts_of, shown, checked, by_block, opened, begun, Holds, IsFresh}
+use Rattle.loop_record.specs.Layout.{is_open, open_gates, whole_frames, segment_in, entry_at, clip_in, header_at, super_bytes, header_bytes, entry_bytes, geometry_in, slot_in, slot_bytes, slot_head}
+use Rattle.loop_record.specs.Reading.{checked, by_block, opened, begun, Holds, IsFresh}
 use Rattle.loop_record.specs.Laws.{FitsSlot, WrittenIsRead}
 use Rattle.loop_record.proofs.Bounds.{limits}
-use Rattle.loop_record.proofs.Tests.{equal_test}
+use Rattle.loop_record.proofs.Decided.{equal_test}
 use Rattle.loop_record.proofs.Framing.{map_range, prefix_range}
 use Rattle.loop_record.proofs.Gates.{open_gates-are}
 use Rattle.loop_record.proofs.Parts.{stages-reading}
@@ -141,9 +141,9 @@ written = record {
   superblock = λ g good. ap geometry_in (sym (append-nil (super_bytes g))) ∙ geometry_in-super_bytes g [] good;
   header = λ g b good fits. header g b (limits g good).slots.0 fits;
   entry = λ s low high.
-    let from = little_number-reads_back 8 s.from [] low in
-    let to = little_number-reads_back 8 s.to [] high in
-    λ i. Some (record { from = from i; to = to i });
+      let from = little_number-reads_back 8 s.from [] low in
+      let to = little_number-reads_back 8 s.to [] high in
+      λ i. Some (record { from = from i; to = to i });
 }
   where
     header : (g : Geometry) (b : ℕ) → 1 ≤ g.slots → b < 2 ^ 64 → header_at g (header_bytes b) 0 ≡ Some (record { block = b; frames = 0 })

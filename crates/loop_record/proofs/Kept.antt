@@ -1,5 +1,5 @@
 -- Frames with their numbers, from a place on.
-use Rattle.std.proofs.Common.{◌≡◌, ℕ, zero, suc, ◌+◌, ◌-◌, ◌<◌, ◌≤◌, Bool, true, false, cond, eqb, Option, Some, None, List, [], ◌∷◌, ◌++◌, append_assoc, length, drop, get_or, map, refl, sym, ap, ◌∙◌, arith}
+use Rattle.std.proofs.Common.{◌≡◌, ℕ, suc, ◌+◌, ◌-◌, ◌<◌, ◌≤◌, Bool, true, false, cond, eqb, Option, Some, None, List, [], ◌∷◌, ◌++◌, append_assoc, length, drop, get_or, refl, sym, ap, ◌∙◌, arith}
 use Rattle.std.proofs.Math.Seq.{drop-cons}
 use Rattle.std.proofs.lemmas.List.{drop_all, map-append, length-map}
 use Rattle.std.proofs.lemmas.Bool.Decides.{nat_tests}
@@ -11,7 +11,7 @@ use Rattle.loop_record.specs.declared.frame.Numbered.{Numbered}
 use Rattle.loop_record.specs.Recording.{Picture, Ring, picture, block, with_block, blocks_of, is_that, victim, RiseBetween}
 use Rattle.loop_record.specs.Plain.{numbered, pictures}
 use Rattle.loop_record.proofs.Victim.{is_candidate, first_candidate, last_block, with-head, victim-first}
-use Rattle.loop_record.proofs.Tests.{clash, untrue, equal, equal_test, differ, differ_test}
+use Rattle.loop_record.proofs.Decided.{clash, untrue, equal, differ, differ_test}
 use Rattle.loop_record.proofs.Growth.{enumerate-append}
 use Rattle.loop_record.proofs.Rising.{all_range-each, each-all_range}
 

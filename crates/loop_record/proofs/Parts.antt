@@ -1,7 +1,6 @@
 -- An image in which one segment has changed has the other parts of the old one.
-use Rattle.std.proofs.Common.{◌≡◌, ◌⊎◌, inl, inr, ℕ, zero, suc, ◌+◌, ◌*◌, ◌<◌, ◌≤◌, Bool, true, false, cond, ◌&&◌, eqb, leb, IsTrue, Option, Some, None, Result, Ok, Err, List, [], ◌∷◌, length, set, get_or, map, refl, sym, ap, ◌∙◌, subst, arith}
+use Rattle.std.proofs.Common.{◌≡◌, ◌⊎◌, inl, inr, ℕ, zero, suc, ◌+◌, ◌*◌, ◌<◌, ◌≤◌, Bool, true, false, cond, ◌&&◌, eqb, IsTrue, Option, Some, None, Result, Ok, Err, List, ◌∷◌, length, set, map, refl, ap, ◌∙◌, subst, arith}
 use Rattle.std.proofs.Math.Nat.{mul-le-mul_right, add-mul}
-use Rattle.std.proofs.lemmas.Bool.{cases_lt}
 use Rattle.std.proofs.lemmas.Bool.Decides.{nat_tests}
 use Rattle.std.specs.List.{range_with_len}
 use Rattle.loop_record.specs.declared.damage.Damage.{Damage}
@@ -10,12 +9,12 @@ use Rattle.loop_record.specs.declared.damage.LayoutFault.{LayoutFault}
 use Rattle.loop_record.specs.declared.damage.LayoutFault.TheVariants.{Damaged, NotFormatted}
 use Rattle.loop_record.specs.declared.geometry.Geometry.{Geometry}
 use Rattle.loop_record.specs.declared.geometry.PixelFormat.{PixelFormat}
-use Rattle.loop_record.specs.Geometry.{is_good, disk_size, segment_at, segment_size, clip_at, frame_bytes}
+use Rattle.loop_record.specs.Geometry.{is_good, disk_size, segment_at, segment_size, clip_at}
 use Rattle.loop_record.specs.Recording.{Recording}
-use Rattle.loop_record.specs.Change.{SameBut, ShowsSegment, ShowsClip}
+use Rattle.loop_record.specs.Change.{SameBut, ShowsSegment}
 use Rattle.loop_record.specs.Layout.{Segment, segment_in, clip_in, geometry_in, checked_geometry, geometry_fields, format_at, is_formatted, is_super_of}
-use Rattle.loop_record.specs.Reading.{Parts, parts_of, shown, Contents, with_geometry, contents, reading}
-use Rattle.loop_record.proofs.Bounds.{Limits, limits}
+use Rattle.loop_record.specs.Reading.{parts_of, shown, Contents, with_geometry, contents, reading}
+use Rattle.loop_record.proofs.Bounds.{limits}
 use Rattle.loop_record.proofs.Framing.{SameWithin, map_range, same_segment, same_clip, same_geometry}
 
 -- ---- parts of one image and of the other

@@ -1,21 +1,21 @@
 -- What an image reads as after one segment of it has changed.
-use Rattle.std.proofs.Common.{◌≡◌, ◌⊎◌, inl, inr, ℕ, zero, suc, ◌+◌, ◌*◌, ◌/◌, ◌%◌, ◌^◌, ◌<◌, ◌≤◌, Bool, true, false, cond, eqb, ltb, leb, Option, Some, None, Ok, Err, List, [], ◌∷◌, ◌++◌, length, set, get_or, map, refl, sym, ap, ◌∙◌, subst, arith}
+use Rattle.std.proofs.Common.{◌≡◌, ℕ, zero, suc, ◌+◌, ◌*◌, ◌/◌, ◌%◌, ◌<◌, ◌≤◌, Bool, true, false, cond, Option, Some, None, Ok, List, [], ◌∷◌, ◌++◌, length, set, get_or, map, refl, sym, ap, ◌∙◌, arith}
 use Rattle.std.proofs.Math.Nat.{div-lt_iff_lt-mul, div-add-mod'}
 use Rattle.std.proofs.lemmas.Bool.Decides.{nat_tests}
 use Rattle.std.proofs.lemmas.List.{length-map, set-get_or}
 use Rattle.std.specs.Prelude.{◌||◌}
-use Rattle.std.specs.List.{list_any, range_with_len, prefix_len}
+use Rattle.std.specs.List.{list_any, range_with_len}
 use Rattle.loop_record.specs.declared.geometry.Geometry.{Geometry}
 use Rattle.loop_record.specs.Geometry.{frame_bytes, gate_at}
-use Rattle.loop_record.specs.Recording.{Picture, Recording, Ring, store, recycle, plain, after, victim, ring_of}
+use Rattle.loop_record.specs.Recording.{Recording, store, recycle, plain, after, victim, ring_of}
 use Rattle.loop_record.specs.Layout.{Slot, Segment, segment_in, whole_frames, is_open}
-use Rattle.loop_record.specs.Reading.{opened, by_block, repeats, is_high, hold_from, shown, parts_of, checked, reading, begun}
-use Rattle.loop_record.specs.Change.{ShowsSegment, ShowsClip}
-use Rattle.loop_record.proofs.Bounds.{Limits, limits}
+use Rattle.loop_record.specs.Reading.{opened, by_block, repeats, is_high, hold_from, parts_of, checked, reading, begun}
+use Rattle.loop_record.specs.Change.{ShowsSegment}
+use Rattle.loop_record.proofs.Bounds.{limits}
 use Rattle.loop_record.proofs.Framing.{prefix_range-le}
-use Rattle.loop_record.proofs.Parts.{ReadsAs, these, reading-stages, geometry-good, reading-shows}
-use Rattle.loop_record.proofs.Segments.{Placed, placed, placed_there, has_block, any-by_block, repeats-by_block}
-use Rattle.loop_record.proofs.Changes.{Shown, shown_of, is_overfull, checked-commit, newest-next, checked-begin}
+use Rattle.loop_record.proofs.Parts.{these, reading-stages, geometry-good, reading-shows}
+use Rattle.loop_record.proofs.Segments.{placed, placed_there, has_block, any-by_block, repeats-by_block}
+use Rattle.loop_record.proofs.Changes.{shown_of, is_overfull, checked-commit, newest-next, checked-begin}
 use Rattle.loop_record.proofs.Retired.{checked-retire}
 
 -- ---- the options that an image's segments are

@@ -1,8 +1,7 @@
 -- What the open segments show without one whose block no clip meets.
 use Rattle.std.proofs.Common.{◌≡◌, ◌⊎◌, inl, inr, ℕ, zero, suc, ◌+◌, ◌-◌, ◌*◌, ◌/◌, ◌<◌, ◌≤◌, Bool, true, false, not, cond, ◌&&◌, eqb, ltb, leb, is_some, Option, Some, None, Ok, List, [], ◌∷◌, ◌++◌, length, take, map, refl, sym, ap, ◌∙◌, subst, arith}
-use Rattle.std.proofs.Math.Nat.{mul-le-mul_right, add-mul, div-eq_of_lt-le, div-mul-le_self, le-div_iff_mul-le, div-lt_iff_lt-mul}
+use Rattle.std.proofs.Math.Nat.{add-mul, div-eq_of_lt-le, div-mul-le_self, le-div_iff_mul-le}
 use Rattle.std.proofs.lemmas.Bool.Decides.{nat_tests}
-use Rattle.std.proofs.lemmas.Bool.{cases_lt}
 use Rattle.std.proofs.lemmas.List.{append-nil, length-map}
 use Rattle.std.proofs.lemmas.List.Elements.{filter-append}
 use Rattle.std.proofs.lemmas.List.Folds.{list_any-append}
@@ -15,7 +14,7 @@ use Rattle.loop_record.specs.Layout.{Segment}
 use Rattle.loop_record.specs.Reading.{frames_of, all_frames, next_after, lacks_frame, is_high, repeats, is_bad_slot, is_bad_clip, has_bad_clip, recording_of, checked}
 use Rattle.loop_record.proofs.Growth.{AllBelow}
 use Rattle.loop_record.proofs.Segments.{AllAbove, has_block, any_move, repeats_move}
-use Rattle.loop_record.proofs.Changes.{Shown, shown_of, of_shown, neither, next_after-behind, all_frames-append, is_overfull}
+use Rattle.loop_record.proofs.Changes.{shown_of, of_shown, neither, next_after-behind, all_frames-append, is_overfull}
 
 -- ---- frames of one block
 

@@ -1,15 +1,15 @@
 -- What the plain recorder's calls keep.
-use Rattle.std.proofs.Common.{◌≡◌, ◌⊎◌, inl, inr, ℕ, zero, suc, ◌+◌, ◌<◌, ◌≤◌, Bool, true, false, ◌&&◌, cond, ltb, leb, is_some, IsTrue, Option, Some, None, List, [], ◌∷◌, ◌++◌, length, set, get_or, refl, sym, ap, ◌∙◌, subst, arith}
+use Rattle.std.proofs.Common.{◌≡◌, ◌⊎◌, inl, inr, ℕ, ◌+◌, ◌<◌, ◌≤◌, Bool, true, false, ◌&&◌, cond, ltb, leb, is_some, IsTrue, Option, Some, None, List, [], ◌∷◌, ◌++◌, length, set, get_or, refl, sym, ap, ◌∙◌, subst}
 use Rattle.std.proofs.lemmas.Bool.{cases_lt}
 use Rattle.std.proofs.lemmas.List.{map-append, get_or_past}
 use Rattle.loop_record.specs.declared.clip.Span.{Span}
 use Rattle.loop_record.specs.declared.frame.Frame.{Frame}
 use Rattle.loop_record.specs.declared.frame.Numbered.{Numbered}
 use Rattle.loop_record.specs.declared.geometry.Geometry.{Geometry}
-use Rattle.loop_record.specs.Recording.{Picture, Recording, Step, store, recycle, lock, unlock, picture, ring_of, is_that, is_legal, victim, clip_of, free_id, holds_all, IsWellFormed}
+use Rattle.loop_record.specs.Recording.{Picture, Step, store, recycle, lock, unlock, picture, ring_of, is_that, is_legal, victim, clip_of, free_id, holds_all}
 use Rattle.loop_record.specs.Reading.{Contents}
 use Rattle.loop_record.specs.Plain.{numbered, stepped, lock_id, IsSound}
-use Rattle.loop_record.proofs.Tests.{equal_test}
+use Rattle.loop_record.proofs.Decided.{equal_test}
 use Rattle.loop_record.proofs.Bounds.{limits}
 use Rattle.loop_record.proofs.WellFormed.{after-well_formed}
 
@@ -23,7 +23,7 @@ pub sound-store : {A : Type 0} (g : Geometry) (next : ℕ) (clips : List (Option
 sound-store {A} g next clips old items new frame s kept pushed =
     let c : Contents = record { geometry = g; recording = record { next = next; frames = numbered old; clips = clips } } in
     let more : numbered new ≡ numbered old ++ (next, picture frame) ∷ [] = ap (λ (xs : List (Numbered A)). numbered xs) (pushed ∙ ap (λ (xs : List (Numbered A)). xs ++ record { number = next; frame = frame } ∷ []) kept)
-        ∙ map-append (λ (x : Numbered A). (x.number, picture x.frame)) old (record { number = next; frame = frame } ∷ []) in
+    ∙ map-append (λ (x : Numbered A). (x.number, picture x.frame)) old (record { number = next; frame = frame } ∷ []) in
     subst (λ (fs : List (ℕ × Picture)). IsSound (record { geometry = g; recording = record { next = next + 1; frames = fs; clips = clips } })) (sym more) (sound-step c (store (picture frame)) s refl)
 
 that : (o : Option ℕ) (b : ℕ) → o ≡ Some b → is_that o b ≡ true

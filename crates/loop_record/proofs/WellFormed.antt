@@ -1,12 +1,11 @@
 -- Legal steps keep a recording well formed.
-use Rattle.std.proofs.Common.{◌≡◌, ◌⊎◌, inl, inr, ℕ, zero, suc, ◌+◌, ◌-◌, ◌<◌, ◌≤◌, Bool, true, false, not, ◌&&◌, cond, eqb, ltb, leb, is_some, IsTrue, Option, Some, None, List, [], ◌∷◌, ◌++◌, length, set, get_or, map, refl, sym, ap, ◌∙◌, subst, arith}
-use Rattle.std.proofs.lemmas.List.{length-set, get_or-set_same, get_or-set_other}
+use Rattle.std.proofs.Common.{◌≡◌, ◌⊎◌, inl, inr, ℕ, zero, suc, ◌+◌, ◌-◌, ◌≤◌, Bool, true, false, not, ◌&&◌, cond, eqb, ltb, leb, is_some, IsTrue, Option, Some, None, List, [], ◌∷◌, set, map, refl, ap, ◌∙◌, subst, arith}
+use Rattle.std.proofs.lemmas.List.{length-set}
 use Rattle.std.specs.Prelude.{Contains}
-use Rattle.std.specs.List.{list_any, list_all, range_with_len}
 use Rattle.loop_record.specs.declared.clip.Span.{Span}
-use Rattle.loop_record.specs.Recording.{Picture, Recording, Ring, Step, store, recycle, lock, unlock, after, is_legal, holds, holds_all, frame_under, free_id, clip_of, victim, is_that, is_locked, older_blocks, meets, block, steps, plain, empty, stores_after, recycling_first, needs_recycling, last_number, RiseBetween, IsWhole, IsWellFormed}
+use Rattle.loop_record.specs.Recording.{Picture, Recording, Ring, Step, store, recycle, lock, unlock, after, is_legal, holds, holds_all, free_id, victim, is_that, is_locked, older_blocks, meets, block, steps, plain, empty, stores_after, recycling_first, needs_recycling, last_number, IsWhole, IsWellFormed}
 use Rattle.loop_record.specs.Laws.{AreLegal}
-use Rattle.loop_record.proofs.Tests.{clash, both, not_true, at_most, not_below, equal, equal_test}
+use Rattle.loop_record.proofs.Decided.{clash, both, not_true, at_most, equal, equal_test}
 use Rattle.loop_record.proofs.Growth.{under-append}
 use Rattle.loop_record.proofs.Retired.{under-filter, outside_clip, found}
 use Rattle.loop_record.proofs.Rising.{RiseBetween-append, RiseBetween-filter, all_range-each, none-each}

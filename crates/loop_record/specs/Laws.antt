@@ -1,9 +1,9 @@
 -- What follows from the definitions, in words.
-use Rattle.std.specs.Prelude.{◌≡◌, ◌↔◌, ℕ, ◌+◌, ◌≤◌, ◌<◌, ◌^◌, IsTrue, Option, Some, None, Result, Ok, List, [], ◌∷◌, length}
+use Rattle.std.specs.Prelude.{◌≡◌, ◌↔◌, ℕ, ◌≤◌, ◌<◌, ◌^◌, IsTrue, Some, None, Ok, List, [], ◌∷◌, length}
 use Rattle.loop_record.specs.declared.clip.Span.{Span}
 use Rattle.loop_record.specs.declared.geometry.Geometry.{Geometry}
 use Rattle.loop_record.specs.Geometry.{is_good}
-use Rattle.loop_record.specs.Recording.{Picture, Recording, Ring, Step, head, empty, victim, is_legal, after, steps, plain, IsWellFormed, MayGo, IsVictim}
+use Rattle.loop_record.specs.Recording.{Picture, Recording, Ring, Step, head, empty, victim, is_legal, after, steps, IsWellFormed, MayGo, IsVictim}
 use Rattle.loop_record.specs.Layout.{super_bytes, slot_bytes, header_bytes, entry_bytes, geometry_in, slot_in, slot_head, header_at, entry_at}
 use Rattle.loop_record.specs.Reading.{Holds, IsFresh}
 

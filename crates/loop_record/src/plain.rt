@@ -7,10 +7,9 @@ ghost use Rattle.loop_record.specs.Recording.{Step, store, recycle, lock, unlock
 ghost use Rattle.loop_record.specs.Reading.{Contents};
 ghost use Rattle.loop_record.specs.Plain.{numbered, lock_id, stepped, append_steps, IsSound};
 
+use crate::{Frame, Geometry, Numbered, Span, rules};
 use std::alloc::{AllocError, Allocator, Global};
 use std::marker::Model;
-
-use crate::{Frame, Geometry, Numbered, Span, rules};
 
 /// No frame has this number or one above it.
 const NUMBERS: u64 = 1 << 62;

@@ -7,10 +7,9 @@ ghost use Rattle.loop_record.specs.Geometry.{is_good};
 ghost use Rattle.loop_record.specs.Recording.{ring_of, block, blocks_of, is_that, meets, frame_under, picture, victim, RiseBetween};
 ghost use Rattle.loop_record.specs.Plain.{numbered, pictures};
 
-use std::alloc::Allocator;
-
 use crate::frame::Numbered;
 use crate::{Frame, Geometry, Span};
+use std::alloc::Allocator;
 
 /// The block of a number.
 pub(crate) fn block(geometry: &Geometry, number: u64) -> u64
@@ -143,7 +142,11 @@ pub(crate) fn free_id(clips: &[Option<Span>]) -> u32
 }
 
 /// Takes the frames of a block away.
-pub(crate) fn recycle<A: Allocator>(geometry: &Geometry, frames: &mut Vec<Numbered<A>, A>, gone: u64)
+pub(crate) fn recycle<A: Allocator>(
+    geometry: &Geometry,
+    frames: &mut Vec<Numbered<A>, A>,
+    gone: u64,
+)
     requires { IsTrue (is_good geometry.now) }
     ensures kept { numbered frames.new.items ≡ filter (λ f. not (block (ring_of geometry.now) f.0 == gone)) (numbered frames.old.items) }
     ensures capacity { vec_capacity frames.new ≡ vec_capacity frames.old }
@@ -153,7 +156,11 @@ pub(crate) fn recycle<A: Allocator>(geometry: &Geometry, frames: &mut Vec<Number
 }
 
 /// Adds frames with the numbers from `next` on.
-pub(crate) fn store_all<A: Allocator>(frames: &mut Vec<Numbered<A>, A>, next: u64, group: Vec<Frame<A>, A>)
+pub(crate) fn store_all<A: Allocator>(
+    frames: &mut Vec<Numbered<A>, A>,
+    next: u64,
+    group: Vec<Frame<A>, A>,
+)
     requires room { vec_len frames.old + vec_len group ≤ vec_capacity frames.old }
     requires numbers { next + vec_len group < 2 ^ 64 }
     ensures { numbered frames.new.items ≡ numbered frames.old.items ++ enumerate_from next (pictures group.items) }

@@ -1,7 +1,6 @@
 //! The worked rows, run: sizes, the plain recorder, and what images read as.
 
 use super::*;
-
 use std::alloc::{AllocError, Global};
 use std::process::Abort;
 use std::test::Fail;
@@ -100,7 +99,10 @@ fn recycling_and_locking(rt: HostRuntime) -> Result<(), Fail> {
     for n in 0..7u8 {
         assert_eq!(rt; append(&rt, &mut recorder, pattern(alloc, n)?)?, None);
     }
-    assert_eq!(rt; numbers(alloc, &recorder)?.as_slice(), [2, 3, 4, 5, 6].as_slice());
+    assert_eq!(rt;
+        numbers(alloc, &recorder)?.as_slice(),
+        [2, 3, 4, 5, 6].as_slice()
+    );
     assert_eq!(rt; recorder.next(), 7);
     assert_eq!(rt; recorder.room(), 1);
     assert_eq!(rt; recorder.lock(Span { from: 5, to: 4 }), None);
@@ -109,14 +111,23 @@ fn recycling_and_locking(rt: HostRuntime) -> Result<(), Fail> {
     for n in 7..9u8 {
         assert_eq!(rt; append(&rt, &mut recorder, pattern(alloc, n)?)?, None);
     }
-    assert_eq!(rt; numbers(alloc, &recorder)?.as_slice(), [2, 3, 6, 7, 8].as_slice());
+    assert_eq!(rt;
+        numbers(alloc, &recorder)?.as_slice(),
+        [2, 3, 6, 7, 8].as_slice()
+    );
     assert_eq!(rt; recorder.lock(Span { from: 6, to: 6 }), Some(1));
     assert_eq!(rt; append(&rt, &mut recorder, pattern(alloc, 9)?)?, None);
-    assert_eq!(rt; append(&rt, &mut recorder, pattern(alloc, 10)?)?, Some(AppendFault::AllLocked));
+    assert_eq!(rt;
+        append(&rt, &mut recorder, pattern(alloc, 10)?)?,
+        Some(AppendFault::AllLocked)
+    );
     assert_eq!(rt; recorder.next(), 10);
     assert!(rt; recorder.unlock(1) && !recorder.unlock(1) && !recorder.unlock(64));
     assert_eq!(rt; append(&rt, &mut recorder, pattern(alloc, 10)?)?, None);
-    assert_eq!(rt; numbers(alloc, &recorder)?.as_slice(), [2, 3, 8, 9, 10].as_slice());
+    assert_eq!(rt;
+        numbers(alloc, &recorder)?.as_slice(),
+        [2, 3, 8, 9, 10].as_slice()
+    );
     assert_eq!(rt; recorder.clip(0), Some(Span { from: 2, to: 2 }));
     let eight = recorder.frame(8).ok_or("frame 8 is held")?;
     assert_eq!(rt; (eight.sequence, eight.timestamp), (8, 320_000));
@@ -231,13 +242,28 @@ fn an_image_reads_as_its_recording(rt: HostRuntime) -> Result<(), Fail> {
     ];
     assert_eq!(rt; bytes.get(0..44), Some(head.as_slice()));
     assert_eq!(rt; bytes.get(3_716..3_760), Some(slot.as_slice()));
-    assert_eq!(rt; decode_slot(&slot, 3).map(|head| head.timestamp), Ok(120_000));
+    assert_eq!(rt;
+        decode_slot(&slot, 3).map(|head| head.timestamp),
+        Ok(120_000)
+    );
     assert_eq!(rt; decode_slot(&slot, 4), Err(Damage::SlotHead));
     let recorder = read_image(alloc, bytes).ok().ok_or("the image is whole")?;
-    assert_eq!(rt; numbers(alloc, &recorder)?.as_slice(), [2, 3, 4, 5, 6].as_slice());
+    assert_eq!(rt;
+        numbers(alloc, &recorder)?.as_slice(),
+        [2, 3, 4, 5, 6].as_slice()
+    );
     let three = recorder.frame(3).ok_or("frame 3 is held")?;
-    assert_eq!(rt; three.bytes.as_slice(), [3, 4, 5, 6, 7, 8, 9, 10, 11, 12, 13, 14].as_slice());
-    assert_eq!(rt; answer(&rt, read_image(alloc, &bytes[..4_359.min(bytes.len())])), (1, 0, 0));
-    assert_eq!(rt; answer(&rt, read_image(alloc, &bytes[..100.min(bytes.len())])), (0, 0, 0));
+    assert_eq!(rt;
+        three.bytes.as_slice(),
+        [3, 4, 5, 6, 7, 8, 9, 10, 11, 12, 13, 14].as_slice()
+    );
+    assert_eq!(rt;
+        answer(&rt, read_image(alloc, &bytes[..4_359.min(bytes.len())])),
+        (1, 0, 0)
+    );
+    assert_eq!(rt;
+        answer(&rt, read_image(alloc, &bytes[..100.min(bytes.len())])),
+        (0, 0, 0)
+    );
     Ok(())
 }
