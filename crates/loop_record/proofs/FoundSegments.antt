@@ -1,0 +1,567 @@
+-- Open segments as their headers were found.
+use Rattle.std.proofs.Common.{◌≡◌, ℕ, zero, suc, ◌+◌, ◌-◌, ◌*◌, ◌^◌, ◌<◌, ◌≤◌, Bool, true, false, not, ◌&&◌, append_assoc, cond, eqb, leb, Option, Some, None, Result, Ok, Err, List, [], ◌∷◌, ◌++◌, length, take, drop, set, map, refl, sym, ap, ◌∙◌, subst, arith}
+use Rattle.std.proofs.lemmas.List.{length-map, take_all, map-append, length-take, length-drop}
+use Rattle.std.proofs.Math.Seq.{take-suc-set}
+use Rattle.std.proofs.lemmas.List.Folds.{list_any-append}
+use Rattle.std.specs.Prelude.{◌||◌, slice_range}
+use Rattle.std.specs.List.{list_any, position_or_len, range_with_len, enumerate_from}
+use Rattle.loop_record.specs.declared.clip.Span.{Span}
+use Rattle.loop_record.specs.declared.damage.Damage.{Damage}
+use Rattle.loop_record.specs.declared.damage.Damage.TheVariants.{DiskSize, BlockTooHigh, RepeatedBlock, ClosedGate, SlotHead, ClipRange}
+use Rattle.loop_record.specs.declared.damage.ImageFault.{ImageFault}
+use Rattle.loop_record.specs.declared.damage.ImageFault.TheVariants.{NoMemory, Layout}
+use Rattle.loop_record.specs.declared.damage.LayoutFault.{LayoutFault}
+use Rattle.loop_record.specs.declared.damage.LayoutFault.TheVariants.{Damaged}
+use Rattle.loop_record.specs.declared.frame.FrameHead.{FrameHead}
+use Rattle.loop_record.specs.declared.geometry.Geometry.{Geometry}
+use Rattle.loop_record.specs.declared.frame.Numbered.{Numbered}
+use Rattle.loop_record.specs.declared.image.Found.{Found}
+use Rattle.loop_record.specs.declared.segment.SegmentHead.{SegmentHead}
+use Rattle.loop_record.specs.Geometry.{frame_bytes, segment_at, segment_size, slot_at, disk_size}
+use Rattle.loop_record.specs.Layout.{Slot, Segment, slot_head, is_open, is_slot_of, is_too_high, slot_in, segment_in, whole_frames, entry_at, clip_in, geometry_in, header_at, checked_header}
+use Rattle.loop_record.specs.Reading.{reading, Contents, Holds, contents, with_geometry, shown, checked, recording_of, is_bad_clip, has_bad_clip, parts_of, opened, by_block, in_place, repeats, lacks_frame, hold_from, is_bad_slot, is_high, next_after, all_frames}
+use Rattle.loop_record.specs.Plain.{numbered, segment_of, segments_of, found_of, found_at, held_clip, with_segment, Reads, IsIn, AreIn, IsSomeHigh, IsFrameIn}
+use Rattle.loop_record.proofs.Fresh.{header_at-slice, slot_in-slice, entry_at-slice}
+use Rattle.std.proofs.Math.Nat.{mul-le-mul_right, add-mul}
+use Rattle.loop_record.proofs.Framing.{prefix_range-le, slot_within}
+use Rattle.loop_record.proofs.Gates.{range_append}
+use Rattle.loop_record.proofs.Segments.{any-by_block}
+use Rattle.loop_record.proofs.Decided.{equal, equal_test, differ_test, not_below}
+use Rattle.std.proofs.lemmas.Bool.Decides.{nat_tests}
+use Rattle.byteorder.specs.Endian.{little_from}
+use Rattle.loop_record.proofs.Growth.{enumerate-append, hold_from-append}
+use Rattle.loop_record.specs.Recording.{Picture, picture, head, empty}
+use Rattle.loop_record.proofs.Readings.{length-range}
+
+pub insert-in_place : (g : Geometry) (image : List ℕ) (x : Found) (xs : List Found)
+    → segments_of g image (take (position_or_len (λ f. leb x.block f.block) xs) xs ++ x ∷ drop (position_or_len (λ f. leb x.block f.block) xs) xs) ≡ in_place (segment_of g image x) (segments_of g image xs)
+insert-in_place g image x [] = refl
+insert-in_place g image x (y ∷ ys) = go (leb x.block y.block) (insert-in_place g image x ys)
+  where
+    k : ℕ
+    k = position_or_len (λ f. leb x.block f.block) ys
+
+    go : (t : Bool) → segments_of g image (take k ys ++ x ∷ drop k ys) ≡ in_place (segment_of g image x) (segments_of g image ys)
+        → segments_of g image (take (cond (not t) (1 + k) 0) (y ∷ ys) ++ x ∷ drop (cond (not t) (1 + k) 0) (y ∷ ys)) ≡ cond t (segment_of g image x ∷ segment_of g image y ∷ segments_of g image ys) (segment_of g image y ∷ in_place (segment_of g image x) (segments_of g image ys))
+    go true ih = refl
+    go false ih =
+        let next : 1 + k ≡ suc k = omega arith in
+        ap (λ (n : ℕ). segments_of g image (take n (y ∷ ys) ++ x ∷ drop n (y ∷ ys))) next ∙ ap (λ (ss : List Segment). segment_of g image y ∷ ss) ih
+
+any-map : (p : ℕ → Bool) (g : Geometry) (image : List ℕ) (xs : List Found) → list_any (λ (s : Segment). p s.block) (segments_of g image xs) ≡ list_any (λ (f : Found). p f.block) xs
+any-map p g image [] = refl
+any-map p g image (x ∷ xs) = ap (λ (t : Bool). p x.block || t) (any-map p g image xs)
+
+pub repeats-first : (g : Geometry) (image : List ℕ) (x : Found) (xs : List Found) → repeats (segments_of g image (x ∷ xs)) ≡ (list_any (λ (f : Found). eqb f.block x.block) xs || repeats (segments_of g image xs))
+repeats-first g image x xs = ap (λ (t : Bool). t || repeats (segments_of g image xs)) (any-map (λ b. eqb b x.block) g image xs)
+
+pub place-le : (p : Found → Bool) (xs : List Found) → position_or_len p xs ≤ length xs
+place-le p [] = omega arith
+place-le p (x ∷ xs) = go (p x) (place-le p xs)
+  where
+    go : (t : Bool) → position_or_len p xs ≤ length xs → cond (not t) (1 + position_or_len p xs) 0 ≤ suc (length xs)
+    go true h = omega arith
+    go false h = omega (arith, h)
+
+-- a segment has as many slots as its header says
+pub length-slots : (g : Geometry) (image : List ℕ) (f : Found) → length (segment_of g image f).slots ≡ f.frames
+length-slots g image f = length-map (range_with_len 0 f.frames) (λ i. slot_in (frame_bytes g) image (slot_at g f.segment i)) ∙ length-range 0 f.frames
+
+pub lacks_frame-front : (g : Geometry) (image : List ℕ) (xs : List Found) (last : Found) → lacks_frame g (segments_of g image (xs ++ last ∷ [])) ≡ list_any (λ (f : Found). not (eqb f.frames g.slots)) xs
+lacks_frame-front g image [] last = refl
+lacks_frame-front g image (x ∷ []) last = ap (λ (n : ℕ). not (eqb n g.slots) || false) (length-slots g image x)
+lacks_frame-front g image (x ∷ y ∷ xs) last =
+    let rest = lacks_frame-front g image (y ∷ xs) last in
+    let here = length-slots g image x in
+    λ i. not (eqb (here i) g.slots) || rest i
+
+pub repeats-then : (g : Geometry) (image : List ℕ) (all xs : List Found) (x : Found) (r : Bool) → all ≡ x ∷ xs → r ≡ list_any (λ (f : Found). eqb f.block x.block) xs → r ≡ true → r ≡ repeats (segments_of g image all)
+repeats-then g image all xs x r is found e =
+    e ∙ ap (λ (t : Bool). t || repeats (segments_of g image xs)) (sym (sym found ∙ e)) ∙ sym (ap (λ (ys : List Found). repeats (segments_of g image ys)) is ∙ repeats-first g image x xs)
+
+pub repeats-else : (g : Geometry) (image : List ℕ) (all xs : List Found) (x : Found) (r s : Bool) → all ≡ x ∷ xs → r ≡ list_any (λ (f : Found). eqb f.block x.block) xs → r ≡ false → s ≡ repeats (segments_of g image xs) → s ≡ repeats (segments_of g image all)
+repeats-else g image all xs x r s is found e rest =
+    rest ∙ ap (λ (t : Bool). t || repeats (segments_of g image xs)) (sym (sym found ∙ e)) ∙ sym (ap (λ (ys : List Found). repeats (segments_of g image ys)) is ∙ repeats-first g image x xs)
+
+-- what the header of segment j, cut out of its image, says
+pub found-is : (g : Geometry) (image : List ℕ) (j at : ℕ) (r : Result (Option SegmentHead) Damage) → g.slots ≤ 256 → at ≡ segment_at g j → r ≡ checked_header g (header_at g (slice_range image at (at + 512)) 0) → found_of j r ≡ found_at g image j
+found-is g image j at r few is e = ap (found_of j) (e ∙ ap (checked_header g) (header_at-slice g image at few ∙ ap (header_at g image) is))
+
+-- the first slots of a segment
+abbrev pub read_slots : Geometry → List ℕ → ℕ → ℕ → List Slot
+read_slots g image j n = map (λ i. slot_in (frame_bytes g) image (slot_at g j i)) (range_with_len 0 n)
+
+read_slots-split : (g : Geometry) (image : List ℕ) (j i m : ℕ) → read_slots g image j (i + m) ≡ read_slots g image j i ++ map (λ k. slot_in (frame_bytes g) image (slot_at g j k)) (range_with_len i m)
+read_slots-split g image j i m =
+    let slot = λ (k : ℕ). slot_in (frame_bytes g) image (slot_at g j k) in
+    let at : 0 + i ≡ i = omega arith in
+    ap (map slot) (range_append 0 i m) ∙ map-append slot (range_with_len 0 i) (range_with_len (0 + i) m) ∙ ap (λ (k : ℕ). read_slots g image j i ++ map slot (range_with_len k m)) at
+
+length-read_slots : (g : Geometry) (image : List ℕ) (j n : ℕ) → length (read_slots g image j n) ≡ n
+length-read_slots g image j n = length-map (range_with_len 0 n) (λ i. slot_in (frame_bytes g) image (slot_at g j i)) ∙ length-range 0 n
+
+-- the slots so far, and one more that holds its frame
+pub slots-more : {A : Type 0} (g : Geometry) (image : List ℕ) (j i first : ℕ) (kept : List (ℕ × Picture)) (x : Numbered A) (old new pushed : List (Numbered A))
+    → hold_from (frame_bytes g) first (read_slots g image j i) ≡ true → numbered old ≡ kept ++ enumerate_from first (map (λ t. t.picture) (read_slots g image j i))
+    → IsFrameIn (frame_bytes g) (first + i) (slot_in (frame_bytes g) image (slot_at g j i)) x → pushed ≡ old ++ x ∷ []
+    → (hold_from (frame_bytes g) first (read_slots g image j (i + 1)) ≡ true) × (numbered pushed ≡ kept ++ enumerate_from first (map (λ t. t.picture) (read_slots g image j (i + 1))))
+slots-more {A} g image j i first kept x old new pushed held so_far is e = (holds, frames)
+  where
+    s : Slot
+    s = slot_in (frame_bytes g) image (slot_at g j i)
+
+    split : read_slots g image j (i + 1) ≡ read_slots g image j i ++ s ∷ []
+    split = read_slots-split g image j i 1
+
+    end : first + length (read_slots g image j i) ≡ first + i
+    end = ap (λ (k : ℕ). first + k) (length-read_slots g image j i)
+
+    holds : hold_from (frame_bytes g) first (read_slots g image j (i + 1)) ≡ true
+    holds = ap (hold_from (frame_bytes g) first) split ∙ hold_from-append (frame_bytes g) first (read_slots g image j i) (s ∷ []) (first + i) end ∙ (λ k. held k && (is.holds k && true))
+
+    pics : map (λ t. t.picture) (read_slots g image j (i + 1)) ≡ map (λ t. t.picture) (read_slots g image j i) ++ s.picture ∷ []
+    pics = ap (map (λ t. t.picture)) split ∙ map-append (λ t. t.picture) (read_slots g image j i) (s ∷ [])
+
+    size : first + length (map (λ t. t.picture) (read_slots g image j i)) ≡ first + i
+    size = ap (λ (k : ℕ). first + k) (length-map (read_slots g image j i) (λ t. t.picture) ∙ length-read_slots g image j i)
+
+    pair : ℕ → Picture → ℕ × Picture
+    pair n q = (n, q)
+
+    one : pair x.number (picture x.frame) ≡ pair (first + i) s.picture
+    one = λ k. pair (is.number_is k) (is.picture_is k)
+
+    frames : numbered pushed ≡ kept ++ enumerate_from first (map (λ t. t.picture) (read_slots g image j (i + 1)))
+    frames =
+        ap (λ (xs : List (Numbered A)). numbered xs) e ∙ map-append (λ (y : Numbered A). (y.number, picture y.frame)) old (x ∷ [])
+        ∙ (λ k. so_far k ++ one k ∷ [])
+        ∙ append_assoc kept (enumerate_from first (map (λ t. t.picture) (read_slots g image j i))) ((first + i, s.picture) ∷ [])
+        ∙ ap (λ (fs : List (ℕ × Picture)). kept ++ fs) (sym (ap (enumerate_from first) pics ∙ enumerate-append first (first + i) (map (λ t. t.picture) (read_slots g image j i)) (s.picture ∷ []) size))
+
+-- a slot that holds another frame makes its segment a bad one
+pub slots-bad : (g : Geometry) (image : List ℕ) (f : Found) (i : ℕ) → i < f.frames → is_slot_of (frame_bytes g) (f.block * g.slots + i) (slot_in (frame_bytes g) image (slot_at g f.segment i)) ≡ false → is_bad_slot g (segment_of g image f) ≡ true
+slots-bad g image f i l fails =
+    ap not (ap (hold_from (frame_bytes g) first) split ∙ hold_from-append (frame_bytes g) first (read_slots g image f.segment i) (slot i ∷ rest) (first + i) end ∙ (λ k. hold_from (frame_bytes g) first (read_slots g image f.segment i) && (fails k && hold_from (frame_bytes g) (first + i + 1) rest)) ∙ and_false (hold_from (frame_bytes g) first (read_slots g image f.segment i)))
+  where
+    first : ℕ
+    first = f.block * g.slots
+
+    slot : ℕ → Slot
+    slot k = slot_in (frame_bytes g) image (slot_at g f.segment k)
+
+    rest : List Slot
+    rest = map slot (range_with_len (i + 1) (f.frames - i - 1))
+
+    and_false : (t : Bool) → (t && false) ≡ false
+    and_false true = refl
+    and_false false = refl
+
+    end : first + length (read_slots g image f.segment i) ≡ first + i
+    end = ap (λ (k : ℕ). first + k) (length-read_slots g image f.segment i)
+
+    split : read_slots g image f.segment f.frames ≡ read_slots g image f.segment i ++ slot i ∷ rest
+    split =
+        let count : f.frames ≡ i + suc (f.frames - i - 1) = omega (arith, l) in
+        ap (read_slots g image f.segment) count ∙ read_slots-split g image f.segment i (suc (f.frames - i - 1))
+
+-- a slot, cut out of its image, holds what it holds in it
+pub slot-cut : (n at : ℕ) (image cut : List ℕ) → at + 32 + n ≤ length image → cut ≡ slice_range image at (at + 32 + n) → (length cut - 32 ≡ n) × (slot_in (length cut - 32) cut 0 ≡ slot_in n image at)
+slot-cut n at image cut room is = (size, ap (λ (k : ℕ). slot_in k cut 0) size ∙ ap (λ (c : List ℕ). slot_in n c 0) is ∙ slot_in-slice n at image)
+  where
+    size : length cut - 32 ≡ n
+    size = omega (arith, ap (λ (c : List ℕ). length c) is, length-take (at + 32 + n - at) (drop at image), length-drop at image, room)
+
+-- ---- what was found
+
+pub found-none : (g : Geometry) (image : List ℕ) (j : ℕ) → (let o : Option Found = None in let r : Result (Option Found) Damage = Ok o in r) ≡ found_at g image j → segment_in g image j ≡ None
+found-none g image j e = gate (is_open image (segment_at g j)) refl e
+  where
+    said : SegmentHead
+    said = record { block = little_from (segment_at g j + 8) 8 image; frames = whole_frames g image j }
+
+    ok : Option Found → Result (Option Found) Damage
+    ok o = Ok o
+
+    high : (t : Bool) → ok None ≡ found_of j (cond t (Err BlockTooHigh) (Ok (Some said))) → ⊥
+    high true e = absurd cc
+    high false e = absurd cc
+
+    gate : (t : Bool) → is_open image (segment_at g j) ≡ t → ok None ≡ found_of j (checked_header g (cond t (Some said) None)) → segment_in g image j ≡ None
+    gate true is e = absurd (high (is_too_high g said.block) e)
+    gate false is e = λ i. cond (is i) (Some (record { block = said.block; slots = read_slots g image j (whole_frames g image j) })) None
+
+pub found-some : (g : Geometry) (image : List ℕ) (j : ℕ) (f : Found) → (let o : Option Found = Some f in let r : Result (Option Found) Damage = Ok o in r) ≡ found_at g image j
+    → (segment_in g image j ≡ Some (segment_of g image f)) × (f.segment ≡ j) × (f.frames ≤ g.slots) × (is_too_high g f.block ≡ false)
+found-some g image j f e = gate (is_open image (segment_at g j)) refl e
+  where
+    said : SegmentHead
+    said = record { block = little_from (segment_at g j + 8) 8 image; frames = whole_frames g image j }
+
+    these : Found
+    these = record { segment = j; block = said.block; frames = said.frames }
+
+    ok : Option Found → Result (Option Found) Damage
+    ok o = Ok o
+
+    same : ok (Some f) ≡ ok (Some these) → these ≡ f
+    same e = cc
+
+    whole : is_open image (segment_at g j) ≡ true → is_too_high g said.block ≡ false → these ≡ f → (segment_in g image j ≡ Some (segment_of g image f)) × (f.segment ≡ j) × (f.frames ≤ g.slots) × (is_too_high g f.block ≡ false)
+    whole is low are = (
+      (λ i. cond (is i) (Some (segment_of g image these)) None) ∙ ap (λ (x : Found). Some (segment_of g image x)) are,
+      sym (ap (λ (x : Found). x.segment) are),
+      omega (arith, ap (λ (x : Found). x.frames) are, prefix_range-le (λ i. is_open image (segment_at g j + 256 + i)) 0 g.slots),
+      sym (ap (λ (x : Found). is_too_high g x.block) are) ∙ low,
+    )
+
+    high : (t : Bool) → is_too_high g said.block ≡ t → is_open image (segment_at g j) ≡ true → ok (Some f) ≡ found_of j (cond t (Err BlockTooHigh) (Ok (Some said))) → (segment_in g image j ≡ Some (segment_of g image f)) × (f.segment ≡ j) × (f.frames ≤ g.slots) × (is_too_high g f.block ≡ false)
+    high true low is e = absurd cc
+    high false low is e = whole is low (same e)
+
+    gate : (t : Bool) → is_open image (segment_at g j) ≡ t → ok (Some f) ≡ found_of j (checked_header g (cond t (Some said) None)) → (segment_in g image j ≡ Some (segment_of g image f)) × (f.segment ≡ j) × (f.frames ≤ g.slots) × (is_too_high g f.block ≡ false)
+    gate true is e = high (is_too_high g said.block) refl is e
+    gate false is e = absurd cc
+
+-- what is wrong with a header is that its block is too high
+pub found-high : (g : Geometry) (image : List ℕ) (j : ℕ) (d : Damage) → (let r : Result (Option Found) Damage = Err d in r) ≡ found_at g image j → (d ≡ BlockTooHigh) × IsSomeHigh g (segment_in g image j)
+found-high g image j d e = gate (is_open image (segment_at g j)) refl e
+  where
+    said : SegmentHead
+    said = record { block = little_from (segment_at g j + 8) 8 image; frames = whole_frames g image j }
+
+    err : Damage → Result (Option Found) Damage
+    err x = Err x
+
+    same : err d ≡ err BlockTooHigh → d ≡ BlockTooHigh
+    same e = cc
+
+    there : is_open image (segment_at g j) ≡ true → segment_in g image j ≡ Some (record { block = said.block; slots = read_slots g image j (whole_frames g image j) })
+    there is = λ i. cond (is i) (Some (record { block = said.block; slots = read_slots g image j (whole_frames g image j) })) None
+
+    high : (t : Bool) → is_too_high g said.block ≡ t → is_open image (segment_at g j) ≡ true → err d ≡ found_of j (cond t (Err BlockTooHigh) (Ok (Some said))) → (d ≡ BlockTooHigh) × IsSomeHigh g (segment_in g image j)
+    high true up is e = (same e, subst (IsSomeHigh g) (sym (there is)) up)
+    high false up is e = absurd cc
+
+    gate : (t : Bool) → is_open image (segment_at g j) ≡ t → err d ≡ found_of j (checked_header g (cond t (Some said) None)) → (d ≡ BlockTooHigh) × IsSomeHigh g (segment_in g image j)
+    gate true is e = high (is_too_high g said.block) refl is e
+    gate false is e = absurd cc
+
+pub AreIn-insert : (g : Geometry) (x : Found) (xs : List Found) (k : ℕ) → IsIn g x → AreIn g xs → AreIn g (take k xs ++ x ∷ drop k xs)
+AreIn-insert g x [] zero i h = (i, tt)
+AreIn-insert g x [] (suc k) i h = (i, tt)
+AreIn-insert g x (y ∷ ys) zero i h = (i, h)
+AreIn-insert g x (y ∷ ys) (suc k) i h = (h.0, AreIn-insert g x ys k i h.1)
+
+-- one more segment, of lower index than those before
+pub opened-more : (g : Geometry) (image : List ℕ) (done : ℕ) → done < g.segments → by_block (opened (map (segment_in g image) (range_with_len (g.segments - (done + 1)) (done + 1)))) ≡ with_segment (segment_in g image (g.segments - 1 - done)) (by_block (opened (map (segment_in g image) (range_with_len (g.segments - done) done))))
+opened-more g image done l =
+    let j = g.segments - 1 - done in
+    let a : g.segments - (done + 1) ≡ j = omega arith in
+    let b : done + 1 ≡ suc done = omega arith in
+    let c : j + 1 ≡ g.segments - done = omega (arith, l) in
+    (λ i. by_block (opened (map (segment_in g image) (range_with_len (a i) (b i))))) ∙ go (segment_in g image j)
+    ∙ ap (λ (k : ℕ). with_segment (segment_in g image j) (by_block (opened (map (segment_in g image) (range_with_len k done))))) c
+  where
+    rest : List (Option Segment)
+    rest = map (segment_in g image) (range_with_len (g.segments - 1 - done + 1) done)
+
+    go : (o : Option Segment) → by_block (opened (o ∷ rest)) ≡ with_segment o (by_block (opened rest))
+    go None = refl
+    go (Some s) = refl
+
+pub some-high : (g : Geometry) (image : List ℕ) (j : ℕ) → j < g.segments → IsSomeHigh g (segment_in g image j) → list_any (is_high g) (by_block (opened (parts_of g image).segments)) ≡ true
+some-high g image j l high = any-by_block (is_high g) (opened (parts_of g image).segments) ∙ among 0 g.segments (omega arith) (omega (arith, l))
+  where
+    first : (o : Option Segment) (xs : List (Option Segment)) → IsSomeHigh g o → list_any (is_high g) (opened (o ∷ xs)) ≡ true
+    first None xs h = elim h [ ]
+    first (Some s) xs h = λ i. h i || list_any (is_high g) (opened xs)
+
+    behind : (o : Option Segment) (xs : List (Option Segment)) → list_any (is_high g) (opened xs) ≡ true → list_any (is_high g) (opened (o ∷ xs)) ≡ true
+    behind None xs e = e
+    behind (Some s) xs e = or_true (is_high g s) (list_any (is_high g) (opened xs)) e
+      where
+        or_true : (a c : Bool) → c ≡ true → (a || c) ≡ true
+        or_true true c e = refl
+        or_true false c e = e
+
+    among : (lo n : ℕ) → lo ≤ j → j < lo + n → list_any (is_high g) (opened (map (segment_in g image) (range_with_len lo n))) ≡ true
+    among lo zero low up = absurd (omega (arith, low, up))
+    among lo (suc n) low up = pick (eqb lo j) refl (λ l. among (lo + 1) n l (omega (arith, up)))
+      where
+        pick : (t : Bool) → eqb lo j ≡ t → (lo + 1 ≤ j → list_any (is_high g) (opened (map (segment_in g image) (range_with_len (lo + 1) n))) ≡ true) → list_any (is_high g) (opened (map (segment_in g image) (range_with_len lo (suc n)))) ≡ true
+        pick true is rest = first (segment_in g image lo) (map (segment_in g image) (range_with_len (lo + 1) n)) (subst (λ (k : ℕ). IsSomeHigh g (segment_in g image k)) (sym (equal lo j is)) high)
+        pick false is rest = behind (segment_in g image lo) (map (segment_in g image) (range_with_len (lo + 1) n)) (rest (beyond is))
+          where
+            beyond : eqb lo j ≡ false → lo + 1 ≤ j
+            beyond e = grind (arith, nat_tests, e, low)
+
+-- ---- answers that stand for a fault
+
+pub Reads-err : {T U : Type 0} (e : ImageFault) (P : T → Type 0) (P' : U → Type 0) (Q Q' : LayoutFault → Type 0) → ((f : LayoutFault) → Q f → Q' f) → Reads (let r : Result T ImageFault = Err e in r) P Q → Reads (let r : Result U ImageFault = Err e in r) P' Q'
+Reads-err NoMemory P P' Q Q' h x = tt
+Reads-err (Layout f) P P' Q Q' h x = h f x
+
+pub slot-wrong : (n number : ℕ) (s : Slot) (d : Damage) → (let r : Result FrameHead Damage = Err d in r) ≡ slot_head n number s → (Damaged d ≡ Damaged SlotHead) × (is_slot_of n number s ≡ false)
+slot-wrong n number s d e = go (is_slot_of n number s) refl e
+  where
+    err : Damage → Result FrameHead Damage
+    err x = Err x
+
+    same : err d ≡ err SlotHead → Damaged d ≡ Damaged SlotHead
+    same e = cc
+
+    go : (t : Bool) → is_slot_of n number s ≡ t → err d ≡ cond t (Ok (head number s.picture)) (Err SlotHead) → (Damaged d ≡ Damaged SlotHead) × (is_slot_of n number s ≡ false)
+    go true is e = absurd cc
+    go false is e = (same e, is)
+
+-- a slot lies on the disk
+pub slot-room : (g : Geometry) (image : List ℕ) (j i : ℕ) → j < g.segments → i < g.slots → length image ≡ disk_size g → slot_at g j i + 32 + frame_bytes g ≤ length image
+slot-room g image j i l k size =
+    let within = slot_within g j i k in
+    let le : (j + 1) * segment_size g ≤ g.segments * segment_size g = mul-le-mul_right (segment_size g) (omega (arith, l)) in
+    let split : (j + 1) * segment_size g ≡ j * segment_size g + segment_size g = omega (arith, add-mul j 1 (segment_size g)) in
+    omega (arith, within, le, split, size)
+
+-- what was read of a cut slot, said of its image
+pub frame-is : {A : Type 0} (n at first i number : ℕ) (image cut : List ℕ) (x : Numbered A) → at + 32 + n ≤ length image → cut ≡ slice_range image at (at + 32 + n) → number ≡ first + i
+    → IsFrameIn (length cut - 32) number (slot_in (length cut - 32) cut 0) x → IsFrameIn n (first + i) (slot_in n image at) x
+frame-is n at first i number image cut x room is counted f =
+    let k = slot-cut n at image cut room is in
+    record {
+      holds = sym (λ q. is_slot_of (k.0 q) (counted q) (k.1 q)) ∙ f.holds;
+      number_is = f.number_is ∙ counted;
+      picture_is = f.picture_is ∙ ap (λ (s : Slot). s.picture) k.1;
+    }
+
+pub segment-wrong : {T U : Type 0} (g : Geometry) (image cut : List ℕ) (f : Found) (i number : ℕ) (e : ImageFault) (P : T → Type 0) (P' : U → Type 0)
+    → f.segment < g.segments → i < g.slots → length image ≡ disk_size g → cut ≡ slice_range image (slot_at g f.segment i) (slot_at g f.segment i + 32 + frame_bytes g) → number ≡ f.block * g.slots + i → i < f.frames
+    → Reads (let r : Result T ImageFault = Err e in r) P (λ fault. (fault ≡ Damaged SlotHead) × (is_slot_of (length cut - 32) number (slot_in (length cut - 32) cut 0) ≡ false))
+    → Reads (let r : Result U ImageFault = Err e in r) P' (λ fault. (fault ≡ Damaged SlotHead) × (is_bad_slot g (segment_of g image f) ≡ true))
+segment-wrong g image cut f i number e P P' l k size is counted few x =
+    let n = frame_bytes g in
+    let at = slot_at g f.segment i in
+    let c = slot-cut n at image cut (slot-room g image f.segment i l k size) is in
+    Reads-err e P P' (λ fault. (fault ≡ Damaged SlotHead) × (is_slot_of (length cut - 32) number (slot_in (length cut - 32) cut 0) ≡ false)) (λ fault. (fault ≡ Damaged SlotHead) × (is_bad_slot g (segment_of g image f) ≡ true))
+    (λ fault q. (q.0, slots-bad g image f i few (sym (λ t. is_slot_of (c.0 t) (counted t) (c.1 t)) ∙ q.1))) x
+
+pub Reads-weaker : {T : Type 0} (r : Result T ImageFault) (P P' : T → Type 0) (Q Q' : LayoutFault → Type 0) → ((x : T) → P x → P' x) → ((f : LayoutFault) → Q f → Q' f) → Reads r P Q → Reads r P' Q'
+Reads-weaker (Ok x) P P' Q Q' p q h = p x h
+Reads-weaker (Err NoMemory) P P' Q Q' p q h = tt
+Reads-weaker (Err (Layout f)) P P' Q Q' p q h = q f h
+
+pub AreIn-last : (g : Geometry) (xs : List Found) (x : Found) → AreIn g (xs ++ x ∷ []) → IsIn g x
+AreIn-last g [] x h = h.0
+AreIn-last g (y ∷ ys) x h = AreIn-last g ys x h.1
+
+pub next_after-last : (g : Geometry) (image : List ℕ) (xs : List Found) (x : Found) → next_after g (segments_of g image (xs ++ x ∷ [])) ≡ x.block * g.slots + x.frames
+next_after-last g image [] x = ap (λ (n : ℕ). x.block * g.slots + n) (length-slots g image x)
+next_after-last g image (y ∷ []) x = ap (λ (n : ℕ). x.block * g.slots + n) (length-slots g image x)
+next_after-last g image (y ∷ z ∷ ys) x = next_after-last g image (z ∷ ys) x
+
+-- the numbers of a block that isn't too high
+pub block-fits : (g : Geometry) (b : ℕ) → is_too_high g b ≡ false → b * g.slots + g.slots ≤ 2 ^ 62
+block-fits g b low =
+    let split : (b + 1) * g.slots ≡ b * g.slots + g.slots = omega (arith, add-mul b 1 g.slots) in
+    omega (arith, split, not_below (2 ^ 62) ((b + 1) * g.slots) low)
+
+-- ---- clips
+
+-- whether some clip is bad, beside these frames
+abbrev pub some_bad : List (ℕ × Picture) → List (Option Span) → Bool
+some_bad frames clips = list_any (is_bad_clip (record empty { frames = frames })) clips
+
+entry-cut : (image cut : List ℕ) (id : ℕ) → cut ≡ slice_range image (512 + id * 32) (512 + id * 32 + 32) → entry_at cut 0 ≡ clip_in image id
+entry-cut image cut id is = ap (λ (c : List ℕ). entry_at c 0) is ∙ entry_at-slice image (512 + id * 32)
+
+any-range : (p : Option Span → Bool) (f : ℕ → Option Span) (lo n j : ℕ) → lo ≤ j → j < lo + n → p (f j) ≡ true → list_any p (map f (range_with_len lo n)) ≡ true
+any-range p f lo zero j low up e = absurd (omega (arith, low, up))
+any-range p f lo (suc n) j low up e = pick (eqb lo j) refl (λ l. any-range p f (lo + 1) n j l (omega (arith, up)) e)
+  where
+    or_true : (a c : Bool) → c ≡ true → (a || c) ≡ true
+    or_true true c e = refl
+    or_true false c e = e
+
+    pick : (t : Bool) → eqb lo j ≡ t → (lo + 1 ≤ j → list_any p (map f (range_with_len (lo + 1) n)) ≡ true) → (p (f lo) || list_any p (map f (range_with_len (lo + 1) n))) ≡ true
+    pick true is rest = ap (λ (k : ℕ). p (f k) || list_any p (map f (range_with_len (lo + 1) n))) (equal lo j is) ∙ ap (λ (t : Bool). t || list_any p (map f (range_with_len (lo + 1) n))) e
+    pick false is rest = or_true (p (f lo)) (list_any p (map f (range_with_len (lo + 1) n))) (rest (beyond is))
+      where
+        beyond : eqb lo j ≡ false → lo + 1 ≤ j
+        beyond e = grind (arith, nat_tests, e, low)
+
+pub clip-wrong : (frames : List (ℕ × Picture)) (image cut : List ℕ) (id : ℕ) (d : Damage) → id < 64 → cut ≡ slice_range image (512 + id * 32) (512 + id * 32 + 32) → (let r : Result (Option Span) Damage = Err d in r) ≡ held_clip frames (entry_at cut 0)
+    → (d ≡ ClipRange) × (some_bad frames (map (clip_in image) (range_with_len 0 64)) ≡ true)
+clip-wrong frames image cut id d l is e = go (is_bad_clip (record empty { frames = frames }) (clip_in image id)) refl (e ∙ ap (held_clip frames) (entry-cut image cut id is))
+  where
+    err : Damage → Result (Option Span) Damage
+    err x = Err x
+
+    same : err d ≡ err ClipRange → d ≡ ClipRange
+    same e = cc
+
+    go : (t : Bool) → is_bad_clip (record empty { frames = frames }) (clip_in image id) ≡ t → err d ≡ cond t (Err ClipRange) (Ok (clip_in image id)) → (d ≡ ClipRange) × (some_bad frames (map (clip_in image) (range_with_len 0 64)) ≡ true)
+    go true bad e = (same e, any-range (is_bad_clip (record empty { frames = frames })) (clip_in image) 0 64 id (omega arith) (omega (arith, l)) bad)
+    go false bad e = absurd cc
+
+pub clips-more : (frames : List (ℕ × Picture)) (image cut : List ℕ) (clips : List (Option Span)) (id : ℕ) (c : Option Span) → id < length clips → cut ≡ slice_range image (512 + id * 32) (512 + id * 32 + 32) → (let r : Result (Option Span) Damage = Ok c in r) ≡ held_clip frames (entry_at cut 0)
+    → take id clips ≡ map (clip_in image) (range_with_len 0 id) → some_bad frames (map (clip_in image) (range_with_len 0 id)) ≡ false
+    → (take (id + 1) (set clips id c) ≡ map (clip_in image) (range_with_len 0 (id + 1))) × (some_bad frames (map (clip_in image) (range_with_len 0 (id + 1))) ≡ false)
+clips-more frames image cut clips id c l is e so_far good = go (is_bad_clip (record empty { frames = frames }) (clip_in image id)) refl (e ∙ ap (held_clip frames) (entry-cut image cut id is))
+  where
+    ok : Option Span → Result (Option Span) Damage
+    ok x = Ok x
+
+    same : ok c ≡ ok (clip_in image id) → c ≡ clip_in image id
+    same e = cc
+
+    split : map (clip_in image) (range_with_len 0 (id + 1)) ≡ map (clip_in image) (range_with_len 0 id) ++ clip_in image id ∷ []
+    split =
+        let at : 0 + id ≡ id = omega arith in
+        ap (map (clip_in image)) (range_append 0 id 1) ∙ map-append (clip_in image) (range_with_len 0 id) (range_with_len (0 + id) 1) ∙ ap (λ (k : ℕ). map (clip_in image) (range_with_len 0 id) ++ clip_in image k ∷ []) at
+
+    go : (t : Bool) → is_bad_clip (record empty { frames = frames }) (clip_in image id) ≡ t → ok c ≡ cond t (Err ClipRange) (Ok (clip_in image id)) → (take (id + 1) (set clips id c) ≡ map (clip_in image) (range_with_len 0 (id + 1))) × (some_bad frames (map (clip_in image) (range_with_len 0 (id + 1))) ≡ false)
+    go true bad e = absurd cc
+    go false bad e =
+        let n : id + 1 ≡ suc id = omega arith in (
+          ap (λ (k : ℕ). take k (set clips id c)) n ∙ take-suc-set clips id c l ∙ (λ i. so_far i ++ same e i ∷ []) ∙ sym split,
+          ap (some_bad frames) split ∙ list_any-append (is_bad_clip (record empty { frames = frames })) (map (clip_in image) (range_with_len 0 id)) (clip_in image id ∷ []) ∙ (λ i. good i || (bad i || false)),
+        )
+
+-- ---- the whole
+
+pub reading-no_geometry : (image : List ℕ) (f : LayoutFault) → (let r : Result Geometry LayoutFault = Err f in r) ≡ geometry_in image → reading image ≡ Err f
+reading-no_geometry image f e = ap (contents image) (sym e)
+
+pub reading-other_size : (g : Geometry) (image : List ℕ) → (let r : Result Geometry LayoutFault = Ok g in r) ≡ geometry_in image → (length image ≡ disk_size g → ⊥) → reading image ≡ Err (Damaged DiskSize)
+reading-other_size g image e other =
+    let sized : eqb (length image) (disk_size g) ≡ false = differ_test (length image) (disk_size g) other in
+    ap (contents image) (sym e) ∙ (λ i. cond (sized i) (with_geometry g (shown g (parts_of g image))) (Err (Damaged DiskSize)))
+
+pub clips-all : (frames : List (ℕ × Picture)) (image : List ℕ) (clips : List (Option Span)) (id : ℕ) → id ≡ 64 → length clips ≡ 64 → take id clips ≡ map (clip_in image) (range_with_len 0 id) → some_bad frames (map (clip_in image) (range_with_len 0 id)) ≡ false
+    → (clips ≡ map (clip_in image) (range_with_len 0 64)) × (some_bad frames (map (clip_in image) (range_with_len 0 64)) ≡ false)
+clips-all frames image clips id last size are good =
+    (sym (take_all id clips (omega (arith, last, size))) ∙ are ∙ ap (λ (n : ℕ). map (clip_in image) (range_with_len 0 n)) last, ap (λ (n : ℕ). some_bad frames (map (clip_in image) (range_with_len 0 n))) (sym last) ∙ good)
+
+-- found segments aren't too high
+pub AreIn-low : (g : Geometry) (image : List ℕ) (fs : List Found) → AreIn g fs → list_any (is_high g) (segments_of g image fs) ≡ false
+AreIn-low g image [] h = refl
+AreIn-low g image (f ∷ fs) h =
+    let rest = AreIn-low g image fs h.1 in
+    λ i. h.0.low i || rest i
+
+picked : {X : Type 0} (t : Bool) (x y : X) → t ≡ true → cond t x y ≡ x
+picked t x y e = ap (λ (s : Bool). cond s x y) e
+
+passed : {X : Type 0} (t : Bool) (x y : X) → t ≡ false → cond t x y ≡ y
+passed t x y e = ap (λ (s : Bool). cond s x y) e
+
+-- the image has this geometry and its size, and these are its open segments
+pub record IsRead (g : Geometry) (image : List ℕ) (ss : List Segment) : Type 0 where
+  pub geometry : geometry_in image ≡ Ok g
+  pub size : length image ≡ disk_size g
+  pub are : ss ≡ by_block (opened (parts_of g image).segments)
+
+abbrev pub clips_in : List ℕ → List (Option Span)
+clips_in image = map (clip_in image) (range_with_len 0 64)
+
+reading-is : (g : Geometry) (image : List ℕ) (ss : List Segment) → IsRead g image ss → reading image ≡ with_geometry g (checked g ss (clips_in image))
+reading-is g image ss r =
+    let sized : eqb (length image) (disk_size g) ≡ true = equal_test (length image) (disk_size g) r.size in
+    ap (contents image) r.geometry ∙ (λ i. cond (sized i) (with_geometry g (shown g (parts_of g image))) (Err (Damaged DiskSize))) ∙ ap (λ (xs : List Segment). with_geometry g (checked g xs (clips_in image))) (sym r.are)
+
+pub reading-high : (g : Geometry) (image : List ℕ) → geometry_in image ≡ Ok g → length image ≡ disk_size g → list_any (is_high g) (by_block (opened (parts_of g image).segments)) ≡ true → reading image ≡ Err (Damaged BlockTooHigh)
+reading-high g image e size high = reading-is g image (by_block (opened (parts_of g image).segments)) (record { geometry = e; size = size; are = refl }) ∙ ap (with_geometry g) (picked (list_any (is_high g) (by_block (opened (parts_of g image).segments))) _ _ high)
+
+pub reading-repeats : (g : Geometry) (image : List ℕ) (ss : List Segment) → IsRead g image ss → list_any (is_high g) ss ≡ false → repeats ss ≡ true → reading image ≡ Err (Damaged RepeatedBlock)
+reading-repeats g image ss r low twice = reading-is g image ss r ∙ ap (with_geometry g) (passed (list_any (is_high g) ss) _ _ low ∙ picked (repeats ss) _ _ twice)
+
+pub reading-lacks : (g : Geometry) (image : List ℕ) (ss : List Segment) → IsRead g image ss → list_any (is_high g) ss ≡ false → repeats ss ≡ false → lacks_frame g ss ≡ true → reading image ≡ Err (Damaged ClosedGate)
+reading-lacks g image ss r low single lacks = reading-is g image ss r ∙ ap (with_geometry g) (passed (list_any (is_high g) ss) _ _ low ∙ passed (repeats ss) _ _ single ∙ picked (lacks_frame g ss) _ _ lacks)
+
+pub reading-bad_slot : (g : Geometry) (image : List ℕ) (ss : List Segment) → IsRead g image ss → list_any (is_high g) ss ≡ false → repeats ss ≡ false → lacks_frame g ss ≡ false → list_any (is_bad_slot g) ss ≡ true → reading image ≡ Err (Damaged SlotHead)
+reading-bad_slot g image ss r low single full bad =
+    reading-is g image ss r ∙ ap (with_geometry g) (passed (list_any (is_high g) ss) _ _ low ∙ passed (repeats ss) _ _ single ∙ passed (lacks_frame g ss) _ _ full ∙ picked (list_any (is_bad_slot g) ss) _ _ bad)
+
+-- nothing is wrong with the segments
+pub record IsSoundSo (g : Geometry) (image : List ℕ) (ss : List Segment) : Type 0 where
+  pub read : IsRead g image ss
+  pub low : list_any (is_high g) ss ≡ false
+  pub single : repeats ss ≡ false
+  pub full : lacks_frame g ss ≡ false
+  pub right : list_any (is_bad_slot g) ss ≡ false
+
+segments-sound : (g : Geometry) (image : List ℕ) (ss : List Segment) → IsSoundSo g image ss → reading image ≡ with_geometry g (cond (has_bad_clip (recording_of g ss (clips_in image))) (Err ClipRange) (Ok (recording_of g ss (clips_in image))))
+segments-sound g image ss s =
+    reading-is g image ss s.read ∙ ap (with_geometry g) (passed (list_any (is_high g) ss) _ _ s.low ∙ passed (repeats ss) _ _ s.single ∙ passed (lacks_frame g ss) _ _ s.full ∙ passed (list_any (is_bad_slot g) ss) _ _ s.right)
+
+pub reading-bad_clip : (g : Geometry) (image : List ℕ) (ss : List Segment) → IsSoundSo g image ss → some_bad (all_frames g ss) (clips_in image) ≡ true → reading image ≡ Err (Damaged ClipRange)
+reading-bad_clip g image ss s bad = segments-sound g image ss s ∙ ap (with_geometry g) (picked (has_bad_clip (recording_of g ss (clips_in image))) _ _ bad)
+
+pub reading-all : (g : Geometry) (image : List ℕ) (ss : List Segment) → IsSoundSo g image ss → some_bad (all_frames g ss) (clips_in image) ≡ false → reading image ≡ Ok (record { geometry = g; recording = recording_of g ss (clips_in image) })
+reading-all g image ss s good = segments-sound g image ss s ∙ ap (with_geometry g) (passed (has_bad_clip (recording_of g ss (clips_in image))) _ _ good)
+
+-- what was read of an image of this geometry
+pub record IsFoundIn (g : Geometry) (image : List ℕ) (fs xs : List Found) : Type 0 where
+  pub geometry : geometry_in image ≡ Ok g
+  pub size : length image ≡ disk_size g
+  pub are : segments_of g image fs ≡ by_block (opened (parts_of g image).segments)
+  pub within : AreIn g fs
+  pub same : xs ≡ fs
+
+found-read : (g : Geometry) (image : List ℕ) (fs xs : List Found) → IsFoundIn g image fs xs → IsRead g image (segments_of g image xs)
+found-read g image fs xs f = record { geometry = f.geometry; size = f.size; are = ap (λ (ys : List Found). segments_of g image ys) f.same ∙ f.are }
+
+found-low : (g : Geometry) (image : List ℕ) (fs xs : List Found) → IsFoundIn g image fs xs → list_any (is_high g) (segments_of g image xs) ≡ false
+found-low g image fs xs f = ap (λ (ys : List Found). list_any (is_high g) (segments_of g image ys)) f.same ∙ AreIn-low g image fs f.within
+
+pub found-within : (g : Geometry) (image : List ℕ) (fs xs : List Found) → IsFoundIn g image fs xs → AreIn g xs
+found-within g image fs xs f = subst (AreIn g) (sym f.same) f.within
+
+pub read-repeats : (g : Geometry) (image : List ℕ) (fs xs : List Found) (r : Bool) → IsFoundIn g image fs xs → r ≡ repeats (segments_of g image xs) → r ≡ true → reading image ≡ Err (Damaged RepeatedBlock)
+read-repeats g image fs xs r f is e = reading-repeats g image (segments_of g image xs) (found-read g image fs xs f) (found-low g image fs xs f) (sym is ∙ e)
+
+pub read-lacks : (g : Geometry) (image : List ℕ) (fs xs : List Found) (r s : Bool) → IsFoundIn g image fs xs → r ≡ repeats (segments_of g image xs) → r ≡ false → s ≡ lacks_frame g (segments_of g image xs) → s ≡ true → reading image ≡ Err (Damaged ClosedGate)
+read-lacks g image fs xs r s f is e lacks e' = reading-lacks g image (segments_of g image xs) (found-read g image fs xs f) (found-low g image fs xs f) (sym is ∙ e) (sym lacks ∙ e')
+
+-- the segments of the image have no repeated block and lack no frame
+pub record AreFull (g : Geometry) (image : List ℕ) (fs xs : List Found) : Type 0 where
+  pub found : IsFoundIn g image fs xs
+  pub single : repeats (segments_of g image xs) ≡ false
+  pub full : lacks_frame g (segments_of g image xs) ≡ false
+
+abbrev pub fault_is : LayoutFault → Result Contents LayoutFault
+fault_is f = Err f
+
+pub read-bad_slot : {T U : Type 0} (g : Geometry) (image : List ℕ) (fs xs : List Found) (e : ImageFault) (P : T → Type 0) (P' : U → Type 0) → AreFull g image fs xs
+    → Reads (let r : Result T ImageFault = Err e in r) P (λ fault. (fault ≡ Damaged SlotHead) × (list_any (is_bad_slot g) (segments_of g image xs) ≡ true))
+    → Reads (let r : Result U ImageFault = Err e in r) P' (λ fault. reading image ≡ Err fault)
+read-bad_slot g image fs xs e P P' a x =
+    Reads-err e P P' (λ fault. (fault ≡ Damaged SlotHead) × (list_any (is_bad_slot g) (segments_of g image xs) ≡ true)) (λ fault. reading image ≡ Err fault)
+    (λ fault q. reading-bad_slot g image (segments_of g image xs) (found-read g image fs xs a.found) (found-low g image fs xs a.found) a.single a.full q.1 ∙ ap fault_is (sym q.0)) x
+
+whole-so : (g : Geometry) (image : List ℕ) (fs xs : List Found) → AreFull g image fs xs → list_any (is_bad_slot g) (segments_of g image xs) ≡ false → IsSoundSo g image (segments_of g image xs)
+whole-so g image fs xs a right = record { read = found-read g image fs xs a.found; low = found-low g image fs xs a.found; single = a.single; full = a.full; right = right }
+
+pub read-bad_clip : (g : Geometry) (image : List ℕ) (fs xs : List Found) (frames : List (ℕ × Picture)) (d : Damage) → AreFull g image fs xs → list_any (is_bad_slot g) (segments_of g image xs) ≡ false → frames ≡ all_frames g (segments_of g image xs)
+    → d ≡ ClipRange → some_bad frames (clips_in image) ≡ true → reading image ≡ Err (Damaged d)
+read-bad_clip g image fs xs frames d a right are is bad =
+    reading-bad_clip g image (segments_of g image xs) (whole-so g image fs xs a right) (sym (ap (λ (q : List (ℕ × Picture)). some_bad q (clips_in image)) are) ∙ bad) ∙ ap (λ (x : Damage). fault_of x) (sym is)
+  where
+    fault_of : Damage → Result Contents LayoutFault
+    fault_of x = Err (Damaged x)
+
+pub read-all : (g : Geometry) (image : List ℕ) (fs xs : List Found) (next : ℕ) (frames : List (ℕ × Picture)) (clips : List (Option Span)) → AreFull g image fs xs → list_any (is_bad_slot g) (segments_of g image xs) ≡ false → frames ≡ all_frames g (segments_of g image xs)
+    → next ≡ next_after g (segments_of g image xs) → clips ≡ clips_in image → some_bad frames (clips_in image) ≡ false
+    → Holds g (record { next = next; frames = frames; clips = clips }) image
+read-all g image fs xs next frames clips a right are after clips_are good =
+    reading-all g image (segments_of g image xs) (whole-so g image fs xs a right) (sym (ap (λ (q : List (ℕ × Picture)). some_bad q (clips_in image)) are) ∙ good)
+    ∙ (λ i. Ok (record { geometry = g; recording = record { next = sym after i; frames = sym are i; clips = sym clips_are i } }))
+
+-- the frames that were read into an empty list
+pub read-into : {A : Type 0} (g : Geometry) (ss : List Segment) (old new xs : List (Numbered A)) → old ≡ [] → numbered new ≡ numbered old ++ all_frames g ss → xs ≡ new → numbered xs ≡ all_frames g ss
+read-into {A} g ss old new xs none are same = ap (λ (ys : List (Numbered A)). numbered ys) same ∙ are ∙ ap (λ (ys : List (Numbered A)). numbered ys ++ all_frames g ss) none
+
+pub same_frames : {A : Type 0} (image : List ℕ) (xs ys : List (Numbered A)) → xs ≡ ys → some_bad (numbered xs) (clips_in image) ≡ false → some_bad (numbered ys) (clips_in image) ≡ false
+same_frames {A} image xs ys e good = sym (ap (λ (zs : List (Numbered A)). some_bad (numbered zs) (clips_in image)) e) ∙ good
+
+pub fault-of : {f h : LayoutFault} → f ≡ h → fault_is f ≡ fault_is h
+fault-of e = ap fault_is e

@@ -1,0 +1,269 @@
+//! The worked rows, run: sizes, the plain recorder, and what images read as.
+
+use super::*;
+use std::alloc::{AllocError, Global};
+use std::process::Abort;
+use std::test::Fail;
+
+/// Frames of 4 by 2, three segments of two slots.
+const SMALL: Geometry = Geometry {
+    width: 4,
+    height: 2,
+    format: PixelFormat::Ym12,
+    rate_num: 25,
+    rate_den: 1,
+    segments: 3,
+    slots: 2,
+};
+
+/// Frames of one sample, two segments of one slot.
+const TINY: Geometry = Geometry {
+    width: 1,
+    height: 1,
+    format: PixelFormat::Grey,
+    rate_num: 1,
+    rate_den: 1,
+    segments: 2,
+    slots: 1,
+};
+
+/// Frame `n` of a pattern, of 12 bytes.
+fn pattern(alloc: Global, n: u8) -> Result<Frame, AllocError> {
+    let mut bytes = Vec::new(alloc);
+    for i in 0..12u8 {
+        bytes.push(n.wrapping_add(i))?;
+    }
+    Ok(Frame {
+        sequence: u32::from(n),
+        flags: 0x2000,
+        timestamp: u64::from(n) * 40_000,
+        bytes,
+    })
+}
+
+/// Appends a frame, or answers why nothing was stored.
+fn append(
+    rt: &(impl Abort + Alloc),
+    recorder: &mut PlainRecorder,
+    frame: Frame,
+) -> Result<Option<AppendFault>, AllocError> {
+    match recorder.append_first() {
+        Err(fault) => return Ok(Some(fault)),
+        Ok(None) => {}
+        Ok(Some(block)) => match recorder.victim() {
+            Some(victim) => {
+                assert_eq!(rt; victim, block);
+                recorder.recycle(victim);
+            }
+            None => assert!(rt; false, "a recycling without a victim"),
+        },
+    }
+    assert!(rt; recorder.next() < 1 << 62);
+    recorder.store(frame)?;
+    Ok(None)
+}
+
+/// The numbers of the held frames.
+fn numbers(alloc: Global, recorder: &PlainRecorder) -> Result<Vec<u64>, AllocError> {
+    let mut numbers = Vec::new(alloc);
+    for kept in recorder.frames() {
+        numbers.push(kept.number)?;
+    }
+    Ok(numbers)
+}
+
+#[test]
+fn sizes_and_places(rt: HostRuntime) {
+    assert!(rt; SMALL.check().is_ok() && TINY.check().is_ok());
+    assert_eq!(rt; SMALL.frame_bytes(), 12);
+    assert_eq!(rt; SMALL.segment_at(0), 2_560);
+    assert_eq!(rt; SMALL.segment_at(2), 3_760);
+    assert_eq!(rt; SMALL.gate_at(1, 1), 3_417);
+    assert_eq!(rt; SMALL.slot_at(1, 1), 3_716);
+    assert_eq!(rt; SMALL.disk_size(), 4_360);
+    assert_eq!(rt; TINY.disk_size(), 3_650);
+    assert_eq!(rt; PixelFormat::Ym12.planes(), 3);
+    assert_eq!(rt; PixelFormat::Ym12.plane_bytes(5, 3, 1), 6);
+    assert_eq!(rt; Damage::BlockTooHigh.number(), 6);
+    let wide = Geometry {
+        segments: 65,
+        ..SMALL
+    };
+    assert!(rt; wide.check().is_err());
+}
+
+#[test]
+fn recycling_and_locking(rt: HostRuntime) -> Result<(), Fail> {
+    let alloc = rt.alloc();
+    let mut recorder = PlainRecorder::new(alloc, SMALL);
+    for n in 0..7u8 {
+        assert_eq!(rt; append(&rt, &mut recorder, pattern(alloc, n)?)?, None);
+    }
+    assert_eq!(rt;
+        numbers(alloc, &recorder)?.as_slice(),
+        [2, 3, 4, 5, 6].as_slice()
+    );
+    assert_eq!(rt; recorder.next(), 7);
+    assert_eq!(rt; recorder.room(), 1);
+    assert_eq!(rt; recorder.lock(Span { from: 5, to: 4 }), None);
+    assert_eq!(rt; recorder.lock(Span { from: 5, to: 9 }), None);
+    assert_eq!(rt; recorder.lock(Span { from: 2, to: 2 }), Some(0));
+    for n in 7..9u8 {
+        assert_eq!(rt; append(&rt, &mut recorder, pattern(alloc, n)?)?, None);
+    }
+    assert_eq!(rt;
+        numbers(alloc, &recorder)?.as_slice(),
+        [2, 3, 6, 7, 8].as_slice()
+    );
+    assert_eq!(rt; recorder.lock(Span { from: 6, to: 6 }), Some(1));
+    assert_eq!(rt; append(&rt, &mut recorder, pattern(alloc, 9)?)?, None);
+    assert_eq!(rt;
+        append(&rt, &mut recorder, pattern(alloc, 10)?)?,
+        Some(AppendFault::AllLocked)
+    );
+    assert_eq!(rt; recorder.next(), 10);
+    assert!(rt; recorder.unlock(1) && !recorder.unlock(1) && !recorder.unlock(64));
+    assert_eq!(rt; append(&rt, &mut recorder, pattern(alloc, 10)?)?, None);
+    assert_eq!(rt;
+        numbers(alloc, &recorder)?.as_slice(),
+        [2, 3, 8, 9, 10].as_slice()
+    );
+    assert_eq!(rt; recorder.clip(0), Some(Span { from: 2, to: 2 }));
+    let eight = recorder.frame(8).ok_or("frame 8 is held")?;
+    assert_eq!(rt; (eight.sequence, eight.timestamp), (8, 320_000));
+    assert!(rt; recorder.frame(4).is_none());
+    assert_eq!(rt; recorder.geometry(), SMALL);
+    Ok(())
+}
+
+/// Adds zeros to an image.
+fn zeros(image: &mut Vec<u8>, count: usize) -> Result<(), AllocError> {
+    for _ in 0..count {
+        image.push(0)?;
+    }
+    Ok(())
+}
+
+/// Adds a segment of two slots to an image: its gate and block, two frame gates, and the slots of two frames.
+fn segment(
+    rt: &(impl Abort + Alloc),
+    alloc: Global,
+    image: &mut Vec<u8>,
+    block: (u8, u64),
+    gates: [u8; 2],
+    frames: [u8; 2],
+) -> Result<(), AllocError> {
+    let mut header = [0u8; 512];
+    header[0] = block.0;
+    put_u64(&mut header, 8, block.1);
+    header[256] = gates[0];
+    header[257] = gates[1];
+    image.extend_from_slice(&header)?;
+    for n in frames {
+        let mut slot = [0u8; 44];
+        let frame = pattern(alloc, n)?;
+        assert_eq!(rt; frame.bytes.len(), 12);
+        encode_slot(u64::from(n), &frame, &mut slot);
+        image.extend_from_slice(&slot)?;
+    }
+    Ok(())
+}
+
+/// The image after frames 0 to 6, with frame 1's slot left over behind frame 6.
+fn seven(rt: &(impl Abort + Alloc), alloc: Global) -> Result<Vec<u8>, AllocError> {
+    let mut image = Vec::new(alloc);
+    let mut superblock = [0u8; 512];
+    encode_super(&SMALL, &mut superblock);
+    image.extend_from_slice(&superblock)?;
+    zeros(&mut image, 2_048)?;
+    segment(rt, alloc, &mut image, (OPEN, 3), [OPEN, 0], [6, 1])?;
+    segment(rt, alloc, &mut image, (OPEN, 1), [OPEN, OPEN], [2, 3])?;
+    segment(rt, alloc, &mut image, (OPEN, 2), [OPEN, OPEN], [4, 5])?;
+    Ok(image)
+}
+
+/// The number of the damage, 0 for an image that isn't formatted, or the numbers from the first to before the next.
+fn answer(rt: &impl Abort, read: Result<PlainRecorder, ImageFault>) -> (u8, u64, u64) {
+    match read {
+        Ok(recorder) => match recorder.frames().first() {
+            Some(first) => (8, first.number, recorder.next()),
+            None => (8, 0, recorder.next()),
+        },
+        Err(ImageFault::Layout(LayoutFault::Damaged(damage))) => (damage.number(), 0, 0),
+        Err(ImageFault::Layout(LayoutFault::NotFormatted)) => (0, 0, 0),
+        Err(ImageFault::NoMemory) => {
+            assert!(rt; false, "there is memory");
+            (9, 0, 0)
+        }
+    }
+}
+
+#[test]
+fn changed_bytes_are_damage_of_their_kind(rt: HostRuntime) -> Result<(), Fail> {
+    let alloc = rt.alloc();
+    let table: [(usize, u8, (u8, u64, u64)); 12] = [
+        (1, b'L', (8, 2, 7)),
+        (12, 5, (2, 0, 0)),
+        (100, 1, (2, 0, 0)),
+        (3_775, 0x40, (6, 0, 0)),
+        (3_768, 1, (3, 0, 0)),
+        (3_416, 0, (4, 0, 0)),
+        (3_716, 4, (5, 0, 0)),
+        (2_817, 0xA5, (5, 0, 0)),
+        (512, 0xA5, (7, 0, 0)),
+        (2_817, 7, (8, 2, 7)),
+        (2_560, 0, (8, 2, 6)),
+        (0, 0x5A, (0, 0, 0)),
+    ];
+    for (at, byte, expected) in table {
+        let mut image = seven(&rt, alloc)?;
+        assert_eq!(rt; image.len(), 4_360);
+        if let Some(changed) = image.as_mut_slice().get_mut(at) {
+            *changed = byte;
+        }
+        let read = read_image(alloc, image.as_slice());
+        assert_eq!(rt; answer(&rt, read), expected, "byte {at} is {byte}");
+    }
+    Ok(())
+}
+
+#[test]
+fn an_image_reads_as_its_recording(rt: HostRuntime) -> Result<(), Fail> {
+    let alloc = rt.alloc();
+    let image = seven(&rt, alloc)?;
+    let bytes = image.as_slice();
+    let head = [
+        0xa5, b'L', b'O', b'O', b'P', b'R', b'E', b'C', 1, 0, 0, 0, 4, 0, 0, 0, 2, 0, 0, 0, b'Y',
+        b'M', b'1', b'2', 25, 0, 0, 0, 1, 0, 0, 0, 3, 0, 0, 0, 2, 0, 0, 0, 12, 0, 0, 0,
+    ];
+    let slot = [
+        3, 0, 0, 0, 0, 0, 0, 0, 3, 0, 0, 0, 0, 0x20, 0, 0, 0xc0, 0xd4, 1, 0, 0, 0, 0, 0, 12, 0, 0,
+        0, 0, 0, 0, 0, 3, 4, 5, 6, 7, 8, 9, 10, 11, 12, 13, 14,
+    ];
+    assert_eq!(rt; bytes.get(0..44), Some(head.as_slice()));
+    assert_eq!(rt; bytes.get(3_716..3_760), Some(slot.as_slice()));
+    assert_eq!(rt;
+        decode_slot(&slot, 3).map(|head| head.timestamp),
+        Ok(120_000)
+    );
+    assert_eq!(rt; decode_slot(&slot, 4), Err(Damage::SlotHead));
+    let recorder = read_image(alloc, bytes).ok().ok_or("the image is whole")?;
+    assert_eq!(rt;
+        numbers(alloc, &recorder)?.as_slice(),
+        [2, 3, 4, 5, 6].as_slice()
+    );
+    let three = recorder.frame(3).ok_or("frame 3 is held")?;
+    assert_eq!(rt;
+        three.bytes.as_slice(),
+        [3, 4, 5, 6, 7, 8, 9, 10, 11, 12, 13, 14].as_slice()
+    );
+    assert_eq!(rt;
+        answer(&rt, read_image(alloc, &bytes[..4_359.min(bytes.len())])),
+        (1, 0, 0)
+    );
+    assert_eq!(rt;
+        answer(&rt, read_image(alloc, &bytes[..100.min(bytes.len())])),
+        (0, 0, 0)
+    );
+    Ok(())
+}
