@@ -1,5 +1,5 @@
 // A disk in memory. A crash may leave any bytes in each range that was written since the last sync.
-ghost use Rattle.std.specs.Prelude.{◌≡◌, ◌≤◌, ◌<◌, ◌+◌, ◌++◌, [], ◌∷◌, ◌↔◌, ℕ, List, length, IfOk, OnOk, OnErr, IsOk, IsTrue, replicate, reverse, take, drop, true, false, get_or, slice_set};
+ghost use Rattle.std.specs.Prelude.{◌≡◌, ◌≤◌, ◌+◌, ◌++◌, [], ◌∷◌, ◌↔◌, ℕ, List, length, IfOk, OnOk, OnErr, IsOk, IsTrue, replicate, reverse, false, get_or, slice_set};
 ghost use Rattle.loop_disk.specs.declared.entry.Entry.TheVariants.{Wrote, Synced};
 ghost use Rattle.loop_disk.specs.declared.fault.DiskFault.TheVariants.{Read, Write, Sync};
 ghost use Rattle.loop_disk.specs.Medium.{written, piece, IsFresh, IsSame, LeavesEachTorn};

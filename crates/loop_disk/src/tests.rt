@@ -190,7 +190,7 @@ fn a_torn_write_keeps_its_first_bytes(rt: HostRuntime) -> Result<(), Fail> {
 
 // With eight entries and eight bytes kept, each of the two lists needs a new block for the next.
 #[test]
-fn each_growth_of_the_record_is_refused_in_turn(rt: HostRuntime) -> Result<(), Fail> {
+fn each_growth_of_a_write_is_refused_in_turn(rt: HostRuntime) -> Result<(), Fail> {
     let memory = Budget::new(rt.alloc());
     for allowed in 0..=2u64 {
         memory.allow(u64::MAX);
@@ -201,19 +201,13 @@ fn each_growth_of_the_record_is_refused_in_turn(rt: HostRuntime) -> Result<(), F
         }
         assert_eq!(rt; disk.size(), 16);
         memory.allow(allowed);
-        let answer = disk.write_at(8, b"after");
-        let want = if allowed == 2 {
-            Ok(())
+        let (want, rest) = if allowed == 2 {
+            (Ok(()), *b"after\0\0\0")
         } else {
-            Err(DiskFault::Write)
+            (Err(DiskFault::Write), [0; 8])
         };
-        assert_eq!(rt; answer, want, "{allowed} allowed");
+        assert_eq!(rt; disk.write_at(8, b"after"), want, "{allowed} allowed");
         assert_eq!(rt; memory.left(), 0);
-        let rest = if allowed == 2 {
-            *b"after\0\0\0"
-        } else {
-            [0; 8]
-        };
         assert_eq!(rt;
             disk.bytes().get(8..),
             Some(rest.as_slice()),
@@ -221,6 +215,12 @@ fn each_growth_of_the_record_is_refused_in_turn(rt: HostRuntime) -> Result<(), F
         );
         assert_eq!(rt; disk.is_settled_at(8), allowed < 2);
     }
+    Ok(())
+}
+
+#[test]
+fn a_refused_growth_of_a_sync_settles_nothing(rt: HostRuntime) -> Result<(), Fail> {
+    let memory = Budget::new(rt.alloc());
     for allowed in 0..=1u64 {
         memory.allow(u64::MAX);
         let mut disk = MemDisk::new(&memory, 1)?;
