@@ -15,6 +15,7 @@ use Rattle.loop_record.specs.Layout.{Slot, Segment}
 use Rattle.loop_record.specs.Reading.{frames_of, all_frames, next_after, lacks_frame, is_high, repeats, is_bad_slot, hold_from, has_bad_clip, recording_of, checked, begun}
 use Rattle.loop_record.proofs.Growth.{AllBelow, grown, checked-grown}
 use Rattle.loop_record.proofs.Segments.{AllAbove, has_block, any_move, repeats_move}
+use Rattle.loop_record.proofs.Decided.{neither}
 
 -- ---- no damage
 
@@ -49,10 +50,6 @@ shown_of g ss clips r e =
 pub of_shown : (g : Geometry) (ss : List Segment) (clips : List (Option Span)) (r : Recording) → Shown g ss clips r → checked g ss clips ≡ Ok r
 of_shown g ss clips r s =
     (λ i. cond (s.low_enough i) (Err BlockTooHigh) (cond (s.single i) (Err RepeatedBlock) (cond (s.full i) (Err ClosedGate) (cond (s.right i) (Err SlotHead) (cond (s.held i) (Err ClipRange) (ok (s.is i)))))))
-
-pub neither : (a b : Bool) → (a || b) ≡ false → (a ≡ false) × (b ≡ false)
-neither true b e = absurd cc
-neither false b e = (refl, e)
 
 -- ---- the next number
 

@@ -14,7 +14,8 @@ use Rattle.loop_record.specs.Layout.{Segment}
 use Rattle.loop_record.specs.Reading.{frames_of, all_frames, next_after, lacks_frame, is_high, repeats, is_bad_slot, is_bad_clip, has_bad_clip, recording_of, checked}
 use Rattle.loop_record.proofs.Growth.{AllBelow}
 use Rattle.loop_record.proofs.Segments.{AllAbove, has_block, any_move, repeats_move}
-use Rattle.loop_record.proofs.Changes.{shown_of, of_shown, neither, next_after-behind, all_frames-append, is_overfull}
+use Rattle.loop_record.proofs.Changes.{shown_of, of_shown, next_after-behind, all_frames-append, is_overfull}
+use Rattle.loop_record.proofs.Decided.{neither, both, clash, differ, differ_test, not_false, or_false}
 
 -- ---- frames of one block
 
@@ -37,31 +38,24 @@ frames_in ring g s same fits =
     let at : s.block * ring.slots ≡ s.block * g.slots = ap (λ (k : ℕ). s.block * k) same in
     enumerate_in ring s.block (s.block * g.slots) (map (λ t. t.picture) s.slots) (omega (arith, at)) (omega (arith, at, split, same, most, length-map s.slots (λ t. t.picture)))
 
-both : (a b : Bool) → (a && b) ≡ true → (a ≡ true) × (b ≡ true)
-both true b e = (refl, e)
-both false b e = absurd cc
-
 others_out : (ring : Ring) (b c : ℕ) (fs : List (ℕ × Picture)) → (b ≡ c → ⊥) → list_all (is_in ring b) fs ≡ true → list_any (is_in ring c) fs ≡ false
 others_out ring b c [] apart all = refl
 others_out ring b c (f ∷ fs) apart all =
     let k = both (is_in ring b f) (list_all (is_in ring b) fs) all in
     let is : block ring f.0 ≡ b = equal (block ring f.0) b k.0 in
-    let first : is_in ring c f ≡ false = unequal (block ring f.0) c (λ e. apart (sym is ∙ e)) in
+    let first : is_in ring c f ≡ false = differ_test (block ring f.0) c (λ e. apart (sym is ∙ e)) in
     let rest = others_out ring b c fs apart k.1 in
     λ i. first i || rest i
   where
     equal : (m n : ℕ) → eqb m n ≡ true → m ≡ n
     equal m n e = grind (arith, nat_tests, e)
 
-    unequal : (m n : ℕ) → (m ≡ n → ⊥) → eqb m n ≡ false
-    unequal m n ne = pick (eqb m n) refl
+    differ_test : (m n : ℕ) → (m ≡ n → ⊥) → eqb m n ≡ false
+    differ_test m n ne = pick (eqb m n) refl
       where
         pick : (t : Bool) → eqb m n ≡ t → eqb m n ≡ false
         pick true e = absurd (ne (grind (arith, nat_tests, e)))
         pick false e = e
-
-or_false : (a b : Bool) → a ≡ false → b ≡ false → (a || b) ≡ false
-or_false a b e f = λ i. e i || f i
 
 any_append : {X : Type 0} (p : X → Bool) (xs ys : List X) → list_any p xs ≡ false → list_any p ys ≡ false → list_any p (xs ++ ys) ≡ false
 any_append p [] ys e f = f
@@ -130,32 +124,18 @@ last_only-with b c (x ∷ bs) apart l = go (eqb c x)
     go true = l
     go false = (apart, l)
 
-differ : (m n : ℕ) → eqb m n ≡ false → m ≡ n → ⊥
-differ m n e same = absurd (clash (eqb m n) (grind (arith, nat_tests, same)) e)
-  where
-    clash : (t : Bool) → t ≡ true → t ≡ false → ⊥
-    clash true e f = absurd cc
-    clash false e f = absurd cc
-
 last_only-frames : (ring : Ring) (b : ℕ) (fs us : List (ℕ × Picture)) → list_any (is_in ring b) fs ≡ false → list_all (is_in ring b) us ≡ true → LastOnly b (blocks_of ring (fs ++ us))
 last_only-frames ring b [] us none all = last_only_one b (blocks_of ring us) (one_block ring b us all)
 last_only-frames ring b (f ∷ fs) us none all =
     let k = neither (is_in ring b f) (list_any (is_in ring b) fs) none in
     last_only-with b (block ring f.0) (blocks_of ring (fs ++ us)) (differ (block ring f.0) b k.0) (last_only-frames ring b fs us k.1 all)
 
-unequal : (m n : ℕ) → (m ≡ n → ⊥) → eqb m n ≡ false
-unequal m n ne = pick (eqb m n) refl
-  where
-    pick : (t : Bool) → eqb m n ≡ t → eqb m n ≡ false
-    pick true e = absurd (ne (grind (arith, nat_tests, e)))
-    pick false e = e
-
 last_only-front : (b : ℕ) (bs : List ℕ) → LastOnly b bs → list_any (λ c. eqb c b) (take (length bs - 1) bs) ≡ false
 last_only-front b [] l = refl
 last_only-front b (x ∷ []) l = refl
 last_only-front b (x ∷ y ∷ bs) l =
     let n : suc (suc (length bs)) - 1 ≡ suc (suc (length bs) - 1) = omega arith in
-    let first = unequal x b l.0 in
+    let first = differ_test x b l.0 in
     let rest = last_only-front b (y ∷ bs) l.1 in
     ap (λ (k : ℕ). list_any (λ c. eqb c b) (take k (x ∷ y ∷ bs))) n ∙ or_false (eqb x b) (list_any (λ c. eqb c b) (take (suc (length bs) - 1) (y ∷ bs))) first rest
 
@@ -176,10 +156,6 @@ found p b (x ∷ xs) e = go (p x) refl (found p b xs) e
 
 -- ---- clips
 
-unnot : (b : Bool) → not b ≡ false → b ≡ true
-unnot true e = refl
-unnot false e = absurd cc
-
 pub under-filter : (ring : Ring) (b n : ℕ) (fs : List (ℕ × Picture)) → eqb (block ring n) b ≡ false → frame_under (filter (λ f. not (eqb (block ring f.0) b)) fs) n ≡ frame_under fs n
 under-filter ring b n [] out = refl
 under-filter ring b n (f ∷ fs) out = go (eqb (block ring f.0) b) refl (under-filter ring b n fs out)
@@ -188,7 +164,7 @@ under-filter ring b n (f ∷ fs) out = go (eqb (block ring f.0) b) refl (under-f
         → frame_under (cond (not t) (f ∷ filter (λ x. not (eqb (block ring x.0) b)) fs) (filter (λ x. not (eqb (block ring x.0) b)) fs)) n ≡ cond (eqb f.0 n) (Some f.1) (frame_under fs n)
     go false is ih = ap (λ o. cond (eqb f.0 n) (Some f.1) o) ih
     go true is ih =
-        let other : eqb f.0 n ≡ false = unequal f.0 n (λ e. differ (block ring n) b out (sym (ap (block ring) e) ∙ equal (block ring f.0) b is)) in
+        let other : eqb f.0 n ≡ false = differ_test f.0 n (λ e. differ (block ring n) b out (sym (ap (block ring) e) ∙ equal (block ring f.0) b is)) in
         ih ∙ ap (λ t. cond t (Some f.1) (frame_under fs n)) (sym other)
       where
         equal : (m k : ℕ) → eqb m k ≡ true → m ≡ k
@@ -203,7 +179,7 @@ still_all p q lo (suc len) h e =
     λ i. first i && rest i
 
 pub outside_clip : (ring : Ring) (b n : ℕ) (s : Span) → 1 ≤ ring.slots → meets ring b (Some s) ≡ false → s.from ≤ n → n ≤ s.to → eqb (block ring n) b ≡ false
-outside_clip ring b n s some free low high = unequal (block ring n) b (λ is. clash (meets ring b (Some s)) (is_met is) free)
+outside_clip ring b n s some free low high = differ_test (block ring n) b (λ is. clash (meets ring b (Some s)) (is_met is) free)
   where
     clash : (t : Bool) → t ≡ true → t ≡ false → ⊥
     clash true e f = absurd cc
@@ -224,7 +200,7 @@ clip_kept : (ring : Ring) (r : Recording) (b : ℕ) (c : Option Span) → 1 ≤ 
 clip_kept ring r b None some free e = refl
 clip_kept ring r b (Some s) some free e =
     let k = neither (ltb s.to s.from) (not (holds_all r s)) e in
-    let held : holds_all r s ≡ true = unnot (holds_all r s) k.1 in
+    let held : holds_all r s ≡ true = not_false (holds_all r s) k.1 in
     let order : s.from ≤ s.to = grind (arith, nat_tests, k.0) in
     let still = still_all (holds r) (holds (after ring r (recycle b))) s.from (s.to + 1 - s.from) (λ n low high h.
     ap is_some (under-filter ring b n r.frames (outside_clip ring b n s some free low (omega (arith, order, high)))) ∙ h) held in
@@ -247,10 +223,6 @@ lacks_frame-without g (x ∷ []) u y ys e =
 lacks_frame-without g (x ∷ z ∷ xs) u y ys e =
     let k = neither (not (eqb (length x.slots) g.slots)) (lacks_frame g (z ∷ xs ++ u ∷ y ∷ ys)) e in
     or_false (not (eqb (length x.slots) g.slots)) (lacks_frame g (z ∷ xs ++ y ∷ ys)) k.0 (lacks_frame-without g (z ∷ xs) u y ys k.1)
-
-clash : (t : Bool) → t ≡ true → t ≡ false → ⊥
-clash true e f = absurd cc
-clash false e f = absurd cc
 
 -- the open segments without the victim
 pub checked-retire : (ring : Ring) (g : Geometry) (u : Segment) (lower higher : List Segment) (clips : List (Option Span)) (r : Recording)

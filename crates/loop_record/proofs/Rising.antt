@@ -4,6 +4,7 @@ use Rattle.std.proofs.lemmas.Bool.Decides.{nat_tests}
 use Rattle.std.specs.List.{filter, enumerate_from, list_all, list_any, range_with_len}
 use Rattle.std.specs.Prelude.{Contains, ◌&&◌, ◌||◌}
 use Rattle.loop_record.specs.Recording.{Picture, RiseBetween, frame_under}
+use Rattle.loop_record.proofs.Decided.{both, equal, neither}
 
 -- ---- numbers that rise
 
@@ -41,9 +42,6 @@ Among b (c ∷ cs) = (c ≡ b) ⊎ Among b cs
 abbrev pub numbers_of : List (ℕ × Picture) → List ℕ
 numbers_of fs = map (λ f. f.0) fs
 
-equal : (m n : ℕ) → eqb m n ≡ true → m ≡ n
-equal m n e = grind (arith, nat_tests, e)
-
 -- a number that is held is one of the numbers
 pub held-among : (n : ℕ) (fs : List (ℕ × Picture)) → is_some (frame_under fs n) ≡ true → Among n (numbers_of fs)
 held-among n [] e = absurd cc
@@ -77,10 +75,6 @@ among-range low high n (f ∷ fs) h (inr rest) = let k = among-range (f.0 + 1) h
 
 -- ---- tests over a range
 
-both : (a b : Bool) → (a && b) ≡ true → (a ≡ true) × (b ≡ true)
-both true b e = (refl, e)
-both false b e = absurd cc
-
 pub all_range-each : (p : ℕ → Bool) (lo len n : ℕ) → list_all p (range_with_len lo len) ≡ true → lo ≤ n → n < lo + len → p n ≡ true
 all_range-each p lo zero n e low high = absurd (omega (arith, low, high))
 all_range-each p lo (suc len) n e low high =
@@ -102,10 +96,6 @@ each-all_range p lo (suc len) h =
     λ i. first i && rest i
 
 -- ---- tests over a list
-
-neither : (a b : Bool) → (a || b) ≡ false → (a ≡ false) × (b ≡ false)
-neither true b e = absurd cc
-neither false b e = (refl, e)
 
 -- a test that no element passes
 pub none-each : {X : Type 0} (p : X → Bool) (xs : List X) (x : X) → list_any p xs ≡ false → Contains xs x → p x ≡ false
