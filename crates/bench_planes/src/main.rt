@@ -51,7 +51,7 @@ fn plain_nanos(
     Ok(start.elapsed(rt)?.as_nanos())
 }
 
-// Nanoseconds for a fill of the plane and a copy out of it, as many rounds.
+// Nanoseconds for a fill of the plane and a copy out of it, as many rounds. The plane has room for the source.
 fn plane_nanos<P: PlaneMemory>(
     rt: &impl Clock,
     plane: &mut P,
@@ -91,6 +91,7 @@ fn report<P: PlaneMemory>(
     Ok(())
 }
 
+// So many free pages of the ledger.
 fn claimed(alloc: Global, ledger: &Arc<PageLedger>, seat: PageSeat, count: u32) -> Result<PageHold>
     requires { IsIdle (arc_value ledger.now) seat }
     ensures { IfOk result (λ hold. length hold.pages ≡ count) }
@@ -101,6 +102,7 @@ fn claimed(alloc: Global, ledger: &Arc<PageLedger>, seat: PageSeat, count: u32) 
     }
 }
 
+// Measures a plane of each kind, of so many pages. Three such planes and a page more fit the ledger.
 fn measure(rt: &(impl Clock + Print), alloc: Global, pages: u32, rounds: u32) -> Result<()>
     requires { (0 < pages) × (pages ≤ 300) }
 {

@@ -1,5 +1,5 @@
 -- The rule counts; here is what its counts say of who holds a page.
-use Rattle.std.proofs.Common.{◌≡◌, ◌≢◌, inl, inr, ℕ, zero, suc, ◌+◌, ◌≤◌, ◌<◌, Bool, eqb, if◌then◌else◌, List, [], ◌∷◌, sym, refl, ap, ◌∙◌, arith, eq-eqb, ne_eqb, Contains}
+use Rattle.std.proofs.Common.{◌≡◌, ◌≢◌, inl, inr, ℕ, zero, suc, ◌+◌, ◌≤◌, ◌<◌, List, [], ◌∷◌, sym, refl, ap, ◌∙◌, arith, Contains}
 use mathlib.Core.Logic.{dite}
 use mathlib.Core.Option.{some, some-injective, some-ne-none}
 use native.Mathlib.Decide.{ℕ_discrete}
@@ -8,15 +8,7 @@ use Rattle.atomic_table.specs.Table.{State}
 use Rattle.loop_pages.specs.declared.rule.Holding.{Holding}
 use Rattle.loop_pages.specs.Words.{times, listed, IsKept}
 use Rattle.loop_pages.specs.Holders.{Lists, OneHolder}
-
-abbrev one : ℕ → ℕ → ℕ
-one page other = if eqb page other then 1 else 0
-
-one_same : (page other : ℕ) → page ≡ other → one page other ≡ 1
-one_same page other e = ap (λ (b : Bool). if b then 1 else 0) (eq-eqb page other e)
-
-one_other : (page other : ℕ) → page ≢ other → one page other ≡ 0
-one_other page other e = ap (λ (b : Bool). if b then 1 else 0) (ne_eqb page other e)
+use Rattle.loop_pages.proofs.Times.{one_same, one_other}
 
 -- a page that a list contains stands in it at least once
 counts : (pages : List ℕ) (page : ℕ) → Contains pages page → 0 < times page pages

@@ -1,9 +1,9 @@
 -- Each step of the ledger keeps its rule.
-use Rattle.std.proofs.Common.{◌≡◌, ◌≢◌, ℕ, zero, suc, ◌+◌, ◌≤◌, ◌<◌, Bool, eqb, if◌then◌else◌, List, [], ◌∷◌, ◌++◌, get_or, set, sym, refl, ap, ◌∙◌, subst, arith, length-set, get_or-set_same, get_or-set_other, eq-eqb, ne_eqb, MatchBool}
+use Rattle.std.proofs.Common.{◌≡◌, ◌≢◌, ℕ, ◌+◌, ◌≤◌, ◌<◌, eqb, List, [], ◌∷◌, ◌++◌, get_or, set, sym, refl, ap, ◌∙◌, subst, arith, length-set, get_or-set_same, get_or-set_other, eq-eqb, ne_eqb, MatchBool}
 use Rattle.std.specs.List.{All, Contains}
 use Rattle.std.proofs.lemmas.List.Elements.{All-contains, Contains-push}
 use mathlib.Core.Logic.{dite}
-use mathlib.Core.Option.{none, some, some-injective, some-ne-none}
+use mathlib.Core.Option.{none, some}
 use native.Mathlib.Decide.{ℕ_discrete}
 use lib.ListN.{get_elem?}
 use prog.Atomic.{either}
@@ -11,29 +11,7 @@ use Rattle.atomic_table.specs.Table.{State, Me, step, keeps, stepped, Allows, Sp
 use Rattle.atomic_table.proofs.Lists.{set_again}
 use Rattle.loop_pages.specs.declared.rule.Holding.{Holding}
 use Rattle.loop_pages.specs.Words.{holding, times, listed, IsKept, missed_before, tries, frees}
-
--- how often a page stands in a list of just one
-abbrev one : ℕ → ℕ → ℕ
-one page other = if eqb page other then 1 else 0
-
-times-append : (page : ℕ) (pages : List ℕ) (last : ℕ) → times page (pages ++ last ∷ []) ≡ times page pages + one page last
-times-append page [] last = omega arith
-times-append page (p ∷ ps) last = let r = times-append page ps last in omega arith
-
-listed-append : (page : ℕ) (views : List Holding) → listed page (views ++ holding [] [] ∷ []) ≡ listed page views
-listed-append page [] = refl
-listed-append page (v ∷ vs) = ap (λ (n : ℕ). times page v.pages + n) (listed-append page vs)
-
-listed-set : (page : ℕ) (views : List Holding) (id : ℕ) (v w : Holding) → get_elem? views id ≡ some v → listed page (set views id w) + times page v.pages ≡ listed page views + times page w.pages
-listed-set page [] id v w at = absurd (some-ne-none v (sym at))
-listed-set page (x ∷ xs) zero v w at = let is : times page x.pages ≡ times page v.pages = ap (λ (u : Holding). times page u.pages) (some-injective x v at) in omega arith
-listed-set page (x ∷ xs) (suc id) v w at = let r = listed-set page xs id v w at in omega arith
-
-one_same : (page other : ℕ) → page ≡ other → one page other ≡ 1
-one_same page other e = ap (λ (b : Bool). if b then 1 else 0) (eq-eqb page other e)
-
-one_other : (page other : ℕ) → page ≢ other → one page other ≡ 0
-one_other page other e = ap (λ (b : Bool). if b then 1 else 0) (ne_eqb page other e)
+use Rattle.loop_pages.proofs.Times.{one, one_same, one_other, times-append, listed-append, listed-set}
 
 -- a step on one word, whose new value is how often the views then list its page
 changes : (count : ℕ) (s : State (Unit {0}) Holding) (page new id : ℕ) (me : Me (Unit {0}) Holding) (w : Holding)

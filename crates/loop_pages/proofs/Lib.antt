@@ -1,3 +1,4 @@
+pub mod Times
 pub mod Keeps
 pub mod Counted
 pub mod Tried
