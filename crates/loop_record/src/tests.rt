@@ -1,7 +1,8 @@
 //! The worked rows, run: sizes, the plain recorder, and what images read as.
 
 use super::*;
-use std::alloc::{AllocError, Global};
+use loop_budget::Budget;
+use std::alloc::{AllocError, Allocator, Global};
 use std::process::Abort;
 use std::test::Fail;
 
@@ -27,10 +28,10 @@ const TINY: Geometry = Geometry {
     slots: 1,
 };
 
-/// Frame `n` of a pattern, of 12 bytes.
-fn pattern(alloc: Global, n: u8) -> Result<Frame, AllocError> {
+/// Frame `n` of a pattern, of so many bytes.
+fn frame_of<A: Allocator + Copy>(alloc: A, n: u8, size: u8) -> Result<Frame<A>, AllocError> {
     let mut bytes = Vec::new(alloc);
-    for i in 0..12u8 {
+    for i in 0..size {
         bytes.push(n.wrapping_add(i))?;
     }
     Ok(Frame {
@@ -39,6 +40,11 @@ fn pattern(alloc: Global, n: u8) -> Result<Frame, AllocError> {
         timestamp: u64::from(n) * 40_000,
         bytes,
     })
+}
+
+/// Frame `n` of a pattern, of 12 bytes.
+fn pattern(alloc: Global, n: u8) -> Result<Frame, AllocError> {
+    frame_of(alloc, n, 12)
 }
 
 /// Appends a frame, or answers why nothing was stored.
@@ -144,41 +150,50 @@ fn zeros(image: &mut Vec<u8>, count: usize) -> Result<(), AllocError> {
     Ok(())
 }
 
-/// Adds a segment of two slots to an image: its gate and block, two frame gates, and the slots of two frames.
+/// Adds a segment to an image: its gate and block, its frame gates, and the slots of frames of so many bytes.
 fn segment(
     rt: &(impl Abort + Alloc),
     alloc: Global,
     image: &mut Vec<u8>,
     block: (u8, u64),
-    gates: [u8; 2],
-    frames: [u8; 2],
+    gates: &[u8],
+    frames: &[u64],
+    size: u8,
 ) -> Result<(), AllocError> {
     let mut header = [0u8; 512];
     header[0] = block.0;
     put_u64(&mut header, 8, block.1);
-    header[256] = gates[0];
-    header[257] = gates[1];
+    for (place, gate) in header[256..].iter_mut().zip(gates) {
+        *place = *gate;
+    }
     image.extend_from_slice(&header)?;
-    for n in frames {
-        let mut slot = [0u8; 44];
-        let frame = pattern(alloc, n)?;
-        assert_eq!(rt; frame.bytes.len(), 12);
-        encode_slot(u64::from(n), &frame, &mut slot);
-        image.extend_from_slice(&slot)?;
+    for number in frames {
+        let frame = frame_of(alloc, (*number % 256) as u8, size)?;
+        let mut slot = vec![in alloc; 0u8; 32 + size as usize]?;
+        assert_eq!(rt; frame.bytes.len(), size as usize);
+        encode_slot(*number, &frame, slot.as_mut_slice());
+        image.extend_from_slice(slot.as_slice())?;
     }
     Ok(())
 }
 
-/// The image after frames 0 to 6, with frame 1's slot left over behind frame 6.
-fn seven(rt: &(impl Abort + Alloc), alloc: Global) -> Result<Vec<u8>, AllocError> {
+/// A fresh image of a geometry as far as its segments: the superblock and the clip table.
+fn front(rt: &impl Abort, alloc: Global, geometry: Geometry) -> Result<Vec<u8>, AllocError> {
+    assert!(rt; geometry.check().is_ok());
     let mut image = Vec::new(alloc);
     let mut superblock = [0u8; 512];
-    encode_super(&SMALL, &mut superblock);
+    encode_super(&geometry, &mut superblock);
     image.extend_from_slice(&superblock)?;
     zeros(&mut image, 2_048)?;
-    segment(rt, alloc, &mut image, (OPEN, 3), [OPEN, 0], [6, 1])?;
-    segment(rt, alloc, &mut image, (OPEN, 1), [OPEN, OPEN], [2, 3])?;
-    segment(rt, alloc, &mut image, (OPEN, 2), [OPEN, OPEN], [4, 5])?;
+    Ok(image)
+}
+
+/// The image after frames 0 to 6, with frame 1's slot left over behind frame 6.
+fn seven(rt: &(impl Abort + Alloc), alloc: Global) -> Result<Vec<u8>, AllocError> {
+    let mut image = front(rt, alloc, SMALL)?;
+    segment(rt, alloc, &mut image, (OPEN, 3), &[OPEN, 0], &[6, 1], 12)?;
+    segment(rt, alloc, &mut image, (OPEN, 1), &[OPEN, OPEN], &[2, 3], 12)?;
+    segment(rt, alloc, &mut image, (OPEN, 2), &[OPEN, OPEN], &[4, 5], 12)?;
     Ok(image)
 }
 
@@ -265,5 +280,89 @@ fn an_image_reads_as_its_recording(rt: HostRuntime) -> Result<(), Fail> {
         answer(&rt, read_image(alloc, &bytes[..100.min(bytes.len())])),
         (0, 0, 0)
     );
+    Ok(())
+}
+
+#[test]
+fn fresh_stray_and_spent_images_are_read(rt: HostRuntime) -> Result<(), Fail> {
+    let alloc = rt.alloc();
+    let mut fresh = front(&rt, alloc, SMALL)?;
+    zeros(&mut fresh, 1_800)?;
+    assert_eq!(rt; answer(&rt, read_image(alloc, fresh.as_slice())), (8, 0, 0));
+    let mut nothing = Vec::new(alloc);
+    zeros(&mut nothing, 4_360)?;
+    assert_eq!(rt;
+        answer(&rt, read_image(alloc, nothing.as_slice())),
+        (0, 0, 0)
+    );
+
+    // A group of three frames of which the gates are torn: frame 0 alone is there.
+    let wide = Geometry { slots: 4, ..SMALL };
+    let mut stray = front(&rt, alloc, wide)?;
+    segment(
+        &rt,
+        alloc,
+        &mut stray,
+        (OPEN, 0),
+        &[OPEN, 7, OPEN, 0],
+        &[0, 1, 2, 3],
+        12,
+    )?;
+    zeros(&mut stray, 2 * 688)?;
+    let recorder = read_image(alloc, stray.as_slice()).ok().ok_or("it reads")?;
+    assert_eq!(rt; numbers(alloc, &recorder)?.as_slice(), [0].as_slice());
+    assert_eq!(rt; recorder.next(), 1);
+
+    // The last number: the next append finds the numbers spent. One block more is damage.
+    let last = (1u64 << 62) - 1;
+    for (block, want) in [(last, (8, last, last + 1)), (last + 1, (6, 0, 0))] {
+        let mut image = front(&rt, alloc, TINY)?;
+        segment(&rt, alloc, &mut image, (OPEN, block), &[OPEN], &[block], 1)?;
+        zeros(&mut image, 545)?;
+        assert_eq!(rt;
+            image.get(2_568..2_576),
+            Some(block.to_le_bytes().as_slice())
+        );
+        let read = read_image(alloc, image.as_slice());
+        if let Ok(recorder) = &read {
+            assert_eq!(rt; recorder.append_first(), Err(AppendFault::NumbersSpent));
+        }
+        assert_eq!(rt; answer(&rt, read), want);
+    }
+    Ok(())
+}
+
+// Two segments of one frame each: the list of segments, that of frames, and each frame's bytes.
+#[test]
+fn each_growth_is_refused_in_turn(rt: HostRuntime) -> Result<(), Fail> {
+    let alloc = rt.alloc();
+    let mut image = front(&rt, alloc, TINY)?;
+    segment(&rt, alloc, &mut image, (OPEN, 2), &[OPEN], &[2], 1)?;
+    segment(&rt, alloc, &mut image, (OPEN, 1), &[OPEN], &[1], 1)?;
+    let memory = Budget::new(alloc);
+    for allowed in 0..=4u64 {
+        memory.allow(allowed);
+        match read_image(&memory, image.as_slice()) {
+            Ok(recorder) => {
+                assert_eq!(rt; (allowed, recorder.next()), (4, 3));
+                assert_eq!(rt; recorder.frames().len(), 2);
+            }
+            Err(fault) => assert!(rt;
+                allowed < 4 && fault == ImageFault::NoMemory,
+                "{allowed} allowed"
+            ),
+        }
+        assert_eq!(rt; memory.left(), 0);
+    }
+    let mut recorder = PlainRecorder::new(&memory, TINY);
+    for allowed in 0..=1u64 {
+        memory.allow(1);
+        let frame = frame_of(&memory, 7, 1)?;
+        memory.allow(allowed);
+        assert!(rt; recorder.next() < 9);
+        let stored = recorder.store(frame).ok();
+        assert_eq!(rt; stored, if allowed == 1 { Some(0) } else { None });
+        assert_eq!(rt; recorder.next(), allowed);
+    }
     Ok(())
 }
