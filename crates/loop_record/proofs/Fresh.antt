@@ -1,0 +1,132 @@
+-- What a freshly formatted image reads as, and what a part reads as once it has been written.
+use Rattle.std.proofs.Common.{◌≡◌, ◌⊎◌, inl, inr, ℕ, zero, suc, ◌+◌, ◌-◌, ◌*◌, ◌^◌, ◌<◌, ◌≤◌, Bool, true, false, cond, ◌&&◌, eqb, leb, IsTrue, Option, Some, None, Ok, Err, List, [], ◌∷◌, ◌++◌, length, take, drop, get_or, map, replicate, refl, sym, ap, ◌∙◌, subst, arith}
+use Rattle.std.proofs.lemmas.List.{take_all, append-nil, take-append-drop, get_or-take, get_or-drop}
+use Rattle.std.specs.Prelude.{slice_range}
+use Rattle.std.specs.List.{range_with_len}
+use Rattle.byteorder.specs.Endian.{little_from, little_bytes}
+use Rattle.byteorder.specs.Numbers.{little_number-reads_back}
+use Rattle.loop_record.specs.declared.clip.Span.{Span}
+use Rattle.loop_record.specs.declared.damage.Damage.TheVariants.{SlotHead}
+use Rattle.loop_record.specs.declared.geometry.Geometry.{Geometry}
+use Rattle.loop_record.specs.Geometry.{frame_bytes, is_good, segment_at, slot_at, clip_at}
+use Rattle.loop_record.specs.Recording.{Picture, empty, head}
+use Rattle.loop_record.specs.Layout.{Slot, Segment, is_open, open_gates, whole_frames, segment_in, entry_at, clip_in, header_at, super_bytes, header_bytes, entry_bytes, geometry_in, slot_in, slot_bytes, slot_head, is_slot_of}
+use Rattle.loop_record.specs.Reading.{parts_of, shown, checked, by_block, opened, begun, Holds, IsFresh}
+use Rattle.loop_record.specs.Laws.{FitsSlot, WrittenIsRead}
+use Rattle.loop_record.proofs.Bounds.{limits}
+use Rattle.loop_record.proofs.Tests.{equal_test}
+use Rattle.loop_record.proofs.Framing.{map_range, prefix_range}
+use Rattle.loop_record.proofs.Gates.{open_gates-are}
+use Rattle.loop_record.proofs.Parts.{stages-reading}
+use Rattle.loop_record.proofs.Written.{slot_in-slot_bytes, geometry_in-super_bytes, little_from-slice}
+
+-- ---- a fresh image
+
+none_opened : (g : Geometry) (image : List ℕ) (lo n : ℕ) → ((j : ℕ) → lo ≤ j → j < lo + n → is_open image (segment_at g j) ≡ false) → opened (map (segment_in g image) (range_with_len lo n)) ≡ []
+none_opened g image lo zero closed = refl
+none_opened g image lo (suc n) closed =
+    let first = closed lo (omega arith) (omega arith) in
+    let rest = none_opened g image (lo + 1) n (λ j low high. closed j (omega (arith, low)) (omega (arith, high))) in
+    rw first rest
+
+abbrev no_clip : ℕ → Option Span
+no_clip id = None
+
+-- a freshly formatted image reads as the empty recording
+pub reading-fresh : (g : Geometry) (image : List ℕ) → IsTrue (is_good g) → IsFresh g image → Holds g empty image
+reading-fresh g image good f =
+    let whole : image ≡ super_bytes g ++ drop 512 image = sym (take-append-drop 512 image) ∙ ap (λ (bs : List ℕ). bs ++ drop 512 image) f.superblock in
+    let segments = none_opened g image 0 g.segments (λ j low high. f.segments j (omega (arith, high))) in
+    let clips : map (clip_in image) (range_with_len 0 64) ≡ replicate 64 None = map_range (clip_in image) no_clip 0 64 (λ id low high. closed id (f.clips id (omega (arith, high)))) in
+    stages-reading g empty image (record {
+      geometry = ap geometry_in whole ∙ geometry_in-super_bytes g (drop 512 image) good;
+      size = f.size;
+      recording = λ i. checked g (by_block (segments i)) (clips i);
+    })
+  where
+    closed : (id : ℕ) → is_open image (clip_at id) ≡ false → clip_in image id ≡ None
+    closed id e = rw e refl
+
+-- ---- parts that were written
+
+-- a byte of a part of the image
+byte-slice : (at n i : ℕ) (image : List ℕ) → i < n → get_or image (at + i) 0 ≡ get_or (slice_range image at (at + n)) i 0
+byte-slice at n i image l =
+    let size : at + n - at ≡ n = omega arith in
+    sym (get_or-drop at image i 0) ∙ sym (get_or-take (at + n - at) (drop at image) i 0 (omega (arith, size)))
+
+-- a segment whose header was written without frames is begun
+pub segment_in-header_bytes : (g : Geometry) (image : List ℕ) (j b : ℕ) → b < 2 ^ 64 → 1 ≤ g.slots → slice_range image (segment_at g j) (segment_at g j + 512) ≡ header_bytes b → segment_in g image j ≡ Some (begun b)
+segment_in-header_bytes g image j b fits some e =
+    let at = segment_at g j in
+    let byte : (i : ℕ) → i < 512 → get_or image (at + i) 0 ≡ get_or (header_bytes b) i 0 = λ i l. byte-slice at 512 i image l ∙ ap (λ (bs : List ℕ). get_or bs i 0) e in
+    let gate : is_open image at ≡ true = ap (λ (k : ℕ). is_open image k) (omega arith) ∙ ap (λ (x : ℕ). eqb x 0xA5) (byte 0 (omega arith)) in
+    let number : little_from (at + 8) 8 image ≡ b = little_from-slice at (at + 512) 8 8 image (omega arith) ∙ ap (little_from 8 8) e ∙ little_number-reads_back 8 b [] fits in
+    let first : is_open image (at + 256 + 0) ≡ false = ap (λ (k : ℕ). is_open image k) (omega arith) ∙ ap (λ (x : ℕ). eqb x 0xA5) (byte 256 (omega arith)) in
+    let whole : whole_frames g image j ≡ 0 = open_gates-are g.slots 0 (at + 256) image (λ i l. absurd (omega (arith, l))) (omega arith) (inr first) in
+    let slots : map (λ i. slot_in (frame_bytes g) image (slot_at g j i)) (range_with_len 0 (whole_frames g image j)) ≡ [] = ap (λ (n : ℕ). map (λ i. slot_in (frame_bytes g) image (slot_at g j i)) (range_with_len 0 n)) whole in
+    λ i. cond (gate i) (Some (record { block = number i; slots = slots i })) None
+
+-- an entry that was written holds its clip
+pub clip_in-entry_bytes : (image : List ℕ) (id : ℕ) (s : Span) → s.from < 2 ^ 64 → s.to < 2 ^ 64 → slice_range image (clip_at id) (clip_at id + 32) ≡ entry_bytes s → clip_in image id ≡ Some s
+clip_in-entry_bytes image id s low high e =
+    let at = clip_at id in
+    let gate : is_open image at ≡ true = ap (λ (k : ℕ). is_open image k) (omega arith) ∙ ap (λ (x : ℕ). eqb x 0xA5) (byte-slice at 32 0 image (omega arith) ∙ ap (λ (bs : List ℕ). get_or bs 0 0) e) in
+    let from : little_from (at + 8) 8 image ≡ s.from = little_from-slice at (at + 32) 8 8 image (omega arith) ∙ ap (little_from 8 8) e ∙ little_number-reads_back 8 s.from [] low in
+    let to : little_from (at + 16) 8 image ≡ s.to = little_from-slice at (at + 32) 16 8 image (omega arith) ∙ ap (little_from 16 8) e ∙ little_number-reads_back 8 s.to [] high in
+    λ i. cond (gate i) (Some (record { from = from i; to = to i })) None
+
+-- ---- a part by itself
+
+-- the number at a place of a part
+number-slice : (at n i m : ℕ) (image : List ℕ) → i + m ≤ n → little_from i m (slice_range image at (at + n)) ≡ little_from (at + i) m image
+number-slice at n i m image h = sym (little_from-slice at (at + n) i m image (omega (arith, h)))
+
+open-slice : (at n i : ℕ) (image : List ℕ) → i < n → is_open (slice_range image at (at + n)) i ≡ is_open image (at + i)
+open-slice at n i image l = ap (λ (x : ℕ). eqb x 0xA5) (sym (byte-slice at n i image l))
+
+-- the header of a segment, cut out of its image, says what it says in it
+pub header_at-slice : (g : Geometry) (image : List ℕ) (at : ℕ) → g.slots ≤ 256 → header_at g (slice_range image at (at + 512)) 0 ≡ header_at g image at
+header_at-slice g image at few =
+    let gate : is_open (slice_range image at (at + 512)) 0 ≡ is_open image at = open-slice at 512 0 image (omega arith) ∙ ap (λ (k : ℕ). is_open image k) (omega arith) in
+    let block = number-slice at 512 8 8 image (omega arith) in
+    let frames : open_gates g.slots (slice_range image at (at + 512)) 256 ≡ open_gates g.slots image (at + 256) =
+    prefix_range (λ i. is_open (slice_range image at (at + 512)) (256 + i)) (λ i. is_open image (at + 256 + i)) 0 g.slots (λ i low high.
+    open-slice at 512 (256 + i) image (omega (arith, few, high)) ∙ ap (λ (k : ℕ). is_open image k) (omega arith)) in
+    λ i. cond (gate i) (Some (record { block = block i; frames = frames i })) None
+
+-- a clip entry, cut out of its image, holds what it holds in it
+pub entry_at-slice : (image : List ℕ) (at : ℕ) → entry_at (slice_range image at (at + 32)) 0 ≡ entry_at image at
+entry_at-slice image at =
+    let gate : is_open (slice_range image at (at + 32)) 0 ≡ is_open image at = open-slice at 32 0 image (omega arith) ∙ ap (λ (k : ℕ). is_open image k) (omega arith) in
+    let from = number-slice at 32 8 8 image (omega arith) in
+    let to = number-slice at 32 16 8 image (omega arith) in
+    λ i. cond (gate i) (Some (record { from = from i; to = to i })) None
+
+-- ---- written by itself
+
+written_slot : (number : ℕ) (p : Picture) → FitsSlot number p → slot_head (length p.bytes) number (slot_in (length p.bytes) (slot_bytes number p) 0) ≡ Ok (head number p)
+written_slot number p f =
+    let whole : slice_range (slot_bytes number p) 0 (0 + 32 + length p.bytes) ≡ slot_bytes number p = take_all (0 + 32 + length p.bytes - 0) (slot_bytes number p) (omega arith) in
+    let is = slot_in-slot_bytes (length p.bytes) 0 number p (slot_bytes number p) f refl whole in
+    let first = equal_test number number refl in
+    let second = equal_test (length p.bytes) (length p.bytes) refl in
+    ap (slot_head (length p.bytes) number) is ∙ (λ i. cond (first i && second i) (Ok (head number p)) (Err SlotHead))
+
+-- what was written is read again
+pub written : WrittenIsRead
+written = record {
+  slot = written_slot;
+  superblock = λ g good. ap geometry_in (sym (append-nil (super_bytes g))) ∙ geometry_in-super_bytes g [] good;
+  header = λ g b good fits. header g b (limits g good).slots.0 fits;
+  entry = λ s low high.
+    let from = little_number-reads_back 8 s.from [] low in
+    let to = little_number-reads_back 8 s.to [] high in
+    λ i. Some (record { from = from i; to = to i });
+}
+  where
+    header : (g : Geometry) (b : ℕ) → 1 ≤ g.slots → b < 2 ^ 64 → header_at g (header_bytes b) 0 ≡ Some (record { block = b; frames = 0 })
+    header g b some fits =
+        let block = little_number-reads_back 8 b [] fits in
+        let frames = open_gates-are g.slots 0 256 (header_bytes b) (λ i l. absurd (omega (arith, l))) (omega arith) (inr refl) in
+        λ i. Some (record { block = block i; frames = frames i })

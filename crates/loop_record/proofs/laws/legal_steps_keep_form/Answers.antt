@@ -1,0 +1,5 @@
+use Rattle.loop_record.proofs.WellFormed.{after-well_formed}
+use Rattle.loop_record.proofs.laws.legal_steps_keep_form.Goals as goal
+
+pub returns : goal.returns
+returns c = after-well_formed

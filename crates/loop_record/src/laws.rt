@@ -1,0 +1,41 @@
+//! What follows from the definitions. Each function does nothing: its contract is the law.
+
+ghost use Rattle.loop_record.specs.Laws.{VictimsAreLeast, LegalStepsKeepForm, AppendsAreLegal, ReadingsAreWellFormed, FreshImagesAreEmpty, WrittenIsRead};
+
+/// In a recording whose numbers rise, the victim is the least block of a held frame that no clip meets and that isn't
+/// the block of the newest held frame; where there is none, there is no such block.
+pub fn victims_are_least()
+    ensures { VictimsAreLeast }
+{
+}
+
+/// A legal step keeps a recording well formed: its numbers rise, the next number is above them all, and every number of
+/// a clip is held.
+pub fn legal_steps_keep_form()
+    ensures { LegalStepsKeepForm }
+{
+}
+
+/// Each step of an append is legal after those before it.
+pub fn appends_are_legal()
+    ensures { AppendsAreLegal }
+{
+}
+
+/// An image that reads as a recording reads as a well-formed one.
+pub fn readings_are_well_formed()
+    ensures { ReadingsAreWellFormed }
+{
+}
+
+/// A freshly formatted image reads as the empty recording, whatever its slots hold.
+pub fn fresh_images_are_empty()
+    ensures { FreshImagesAreEmpty }
+{
+}
+
+/// What was written of a slot, a superblock, a header or a clip entry is read again.
+pub fn written_is_read()
+    ensures { WrittenIsRead }
+{
+}
