@@ -1,0 +1,5 @@
+pub mod Bytes
+pub mod Retiring
+pub mod Beginning
+pub mod Committing
+pub mod Staging
