@@ -3,3 +3,4 @@ pub mod Retiring
 pub mod Beginning
 pub mod Committing
 pub mod Staging
+pub mod SlotReads

@@ -6,7 +6,10 @@
 //! Each call makes at most four calls of the disk, and none of them takes memory.
 #![tactic(auto)]
 
+mod fault;
+mod head;
 mod ring;
 mod stage;
 
+pub use fault::SlotFault;
 pub use ring::{MAX_GROUP, Ring};

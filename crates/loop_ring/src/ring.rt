@@ -1,17 +1,21 @@
 // The ring of a store: its segments, written and read one at a time.
-ghost use Rattle.std.specs.Prelude.{◌≡◌, ◌≢◌, ◌+◌, ◌*◌, ◌<◌, ◌≤◌, ◌^◌, ◌↔◌, IsTrue, All, IfOk, None, OnOk, Some, length, min, vec_len};
-ghost use Rattle.loop_disk.specs.Calls.{CountedAny};
+ghost use Rattle.std.specs.Prelude.{◌≡◌, ◌≢◌, ◌+◌, ◌*◌, ◌<◌, ◌≤◌, ◌^◌, ◌↔◌, IsTrue, All, Err, IfOk, None, OnOk, Some, length, min, vec_len};
+ghost use Rattle.loop_disk.specs.Calls.{CountedAny, Stays};
 ghost use Rattle.loop_disk.specs.Medium.{IsSettled, LeavesOnly};
 ghost use Rattle.loop_record.specs.Change.{ShowsSegment};
+ghost use Rattle.loop_record.specs.declared.damage.Damage.{Damage};
 ghost use Rattle.loop_record.specs.Geometry.{disk_size, frame_bytes, is_good, slot_size};
-ghost use Rattle.loop_record.specs.Layout.{segment_in, whole_frames};
+ghost use Rattle.loop_record.specs.Layout.{segment_in, slot_head, whole_frames};
 ghost use Rattle.loop_record.specs.Plain.{pictures};
 ghost use Rattle.loop_record.specs.Reading.{begun};
+ghost use Rattle.loop_ring.specs.Reads.{AnswersHead, CountedRead, slot_of};
 ghost use Rattle.loop_ring.specs.Writes.{HasNoStray, ShowsBeginning, ShowsFrames, ShowsOrNot};
 
+use crate::SlotFault;
+use crate::head::decode_head;
 use crate::stage::stage;
 use loop_disk::{Disk, DiskFault, store, store_in_turn};
-use loop_record::{Frame, Geometry, HEAD_SIZE, OPEN, put_u64};
+use loop_record::{Damage, Frame, FrameHead, Geometry, HEAD_SIZE, OPEN, put_u64};
 use std::alloc::{AllocError, Allocator, Global};
 
 /// The most frames that one commit takes.
@@ -106,5 +110,28 @@ impl<A: Allocator> Ring<A> {
         let gate = self.geometry.gate_at(segment, first_slot);
         let gates = [OPEN; MAX_GROUP];
         store_in_turn(disk, at, &self.staged[..size], gate, &gates[..frames.len()])
+    }
+
+    /// Reads a slot that should hold frame `number`: at most two reads. `out` has the size of a frame and gets the pixels.
+    /// After a refusal `out` may hold any bytes.
+    pub fn read_slot<D: Disk>(&self, disk: &mut D, segment: u32, slot: u32, number: u64, out: &mut [u8]) -> Result<FrameHead, SlotFault>
+        requires extent { D.extent disk.old ≡ disk_size self.now.geometry }
+        requires segment { segment < self.now.geometry.segments }
+        requires slot { slot < self.now.geometry.slots }
+        requires size { length out.old ≡ frame_bytes self.now.geometry }
+        ensures head { D.honest disk.old → AnswersHead (slot_head (frame_bytes self.now.geometry) number (slot_of self.now.geometry (D.medium disk.old).bytes segment slot)) result }
+        ensures pixels { D.honest disk.old → OnOk result (out.new ≡ (slot_of self.now.geometry (D.medium disk.old).bytes segment slot).picture.bytes) }
+        ensures damage { (damage : Damage) → result ≡ Err (SlotFault.Damaged damage) → damage ≡ Damage.SlotHead }
+        ensures disk { D.honest disk.old → Stays (D.medium disk.old) (D.medium disk.new) }
+        ensures counted { CountedRead (D.faults disk.old) (D.faults disk.new) result }
+        ensures extent { D.extent disk.new ≡ D.extent disk.old }
+        ensures honest { D.honest disk.old ↔ D.honest disk.new }
+    {
+        let at = self.geometry.slot_at(segment, slot);
+        let mut bytes = [0; HEAD_SIZE];
+        disk.read(at, &mut bytes)?;
+        let head = decode_head(&bytes, number, self.geometry.frame_bytes())?;
+        disk.read(at + HEAD_SIZE as u64, out)?;
+        Ok(head)
     }
 }
