@@ -13,3 +13,6 @@ mod stage;
 
 pub use fault::SlotFault;
 pub use ring::{MAX_GROUP, Ring};
+
+#[cfg(test)]
+mod tests;
