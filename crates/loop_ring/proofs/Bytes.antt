@@ -1,5 +1,5 @@
 -- Parts of a segment: what changes them, and what doesn't.
-use Rattle.std.proofs.Common.{◌≡◌, ◌≢◌, ◌⊎◌, inl, inr, ℕ, zero, suc, ◌+◌, ◌-◌, ◌<◌, ◌≤◌, Bool, true, false, cond, Option, Some, None, List, length, take, drop, get_or, map, refl, sym, ap, ◌∙◌, subst, arith}
+use Rattle.std.proofs.Common.{◌≡◌, ◌≢◌, inl, inr, ℕ, zero, suc, ◌+◌, ◌-◌, ◌<◌, ◌≤◌, Bool, true, false, cond, Option, Some, None, List, length, take, drop, get_or, map, refl, sym, ap, ◌∙◌, subst, arith}
 use Rattle.std.proofs.lemmas.List.{length-drop, length-take, get_or-take, get_or-drop, ext_get_or}
 use Rattle.std.specs.Prelude.{slice_range}
 use Rattle.std.specs.List.{range_with_len, prefix_len}
@@ -7,7 +7,7 @@ use Rattle.byteorder.specs.Endian.{little_from}
 use Rattle.loop_disk.specs.Medium.{SameOutside, written}
 use Rattle.loop_disk.specs.Steps.{TornInTurn}
 use Rattle.loop_record.specs.declared.geometry.Geometry.{Geometry}
-use Rattle.loop_record.specs.Change.{SameBut, ShowsSegment}
+use Rattle.loop_record.specs.Change.{ShowsSegment}
 use Rattle.loop_record.specs.Geometry.{frame_bytes, segment_size, segment_at, gate_at, slot_at}
 use Rattle.loop_record.specs.Layout.{Segment, is_open, slot_in, whole_frames, segment_in}
 use Rattle.loop_record.proofs.Framing.{SameWithin, SameWithin-part, prefix_range, prefix_range-le, map_range, slot_within, same_open, same_number, same_slot}
@@ -69,7 +69,6 @@ prefix_open p lo (suc n) i l = go (p lo) refl i l (λ k. prefix_open p (lo + 1) 
     go true e zero l rest = ap p (omega arith) ∙ e
     go true e (suc i) l rest = ap p (omega arith) ∙ rest i (omega (arith, l))
 
-
 -- ---- bytes at another place
 
 pub moved_number : (n p q : ℕ) (a b : List ℕ) → ((k : ℕ) → k < n → get_or a (p + k) 0 ≡ get_or b (q + k) 0) → little_from p n a ≡ little_from q n b
@@ -79,9 +78,9 @@ moved_number (suc n) p q a b same =
     let right : q + 0 ≡ q = omega arith in
     let first : get_or a p 0 ≡ get_or b q 0 = ap (λ (k : ℕ). get_or a k 0) left ∙ same 0 (omega arith) ∙ ap (λ (k : ℕ). get_or b k 0) right in
     let rest = moved_number n (suc p) (suc q) a b (λ k l.
-        let l' : suc p + k ≡ p + suc k = omega arith in
-        let r' : q + suc k ≡ suc q + k = omega arith in
-        ap (λ (x : ℕ). get_or a x 0) l' ∙ same (suc k) (omega (arith, l)) ∙ ap (λ (x : ℕ). get_or b x 0) r') in
+    let l' : suc p + k ≡ p + suc k = omega arith in
+    let r' : q + suc k ≡ suc q + k = omega arith in
+    ap (λ (x : ℕ). get_or a x 0) l' ∙ same (suc k) (omega (arith, l)) ∙ ap (λ (x : ℕ). get_or b x 0) r') in
     rw (first, rest) refl
 
 moved_slice : (n p q : ℕ) (a b : List ℕ) → p + n ≤ length a → q + n ≤ length b → ((k : ℕ) → k < n → get_or a (p + k) 0 ≡ get_or b (q + k) 0) → slice_range a p (p + n) ≡ slice_range b q (q + n)
@@ -98,9 +97,9 @@ moved_slice n p q a b fa fb same =
 pub moved_slot : (n p q : ℕ) (a b : List ℕ) → p + (32 + n) ≤ length a → q + (32 + n) ≤ length b → ((k : ℕ) → k < 32 + n → get_or a (p + k) 0 ≡ get_or b (q + k) 0) → slot_in n a p ≡ slot_in n b q
 moved_slot n p q a b fa fb same =
     let at : (i k : ℕ) → i + k < 32 + n → get_or a (p + i + k) 0 ≡ get_or b (q + i + k) 0 = λ i k l.
-        let l' : p + i + k ≡ p + (i + k) = omega arith in
-        let r' : q + (i + k) ≡ q + i + k = omega arith in
-        ap (λ (x : ℕ). get_or a x 0) l' ∙ same (i + k) l ∙ ap (λ (x : ℕ). get_or b x 0) r' in
+    let l' : p + i + k ≡ p + (i + k) = omega arith in
+    let r' : q + (i + k) ≡ q + i + k = omega arith in
+    ap (λ (x : ℕ). get_or a x 0) l' ∙ same (i + k) l ∙ ap (λ (x : ℕ). get_or b x 0) r' in
     let number = moved_number 8 p q a b (λ k l. same k (omega (arith, l))) in
     let sequence = moved_number 4 (p + 8) (q + 8) a b (λ k l. at 8 k (omega (arith, l))) in
     let flags = moved_number 4 (p + 12) (q + 12) a b (λ k l. at 12 k (omega (arith, l))) in

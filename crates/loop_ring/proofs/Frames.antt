@@ -1,10 +1,10 @@
 -- What a commit's segment makes of the reading: for the crates above.
-use Rattle.std.proofs.Common.{◌≡◌, ◌⊎◌, ℕ, ◌+◌, ◌/◌, ◌<◌, ◌≤◌, true, ◌&&◌, eqb, refl, Some, None, Option, List, [], ◌∷◌, ◌++◌, length, take, map, ap, ◌∙◌, subst, arith}
+use Rattle.std.proofs.Common.{◌≡◌, ℕ, ◌+◌, ◌/◌, ◌<◌, ◌≤◌, true, ◌&&◌, eqb, refl, Some, Option, List, [], ◌∷◌, length, take, map, ap, subst, arith}
 use Rattle.std.proofs.lemmas.Bool.Decides.{nat_tests}
 use Rattle.loop_record.specs.declared.geometry.Geometry.{Geometry}
 use Rattle.loop_record.specs.Change.{ShowsSegment}
 use Rattle.loop_record.specs.Geometry.{frame_bytes}
-use Rattle.loop_record.specs.Layout.{Slot, Segment, segment_in}
+use Rattle.loop_record.specs.Layout.{Segment, segment_in}
 use Rattle.loop_record.specs.Reading.{Holds, hold_from}
 use Rattle.loop_record.specs.Recording.{Picture, Recording, store, plain, ring_of}
 use Rattle.loop_record.proofs.Readings.{reading-commit}

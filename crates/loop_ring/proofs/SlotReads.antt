@@ -1,5 +1,5 @@
 -- What two reads of a slot say of it.
-use Rattle.std.proofs.Common.{◌≡◌, ℕ, ◌+◌, ◌-◌, ◌*◌, ◌≤◌, ◌<◌, cond, ◌&&◌, eqb, IsErrAnd, Result, Ok, Err, List, length, take, drop, sym, ap, ◌∙◌, subst, arith}
+use Rattle.std.proofs.Common.{◌≡◌, ℕ, ◌+◌, ◌-◌, ◌≤◌, cond, ◌&&◌, eqb, IsErrAnd, Result, Ok, Err, List, take, drop, sym, ap, ◌∙◌, subst, arith}
 use Rattle.byteorder.specs.Endian.{little_from}
 use Rattle.byteorder.specs.Numbers.{little_from-take}
 use Rattle.loop_disk.specs.Calls.{Stays}
@@ -32,8 +32,8 @@ stays-settled old new stays settled = λ c left. settled c (stays.images c left)
 slot_head-front : (n at number : ℕ) (image : List ℕ) → slot_head n number (slot_in n (piece at 32 image) 0) ≡ slot_head n number (slot_in n image at)
 slot_head-front n at number image =
     let field : (k m : ℕ) → k + m ≤ 32 → little_from (0 + k) m (piece at 32 image) ≡ little_from (at + k) m image = λ k m l.
-        let first : 0 + k ≡ k = omega arith in
-        ap (λ (x : ℕ). little_from x m (piece at 32 image)) first ∙ little_from-take k m 32 (drop at image) l ∙ little_from-drop at k m image in
+    let first : 0 + k ≡ k = omega arith in
+    ap (λ (x : ℕ). little_from x m (piece at 32 image)) first ∙ little_from-take k m 32 (drop at image) l ∙ little_from-drop at k m image in
     let here : at + 0 ≡ at = omega arith in
     let number' : little_from 0 8 (piece at 32 image) ≡ little_from at 8 image = field 0 8 (omega arith) ∙ ap (λ (x : ℕ). little_from x 8 image) here in
     let sequence = field 8 4 (omega arith) in

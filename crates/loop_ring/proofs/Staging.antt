@@ -14,7 +14,7 @@ use Rattle.loop_record.specs.Layout.{Slot, slot_in, slot_bytes}
 use Rattle.loop_record.specs.Plain.{pictures}
 use Rattle.loop_record.specs.Recording.{Picture, picture}
 use Rattle.loop_record.proofs.Fields.{put_mid-within}
-use Rattle.loop_record.proofs.Framing.{SameWithin, map_range, same_slot}
+use Rattle.loop_record.proofs.Framing.{map_range, same_slot}
 use Rattle.loop_record.proofs.Written.{slot_in-slot_bytes}
 use Rattle.loop_ring.specs.Writes.{slots_in, slots_of}
 use Rattle.loop_ring.proofs.Bytes.{moved_slot}

@@ -3,7 +3,7 @@ use Rattle.std.specs.Prelude.{◌≡◌, ◌⊎◌, ℕ, ◌+◌, ◌*◌, ◌<�
 use Rattle.std.specs.List.{range_with_len}
 use Rattle.loop_record.specs.declared.geometry.Geometry.{Geometry}
 use Rattle.loop_record.specs.Change.{ShowsSegment}
-use Rattle.loop_record.specs.Geometry.{frame_bytes, slot_size, gate_at}
+use Rattle.loop_record.specs.Geometry.{frame_bytes, gate_at}
 use Rattle.loop_record.specs.Layout.{Slot, Segment, is_open, slot_in, whole_frames, segment_in}
 use Rattle.loop_record.specs.Recording.{Picture}
 

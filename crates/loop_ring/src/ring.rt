@@ -61,7 +61,12 @@ impl<A: Allocator> Ring<A> {
     }
 
     /// Opens a closed segment for the frames of a block, with none yet: two writes, each with its sync.
-    pub fn begin_block<D: Disk>(&self, disk: &mut D, segment: u32, block: u64) -> Result<(), DiskFault>
+    pub fn begin_block<D: Disk>(
+        &self,
+        disk: &mut D,
+        segment: u32,
+        block: u64,
+    ) -> Result<(), DiskFault>
         requires extent { D.extent disk.old ≡ disk_size self.now.geometry }
         requires segment { segment < self.now.geometry.segments }
         requires settled { D.honest disk.old → IsSettled (D.medium disk.old) }
@@ -83,7 +88,14 @@ impl<A: Allocator> Ring<A> {
 
     /// Adds a group of frames to a segment, behind its whole frames: two writes, each with its sync. `first_slot` is how many
     /// whole frames it has, `first_number` the number of the group's first frame, and the others follow it.
-    pub fn commit<D: Disk>(&mut self, disk: &mut D, segment: u32, first_slot: u32, first_number: u64, frames: &[Frame<A>]) -> Result<(), DiskFault>
+    pub fn commit<D: Disk>(
+        &mut self,
+        disk: &mut D,
+        segment: u32,
+        first_slot: u32,
+        first_number: u64,
+        frames: &[Frame<A>],
+    ) -> Result<(), DiskFault>
         requires extent { D.extent disk.old ≡ disk_size self.old.geometry }
         requires segment { segment < self.old.geometry.segments }
         requires some { 1 ≤ length frames.now }
@@ -114,7 +126,14 @@ impl<A: Allocator> Ring<A> {
 
     /// Reads a slot that should hold frame `number`: at most two reads. `out` has the size of a frame and gets the pixels.
     /// After a refusal `out` may hold any bytes.
-    pub fn read_slot<D: Disk>(&self, disk: &mut D, segment: u32, slot: u32, number: u64, out: &mut [u8]) -> Result<FrameHead, SlotFault>
+    pub fn read_slot<D: Disk>(
+        &self,
+        disk: &mut D,
+        segment: u32,
+        slot: u32,
+        number: u64,
+        out: &mut [u8],
+    ) -> Result<FrameHead, SlotFault>
         requires extent { D.extent disk.old ≡ disk_size self.now.geometry }
         requires segment { segment < self.now.geometry.segments }
         requires slot { slot < self.now.geometry.slots }

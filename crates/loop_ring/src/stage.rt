@@ -9,7 +9,12 @@ use std::alloc::Allocator;
 
 /// Puts the slots of frames one behind the other at the front of a buffer, and leaves the rest of it. Their numbers follow
 /// the first one. This is the one copy of the pixels.
-pub(crate) fn stage<A: Allocator>(buffer: &mut Vec<u8, A>, frame_bytes: usize, first_number: u64, frames: &[Frame<A>])
+pub(crate) fn stage<A: Allocator>(
+    buffer: &mut Vec<u8, A>,
+    frame_bytes: usize,
+    first_number: u64,
+    frames: &[Frame<A>],
+)
     requires fits { frame_bytes < 2 ^ 32 }
     requires sizes { All (λ frame. length frame.bytes.items ≡ frame_bytes) frames.now }
     requires room { length frames.now * (32 + frame_bytes) ≤ vec_len buffer.old }
@@ -20,7 +25,11 @@ pub(crate) fn stage<A: Allocator>(buffer: &mut Vec<u8, A>, frame_bytes: usize, f
     let slot_size = HEAD_SIZE + frame_bytes;
     for (i, frame) in frames.iter().enumerate() {
         let at = i * slot_size;
-        stage_slot(&mut buffer[at..at + slot_size], first_number + i as u64, frame);
+        stage_slot(
+            &mut buffer[at..at + slot_size],
+            first_number + i as u64,
+            frame,
+        );
     }
 }
 

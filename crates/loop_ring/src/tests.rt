@@ -90,7 +90,11 @@ fn group<A: Allocator + Copy>(alloc: A, n: u8, count: u8) -> Result<Vec<Frame<A>
 }
 
 // Begins block 1 in segment 1, stores frames 2 and 3 there, and retires the segment: four calls, four and two.
-fn begin_commit_retire<D: Disk, A: Allocator>(ring: &mut Ring<A>, disk: &mut Bare<D>, frames: &[Frame<A>]) -> Result<(), DiskFault>
+fn begin_commit_retire<D: Disk, A: Allocator>(
+    ring: &mut Ring<A>,
+    disk: &mut Bare<D>,
+    frames: &[Frame<A>],
+) -> Result<(), DiskFault>
     requires ring { ring.old.geometry ≡ SMALL }
     requires extent { D.extent disk.old.0 ≡ 4360 }
     requires count { length frames.now ≡ 2 }
@@ -109,8 +113,12 @@ fn laid_out(alloc: Global, gate: u8) -> Result<Vec<u8>, AllocError> {
     image[3168] = 1;
     image[3416] = OPEN;
     image[3417] = OPEN;
-    image[3672..3716].copy_from_slice(b"\x02\0\0\0\0\0\0\0\x02\0\0\0\0\x20\0\0\x80\x38\x01\0\0\0\0\0\x0c\0\0\0\0\0\0\0\x02\x03\x04\x05\x06\x07\x08\x09\x0a\x0b\x0c\x0d");
-    image[3716..3760].copy_from_slice(b"\x03\0\0\0\0\0\0\0\x03\0\0\0\0\x20\0\0\xc0\xd4\x01\0\0\0\0\0\x0c\0\0\0\0\0\0\0\x03\x04\x05\x06\x07\x08\x09\x0a\x0b\x0c\x0d\x0e");
+    image[3672..3716].copy_from_slice(
+        b"\x02\0\0\0\0\0\0\0\x02\0\0\0\0\x20\0\0\x80\x38\x01\0\0\0\0\0\x0c\0\0\0\0\0\0\0\x02\x03\x04\x05\x06\x07\x08\x09\x0a\x0b\x0c\x0d",
+    );
+    image[3716..3760].copy_from_slice(
+        b"\x03\0\0\0\0\0\0\0\x03\0\0\0\0\x20\0\0\xc0\xd4\x01\0\0\0\0\0\x0c\0\0\0\0\0\0\0\x03\x04\x05\x06\x07\x08\x09\x0a\x0b\x0c\x0d\x0e",
+    );
     Ok(image)
 }
 
@@ -156,10 +164,17 @@ fn a_failed_call_leaves_the_gates_before_or_after_it(rt: HostRuntime) -> Result<
         let frames = group(alloc, 2, 2)?;
         let image = vec![in alloc; 0x5A; 4360]?;
         let mut disk = Bare(OnceDisk::torn(MemDisk::of(alloc, image), call, keep));
-        assert_eq!(rt; begin_commit_retire(&mut ring, &mut disk, &frames), Err(fault));
+        assert_eq!(rt;
+            begin_commit_retire(&mut ring, &mut disk, &frames),
+            Err(fault)
+        );
         let bytes = disk.0.inner.bytes();
         let found = [3160, 3416, 3417].map(|at: usize| bytes.get(at).copied());
-        assert_eq!(rt; found, gates.map(|gate| Some(gate)), "call {call}, {keep} bytes");
+        assert_eq!(rt;
+            found,
+            gates.map(|gate| Some(gate)),
+            "call {call}, {keep} bytes"
+        );
         let outside = bytes.iter().take(3160).chain(bytes.iter().skip(3760));
         assert!(rt; outside.copied().all(|byte| byte == 0x5A), "call {call}");
     }
@@ -167,7 +182,13 @@ fn a_failed_call_leaves_the_gates_before_or_after_it(rt: HostRuntime) -> Result<
 }
 
 // Begins block 1 in segment 1, and stores frames 12 to 23 there in three groups.
-fn store_block<D: Disk>(ring: &mut Ring, disk: &mut Bare<D>, one: &[Frame], three: &[Frame], eight: &[Frame]) -> Result<(), DiskFault>
+fn store_block<D: Disk>(
+    ring: &mut Ring,
+    disk: &mut Bare<D>,
+    one: &[Frame],
+    three: &[Frame],
+    eight: &[Frame],
+) -> Result<(), DiskFault>
     requires ring { ring.old.geometry ≡ LONG }
     requires extent { D.extent disk.old.0 ≡ 4640 }
     requires one { length one.now ≡ 1 }
@@ -186,7 +207,13 @@ fn store_block<D: Disk>(ring: &mut Ring, disk: &mut Bare<D>, one: &[Frame], thre
 }
 
 // Reads a slot of segment 1.
-fn read<D: Disk>(ring: &Ring, disk: &mut Bare<D>, slot: u32, number: u64, out: &mut [u8]) -> Result<FrameHead, SlotFault>
+fn read<D: Disk>(
+    ring: &Ring,
+    disk: &mut Bare<D>,
+    slot: u32,
+    number: u64,
+    out: &mut [u8],
+) -> Result<FrameHead, SlotFault>
     requires ring { ring.now.geometry ≡ LONG }
     requires extent { D.extent disk.old.0 ≡ 4640 }
     requires slot { slot < 12 }
@@ -214,7 +241,10 @@ fn frames_are_read_back_and_others_are_refused(rt: HostRuntime) -> Result<(), Fa
             flags: 0x2000,
             timestamp: u64::from(n) * 40_000,
         };
-        assert_eq!(rt; read(&ring, &mut disk, slot, u64::from(n), &mut out), Ok(head));
+        assert_eq!(rt;
+            read(&ring, &mut disk, slot, u64::from(n), &mut out),
+            Ok(head)
+        );
         assert!(rt; out[0] == n as u8 && out[11] == n as u8 + 11);
     }
     let damaged = Err(SlotFault::Damaged(Damage::SlotHead));
@@ -223,7 +253,10 @@ fn frames_are_read_back_and_others_are_refused(rt: HostRuntime) -> Result<(), Fa
     assert_eq!(rt; disk.0.write_at(4136, &[11]), Ok(()));
     assert_eq!(rt; read(&ring, &mut disk, 0, 12, &mut out), damaged);
     let mut fuse = Bare(FuseDisk::new(disk, 1));
-    assert_eq!(rt; read(&ring, &mut fuse, 1, 13, &mut out), Err(SlotFault::Disk(DiskFault::Read)));
+    assert_eq!(rt;
+        read(&ring, &mut fuse, 1, 13, &mut out),
+        Err(SlotFault::Disk(DiskFault::Read))
+    );
     Ok(())
 }
 

@@ -1,4 +1,4 @@
-use Rattle.std.proofs.Common.{◌≡◌, ◌*◌, ◌+◌, ◌≤◌, length, sym, arith}
+use Rattle.std.proofs.Common.{sym, arith}
 use Rattle.loop_ring.proofs.Staging.{turn_kept}
 use Rattle.loop_ring.proofs.stage.stage.Goals as goal
 

@@ -1,10 +1,10 @@
-use Rattle.std.proofs.Common.{◌≡◌, ℕ, ◌+◌, ◌≤◌, ◌<◌, List, [], ◌++◌, length, replicate, get_or, refl, ap, ◌∙◌, arith}
+use Rattle.std.proofs.Common.{◌≡◌, ℕ, ◌+◌, ◌≤◌, ◌<◌, List, [], length, replicate, get_or, ap, ◌∙◌, arith}
 use Rattle.std.proofs.lemmas.List.{get_or-replicate}
 use Rattle.byteorder.specs.Endian.{little_bytes, little_from}
 use Rattle.byteorder.specs.Numbers.{little_number-reads_back}
 use Rattle.loop_disk.specs.Medium.{written}
 use Rattle.loop_disk.proofs.Images.{get_or-written_behind, length-written}
-use Rattle.loop_record.specs.Geometry.{segment_at, segment_size}
+use Rattle.loop_record.specs.Geometry.{segment_at}
 use Rattle.loop_record.proofs.Bounds.{limits, place-lt}
 use Rattle.loop_record.proofs.Parts.{apart}
 use Rattle.loop_ring.proofs.Beginning.{IsHeader, begin_moments, begin_ok, begin_stray_ok}

@@ -1,15 +1,15 @@
-use Rattle.std.proofs.Common.{◌≡◌, ℕ, ◌+◌, ◌*◌, ◌≤◌, ◌<◌, IsTrue, List, length, take, min, replicate, get_or, refl, sym, ap, ◌∙◌, arith}
+use Rattle.std.proofs.Common.{◌≡◌, ℕ, ◌+◌, ◌*◌, ◌≤◌, ◌<◌, IsTrue, List, length, take, min, replicate, sym, ◌∙◌, arith}
 use Rattle.std.proofs.lemmas.List.{get_or-replicate, get_or-take, length-take, length-map}
 use Rattle.loop_record.specs.declared.frame.Frame.{Frame}
 use Rattle.loop_record.specs.declared.geometry.Geometry.{Geometry}
-use Rattle.loop_record.specs.Geometry.{is_good, frame_bytes, slot_size, disk_size, segment_at, segment_size, slot_at, gate_at}
+use Rattle.loop_record.specs.Geometry.{is_good, frame_bytes, slot_size, disk_size, slot_at, gate_at}
 use Rattle.loop_record.specs.Layout.{whole_frames}
 use Rattle.loop_record.specs.Plain.{pictures}
 use Rattle.loop_record.specs.Recording.{picture}
 use Rattle.loop_record.proofs.Bounds.{limits}
 use Rattle.loop_record.proofs.Parts.{apart}
 use Rattle.loop_ring.specs.Writes.{HasNoStray, slots_in, slots_of}
-use Rattle.loop_ring.proofs.Committing.{CanCommit, AreGates, AreStaged, IsReady, are_staged, slots_end, commit_moments, commit_ok, commit_stray_ok}
+use Rattle.loop_ring.proofs.Committing.{AreGates, IsReady, are_staged, slots_end, commit_moments, commit_ok, commit_stray_ok}
 use Rattle.loop_ring.proofs.ring.Ring.commit.Goals as goal
 
 abbrev gates_8 : List ℕ

@@ -1,6 +1,5 @@
-use Rattle.std.proofs.Common.{◌≡◌, ◌+◌, ◌*◌, ◌≤◌, ◌<◌, length, sym, ◌∙◌, subst, arith}
-use Rattle.loop_record.specs.Geometry.{frame_bytes, slot_size, slot_at, segment_at, segment_size, disk_size}
-use Rattle.loop_record.proofs.Bounds.{limits, place-lt}
+use Rattle.std.proofs.Common.{arith}
+use Rattle.loop_record.proofs.Bounds.{place-lt}
 use Rattle.loop_record.proofs.Framing.{slot_within}
 use Rattle.loop_record.proofs.Parts.{apart}
 use Rattle.loop_ring.proofs.SlotReads.{stays_on, head_read, pixels_read, answers_damage}
