@@ -39,6 +39,7 @@ fn stage_slot<A: Allocator>(out: &mut [u8], number: u64, frame: &Frame<A>)
     requires size { length out.old ≡ 32 + length frame.now.bytes.items }
     ensures { slots_in (length frame.now.bytes.items) out.new 1 ≡ slots_of (length frame.now.bytes.items) number (picture frame.now ∷ []) }
 {
+    // That the head's numbers fit the slot's fields is known of what was read alone.
     let _sequence = frame.sequence;
     let _flags = frame.flags;
     let _timestamp = frame.timestamp;
