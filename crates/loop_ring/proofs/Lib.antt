@@ -1,0 +1,7 @@
+pub mod Bytes
+pub mod Retiring
+pub mod Beginning
+pub mod Staging
+pub mod Committing
+pub mod SlotReads
+pub mod Frames

@@ -1,0 +1,34 @@
+use Rattle.std.proofs.Common.{arith}
+use Rattle.loop_record.proofs.Bounds.{place-lt}
+use Rattle.loop_record.proofs.Framing.{slot_within}
+use Rattle.loop_record.proofs.Parts.{apart}
+use Rattle.loop_ring.proofs.SlotReads.{stays_on, head_read, pixels_read, answers_damage}
+use Rattle.loop_ring.proofs.ring.Ring.read_slot.Goals as goal
+
+pub overflow_add-at : goal.overflow_add-at
+overflow_add-at g c =
+    let geometry = c.args.self.now.geometry in
+    omega (arith, c.slot_at-at.ensures, slot_within geometry c.args.segment c.args.slot c.requires.slot, apart geometry c.args.segment geometry.segments c.requires.segment, place-lt geometry geometry.segments c.args.self.now.good (omega arith))
+
+pub read-requires-2 : goal.read-requires-2
+read-requires-2 g c =
+    let geometry = c.args.self.now.geometry in
+    omega (arith, c.slot_at-at.ensures, c.in_ok-read.ensures.extent, c.requires.extent, c.requires.size, slot_within geometry c.args.segment c.args.slot c.requires.slot, apart geometry c.args.segment geometry.segments c.requires.segment)
+
+pub returns-in_err-head-clause-head : goal.returns-in_err-head-clause-head
+returns-in_err-head-clause-head g c = λ honest.
+    answers_damage _ c.in_err-head.field-0.0 _
+    (head_read c.args.self.now.geometry c.args.segment c.args.slot c.args.number _ _ _ _ _ c.slot_at-at.ensures c.frame_bytes.ensures (c.in_ok-read.ensures.read honest) c.in_err-head.ensures.head)
+    c.from_residual-in_err-head.ensures.1
+
+pub returns-clause-head : goal.returns-clause-head
+returns-clause-head g c = λ honest.
+    head_read c.args.self.now.geometry c.args.segment c.args.slot c.args.number _ _ _ _ _ c.slot_at-at.ensures c.frame_bytes.ensures (c.in_ok-read.ensures.read honest) c.in_ok-head.ensures.head
+
+pub returns-clause-pixels : goal.returns-clause-pixels
+returns-clause-pixels g c = λ honest.
+    pixels_read c.args.self.now.geometry c.args.segment c.args.slot _ _ _ _ _ c.slot_at-at.ensures c.requires.size (c.in_ok-read.ensures.disk honest).bytes (c.in_ok-read-2.ensures.read (c.in_ok-read.ensures.honest.0 honest))
+
+pub returns-clause-disk : goal.returns-clause-disk
+returns-clause-disk g c = λ honest.
+    stays_on _ _ _ (c.in_ok-read.ensures.disk honest) (c.in_ok-read-2.ensures.disk (c.in_ok-read.ensures.honest.0 honest))

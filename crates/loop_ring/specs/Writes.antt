@@ -1,0 +1,38 @@
+-- What the writes to one segment leave of an image.
+use Rattle.std.specs.Prelude.{◌≡◌, ◌⊎◌, ℕ, ◌+◌, ◌*◌, ◌<◌, ◌≤◌, false, List, [], ◌∷◌, ◌++◌, length, take, map, Option, Some, None}
+use Rattle.std.specs.List.{range_with_len}
+use Rattle.loop_record.specs.declared.geometry.Geometry.{Geometry}
+use Rattle.loop_record.specs.Change.{ShowsSegment}
+use Rattle.loop_record.specs.Geometry.{frame_bytes, gate_at}
+use Rattle.loop_record.specs.Layout.{Slot, Segment, is_open, slot_in, whole_frames, segment_in}
+use Rattle.loop_record.specs.Recording.{Picture}
+
+-- the old image with segment j as it was, or as this one
+abbrev pub ShowsOrNot : Geometry → ℕ → Option Segment → List ℕ → List ℕ → Type 0
+ShowsOrNot g j segment old new = ShowsSegment g j (segment_in g old j) old new ⊎ ShowsSegment g j segment old new
+
+-- the slots of frames of n bytes, which have the numbers from one on
+abbrev pub slots_of : ℕ → ℕ → List Picture → List Slot
+slots_of n number [] = []
+slots_of n number (p ∷ ps) = record { number = number; size = n; picture = p } ∷ slots_of n (number + 1) ps
+
+-- an open segment with more slots behind its own; a closed one stays closed
+abbrev pub with_more : List Slot → Option Segment → Option Segment
+with_more more None = None
+with_more more (Some s) = Some (record s { slots = s.slots ++ more })
+
+-- the old image, but that segment j has the slots of these frames behind its own, numbered from one on
+abbrev pub ShowsFrames : Geometry → ℕ → ℕ → List Picture → List ℕ → List ℕ → Type 0
+ShowsFrames g j number frames old new = ShowsSegment g j (with_more (slots_of (frame_bytes g) number frames) (segment_in g old j)) old new
+
+-- some of these frames, none skipped
+abbrev pub ShowsBeginning : Geometry → ℕ → ℕ → List Picture → List ℕ → List ℕ → Type 0
+ShowsBeginning g j number frames old new = (k : ℕ) × ((k ≤ length frames) × ShowsFrames g j number (take k frames) old new)
+
+-- no frame gate of segment j is open but those of its whole frames
+abbrev pub HasNoStray : Geometry → ℕ → List ℕ → Type 0
+HasNoStray g j image = (i : ℕ) → whole_frames g image j ≤ i → i < g.slots → is_open image (gate_at g j i) ≡ false
+
+-- the first k slots in some bytes, with frames of n bytes
+abbrev pub slots_in : ℕ → List ℕ → ℕ → List Slot
+slots_in n bytes k = map (λ i. slot_in n bytes (i * (32 + n))) (range_with_len 0 k)

@@ -1,0 +1,156 @@
+// The ring of a store: its segments, written and read one at a time.
+ghost use Rattle.std.specs.Prelude.{◌≡◌, ◌≢◌, ◌+◌, ◌*◌, ◌<◌, ◌≤◌, ◌^◌, ◌↔◌, IsTrue, All, Err, IfOk, None, OnOk, Some, length, min, vec_len};
+ghost use Rattle.loop_disk.specs.Calls.{CountedAny, Stays};
+ghost use Rattle.loop_disk.specs.Medium.{IsSettled, LeavesOnly};
+ghost use Rattle.loop_record.specs.Change.{ShowsSegment};
+ghost use Rattle.loop_record.specs.declared.damage.Damage.{Damage};
+ghost use Rattle.loop_record.specs.Geometry.{disk_size, frame_bytes, is_good, slot_size};
+ghost use Rattle.loop_record.specs.Layout.{segment_in, slot_head, whole_frames};
+ghost use Rattle.loop_record.specs.Plain.{pictures};
+ghost use Rattle.loop_record.specs.Reading.{begun};
+ghost use Rattle.loop_ring.specs.Reads.{AnswersHead, CountedRead, slot_of};
+ghost use Rattle.loop_ring.specs.Writes.{HasNoStray, ShowsBeginning, ShowsFrames, ShowsOrNot};
+
+use crate::SlotFault;
+use crate::head::decode_head;
+use crate::stage::stage;
+use loop_disk::{Disk, DiskFault, store, store_in_turn};
+use loop_record::{Damage, Frame, FrameHead, Geometry, HEAD_SIZE, OPEN, put_u64};
+use std::alloc::{AllocError, Allocator, Global};
+
+/// The most frames that one commit takes.
+pub const MAX_GROUP: usize = 8;
+
+/// The segments of a store's ring.
+#[derive(Drop)]
+pub struct Ring<A: Allocator = Global> {
+    /// The store's geometry.
+    pub geometry: Geometry,
+    // Room for a group's slots, before they are written.
+    staged: Vec<u8, A>,
+    pub ghost good: { IsTrue (is_good geometry) },
+    ghost room: { vec_len staged ≡ min 8 geometry.slots * slot_size geometry },
+}
+
+impl<A: Allocator> Ring<A> {
+    /// A ring of this geometry. It takes the memory of a group's slots, as many as a segment has and at most `MAX_GROUP`,
+    /// and keeps it; no later call takes any.
+    pub fn new(alloc: A, geometry: Geometry) -> Result<Self, AllocError>
+        requires good { IsTrue (is_good geometry) }
+        ensures { IfOk result (λ ring. ring.geometry ≡ geometry) }
+    {
+        let slot_size = HEAD_SIZE + geometry.frame_bytes() as usize;
+        let staged = vec![in alloc; 0; MAX_GROUP.min(geometry.slots as usize) * slot_size]?;
+        Ok(Ring { geometry, staged })
+    }
+
+    /// Closes an open segment: one write and one sync. Its frames are gone with it.
+    pub fn retire<D: Disk>(&self, disk: &mut D, segment: u32) -> Result<(), DiskFault>
+        requires extent { D.extent disk.old ≡ disk_size self.now.geometry }
+        requires segment { segment < self.now.geometry.segments }
+        requires settled { D.honest disk.old → IsSettled (D.medium disk.old) }
+        requires there { D.honest disk.old → segment_in self.now.geometry (D.medium disk.old).bytes segment ≢ None }
+        ensures moments { D.honest disk.old → LeavesOnly (D.medium disk.old) (D.medium disk.new) (ShowsOrNot self.now.geometry segment None (D.medium disk.old).bytes) }
+        ensures retired { D.honest disk.old → OnOk result (ShowsSegment self.now.geometry segment None (D.medium disk.old).bytes (D.medium disk.new).bytes) }
+        ensures settled { D.honest disk.old → OnOk result (IsSettled (D.medium disk.new)) }
+        ensures counted { CountedAny (D.faults disk.old) (D.faults disk.new) result }
+        ensures extent { D.extent disk.new ≡ D.extent disk.old }
+        ensures honest { D.honest disk.old ↔ D.honest disk.new }
+    {
+        store(disk, self.geometry.segment_at(segment), &[0])
+    }
+
+    /// Opens a closed segment for the frames of a block, with none yet: two writes, each with its sync.
+    pub fn begin_block<D: Disk>(
+        &self,
+        disk: &mut D,
+        segment: u32,
+        block: u64,
+    ) -> Result<(), DiskFault>
+        requires extent { D.extent disk.old ≡ disk_size self.now.geometry }
+        requires segment { segment < self.now.geometry.segments }
+        requires settled { D.honest disk.old → IsSettled (D.medium disk.old) }
+        requires closed { D.honest disk.old → segment_in self.now.geometry (D.medium disk.old).bytes segment ≡ None }
+        ensures moments { D.honest disk.old → LeavesOnly (D.medium disk.old) (D.medium disk.new) (ShowsOrNot self.now.geometry segment (Some (begun block)) (D.medium disk.old).bytes) }
+        ensures begun { D.honest disk.old → OnOk result (ShowsSegment self.now.geometry segment (Some (begun block)) (D.medium disk.old).bytes (D.medium disk.new).bytes) }
+        ensures stray { D.honest disk.old → OnOk result (HasNoStray self.now.geometry segment (D.medium disk.new).bytes) }
+        ensures settled { D.honest disk.old → OnOk result (IsSettled (D.medium disk.new)) }
+        ensures counted { CountedAny (D.faults disk.old) (D.faults disk.new) result }
+        ensures extent { D.extent disk.new ≡ D.extent disk.old }
+        ensures honest { D.honest disk.old ↔ D.honest disk.new }
+    {
+        // Everything behind the gate: zeros, so that no frame gate stays open from an earlier block, and the block's number.
+        let mut header = [0; 511];
+        put_u64(&mut header, 7, block);
+        let at = self.geometry.segment_at(segment);
+        store_in_turn(disk, at + 1, &header, at, &[OPEN])
+    }
+
+    /// Adds a group of frames to a segment, behind its whole frames: two writes, each with its sync. `first_slot` is how many
+    /// whole frames it has, `first_number` the number of the group's first frame, and the others follow it.
+    pub fn commit<D: Disk>(
+        &mut self,
+        disk: &mut D,
+        segment: u32,
+        first_slot: u32,
+        first_number: u64,
+        frames: &[Frame<A>],
+    ) -> Result<(), DiskFault>
+        requires extent { D.extent disk.old ≡ disk_size self.old.geometry }
+        requires segment { segment < self.old.geometry.segments }
+        requires some { 1 ≤ length frames.now }
+        requires few { length frames.now ≤ 8 }
+        requires room { first_slot + length frames.now ≤ self.old.geometry.slots }
+        requires sizes { All (λ frame. length frame.bytes.items ≡ frame_bytes self.old.geometry) frames.now }
+        requires numbers { first_number + length frames.now ≤ 2 ^ 64 }
+        requires settled { D.honest disk.old → IsSettled (D.medium disk.old) }
+        requires whole { D.honest disk.old → whole_frames self.old.geometry (D.medium disk.old).bytes segment ≡ first_slot }
+        requires stray { D.honest disk.old → HasNoStray self.old.geometry segment (D.medium disk.old).bytes }
+        ensures moments { D.honest disk.old → LeavesOnly (D.medium disk.old) (D.medium disk.new) (ShowsBeginning self.old.geometry segment first_number (pictures frames.now) (D.medium disk.old).bytes) }
+        ensures committed { D.honest disk.old → OnOk result (ShowsFrames self.old.geometry segment first_number (pictures frames.now) (D.medium disk.old).bytes (D.medium disk.new).bytes) }
+        ensures stray { D.honest disk.old → OnOk result (HasNoStray self.old.geometry segment (D.medium disk.new).bytes) }
+        ensures settled { D.honest disk.old → OnOk result (IsSettled (D.medium disk.new)) }
+        ensures counted { CountedAny (D.faults disk.old) (D.faults disk.new) result }
+        ensures extent { D.extent disk.new ≡ D.extent disk.old }
+        ensures honest { D.honest disk.old ↔ D.honest disk.new }
+        ensures geometry { self.new.geometry ≡ self.old.geometry }
+    {
+        let frame_bytes = self.geometry.frame_bytes() as usize;
+        stage(&mut self.staged, frame_bytes, first_number, frames);
+        let size = frames.len() * (HEAD_SIZE + frame_bytes);
+        let at = self.geometry.slot_at(segment, first_slot);
+        let gate = self.geometry.gate_at(segment, first_slot);
+        let gates = [OPEN; MAX_GROUP];
+        store_in_turn(disk, at, &self.staged[..size], gate, &gates[..frames.len()])
+    }
+
+    /// Reads a slot that should hold frame `number`: at most two reads. `out` has the size of a frame and gets the pixels.
+    /// After a refusal `out` may hold any bytes.
+    pub fn read_slot<D: Disk>(
+        &self,
+        disk: &mut D,
+        segment: u32,
+        slot: u32,
+        number: u64,
+        out: &mut [u8],
+    ) -> Result<FrameHead, SlotFault>
+        requires extent { D.extent disk.old ≡ disk_size self.now.geometry }
+        requires segment { segment < self.now.geometry.segments }
+        requires slot { slot < self.now.geometry.slots }
+        requires size { length out.old ≡ frame_bytes self.now.geometry }
+        ensures head { D.honest disk.old → AnswersHead (slot_head (frame_bytes self.now.geometry) number (slot_of self.now.geometry (D.medium disk.old).bytes segment slot)) result }
+        ensures pixels { D.honest disk.old → OnOk result (out.new ≡ (slot_of self.now.geometry (D.medium disk.old).bytes segment slot).picture.bytes) }
+        ensures damage { (damage : Damage) → result ≡ Err (SlotFault.Damaged damage) → damage ≡ Damage.SlotHead }
+        ensures disk { D.honest disk.old → Stays (D.medium disk.old) (D.medium disk.new) }
+        ensures counted { CountedRead (D.faults disk.old) (D.faults disk.new) result }
+        ensures extent { D.extent disk.new ≡ D.extent disk.old }
+        ensures honest { D.honest disk.old ↔ D.honest disk.new }
+    {
+        let at = self.geometry.slot_at(segment, slot);
+        let mut bytes = [0; HEAD_SIZE];
+        disk.read(at, &mut bytes)?;
+        let head = decode_head(&bytes, number, self.geometry.frame_bytes())?;
+        disk.read(at + HEAD_SIZE as u64, out)?;
+        Ok(head)
+    }
+}

@@ -1,0 +1,277 @@
+ghost use Rattle.std.specs.Prelude.{◌≡◌, ◌<◌, All, IfOk, length, vec_len};
+
+use super::*;
+use loop_budget::Budget;
+use loop_disk::{Disk, DiskFault, FuseDisk, MemDisk, OnceDisk};
+use loop_record::{Damage, Frame, FrameHead, Geometry, OPEN, PixelFormat};
+use std::alloc::{AllocError, Allocator, Global};
+use std::test::Fail;
+
+// Three segments with two slots each, of frames of 12 bytes.
+const SMALL: Geometry = Geometry {
+    width: 4,
+    height: 2,
+    format: PixelFormat::Ym12,
+    rate_num: 25,
+    rate_den: 1,
+    segments: 3,
+    slots: 2,
+};
+
+// Two segments with twelve slots each.
+const LONG: Geometry = Geometry {
+    width: 4,
+    height: 2,
+    format: PixelFormat::Ym12,
+    rate_num: 25,
+    rate_den: 1,
+    segments: 2,
+    slots: 12,
+};
+
+// A disk that claims nothing of its bytes: a test may begin with any image, and looks at what is left.
+#[derive(Drop)]
+struct Bare<D>(D);
+
+impl<D: Disk> Disk for Bare<D> {
+    ghost extent = { λ disk. D.extent disk.0 };
+
+    ghost medium = { λ disk. D.medium disk.0 };
+
+    ghost honest = { λ disk. ⊥ };
+
+    ghost faults = { λ disk. D.faults disk.0 };
+
+    ghost sound = { λ disk honest. absurd honest };
+
+    fn size(&self) -> u64 {
+        self.0.size()
+    }
+
+    fn read(&mut self, at: u64, buf: &mut [u8]) -> Result<(), DiskFault> {
+        self.0.read(at, buf)
+    }
+
+    fn write_at(&mut self, at: u64, bytes: &[u8]) -> Result<(), DiskFault> {
+        self.0.write_at(at, bytes)
+    }
+
+    fn sync(&mut self) -> Result<(), DiskFault> {
+        self.0.sync()
+    }
+}
+
+// Frame n of the pattern: byte i is n + i.
+fn frame<A: Allocator + Copy>(alloc: A, n: u8) -> Result<Frame<A>, AllocError>
+    ensures { IfOk result (λ frame. length frame.bytes.items ≡ 12) }
+{
+    let mut bytes = vec![in alloc; 0; 12]?;
+    for (i, byte) in bytes.iter_mut().enumerate() {
+        *byte = n.wrapping_add(i as u8);
+    }
+    Ok(Frame {
+        sequence: u32::from(n),
+        flags: 0x2000,
+        timestamp: u64::from(n) * 40_000,
+        bytes,
+    })
+}
+
+// So many frames, from number n on.
+fn group<A: Allocator + Copy>(alloc: A, n: u8, count: u8) -> Result<Vec<Frame<A>, A>, AllocError>
+    ensures sizes { IfOk result (λ frames. All (λ frame. length frame.bytes.items ≡ 12) frames.items) }
+    ensures count { IfOk result (λ frames. vec_len frames ≡ count) }
+{
+    let mut frames = Vec::new(alloc);
+    for i in 0..count {
+        frames.push(frame(alloc, n.wrapping_add(i))?)?;
+    }
+    Ok(frames)
+}
+
+// Begins block 1 in segment 1, stores frames 2 and 3 there, and retires the segment: four calls, four and two.
+fn begin_commit_retire<D: Disk, A: Allocator>(
+    ring: &mut Ring<A>,
+    disk: &mut Bare<D>,
+    frames: &[Frame<A>],
+) -> Result<(), DiskFault>
+    requires ring { ring.old.geometry ≡ SMALL }
+    requires extent { D.extent disk.old.0 ≡ 4360 }
+    requires count { length frames.now ≡ 2 }
+    requires sizes { All (λ frame. length frame.bytes.items ≡ 12) frames.now }
+{
+    ring.begin_block(disk, 1, 1)?;
+    ring.commit(disk, 1, 0, 2, frames)?;
+    ring.retire(disk, 1)
+}
+
+// The disk of 0x5A with segment 1 for block 1, frames 2 and 3 in it, and this gate of the segment.
+fn laid_out(alloc: Global, gate: u8) -> Result<Vec<u8>, AllocError> {
+    let mut image = vec![in alloc; 0x5A; 4360]?;
+    image[3160..3672].fill(0);
+    image[3160] = gate;
+    image[3168] = 1;
+    image[3416] = OPEN;
+    image[3417] = OPEN;
+    image[3672..3716].copy_from_slice(
+        b"\x02\0\0\0\0\0\0\0\x02\0\0\0\0\x20\0\0\x80\x38\x01\0\0\0\0\0\x0c\0\0\0\0\0\0\0\x02\x03\x04\x05\x06\x07\x08\x09\x0a\x0b\x0c\x0d",
+    );
+    image[3716..3760].copy_from_slice(
+        b"\x03\0\0\0\0\0\0\0\x03\0\0\0\0\x20\0\0\xc0\xd4\x01\0\0\0\0\0\x0c\0\0\0\0\0\0\0\x03\x04\x05\x06\x07\x08\x09\x0a\x0b\x0c\x0d\x0e",
+    );
+    Ok(image)
+}
+
+#[test]
+fn a_block_and_its_frames_lie_as_the_layout_says(rt: HostRuntime) -> Result<(), Fail> {
+    let alloc = rt.alloc();
+    // Eight calls are made before the segment is retired, and two more for that.
+    for (calls, gate) in [(8, OPEN), (10u64, 0)] {
+        let mut ring = Ring::new(alloc, SMALL)?;
+        let frames = group(alloc, 2, 2)?;
+        let image = vec![in alloc; 0x5A; 4360]?;
+        let mut disk = Bare(FuseDisk::new(MemDisk::of(alloc, image), calls));
+        let answer = begin_commit_retire(&mut ring, &mut disk, &frames);
+        assert_eq!(rt; answer.is_ok(), calls == 10);
+        assert_eq!(rt; disk.0.left, 0);
+        assert_eq!(rt; disk.0.inner.bytes(), laid_out(alloc, gate)?.as_slice());
+    }
+    Ok(())
+}
+
+// The number of the call that fails, how many bytes of it are written if it is a write, its fault, and what stands at the
+// segment's gate and at its two frame gates then. The disk held 0x5A everywhere.
+const STOPS: [(u64, usize, DiskFault, [u8; 3]); 12] = [
+    (0, 0, DiskFault::Write, [0x5A, 0x5A, 0x5A]),
+    (0, 300, DiskFault::Write, [0x5A, 0, 0]),
+    (1, 0, DiskFault::Sync, [0x5A, 0, 0]),
+    (2, 0, DiskFault::Write, [0x5A, 0, 0]),
+    (2, 1, DiskFault::Write, [0xA5, 0, 0]),
+    (3, 0, DiskFault::Sync, [0xA5, 0, 0]),
+    (4, 50, DiskFault::Write, [0xA5, 0, 0]),
+    (5, 0, DiskFault::Sync, [0xA5, 0, 0]),
+    (6, 1, DiskFault::Write, [0xA5, 0xA5, 0]),
+    (7, 0, DiskFault::Sync, [0xA5, 0xA5, 0xA5]),
+    (8, 0, DiskFault::Write, [0xA5, 0xA5, 0xA5]),
+    (9, 0, DiskFault::Sync, [0, 0xA5, 0xA5]),
+];
+
+#[test]
+fn a_failed_call_leaves_the_gates_before_or_after_it(rt: HostRuntime) -> Result<(), Fail> {
+    let alloc = rt.alloc();
+    for (call, keep, fault, gates) in STOPS {
+        let mut ring = Ring::new(alloc, SMALL)?;
+        let frames = group(alloc, 2, 2)?;
+        let image = vec![in alloc; 0x5A; 4360]?;
+        let mut disk = Bare(OnceDisk::torn(MemDisk::of(alloc, image), call, keep));
+        assert_eq!(rt;
+            begin_commit_retire(&mut ring, &mut disk, &frames),
+            Err(fault)
+        );
+        let bytes = disk.0.inner.bytes();
+        let found = [3160, 3416, 3417].map(|at: usize| bytes.get(at).copied());
+        assert_eq!(rt;
+            found,
+            gates.map(|gate| Some(gate)),
+            "call {call}, {keep} bytes"
+        );
+        let outside = bytes.iter().take(3160).chain(bytes.iter().skip(3760));
+        assert!(rt; outside.copied().all(|byte| byte == 0x5A), "call {call}");
+    }
+    Ok(())
+}
+
+// Begins block 1 in segment 1, and stores frames 12 to 23 there in three groups.
+fn store_block<D: Disk>(
+    ring: &mut Ring,
+    disk: &mut Bare<D>,
+    one: &[Frame],
+    three: &[Frame],
+    eight: &[Frame],
+) -> Result<(), DiskFault>
+    requires ring { ring.old.geometry ≡ LONG }
+    requires extent { D.extent disk.old.0 ≡ 4640 }
+    requires one { length one.now ≡ 1 }
+    requires three { length three.now ≡ 3 }
+    requires eight { length eight.now ≡ 8 }
+    requires one_sizes { All (λ frame. length frame.bytes.items ≡ 12) one.now }
+    requires three_sizes { All (λ frame. length frame.bytes.items ≡ 12) three.now }
+    requires eight_sizes { All (λ frame. length frame.bytes.items ≡ 12) eight.now }
+    ensures ring { ring.new.geometry ≡ LONG }
+    ensures extent { D.extent disk.new.0 ≡ 4640 }
+{
+    ring.begin_block(disk, 1, 1)?;
+    ring.commit(disk, 1, 0, 12, one)?;
+    ring.commit(disk, 1, 1, 13, three)?;
+    ring.commit(disk, 1, 4, 16, eight)
+}
+
+// Reads a slot of segment 1.
+fn read<D: Disk>(
+    ring: &Ring,
+    disk: &mut Bare<D>,
+    slot: u32,
+    number: u64,
+    out: &mut [u8],
+) -> Result<FrameHead, SlotFault>
+    requires ring { ring.now.geometry ≡ LONG }
+    requires extent { D.extent disk.old.0 ≡ 4640 }
+    requires slot { slot < 12 }
+    requires out { length out.old ≡ 12 }
+    ensures { D.extent disk.new.0 ≡ 4640 }
+{
+    ring.read_slot(disk, 1, slot, number, out)
+}
+
+#[test]
+fn frames_are_read_back_and_others_are_refused(rt: HostRuntime) -> Result<(), Fail> {
+    let alloc = rt.alloc();
+    let mut ring = Ring::new(alloc, LONG)?;
+    let mut disk = Bare(MemDisk::new(alloc, 4640)?);
+    let one = group(alloc, 12, 1)?;
+    let three = group(alloc, 13, 3)?;
+    let eight = group(alloc, 16, 8)?;
+    store_block(&mut ring, &mut disk, &one, &three, &eight).map_err(|_| "a call failed")?;
+    let mut out = [0; 12];
+    for slot in 0..12u32 {
+        let n = 12 + slot;
+        let head = FrameHead {
+            number: u64::from(n),
+            sequence: n,
+            flags: 0x2000,
+            timestamp: u64::from(n) * 40_000,
+        };
+        assert_eq!(rt;
+            read(&ring, &mut disk, slot, u64::from(n), &mut out),
+            Ok(head)
+        );
+        assert!(rt; out[0] == n as u8 && out[11] == n as u8 + 11);
+    }
+    let damaged = Err(SlotFault::Damaged(Damage::SlotHead));
+    assert_eq!(rt; read(&ring, &mut disk, 0, 13, &mut out), damaged);
+    // The length in slot 0.
+    assert_eq!(rt; disk.0.write_at(4136, &[11]), Ok(()));
+    assert_eq!(rt; read(&ring, &mut disk, 0, 12, &mut out), damaged);
+    let mut fuse = Bare(FuseDisk::new(disk, 1));
+    assert_eq!(rt;
+        read(&ring, &mut fuse, 1, 13, &mut out),
+        Err(SlotFault::Disk(DiskFault::Read))
+    );
+    Ok(())
+}
+
+#[test]
+fn memory_is_taken_once(rt: HostRuntime) -> Result<(), Fail> {
+    let memory = Budget::new(rt.alloc());
+    memory.allow(0);
+    assert!(rt; Ring::new(&memory, SMALL).is_err());
+    memory.allow(1);
+    let mut ring = Ring::new(&memory, SMALL)?;
+    assert_eq!(rt; memory.left(), 0);
+    memory.allow(u64::MAX);
+    let frames = group(&memory, 2, 2)?;
+    memory.allow(0);
+    let mut disk = Bare(MemDisk::new(rt.alloc(), 4360)?);
+    assert_eq!(rt; begin_commit_retire(&mut ring, &mut disk, &frames), Ok(()));
+    Ok(())
+}
