@@ -284,7 +284,7 @@ fn an_image_reads_as_its_recording(rt: HostRuntime) -> Result<(), Fail> {
 }
 
 #[test]
-fn fresh_stray_and_spent_images_are_read(rt: HostRuntime) -> Result<(), Fail> {
+fn fresh_and_stray_images_are_read(rt: HostRuntime) -> Result<(), Fail> {
     let alloc = rt.alloc();
     let mut fresh = front(&rt, alloc, SMALL)?;
     zeros(&mut fresh, 1_800)?;
@@ -313,7 +313,13 @@ fn fresh_stray_and_spent_images_are_read(rt: HostRuntime) -> Result<(), Fail> {
     assert_eq!(rt; numbers(alloc, &recorder)?.as_slice(), [0].as_slice());
     assert_eq!(rt; recorder.next(), 1);
 
-    // The last number: the next append finds the numbers spent. One block more is damage.
+    Ok(())
+}
+
+// The next append finds the numbers spent. One block more is damage.
+#[test]
+fn the_last_number_is_read(rt: HostRuntime) -> Result<(), Fail> {
+    let alloc = rt.alloc();
     let last = (1u64 << 62) - 1;
     for (block, want) in [(last, (8, last, last + 1)), (last + 1, (6, 0, 0))] {
         let mut image = front(&rt, alloc, TINY)?;
@@ -365,4 +371,35 @@ fn each_growth_is_refused_in_turn(rt: HostRuntime) -> Result<(), Fail> {
         assert_eq!(rt; recorder.next(), allowed);
     }
     Ok(())
+}
+
+#[test]
+fn a_header_and_a_clip_entry_are_decoded(rt: HostRuntime) {
+    assert!(rt; SMALL.check().is_ok());
+    let mut header = [0u8; 512];
+    assert_eq!(rt; decode_header(&SMALL, &header), Ok(None));
+    header[0] = OPEN;
+    put_u64(&mut header, 8, 7);
+    header[256] = OPEN;
+    let head = SegmentHead {
+        block: 7,
+        frames: 1,
+    };
+    assert_eq!(rt; decode_header(&SMALL, &header), Ok(Some(head)));
+    put_u64(&mut header, 8, 1 << 61);
+    assert_eq!(rt; decode_header(&SMALL, &header), Err(Damage::BlockTooHigh));
+
+    let mut entry = [0u8; 32];
+    put_u64(&mut entry, 8, 2);
+    put_u32(&mut entry, 16, 3);
+    assert_eq!(rt; decode_clip(&entry), Ok(None));
+    entry[0] = OPEN;
+    assert_eq!(rt; decode_clip(&entry), Ok(Some(Span { from: 2, to: 3 })));
+    put_u64(&mut entry, 8, 4);
+    assert_eq!(rt; decode_clip(&entry), Err(Damage::ClipRange));
+    assert_eq!(rt; (u64_at(&entry, 8), u32_at(&entry, 16)), (4, 3));
+
+    let mut superblock = [0u8; 512];
+    encode_super(&SMALL, &mut superblock);
+    assert_eq!(rt; decode_super(&superblock), Ok(SMALL));
 }
