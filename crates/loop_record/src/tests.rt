@@ -142,6 +142,19 @@ fn recycling_and_locking(rt: HostRuntime) -> Result<(), Fail> {
     Ok(())
 }
 
+#[test]
+fn the_smallest_ring_keeps_two_frames(rt: HostRuntime) -> Result<(), Fail> {
+    let alloc = rt.alloc();
+    let mut recorder = PlainRecorder::new(alloc, TINY);
+    for n in 0..3u8 {
+        let frame = frame_of(alloc, n, 1)?;
+        assert_eq!(rt; append(&rt, &mut recorder, frame)?, None);
+    }
+    assert_eq!(rt; numbers(alloc, &recorder)?.as_slice(), [1, 2].as_slice());
+    assert_eq!(rt; recorder.next(), 3);
+    Ok(())
+}
+
 /// Adds zeros to an image.
 fn zeros(image: &mut Vec<u8>, count: usize) -> Result<(), AllocError> {
     for _ in 0..count {
