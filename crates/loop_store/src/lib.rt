@@ -1,0 +1,22 @@
+//! A loop recording on a disk: made, appended to, read, and found again after a stop at any moment.
+//!
+//! A `Store` stands for a recording of the plain recorder. `specs/Held` says how, and what a call may leave of it:
+//! whatever the moment of a stop, the disk's image reads as that recording after a beginning of the steps that were asked for.
+//!
+//! - `format`: writes an empty recording; `fresh`: the bytes that it lays out;
+//! - `store`: the store and its calls; `grow`: what they write;
+//! - `command`: lists of commands, and the replies;
+//! - `fault`: the refusals, with their numbers and names.
+//!
+//! For now the first segment alone is filled: where it has all its frames, an append is refused as `SegmentFull`.
+#![tactic(auto)]
+
+mod fault;
+mod grow;
+
+
+mod store;
+
+pub use fault::{OpenRefused, StoreFault};
+pub use store::Store;
+
