@@ -1,3 +1,5 @@
 pub mod Grown
+pub mod Looked
+pub mod Looks
 pub mod Numbers
 pub mod Stands

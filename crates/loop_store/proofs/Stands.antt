@@ -1,12 +1,14 @@
 -- The recording that a store stands for, before and after an append.
-use Rattle.std.proofs.Common.{◌≡◌, ℕ, ◌+◌, ◌≢◌, false, true, cond, eqb, Bool, None, Some, Option, List, [], ◌∷◌, ◌++◌, length, map, refl, sym, ap, ◌∙◌, subst, arith}
+use Rattle.std.proofs.Common.{◌≡◌, ℕ, ◌+◌, ◌≢◌, false, true, cond, eqb, Bool, None, Some, Option, List, [], ◌∷◌, ◌++◌, length, map, get_or, refl, sym, ap, ◌∙◌, subst, arith}
 use Rattle.std.proofs.lemmas.List.{map-append}
 use Rattle.std.specs.List.{range_with_len}
 use Rattle.loop_disk.specs.Medium.{Medium, IsSettled, IsSound, LeavesOnly}
 use Rattle.loop_disk.proofs.Moments.{started, weaker}
+use Rattle.loop_record.specs.declared.frame.Frame.{Frame}
 use Rattle.loop_record.specs.declared.geometry.Geometry.{Geometry}
+use Rattle.loop_record.specs.Plain.{pictures}
 use Rattle.loop_record.specs.Reading.{Holds}
-use Rattle.loop_record.specs.Recording.{Picture, Recording, Ring, Step, store, plain, ring_of}
+use Rattle.loop_record.specs.Recording.{Picture, Recording, Ring, Step, store, picture, plain, ring_of}
 use Rattle.loop_record.proofs.Decided.{differ_test}
 use Rattle.loop_store.specs.Held.{HoldsSome}
 use Rattle.loop_store.specs.Seen.{Seen, StandsFor, steps_in_first, steps_or_none}
@@ -38,3 +40,9 @@ one-stored medium honest old new r p stands more were are settled held = record 
   settled = settled;
   held = held;
 }
+
+-- a group of one
+pub one-picture : {A : Type 0} (frames : List (Frame A)) (f : Frame A) → length frames ≡ 1 → f ≡ get_or frames 0 f → picture f ∷ [] ≡ pictures frames
+one-picture [] f size is = absurd (omega (arith, size))
+one-picture (x ∷ []) f size is = λ i. picture (is i) ∷ []
+one-picture (x ∷ y ∷ xs) f size is = absurd (omega (arith, size))

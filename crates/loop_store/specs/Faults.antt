@@ -1,6 +1,8 @@
 -- Refusals: their numbers, and what each says of the disk.
 use Rattle.std.specs.Prelude.{◌≡◌, ℕ, Bool, true, false, Result, Ok, Err}
 use Rattle.loop_disk.specs.Calls.{one_more}
+use Rattle.loop_ring.specs.declared.fault.SlotFault.{SlotFault}
+use Rattle.loop_ring.specs.declared.fault.SlotFault.TheVariants as slot
 use Rattle.loop_store.specs.declared.fault.StoreFault.{StoreFault}
 use Rattle.loop_store.specs.declared.fault.StoreFault.TheVariants.{NoMemory, Disk, MustReopen, NotFormatted, Damaged, NotHeld, BadGeometry, SegmentFull}
 
@@ -35,3 +37,8 @@ answers_disk (Err fault) = is_disk fault
 abbrev pub faults_after : Bool → ℕ → ℕ
 faults_after true before = one_more before
 faults_after false before = before
+
+-- the refusal of a slot as a store's
+abbrev pub slot_refusal : SlotFault → StoreFault
+slot_refusal (slot.Disk fault) = Disk fault
+slot_refusal (slot.Damaged damage) = Damaged damage

@@ -1,14 +1,16 @@
 -- A store as its callers see it, and the recording that it stands for.
 use Rattle.std.specs.Prelude.{◌≡◌, ◌⊎◌, ℕ, Result, Ok, Err, ◌<◌, ◌≤◌, Bool, true, false, ◌==◌, Option, Some, None, if◌then◌else◌, List, [], map}
 use Rattle.loop_disk.specs.Medium.{Medium, IsSettled}
+use Rattle.loop_record.specs.declared.damage.Damage.TheVariants.{SlotHead}
+use Rattle.loop_record.specs.declared.frame.FrameHead.{FrameHead}
 use Rattle.loop_record.specs.declared.geometry.Geometry.{Geometry}
 use Rattle.loop_record.specs.Geometry.{disk_size}
-use Rattle.loop_record.specs.Recording.{Picture, Recording, Ring, Step, store}
+use Rattle.loop_record.specs.Recording.{Picture, Recording, Ring, Step, head, store}
 use Rattle.loop_record.specs.Layout.{Segment, segment_in, whole_frames}
 use Rattle.loop_record.specs.Reading.{Holds}
 use Rattle.loop_ring.specs.Writes.{HasNoStray}
 use Rattle.loop_store.specs.declared.fault.StoreFault.{StoreFault}
-use Rattle.loop_store.specs.declared.fault.StoreFault.TheVariants.{MustReopen, SegmentFull}
+use Rattle.loop_store.specs.declared.fault.StoreFault.TheVariants.{MustReopen, NotHeld, Damaged, SegmentFull}
 use Rattle.loop_store.specs.Faults.{is_disk}
 use Rattle.loop_store.specs.Held.{IsFreeFor}
 
@@ -41,6 +43,23 @@ steps_or_none (Some steps) = steps
 -- an append is refused as one of these
 abbrev pub IsRefusedAppend : StoreFault → Type 0
 IsRefusedAppend fault = (fault ≡ MustReopen) ⊎ ((fault ≡ SegmentFull) ⊎ (is_disk fault ≡ true))
+
+-- a read is refused as one of these
+abbrev pub IsRefusedRead : StoreFault → Type 0
+IsRefusedRead fault = (fault ≡ MustReopen) ⊎ ((fault ≡ NotHeld) ⊎ ((fault ≡ Damaged SlotHead) ⊎ (is_disk fault ≡ true)))
+
+-- the answer is the frame of that number, if there is one, or a call of the disk has failed
+abbrev pub AnswersFrame : ℕ → Option Picture → Result FrameHead StoreFault → List ℕ → Type 0
+AnswersFrame number None result out = result ≡ Err NotHeld
+AnswersFrame number (Some p) (Ok h) out = (h ≡ head number p) × (out ≡ p.bytes)
+AnswersFrame number (Some p) (Err fault) out = is_disk fault ≡ true
+
+-- a call that only looks leaves what the store tells
+pub record TellsTheSame {D : Type 0} (old new : Seen D) : Type 0 where
+  pub geometry : new.geometry ≡ old.geometry
+  pub next : new.next ≡ old.next
+  pub numbers : new.numbers ≡ old.numbers
+  pub must_reopen : new.must_reopen ≡ old.must_reopen
 
 -- after a failed call of the disk the store has to be opened again, and tells what it told before
 pub record HasFailed {D : Type 0} (old new : Seen D) : Type 0 where

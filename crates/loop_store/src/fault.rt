@@ -1,11 +1,12 @@
 //! Refusals.
 
 ghost use Rattle.std.specs.Prelude.{◌≡◌};
-ghost use Rattle.loop_store.specs.Faults.{fault_number};
+ghost use Rattle.loop_store.specs.Faults.{fault_number, slot_refusal};
 ghost use Rattle.loop_store.specs.declared.fault.StoreFault.TheVariants.{NoMemory, Disk, Damaged};
 
 use loop_disk::DiskFault;
-use loop_record::{BadGeometry, Damage};
+use loop_record::Damage;
+use loop_ring::SlotFault;
 use std::alloc::AllocError;
 
 /// Why a call of a store is refused. The names and numbers are this project's own; a refusal changes nothing, but for `Disk`
@@ -75,6 +76,17 @@ impl From<Damage> for StoreFault {
 
     fn from(damage: Damage) -> StoreFault {
         StoreFault::Damaged(damage)
+    }
+}
+
+impl From<SlotFault> for StoreFault {
+    ghost from_gives = { λ fault made. made ≡ slot_refusal fault };
+
+    fn from(fault: SlotFault) -> StoreFault {
+        match fault {
+            SlotFault::Disk(fault) => StoreFault::Disk(fault),
+            SlotFault::Damaged(damage) => StoreFault::Damaged(damage),
+        }
     }
 }
 

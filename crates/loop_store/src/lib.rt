@@ -4,7 +4,7 @@
 //! whatever the moment of a stop, the disk's image reads as that recording after a beginning of the steps that were asked for.
 //!
 //! - `format`: writes an empty recording; `fresh`: the bytes that it lays out;
-//! - `store`: the store and its calls; `grow`: what they write;
+//! - `store`: the store and its calls; `grow`: what they write; `look`: what they read;
 //! - `command`: lists of commands, and the replies;
 //! - `fault`: the refusals, with their numbers and names.
 //!
@@ -13,8 +13,7 @@
 
 mod fault;
 mod grow;
-
-
+mod look;
 mod store;
 
 pub use fault::{OpenRefused, StoreFault};

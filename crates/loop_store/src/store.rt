@@ -9,12 +9,13 @@ ghost use Rattle.loop_record.specs.Plain.{pictures};
 ghost use Rattle.loop_record.specs.Recording.{Picture, Recording, Step, frame_under, head, holds, picture, plain, ring_of};
 ghost use Rattle.loop_store.specs.Faults.{answers_disk, faults_after, is_disk};
 ghost use Rattle.loop_store.specs.Held.{HoldsSome};
-ghost use Rattle.loop_store.specs.Seen.{IsKept, IsRefusedAppend, Refused, Seen, StandsFor, steps_in_first, steps_or_none};
+ghost use Rattle.loop_store.specs.Seen.{AnswersFrame, IsKept, IsRefusedAppend, IsRefusedRead, Refused, Seen, TellsTheSame, StandsFor, steps_in_first, steps_or_none};
 
 use crate::StoreFault;
 use crate::grow::append_first;
+use crate::look::read_first;
 use loop_disk::Disk;
-use loop_record::{Frame, Geometry};
+use loop_record::{Frame, FrameHead, Geometry};
 use loop_ring::Ring;
 use std::alloc::{Allocator, Global};
 use std::marker::Model;
@@ -116,5 +117,71 @@ impl<D: Disk + Drop, A: Allocator> Store<D, A> {
                 Err(StoreFault::Disk(fault))
             }
         }
+    }
+}
+
+impl<D: Disk + Drop, A: Allocator> Store<D, A> {
+    /// Stores a group of frames behind the others, all or none, and answers the number of the first. For now a group is one frame.
+    ///
+    /// `MustReopen` where a call that writes has failed; otherwise `SegmentFull` where the first segment has all its frames.
+    /// It takes no memory. After `Disk` the store has to be opened again, and its numbers are those from before the call.
+    pub fn append(&mut self, frames: &[Frame<A>]) -> Result<u64, StoreFault>
+        requires one { length frames.now ≡ 1 }
+        requires sizes { All (λ frame. length frame.bytes.items ≡ frame_bytes self.old.geometry) frames.now }
+        ensures number { IfOk result (λ number. number ≡ self.old.next) }
+        ensures must_reopen { (result ≡ Err StoreFault.MustReopen) ↔ IsTrue self.old.must_reopen }
+        ensures full { self.old.must_reopen ≡ false → (result ≡ Err StoreFault.SegmentFull) ↔ (self.old.next ≡ self.old.geometry.slots) }
+        ensures refusals { IfErr result IsRefusedAppend }
+        ensures moments { (r : Recording) → StandsFor D.medium D.honest self.old r → self.old.must_reopen ≡ false → D.honest self.old.disk
+            → LeavesOnly (D.medium self.old.disk) (D.medium self.new.disk) (HoldsSome self.old.geometry r (steps_or_none (steps_in_first (ring_of self.old.geometry) r (pictures frames.now)))) }
+        ensures stored { (r : Recording) → StandsFor D.medium D.honest self.old r
+            → OnOk result (StandsFor D.medium D.honest self.new (plain (ring_of self.old.geometry) r (steps_or_none (steps_in_first (ring_of self.old.geometry) r (pictures frames.now))))) }
+        ensures refused { Refused self.old self.new result }
+        ensures counted { D.faults self.new.disk ≡ faults_after (answers_disk result) (D.faults self.old.disk) }
+        ensures honest { D.honest self.old.disk ↔ D.honest self.new.disk }
+        ensures geometry { self.new.geometry ≡ self.old.geometry }
+    {
+        self.append_frame(&frames[0])
+    }
+
+    /// Reads the frame of a number: its head, and its bytes into `out`, which has the size of a frame.
+    ///
+    /// `MustReopen` where a call that writes has failed; otherwise `NotHeld`; then `Disk`, or `Damaged` where the disk isn't honest.
+    /// After these two `out` may hold any bytes. It takes no memory.
+    pub fn read(&mut self, number: u64, out: &mut [u8]) -> Result<FrameHead, StoreFault>
+        requires size { length out.old ≡ frame_bytes self.old.geometry }
+        ensures must_reopen { (result ≡ Err StoreFault.MustReopen) ↔ IsTrue self.old.must_reopen }
+        ensures not_held { (r : Recording) → StandsFor D.medium D.honest self.old r → self.old.must_reopen ≡ false → (result ≡ Err StoreFault.NotHeld) ↔ (holds r number ≡ false) }
+        ensures frame { (r : Recording) → StandsFor D.medium D.honest self.old r → self.old.must_reopen ≡ false → D.honest self.old.disk → AnswersFrame number (frame_under r.frames number) result out.new }
+        ensures refusals { IfErr result IsRefusedRead }
+        ensures stands { (r : Recording) → StandsFor D.medium D.honest self.old r → StandsFor D.medium D.honest self.new r }
+        ensures stays { D.honest self.old.disk → Stays (D.medium self.old.disk) (D.medium self.new.disk) }
+        ensures counted { D.faults self.new.disk ≡ faults_after (answers_disk result) (D.faults self.old.disk) }
+        ensures honest { D.honest self.old.disk ↔ D.honest self.new.disk }
+        ensures same { TellsTheSame self.old self.new }
+    {
+        if self.must_reopen {
+            return Err(StoreFault::MustReopen);
+        }
+        if number >= self.next {
+            return Err(StoreFault::NotHeld);
+        }
+        read_first(&mut self.disk, &self.ring, self.next, number, out)
+    }
+
+    /// The numbers of the held frames, which rise. `MustReopen` where a call that writes has failed; otherwise `NoMemory`.
+    pub fn frames<B: Allocator>(&self, alloc: B) -> Result<Vec<u64, B>, StoreFault>
+        ensures must_reopen { (result ≡ Err StoreFault.MustReopen) ↔ IsTrue self.now.must_reopen }
+        ensures numbers { IfOk result (λ numbers. numbers.items ≡ self.now.numbers) }
+        ensures refusals { IfErr result (λ fault. (fault ≡ StoreFault.MustReopen) ⊎ (fault ≡ StoreFault.NoMemory)) }
+    {
+        if self.must_reopen {
+            return Err(StoreFault::MustReopen);
+        }
+        let mut numbers = Vec::with_capacity(alloc, self.next as usize)?;
+        for number in 0..self.next {
+            numbers.push_reserved(number);
+        }
+        Ok(numbers)
     }
 }
