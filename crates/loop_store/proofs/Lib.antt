@@ -1,3 +1,4 @@
+pub mod Formatting
 pub mod Grown
 pub mod Looked
 pub mod Looks

@@ -1,3 +1,4 @@
 pub mod Faults
+pub mod Formatted
 pub mod Held
 pub mod Seen

@@ -12,6 +12,7 @@
 #![tactic(auto)]
 
 mod fault;
+mod fresh;
 mod grow;
 mod look;
 mod store;

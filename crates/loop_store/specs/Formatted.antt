@@ -1,0 +1,32 @@
+-- What formatting leaves of a disk.
+use Rattle.std.specs.Prelude.{◌≡◌, ◌⊎◌, ℕ, ◌<◌, false, Result, Ok, Err, List, length, drop, slice_range}
+use Rattle.loop_disk.specs.Medium.{Medium}
+use Rattle.loop_record.specs.declared.damage.LayoutFault.TheVariants.{NotFormatted}
+use Rattle.loop_record.specs.declared.geometry.Geometry.{Geometry}
+use Rattle.loop_record.specs.Geometry.{clip_at, disk_size, segment_at}
+use Rattle.loop_record.specs.Layout.{is_open, super_bytes}
+use Rattle.loop_record.specs.Reading.{Holds, reading}
+use Rattle.loop_record.specs.Recording.{empty}
+
+-- the superblock's gate is closed
+abbrev pub IsClosed : List ℕ → Type 0
+IsClosed image = is_open image 0 ≡ false
+
+-- so it is in the present bytes, and in each image that a crash may leave
+abbrev pub AreClosed : Medium → Type 0
+AreClosed m = (c : List ℕ) → m.may_leave c → IsClosed c
+
+-- an image that a crash might have left before, or one whose gate is closed
+abbrev pub WasOrClosed : Medium → List ℕ → Type 0
+WasOrClosed m c = m.may_leave c ⊎ IsClosed c
+
+-- an image that a crash might have left before, or one that isn't formatted, or the empty recording
+abbrev pub WasOrEmpty : Geometry → Medium → List ℕ → Type 0
+WasOrEmpty g m c = m.may_leave c ⊎ ((reading c ≡ Err NotFormatted) ⊎ Holds g empty c)
+
+-- behind a closed gate stand the superblock, a clip table without a clip, and the closed headers of the first segments
+pub record IsLaid (g : Geometry) (count : ℕ) (image : List ℕ) : Type 0 where
+  pub size : length image ≡ disk_size g
+  pub superblock : slice_range image 1 512 ≡ drop 1 (super_bytes g)
+  pub clips : (id : ℕ) → id < 64 → is_open image (clip_at id) ≡ false
+  pub segments : (j : ℕ) → j < count → is_open image (segment_at g j) ≡ false
