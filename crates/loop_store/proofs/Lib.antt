@@ -1,4 +1,5 @@
 pub mod Formatting
+pub mod Formatted
 pub mod Grown
 pub mod Looked
 pub mod Looks

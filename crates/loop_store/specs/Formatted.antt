@@ -20,9 +20,13 @@ AreClosed m = (c : List ℕ) → m.may_leave c → IsClosed c
 abbrev pub WasOrClosed : Medium → List ℕ → Type 0
 WasOrClosed m c = m.may_leave c ⊎ IsClosed c
 
--- an image that a crash might have left before, or one that isn't formatted, or the empty recording
+-- an image that isn't formatted, or the empty recording
+abbrev pub NoneOrEmpty : Geometry → List ℕ → Type 0
+NoneOrEmpty g c = (reading c ≡ Err NotFormatted) ⊎ Holds g empty c
+
+-- an image that a crash might have left before, or one of these
 abbrev pub WasOrEmpty : Geometry → Medium → List ℕ → Type 0
-WasOrEmpty g m c = m.may_leave c ⊎ ((reading c ≡ Err NotFormatted) ⊎ Holds g empty c)
+WasOrEmpty g m c = m.may_leave c ⊎ NoneOrEmpty g c
 
 -- behind a closed gate stand the superblock, a clip table without a clip, and the closed headers of the first segments
 pub record IsLaid (g : Geometry) (count : ℕ) (image : List ℕ) : Type 0 where

@@ -6,7 +6,7 @@ ghost use Rattle.loop_disk.specs.Medium.{IsSettled, LeavesOnly};
 ghost use Rattle.loop_record.specs.Geometry.{disk_size, is_good};
 ghost use Rattle.loop_record.specs.Layout.{is_open, super_bytes};
 ghost use Rattle.loop_record.specs.Reading.{IsFresh};
-ghost use Rattle.loop_store.specs.Formatted.{AreClosed, IsClosed, IsLaid, WasOrClosed, WasOrEmpty};
+ghost use Rattle.loop_store.specs.Formatted.{AreClosed, IsClosed, IsLaid, NoneOrEmpty, WasOrClosed, WasOrEmpty};
 
 use loop_disk::{Disk, DiskFault, store};
 use loop_record::{Geometry, HEADER_SIZE, OPEN, SUPER_SIZE, encode_super};
@@ -100,4 +100,73 @@ fn write_header<D: Disk>(
     ensures honest { D.honest disk.old ↔ D.honest disk.new }
 {
     disk.write_at(geometry.segment_at(segment), &[0; HEADER_SIZE])
+}
+
+/// Writes the headers of all segments as zeros.
+fn write_headers<D: Disk>(disk: &mut D, geometry: &Geometry) -> Result<(), DiskFault>
+    requires good { IsTrue (is_good geometry.now) }
+    requires extent { D.extent disk.old ≡ disk_size geometry.now }
+    requires closed { D.honest disk.old → AreClosed (D.medium disk.old) }
+    requires laid { D.honest disk.old → IsLaid geometry.now 0 (D.medium disk.old).bytes }
+    ensures moments { D.honest disk.old → LeavesOnly (D.medium disk.old) (D.medium disk.new) IsClosed }
+    ensures closed { D.honest disk.old → AreClosed (D.medium disk.new) }
+    ensures laid { D.honest disk.old → OnOk result (IsLaid geometry.now geometry.now.segments (D.medium disk.new).bytes) }
+    ensures counted { CountedAny (D.faults disk.old) (D.faults disk.new) result }
+    ensures extent { D.extent disk.new ≡ D.extent disk.old }
+    ensures honest { D.honest disk.old ↔ D.honest disk.new }
+{
+    for segment in 0..geometry.segments {
+        write_header(disk, geometry, segment)?;
+    }
+    Ok(())
+}
+
+/// Opens the superblock's gate, on a disk where a crash leaves the present bytes and nothing else.
+fn open_gate<D: Disk>(disk: &mut D, geometry: &Geometry) -> Result<(), DiskFault>
+    requires good { IsTrue (is_good geometry.now) }
+    requires extent { D.extent disk.old ≡ disk_size geometry.now }
+    requires settled { D.honest disk.old → IsSettled (D.medium disk.old) }
+    requires laid { D.honest disk.old → IsLaid geometry.now geometry.now.segments (D.medium disk.old).bytes }
+    ensures moments { D.honest disk.old → LeavesOnly (D.medium disk.old) (D.medium disk.new) (NoneOrEmpty geometry.now) }
+    ensures fresh { D.honest disk.old → OnOk result (IsFresh geometry.now (D.medium disk.new).bytes) }
+    ensures settled { D.honest disk.old → OnOk result (IsSettled (D.medium disk.new)) }
+    ensures counted { CountedAny (D.faults disk.old) (D.faults disk.new) result }
+    ensures extent { D.extent disk.new ≡ D.extent disk.old }
+    ensures honest { D.honest disk.old ↔ D.honest disk.new }
+{
+    store(disk, 0, &[OPEN])
+}
+
+/// Settles what was laid out behind the gate, and opens it.
+fn finish<D: Disk>(disk: &mut D, geometry: &Geometry) -> Result<(), DiskFault>
+    requires good { IsTrue (is_good geometry.now) }
+    requires extent { D.extent disk.old ≡ disk_size geometry.now }
+    requires closed { D.honest disk.old → AreClosed (D.medium disk.old) }
+    requires laid { D.honest disk.old → IsLaid geometry.now geometry.now.segments (D.medium disk.old).bytes }
+    ensures moments { D.honest disk.old → LeavesOnly (D.medium disk.old) (D.medium disk.new) (NoneOrEmpty geometry.now) }
+    ensures fresh { D.honest disk.old → OnOk result (IsFresh geometry.now (D.medium disk.new).bytes) }
+    ensures settled { D.honest disk.old → OnOk result (IsSettled (D.medium disk.new)) }
+    ensures counted { CountedAny (D.faults disk.old) (D.faults disk.new) result }
+    ensures extent { D.extent disk.new ≡ D.extent disk.old }
+    ensures honest { D.honest disk.old ↔ D.honest disk.new }
+{
+    disk.sync()?;
+    open_gate(disk, geometry)
+}
+
+/// Writes an empty recording over whatever stands on a disk of the geometry's size.
+pub(crate) fn lay_out<D: Disk>(disk: &mut D, geometry: &Geometry) -> Result<(), DiskFault>
+    requires good { IsTrue (is_good geometry.now) }
+    requires extent { D.extent disk.old ≡ disk_size geometry.now }
+    ensures moments { D.honest disk.old → LeavesOnly (D.medium disk.old) (D.medium disk.new) (WasOrEmpty geometry.now (D.medium disk.old)) }
+    ensures fresh { D.honest disk.old → OnOk result (IsFresh geometry.now (D.medium disk.new).bytes) }
+    ensures settled { D.honest disk.old → OnOk result (IsSettled (D.medium disk.new)) }
+    ensures counted { CountedAny (D.faults disk.old) (D.faults disk.new) result }
+    ensures extent { D.extent disk.new ≡ D.extent disk.old }
+    ensures honest { D.honest disk.old ↔ D.honest disk.new }
+{
+    unformat(disk)?;
+    write_front(disk, geometry)?;
+    write_headers(disk, geometry)?;
+    finish(disk, geometry)
 }
