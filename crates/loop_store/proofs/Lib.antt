@@ -1,5 +1,6 @@
 pub mod Formatting
 pub mod Formatted
+pub mod First
 pub mod Grown
 pub mod Looked
 pub mod Looks

@@ -82,11 +82,7 @@ fn write_front<D: Disk>(disk: &mut D, geometry: &Geometry) -> Result<(), DiskFau
 }
 
 /// Writes the header of a segment as zeros.
-fn write_header<D: Disk>(
-    disk: &mut D,
-    geometry: &Geometry,
-    segment: u32,
-) -> Result<(), DiskFault>
+fn write_header<D: Disk>(disk: &mut D, geometry: &Geometry, segment: u32) -> Result<(), DiskFault>
     requires good { IsTrue (is_good geometry.now) }
     requires extent { D.extent disk.old ≡ disk_size geometry.now }
     requires segment { segment < geometry.now.segments }

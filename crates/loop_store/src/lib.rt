@@ -3,7 +3,7 @@
 //! A `Store` stands for a recording of the plain recorder. `specs/Held` says how, and what a call may leave of it:
 //! whatever the moment of a stop, the disk's image reads as that recording after a beginning of the steps that were asked for.
 //!
-//! - `format`: writes an empty recording; `fresh`: the bytes that it lays out;
+//! - `make`: formats a disk; `fresh`: the writes of it;
 //! - `store`: the store and its calls; `grow`: what they write; `look`: what they read;
 //! - `command`: lists of commands, and the replies;
 //! - `fault`: the refusals, with their numbers and names.
@@ -15,8 +15,9 @@ mod fault;
 mod fresh;
 mod grow;
 mod look;
+mod make;
 mod store;
 
 pub use fault::{OpenRefused, StoreFault};
+pub use make::format;
 pub use store::Store;
-
