@@ -5,4 +5,5 @@ pub mod Grown
 pub mod Looked
 pub mod Looks
 pub mod Numbers
+pub mod Replied
 pub mod Stands

@@ -2,3 +2,4 @@ pub mod Faults
 pub mod Formatted
 pub mod Held
 pub mod Seen
+pub mod Runs

@@ -11,6 +11,7 @@
 //! For now the first segment alone is filled: where it has all its frames, an append is refused as `SegmentFull`.
 #![tactic(auto)]
 
+mod command;
 mod fault;
 mod fresh;
 mod grow;
@@ -18,6 +19,7 @@ mod look;
 mod make;
 mod store;
 
+pub use command::{Command, ReadFrame, Reply};
 pub use fault::{OpenRefused, StoreFault};
 pub use make::format;
 pub use store::Store;
