@@ -7,3 +7,4 @@ pub mod Looks
 pub mod Numbers
 pub mod Replied
 pub mod Stands
+pub mod Asked

@@ -1,6 +1,7 @@
 -- What a disk's image holds of a recording, before and after some steps.
 use Rattle.std.specs.Prelude.{◌≡◌, ◌==◌, ℕ, ◌/◌, ◌%◌, ◌≤◌, false, None, Some, List, length, take}
 use Rattle.std.specs.List.{list_any}
+use Rattle.loop_disk.specs.Medium.{Medium}
 use Rattle.loop_record.specs.declared.geometry.Geometry.{Geometry}
 use Rattle.loop_record.specs.Recording.{Recording, Step, ring_of, plain}
 use Rattle.loop_record.specs.Layout.{Segment, is_too_high, segment_in, whole_frames}
@@ -31,3 +32,7 @@ pub record IsFreeFor (g : Geometry) (next j : ℕ) (image : List ℕ) : Type 0 w
   pub closed : segment_in g image j ≡ None
   pub apart : list_any (λ s. s.block == (next / g.slots)) (opened (parts_of g image).segments) ≡ false
   pub low_enough : is_too_high g (next / g.slots) ≡ false
+
+-- so is each image that a crash now may leave
+abbrev pub EachNow : Medium → (List ℕ → Type 0) → Type 0
+EachNow m P = (image : List ℕ) → m.may_leave image → P image

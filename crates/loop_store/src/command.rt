@@ -1,10 +1,13 @@
 //! Lists of commands, and the replies.
 
-ghost use Rattle.std.specs.Prelude.{◌≡◌, ◌↔◌, true};
+ghost use Rattle.std.specs.Prelude.{◌≡◌, ◌↔◌, ◌||◌, ◌++◌, length, false, true};
 ghost use Rattle.loop_disk.specs.Calls.{Stays};
-ghost use Rattle.loop_record.specs.Recording.{Recording};
+ghost use Rattle.loop_disk.specs.Medium.{LeavesOnly};
+ghost use Rattle.loop_record.specs.Geometry.{frame_bytes};
+ghost use Rattle.loop_record.specs.Recording.{Recording, picture, plain, ring_of};
+ghost use Rattle.loop_store.specs.Held.{EachNow, HoldsFrom, HoldsSome};
 ghost use Rattle.loop_store.specs.Faults.{answers_disk, faults_after};
-ghost use Rattle.loop_store.specs.Runs.{AnswersRead};
+ghost use Rattle.loop_store.specs.Runs.{AnswersRead, AnswersStore, IsAnswer, IsOfSize, begun_by, faults_of, has_failed, made_by, steps_if_failed, steps_if_stored};
 ghost use Rattle.loop_store.specs.Seen.{StandsFor, TellsTheSame};
 
 use crate::{Store, StoreFault};
@@ -40,6 +43,25 @@ pub enum Reply<A: Allocator = Global> {
 }
 
 impl<D: Disk + Drop, A: Allocator + Copy> Store<D, A> {
+    /// Stores one frame, as a command of a list.
+    fn store_frame(&mut self, frame: &Frame<A>) -> Result<u64, StoreFault>
+        requires size { length frame.now.bytes.items ≡ frame_bytes self.old.geometry }
+        ensures answers { (r : Recording) → StandsFor D.medium D.honest self.old r → AnswersStore self.old.geometry r self.old.must_reopen (picture frame.now) result }
+        ensures moments { (r : Recording) → StandsFor D.medium D.honest self.old r → self.old.must_reopen ≡ false → D.honest self.old.disk
+            → LeavesOnly (D.medium self.old.disk) (D.medium self.new.disk) (HoldsSome self.old.geometry r (steps_if_stored (ring_of self.old.geometry) r (picture frame.now) result ++ steps_if_failed (ring_of self.old.geometry) r (picture frame.now) (answers_disk result))) }
+        ensures now { (r : Recording) → StandsFor D.medium D.honest self.old r → self.old.must_reopen ≡ false → D.honest self.old.disk
+            → EachNow (D.medium self.new.disk) (HoldsFrom self.old.geometry r (length (steps_if_stored (ring_of self.old.geometry) r (picture frame.now) result))
+                (steps_if_stored (ring_of self.old.geometry) r (picture frame.now) result ++ steps_if_failed (ring_of self.old.geometry) r (picture frame.now) (answers_disk result))) }
+        ensures stands { (r : Recording) → StandsFor D.medium D.honest self.old r → StandsFor D.medium D.honest self.new (plain (ring_of self.old.geometry) r (steps_if_stored (ring_of self.old.geometry) r (picture frame.now) result)) }
+        ensures failed { self.new.must_reopen ≡ (self.old.must_reopen || answers_disk result) }
+        ensures unmoved { self.old.must_reopen ≡ true → self.new ≡ self.old }
+        ensures counted { D.faults self.new.disk ≡ faults_after (answers_disk result) (D.faults self.old.disk) }
+        ensures honest { D.honest self.old.disk ↔ D.honest self.new.disk }
+        ensures geometry { self.new.geometry ≡ self.old.geometry }
+    {
+        self.append_frame(frame)
+    }
+
     /// Reads a frame into memory of its own. `MustReopen`, `NotHeld`, then `NoMemory` for its bytes, then `Disk` or `Damaged`.
     pub(crate) fn read_frame(&mut self, alloc: A, number: u64) -> Result<ReadFrame<A>, StoreFault>
         ensures answers { (r : Recording) → StandsFor D.medium D.honest self.old r → D.honest self.old.disk → AnswersRead r self.old.must_reopen number result }
@@ -60,5 +82,29 @@ impl<D: Disk + Drop, A: Allocator + Copy> Store<D, A> {
         let mut bytes = vec![in alloc; 0; size]?;
         let head = self.read(number, &mut bytes)?;
         Ok(ReadFrame { head, bytes })
+    }
+}
+
+impl<D: Disk + Drop, A: Allocator + Copy> Store<D, A> {
+    /// Does one command.
+    fn answer(&mut self, alloc: A, command: &Command<A>) -> Reply<A>
+        requires size { IsOfSize self.old.geometry command.now }
+        ensures answers { (r : Recording) → StandsFor D.medium D.honest self.old r → D.honest self.old.disk → IsAnswer self.old.geometry r self.old.must_reopen command.now result }
+        ensures moments { (r : Recording) → StandsFor D.medium D.honest self.old r → self.old.must_reopen ≡ false → D.honest self.old.disk
+            → LeavesOnly (D.medium self.old.disk) (D.medium self.new.disk) (HoldsSome self.old.geometry r (made_by (ring_of self.old.geometry) r command.now result ++ begun_by (ring_of self.old.geometry) r command.now result)) }
+        ensures now { (r : Recording) → StandsFor D.medium D.honest self.old r → self.old.must_reopen ≡ false → D.honest self.old.disk
+            → EachNow (D.medium self.new.disk) (HoldsFrom self.old.geometry r (length (made_by (ring_of self.old.geometry) r command.now result))
+                (made_by (ring_of self.old.geometry) r command.now result ++ begun_by (ring_of self.old.geometry) r command.now result)) }
+        ensures stands { (r : Recording) → StandsFor D.medium D.honest self.old r → StandsFor D.medium D.honest self.new (plain (ring_of self.old.geometry) r (made_by (ring_of self.old.geometry) r command.now result)) }
+        ensures failed { self.new.must_reopen ≡ (self.old.must_reopen || has_failed result) }
+        ensures unmoved { self.old.must_reopen ≡ true → self.new ≡ self.old }
+        ensures counted { D.faults self.new.disk ≡ faults_of result (D.faults self.old.disk) }
+        ensures honest { D.honest self.old.disk ↔ D.honest self.new.disk }
+        ensures geometry { self.new.geometry ≡ self.old.geometry }
+    {
+        match command {
+            Command::Store(frame) => Reply::Store(self.store_frame(frame)),
+            Command::Read(number) => Reply::Read(self.read_frame(alloc, *number)),
+        }
     }
 }

@@ -1,6 +1,6 @@
 //! A store: a disk that holds a recording, and what is known of it in memory.
 
-ghost use Rattle.std.specs.Prelude.{◌≡◌, ◌≢◌, ◌+◌, ◌-◌, ◌<◌, ◌≤◌, ◌↔◌, ◌⊎◌, ◌∷◌, [], IsTrue, All, IfOk, IfErr, OnOk, Ok, Err, None, Some, Option, List, false, true, is_some, length, map};
+ghost use Rattle.std.specs.Prelude.{◌≡◌, ◌≢◌, ◌+◌, ◌-◌, ◌<◌, ◌≤◌, ◌↔◌, ◌⊎◌, ◌||◌, ◌∷◌, [], IsTrue, All, IfOk, IfErr, OnOk, Ok, Err, None, Some, Option, List, false, true, is_some, length, map};
 ghost use Rattle.std.specs.List.{range_with_len};
 ghost use Rattle.loop_disk.specs.Medium.{IsSettled, LeavesOnly};
 ghost use Rattle.loop_disk.specs.Calls.{Stays};
@@ -9,6 +9,7 @@ ghost use Rattle.loop_record.specs.Plain.{pictures};
 ghost use Rattle.loop_record.specs.Recording.{Picture, Recording, Step, frame_under, head, holds, picture, plain, ring_of};
 ghost use Rattle.loop_store.specs.Faults.{answers_disk, faults_after, is_disk};
 ghost use Rattle.loop_store.specs.Held.{HoldsSome};
+ghost use Rattle.loop_store.specs.Runs.{AnswersStore};
 ghost use Rattle.loop_store.specs.Seen.{AnswersFrame, IsKept, IsRefusedAppend, IsRefusedRead, Refused, Seen, TellsTheSame, StandsFor, steps_in_first, steps_or_none};
 
 use crate::StoreFault;
@@ -87,6 +88,7 @@ impl<D: Disk + Drop, A: Allocator> Store<D, A> {
     /// After `Disk` the store has to be opened again, and its numbers are those from before the call.
     pub(crate) fn append_frame(&mut self, frame: &Frame<A>) -> Result<u64, StoreFault>
         requires size { length frame.now.bytes.items ≡ frame_bytes self.old.geometry }
+        ensures answers { (r : Recording) → StandsFor D.medium D.honest self.old r → AnswersStore self.old.geometry r self.old.must_reopen (picture frame.now) result }
         ensures number { IfOk result (λ number. number ≡ self.old.next) }
         ensures must_reopen { (result ≡ Err StoreFault.MustReopen) ↔ IsTrue self.old.must_reopen }
         ensures full { self.old.must_reopen ≡ false → (result ≡ Err StoreFault.SegmentFull) ↔ (self.old.next ≡ self.old.geometry.slots) }
@@ -98,6 +100,7 @@ impl<D: Disk + Drop, A: Allocator> Store<D, A> {
         ensures refused { Refused self.old self.new result }
         ensures counted { D.faults self.new.disk ≡ faults_after (answers_disk result) (D.faults self.old.disk) }
         ensures honest { D.honest self.old.disk ↔ D.honest self.new.disk }
+        ensures failed { self.new.must_reopen ≡ (self.old.must_reopen || answers_disk result) }
         ensures geometry { self.new.geometry ≡ self.old.geometry }
     {
         if self.must_reopen {

@@ -1,0 +1,146 @@
+-- The steps of commands, one by one and in lists.
+use Rattle.std.proofs.Common.{◌≡◌, ◌≢◌, ◌⊎◌, inl, inr, ℕ, zero, suc, ◌+◌, ◌≤◌, Bool, true, false, Option, Some, None, Result, Ok, Err, OnOk, List, [], ◌∷◌, ◌++◌, length, take, refl, sym, ap, ◌∙◌, subst, append_assoc, arith}
+use Rattle.std.proofs.lemmas.List.{append-nil, length-append, take_at}
+use Rattle.std.specs.Prelude.{◌||◌}
+use Rattle.loop_disk.specs.Calls.{Stays}
+use Rattle.loop_disk.specs.Medium.{Medium, IsSettled, IsSound, LeavesOnly}
+use Rattle.loop_disk.proofs.Moments.{started, goes_on, joined, weaker}
+use Rattle.loop_record.specs.declared.geometry.Geometry.{Geometry}
+use Rattle.loop_record.specs.Reading.{Holds}
+use Rattle.loop_record.specs.Recording.{Picture, Recording, Ring, Step, plain, ring_of}
+use Rattle.loop_record.proofs.Decided.{clash}
+use Rattle.loop_record.proofs.Steps.{plain-append}
+use Rattle.loop_store.specs.declared.fault.StoreFault.{StoreFault}
+use Rattle.loop_store.specs.Faults.{answers_disk, is_disk}
+use Rattle.loop_store.specs.Held.{EachNow, HoldsFrom, HoldsSome}
+use Rattle.loop_store.specs.declared.command.Command.{Command}
+use Rattle.loop_store.specs.declared.command.Command.TheVariants as command
+use Rattle.loop_store.specs.declared.command.Reply.{Reply}
+use Rattle.loop_store.specs.Runs.{AnswersStore, AreAnswers, IsAnswer, RefusesStore, begun_by, begun_in, faults_in, faults_of, has_failed, made_by, made_in, some_failed, steps_if_failed, steps_if_stored}
+use Rattle.loop_store.proofs.Grown.{held-some}
+use Rattle.loop_store.specs.Seen.{Seen, StandsFor, steps_in_first, steps_or_none}
+
+-- the steps of an append are those that it made, and then those that it had begun
+pub asked-is : (g : Geometry) (r : Recording) (must : Bool) (p : Picture) (result : Result ℕ StoreFault) → must ≡ false → AnswersStore g r must p result
+    → steps_or_none (steps_in_first (ring_of g) r (p ∷ [])) ≡ steps_if_stored (ring_of g) r p result ++ steps_if_failed (ring_of g) r p (answers_disk result)
+asked-is g r must p (Ok number) fine said = sym (append-nil (steps_or_none (steps_in_first (ring_of g) r (p ∷ []))))
+asked-is g r must p (Err fault) fine said = go said
+  where
+    go : RefusesStore g r must p fault → steps_or_none (steps_in_first (ring_of g) r (p ∷ [])) ≡ steps_if_failed (ring_of g) r p (is_disk fault)
+    go (inl x) = absurd (clash must x.1 fine)
+    go (inr (inl x)) = ap steps_or_none x.1.1 ∙ sym (ap (λ (f : StoreFault). steps_if_failed (ring_of g) r p (is_disk f)) x.0)
+    go (inr (inr x)) = sym (ap (λ (b : Bool). steps_if_failed (ring_of g) r p b) x.0)
+
+-- all of some steps, with none behind them
+pub holds-all : (g : Geometry) (r : Recording) (steps more : List Step) (image : List ℕ) → Holds g (plain (ring_of g) r steps) image → HoldsFrom g r (length steps) (steps ++ more) image
+holds-all g r steps more image held = record {
+  count = length steps;
+  enough = omega arith;
+  few = omega (arith, length-append steps more);
+  held = subst (λ (l : List Step). Holds g (plain (ring_of g) r l) image) (sym (take_at steps more (length steps) refl)) held;
+}
+
+-- what a crash now may leave is one of the images since then
+pub each-now : (size : ℕ) (old new : Medium) (P : List ℕ → Type 0) → IsSound size new → LeavesOnly old new P → EachNow new P
+each-now size old new P sound run = λ c left. run.each c (sound.counts_now old.moment c run.later left)
+
+-- after a store that was answered each image has its steps; after a refused one, some of them
+pub now-held : (size : ℕ) (g : Geometry) (r : Recording) (p : Picture) (old new : Medium) (result : Result ℕ StoreFault) → IsSound size new → LeavesOnly old new (HoldsSome g r (steps_if_stored (ring_of g) r p result ++ steps_if_failed (ring_of g) r p (answers_disk result)))
+    → OnOk result (IsSettled new) → OnOk result (Holds g (plain (ring_of g) r (steps_if_stored (ring_of g) r p result)) new.bytes)
+    → EachNow new (HoldsFrom g r (length (steps_if_stored (ring_of g) r p result)) (steps_if_stored (ring_of g) r p result ++ steps_if_failed (ring_of g) r p (answers_disk result)))
+now-held size g r p old new (Ok number) sound run settled held = λ c left.
+    let steps = steps_or_none (steps_in_first (ring_of g) r (p ∷ [])) in
+    subst (λ (image : List ℕ). HoldsFrom g r (length steps) (steps ++ []) image) (sym (settled c left)) (holds-all g r steps [] new.bytes held)
+now-held size g r p old new (Err fault) sound run settled held = each-now size old new _ sound run
+
+-- the same of a store that stands for the recording with the steps made
+pub stored-now : {D : Type 0} {size : ℕ} (medium : D → Medium) (honest : D → Type 0) (old new : Seen D) (r : Recording) (p : Picture) (result : Result ℕ StoreFault) → old.must_reopen ≡ false → new.must_reopen ≡ (old.must_reopen || answers_disk result) → new.geometry ≡ old.geometry
+    → IsSound size (medium new.disk) → honest new.disk → LeavesOnly (medium old.disk) (medium new.disk) (HoldsSome old.geometry r (steps_if_stored (ring_of old.geometry) r p result ++ steps_if_failed (ring_of old.geometry) r p (answers_disk result)))
+    → OnOk result (StandsFor medium honest new (plain (ring_of old.geometry) r (steps_or_none (steps_in_first (ring_of old.geometry) r (p ∷ [])))))
+    → EachNow (medium new.disk) (HoldsFrom old.geometry r (length (steps_if_stored (ring_of old.geometry) r p result)) (steps_if_stored (ring_of old.geometry) r p result ++ steps_if_failed (ring_of old.geometry) r p (answers_disk result)))
+stored-now {size = size} medium honest old new r p (Ok number) fine failed same sound now run stood =
+    let still : new.must_reopen ≡ false = failed ∙ ap (λ (b : Bool). b || false) fine in
+    now-held size old.geometry r p (medium old.disk) (medium new.disk) (Ok number) sound run (stood.settled still now) (subst (λ (g : Geometry). Holds g (plain (ring_of old.geometry) r (steps_or_none (steps_in_first (ring_of old.geometry) r (p ∷ [])))) (medium new.disk).bytes) same (stood.held still now))
+stored-now {size = size} medium honest old new r p (Err fault) fine failed same sound now run stood = now-held size old.geometry r p (medium old.disk) (medium new.disk) (Err fault) sound run tt tt
+
+-- ---- a command that only looks
+
+looked-moments : (size : ℕ) (g : Geometry) (r : Recording) (steps : List Step) (old new : Medium) → IsSound size old → IsSettled old → Holds g r old.bytes → Stays old new → LeavesOnly old new (HoldsSome g r steps)
+looked-moments size g r steps old new sound settled held stays = goes_on old old new (HoldsSome g r steps) old.may_leave (started size old (HoldsSome g r steps) sound here) stays.time here
+  where
+    here : (c : List ℕ) → old.may_leave c → HoldsSome g r steps c
+    here c left = held-some g r steps c (subst (λ (image : List ℕ). Holds g r image) (sym (settled c left)) held)
+
+pub read-moments : {A D : Type 0} (size : ℕ) (medium : D → Medium) (honest : D → Type 0) (s : Seen D) (r : Recording) (new : Medium) (c : Command A) (number : ℕ) (p : Reply A) → c ≡ command.Read number → StandsFor medium honest s r → s.must_reopen ≡ false → honest s.disk → IsSound size (medium s.disk) → Stays (medium s.disk) new
+    → LeavesOnly (medium s.disk) new (HoldsSome s.geometry r (made_by (ring_of s.geometry) r c p ++ begun_by (ring_of s.geometry) r c p))
+read-moments {A} size medium honest s r new c number p is stands fine now sound stays =
+    subst (λ (x : Command A). LeavesOnly (medium s.disk) new (HoldsSome s.geometry r (made_by (ring_of s.geometry) r x p ++ begun_by (ring_of s.geometry) r x p))) (sym is)
+    (looked-moments size s.geometry r [] (medium s.disk) new sound (stands.settled fine now) (stands.held fine now) stays)
+
+pub read-now : {A D : Type 0} (medium : D → Medium) (honest : D → Type 0) (s : Seen D) (r : Recording) (new : Medium) (c : Command A) (number : ℕ) (p : Reply A) → c ≡ command.Read number → StandsFor medium honest s r → s.must_reopen ≡ false → honest s.disk → Stays (medium s.disk) new
+    → EachNow new (HoldsFrom s.geometry r (length (made_by (ring_of s.geometry) r c p)) (made_by (ring_of s.geometry) r c p ++ begun_by (ring_of s.geometry) r c p))
+read-now {A} medium honest s r new c number p is stands fine now stays =
+    subst (λ (x : Command A). EachNow new (HoldsFrom s.geometry r (length (made_by (ring_of s.geometry) r x p)) (made_by (ring_of s.geometry) r x p ++ begun_by (ring_of s.geometry) r x p))) (sym is)
+    (λ image left. held-some s.geometry r [] image (subst (λ (i : List ℕ). Holds s.geometry r i) (sym (stands.settled fine now image (stays.images image left))) (stands.held fine now)))
+
+-- ---- lists
+
+-- one command more
+pub made-more : {A : Type 0} (ring : Ring) (r : Recording) (cs : List (Command A)) (ps : List (Reply A)) (c : Command A) (p : Reply A) → length ps ≡ length cs → made_in ring r (cs ++ c ∷ []) (ps ++ p ∷ []) ≡ made_in ring r cs ps ++ made_by ring (plain ring r (made_in ring r cs ps)) c p
+made-more ring r [] [] c p same = append-nil (made_by ring r c p)
+made-more ring r [] (q ∷ ps) c p same = absurd (omega (arith, same))
+made-more ring r (d ∷ cs) [] c p same = absurd (omega (arith, same))
+made-more ring r (d ∷ cs) (q ∷ ps) c p same =
+    let made = made_by ring r d q in
+    let rest = made-more ring (plain ring r made) cs ps c p (omega (arith, same)) in
+    let state = sym (plain-append ring r made (made_in ring (plain ring r made) cs ps)) in
+    (λ i. made ++ rest i) ∙ sym (append_assoc made (made_in ring (plain ring r made) cs ps) _)
+    ∙ (λ i. (made ++ made_in ring (plain ring r made) cs ps) ++ made_by ring (state i) c p)
+
+pub begun-more : {A : Type 0} (ring : Ring) (r : Recording) (cs : List (Command A)) (ps : List (Reply A)) (c : Command A) (p : Reply A) → length ps ≡ length cs → begun_in ring r (cs ++ c ∷ []) (ps ++ p ∷ []) ≡ begun_in ring r cs ps ++ begun_by ring (plain ring r (made_in ring r cs ps)) c p
+begun-more ring r [] [] c p same = append-nil (begun_by ring r c p)
+begun-more ring r [] (q ∷ ps) c p same = absurd (omega (arith, same))
+begun-more ring r (d ∷ cs) [] c p same = absurd (omega (arith, same))
+begun-more ring r (d ∷ cs) (q ∷ ps) c p same =
+    let made = made_by ring r d q in
+    let begun = begun_by ring r d q in
+    let rest = begun-more ring (plain ring r made) cs ps c p (omega (arith, same)) in
+    let state = sym (plain-append ring r made (made_in ring (plain ring r made) cs ps)) in
+    (λ i. begun ++ rest i) ∙ sym (append_assoc begun (begun_in ring (plain ring r made) cs ps) _)
+    ∙ (λ i. (begun ++ begun_in ring (plain ring r made) cs ps) ++ begun_by ring (state i) c p)
+
+pub failed-more : {A : Type 0} (ps : List (Reply A)) (p : Reply A) → some_failed (ps ++ p ∷ []) ≡ (some_failed ps || has_failed p)
+failed-more [] p = or_false_right (has_failed p)
+  where
+    or_false_right : (b : Bool) → (b || false) ≡ b
+    or_false_right true = refl
+    or_false_right false = refl
+failed-more (q ∷ ps) p = ap (λ (b : Bool). has_failed q || b) (failed-more ps p) ∙ or_assoc (has_failed q) (some_failed ps) (has_failed p)
+  where
+    or_assoc : (a b c : Bool) → (a || (b || c)) ≡ ((a || b) || c)
+    or_assoc true b c = refl
+    or_assoc false b c = refl
+
+pub faults-more : {A : Type 0} (ps : List (Reply A)) (p : Reply A) (before : ℕ) → faults_in (ps ++ p ∷ []) before ≡ faults_of p (faults_in ps before)
+faults-more [] p before = refl
+faults-more (q ∷ ps) p before = faults-more ps p (faults_of q before)
+
+pub answers-more : {A : Type 0} (g : Geometry) (r : Recording) (must : Bool) (cs : List (Command A)) (ps : List (Reply A)) (c : Command A) (p : Reply A) → AreAnswers g r must cs ps
+    → IsAnswer g (plain (ring_of g) r (made_in (ring_of g) r cs ps)) (must || some_failed ps) c p → AreAnswers g r must (cs ++ c ∷ []) (ps ++ p ∷ [])
+answers-more g r must [] [] c p so_far said = (subst (λ (b : Bool). IsAnswer g r b c p) (or_none must) said, tt)
+  where
+    or_none : (b : Bool) → (b || false) ≡ b
+    or_none true = refl
+    or_none false = refl
+answers-more g r must [] (q ∷ ps) c p so_far said = elim so_far [ ]
+answers-more g r must (d ∷ cs) [] c p so_far said = elim so_far [ ]
+answers-more {A} g r must (d ∷ cs) (q ∷ ps) c p so_far said =
+    let made = made_by (ring_of g) r d q in
+    let state = plain-append (ring_of g) r made (made_in (ring_of g) (plain (ring_of g) r made) cs ps) in
+    let later : IsAnswer g (plain (ring_of g) (plain (ring_of g) r made) (made_in (ring_of g) (plain (ring_of g) r made) cs ps)) ((must || has_failed q) || some_failed ps) c p =
+    subst (λ (x : Recording). IsAnswer g x ((must || has_failed q) || some_failed ps) c p) state (subst (λ (b : Bool). IsAnswer g (plain (ring_of g) r (made ++ made_in (ring_of g) (plain (ring_of g) r made) cs ps)) b c p) (or_assoc must (has_failed q) (some_failed ps)) said) in
+    (so_far.0, answers-more g (plain (ring_of g) r made) (must || has_failed q) cs ps c p so_far.1 later)
+  where
+    or_assoc : (a b c : Bool) → (a || (b || c)) ≡ ((a || b) || c)
+    or_assoc true b c = refl
+    or_assoc false b c = refl
