@@ -8,3 +8,4 @@ pub mod Numbers
 pub mod Replied
 pub mod Stands
 pub mod Asked
+pub mod Ran

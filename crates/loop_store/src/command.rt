@@ -1,13 +1,13 @@
 //! Lists of commands, and the replies.
 
-ghost use Rattle.std.specs.Prelude.{◌≡◌, ◌↔◌, ◌||◌, ◌++◌, length, false, true};
+ghost use Rattle.std.specs.Prelude.{◌≡◌, ◌↔◌, ◌⊎◌, ◌||◌, ◌++◌, All, Err, IfErr, IfOk, IsTrue, length, false, true};
 ghost use Rattle.loop_disk.specs.Calls.{Stays};
 ghost use Rattle.loop_disk.specs.Medium.{LeavesOnly};
 ghost use Rattle.loop_record.specs.Geometry.{frame_bytes};
 ghost use Rattle.loop_record.specs.Recording.{Recording, picture, plain, ring_of};
 ghost use Rattle.loop_store.specs.Held.{EachNow, HoldsFrom, HoldsSome};
 ghost use Rattle.loop_store.specs.Faults.{answers_disk, faults_after};
-ghost use Rattle.loop_store.specs.Runs.{AnswersRead, AnswersStore, IsAnswer, IsOfSize, begun_by, faults_of, has_failed, made_by, steps_if_failed, steps_if_stored};
+ghost use Rattle.loop_store.specs.Runs.{AnswersRead, AnswersStore, AreAnswers, IsAnswer, IsOfSize, begun_by, begun_in, faults_in, faults_of, has_failed, made_by, made_in, some_failed, steps_if_failed, steps_if_stored};
 ghost use Rattle.loop_store.specs.Seen.{StandsFor, TellsTheSame};
 
 use crate::{Store, StoreFault};
@@ -106,5 +106,42 @@ impl<D: Disk + Drop, A: Allocator + Copy> Store<D, A> {
             Command::Store(frame) => Reply::Store(self.store_frame(frame)),
             Command::Read(number) => Reply::Read(self.read_frame(alloc, *number)),
         }
+    }
+}
+
+impl<D: Disk + Drop, A: Allocator + Copy> Store<D, A> {
+    /// Does commands one after the other, and answers each.
+    ///
+    /// `MustReopen` where a call that writes has failed before, or `NoMemory` where there is no room for the replies; then
+    /// nothing was done. A command that is refused doesn't end the list: after `Disk` of one that writes, each later one is
+    /// answered `MustReopen`.
+    pub fn run(
+        &mut self,
+        alloc: A,
+        commands: &[Command<A>],
+    ) -> Result<Vec<Reply<A>, A>, StoreFault>
+        requires sizes { All (IsOfSize self.old.geometry) commands.now }
+        ensures must_reopen { (result ≡ Err StoreFault.MustReopen) ↔ IsTrue self.old.must_reopen }
+        ensures refused { IfErr result (λ fault. ((fault ≡ StoreFault.MustReopen) ⊎ (fault ≡ StoreFault.NoMemory)) × (self.new ≡ self.old)) }
+        ensures answers { (r : Recording) → StandsFor D.medium D.honest self.old r → D.honest self.old.disk → IfOk result (λ replies. AreAnswers self.old.geometry r false commands.now replies.items) }
+        ensures moments { (r : Recording) → StandsFor D.medium D.honest self.old r → D.honest self.old.disk
+            → IfOk result (λ replies. LeavesOnly (D.medium self.old.disk) (D.medium self.new.disk) (HoldsSome self.old.geometry r (made_in (ring_of self.old.geometry) r commands.now replies.items ++ begun_in (ring_of self.old.geometry) r commands.now replies.items))) }
+        ensures now { (r : Recording) → StandsFor D.medium D.honest self.old r → D.honest self.old.disk
+            → IfOk result (λ replies. EachNow (D.medium self.new.disk) (HoldsFrom self.old.geometry r (length (made_in (ring_of self.old.geometry) r commands.now replies.items))
+                (made_in (ring_of self.old.geometry) r commands.now replies.items ++ begun_in (ring_of self.old.geometry) r commands.now replies.items))) }
+        ensures stands { (r : Recording) → StandsFor D.medium D.honest self.old r → IfOk result (λ replies. StandsFor D.medium D.honest self.new (plain (ring_of self.old.geometry) r (made_in (ring_of self.old.geometry) r commands.now replies.items))) }
+        ensures failed { IfOk result (λ replies. self.new.must_reopen ≡ some_failed replies.items) }
+        ensures counted { IfOk result (λ replies. D.faults self.new.disk ≡ faults_in replies.items (D.faults self.old.disk)) }
+        ensures honest { D.honest self.old.disk ↔ D.honest self.new.disk }
+        ensures geometry { self.new.geometry ≡ self.old.geometry }
+    {
+        if self.must_reopen {
+            return Err(StoreFault::MustReopen);
+        }
+        let mut replies = Vec::with_capacity(alloc, commands.len())?;
+        for command in commands {
+            replies.push_reserved(self.answer(alloc, command));
+        }
+        Ok(replies)
     }
 }
