@@ -23,3 +23,6 @@ pub use command::{Command, ReadFrame, Reply};
 pub use fault::{OpenRefused, StoreFault};
 pub use make::format;
 pub use store::Store;
+
+#[cfg(test)]
+mod tests;
