@@ -99,14 +99,14 @@ pub record Ran {D A : Type 0} (medium : D → Medium) (honest : D → Type 0) (o
   pub answers : (r : Recording) → StandsFor medium honest old r → honest old.disk → AreAnswers old.geometry r false cs ps
   pub moments : (r : Recording) → StandsFor medium honest old r → honest old.disk → LeavesOnly (medium old.disk) (medium now.disk) (HoldsSome old.geometry r (made_in (ring_of old.geometry) r cs ps ++ begun_in (ring_of old.geometry) r cs ps))
   pub each : (r : Recording) → StandsFor medium honest old r → honest old.disk
-    → EachNow (medium now.disk) (HoldsFrom old.geometry r (length (made_in (ring_of old.geometry) r cs ps)) (made_in (ring_of old.geometry) r cs ps ++ begun_in (ring_of old.geometry) r cs ps))
+      → EachNow (medium now.disk) (HoldsFrom old.geometry r (length (made_in (ring_of old.geometry) r cs ps)) (made_in (ring_of old.geometry) r cs ps ++ begun_in (ring_of old.geometry) r cs ps))
 
 -- what one command says
 pub record Turned {D A : Type 0} (medium : D → Medium) (honest : D → Type 0) (now new : Seen D) (c : Command A) (p : Reply A) : Type 0 where
   pub answers : (r : Recording) → StandsFor medium honest now r → honest now.disk → IsAnswer now.geometry r now.must_reopen c p
   pub moments : (r : Recording) → StandsFor medium honest now r → now.must_reopen ≡ false → honest now.disk → LeavesOnly (medium now.disk) (medium new.disk) (HoldsSome now.geometry r (made_by (ring_of now.geometry) r c p ++ begun_by (ring_of now.geometry) r c p))
   pub each : (r : Recording) → StandsFor medium honest now r → now.must_reopen ≡ false → honest now.disk
-    → EachNow (medium new.disk) (HoldsFrom now.geometry r (length (made_by (ring_of now.geometry) r c p)) (made_by (ring_of now.geometry) r c p ++ begun_by (ring_of now.geometry) r c p))
+      → EachNow (medium new.disk) (HoldsFrom now.geometry r (length (made_by (ring_of now.geometry) r c p)) (made_by (ring_of now.geometry) r c p ++ begun_by (ring_of now.geometry) r c p))
   pub stands : (r : Recording) → StandsFor medium honest now r → StandsFor medium honest new (plain (ring_of now.geometry) r (made_by (ring_of now.geometry) r c p))
   pub failed : new.must_reopen ≡ (now.must_reopen || has_failed p)
   pub unmoved : now.must_reopen ≡ true → new ≡ now

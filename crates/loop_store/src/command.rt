@@ -51,7 +51,7 @@ impl<D: Disk + Drop, A: Allocator + Copy> Store<D, A> {
             → LeavesOnly (D.medium self.old.disk) (D.medium self.new.disk) (HoldsSome self.old.geometry r (steps_if_stored (ring_of self.old.geometry) r (picture frame.now) result ++ steps_if_failed (ring_of self.old.geometry) r (picture frame.now) (answers_disk result))) }
         ensures now { (r : Recording) → StandsFor D.medium D.honest self.old r → self.old.must_reopen ≡ false → D.honest self.old.disk
             → EachNow (D.medium self.new.disk) (HoldsFrom self.old.geometry r (length (steps_if_stored (ring_of self.old.geometry) r (picture frame.now) result))
-                (steps_if_stored (ring_of self.old.geometry) r (picture frame.now) result ++ steps_if_failed (ring_of self.old.geometry) r (picture frame.now) (answers_disk result))) }
+            (steps_if_stored (ring_of self.old.geometry) r (picture frame.now) result ++ steps_if_failed (ring_of self.old.geometry) r (picture frame.now) (answers_disk result))) }
         ensures stands { (r : Recording) → StandsFor D.medium D.honest self.old r → StandsFor D.medium D.honest self.new (plain (ring_of self.old.geometry) r (steps_if_stored (ring_of self.old.geometry) r (picture frame.now) result)) }
         ensures failed { self.new.must_reopen ≡ (self.old.must_reopen || answers_disk result) }
         ensures unmoved { self.old.must_reopen ≡ true → self.new ≡ self.old }
@@ -94,7 +94,7 @@ impl<D: Disk + Drop, A: Allocator + Copy> Store<D, A> {
             → LeavesOnly (D.medium self.old.disk) (D.medium self.new.disk) (HoldsSome self.old.geometry r (made_by (ring_of self.old.geometry) r command.now result ++ begun_by (ring_of self.old.geometry) r command.now result)) }
         ensures now { (r : Recording) → StandsFor D.medium D.honest self.old r → self.old.must_reopen ≡ false → D.honest self.old.disk
             → EachNow (D.medium self.new.disk) (HoldsFrom self.old.geometry r (length (made_by (ring_of self.old.geometry) r command.now result))
-                (made_by (ring_of self.old.geometry) r command.now result ++ begun_by (ring_of self.old.geometry) r command.now result)) }
+            (made_by (ring_of self.old.geometry) r command.now result ++ begun_by (ring_of self.old.geometry) r command.now result)) }
         ensures stands { (r : Recording) → StandsFor D.medium D.honest self.old r → StandsFor D.medium D.honest self.new (plain (ring_of self.old.geometry) r (made_by (ring_of self.old.geometry) r command.now result)) }
         ensures failed { self.new.must_reopen ≡ (self.old.must_reopen || has_failed result) }
         ensures unmoved { self.old.must_reopen ≡ true → self.new ≡ self.old }
@@ -115,11 +115,7 @@ impl<D: Disk + Drop, A: Allocator + Copy> Store<D, A> {
     /// `MustReopen` where a call that writes has failed before, or `NoMemory` where there is no room for the replies; then
     /// nothing was done. A command that is refused doesn't end the list: after `Disk` of one that writes, each later one is
     /// answered `MustReopen`.
-    pub fn run(
-        &mut self,
-        alloc: A,
-        commands: &[Command<A>],
-    ) -> Result<Vec<Reply<A>, A>, StoreFault>
+    pub fn run(&mut self, alloc: A, commands: &[Command<A>]) -> Result<Vec<Reply<A>, A>, StoreFault>
         requires sizes { All (IsOfSize self.old.geometry) commands.now }
         ensures must_reopen { (result ≡ Err StoreFault.MustReopen) ↔ IsTrue self.old.must_reopen }
         ensures refused { IfErr result (λ fault. ((fault ≡ StoreFault.MustReopen) ⊎ (fault ≡ StoreFault.NoMemory)) × (self.new ≡ self.old)) }
@@ -128,7 +124,7 @@ impl<D: Disk + Drop, A: Allocator + Copy> Store<D, A> {
             → IfOk result (λ replies. LeavesOnly (D.medium self.old.disk) (D.medium self.new.disk) (HoldsSome self.old.geometry r (made_in (ring_of self.old.geometry) r commands.now replies.items ++ begun_in (ring_of self.old.geometry) r commands.now replies.items))) }
         ensures now { (r : Recording) → StandsFor D.medium D.honest self.old r → D.honest self.old.disk
             → IfOk result (λ replies. EachNow (D.medium self.new.disk) (HoldsFrom self.old.geometry r (length (made_in (ring_of self.old.geometry) r commands.now replies.items))
-                (made_in (ring_of self.old.geometry) r commands.now replies.items ++ begun_in (ring_of self.old.geometry) r commands.now replies.items))) }
+            (made_in (ring_of self.old.geometry) r commands.now replies.items ++ begun_in (ring_of self.old.geometry) r commands.now replies.items))) }
         ensures stands { (r : Recording) → StandsFor D.medium D.honest self.old r → IfOk result (λ replies. StandsFor D.medium D.honest self.new (plain (ring_of self.old.geometry) r (made_in (ring_of self.old.geometry) r commands.now replies.items))) }
         ensures failed { IfOk result (λ replies. self.new.must_reopen ≡ some_failed replies.items) }
         ensures counted { IfOk result (λ replies. D.faults self.new.disk ≡ faults_in replies.items (D.faults self.old.disk)) }

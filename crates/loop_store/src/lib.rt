@@ -23,6 +23,3 @@ pub use command::{Command, ReadFrame, Reply};
 pub use fault::{OpenRefused, StoreFault};
 pub use make::format;
 pub use store::Store;
-
-#[cfg(test)]
-mod tests;
