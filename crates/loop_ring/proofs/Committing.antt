@@ -18,7 +18,7 @@ use Rattle.loop_record.specs.Layout.{Slot, Segment, is_open, slot_in, whole_fram
 use Rattle.loop_record.specs.Recording.{Picture}
 use Rattle.loop_record.proofs.Framing.{SameWithin, prefix_range, map_range, same_open, same_number, same_slot}
 use Rattle.loop_record.proofs.Gates.{first_closed_between, segment_in-more, slots_from}
-use Rattle.loop_ring.specs.Writes.{ShowsFrames, ShowsBeginning, HasNoStray, slots_in, slots_of, with_more}
+use Rattle.loop_ring.specs.Writes.{ShowsFrames, ShowsBeginning, HasNoStray, IsGroup, slots_in, slots_of, with_more}
 use Rattle.loop_ring.proofs.Bytes.{shows, torn_at, closed_none, prefix_open, moved_number, moved_slot}
 use Rattle.loop_ring.proofs.Staging.{slots-beginning, slots_in-take}
 
@@ -225,23 +225,21 @@ pub record AreStaged (g : Geometry) (number : ℕ) (frames : List Picture) (byte
   pub size : length bytes ≡ length frames * slot_size g
   pub slots : slots_in (frame_bytes g) bytes (length frames) ≡ slots_of (frame_bytes g) number frames
 
--- the front of a buffer with room for 8 slots, or for all of a segment
-pub are_staged : (g : Geometry) (number n count : ℕ) (frames : List Picture) (buffer now : List ℕ) → n ≡ frame_bytes g → count ≡ length frames → count ≤ 8 → count ≤ g.slots → now ≡ buffer → length now ≡ min 8 g.slots * slot_size g
-    → slots_in n buffer count ≡ slots_of n number frames → AreStaged g number frames (take (count * (32 + n)) now)
-are_staged g number n count frames buffer now n_is count_is few room same long slots =
-    subst (λ (k : ℕ). AreStaged g number frames (take (count * (32 + k)) now)) (sym n_is)
-    (subst (λ (k : ℕ). AreStaged g number frames (take (k * slot_size g) now)) (sym count_is) there)
-  where
-    fits : length frames * slot_size g ≤ length now
-    fits =
-        let most : length frames * slot_size g ≤ min 8 g.slots * slot_size g = mul-le-mul_right (slot_size g) (omega (arith, few, room, count_is)) in
-        omega (arith, most, long)
+-- the front of a buffer in which the slots of a group stand
+pub is_group : (g : Geometry) (number n count : ℕ) (frames : List Picture) (buffer now : List ℕ) → n ≡ frame_bytes g → count ≡ length frames → now ≡ buffer → count * (32 + n) ≤ length now → slots_in n buffer count ≡ slots_of n number frames
+    → IsGroup g number frames (take (count * (32 + n)) now) count
+is_group g number n count frames buffer now n_is count_is same fits slots = record {
+  count_is = count_is;
+  slots =
+      let front : slots_in n (take (count * (32 + n)) now) count ≡ slots_of n number frames = slots_in-take n count now fits ∙ ap (λ (b : List ℕ). slots_in n b count) same ∙ slots in
+      subst (λ (k : ℕ). slots_in k (take (count * (32 + n)) now) count ≡ slots_of k number frames) n_is front;
+}
 
-    all : slots_in (frame_bytes g) now (length frames) ≡ slots_of (frame_bytes g) number frames
-    all = (λ i. slots_in (sym n_is i) (same i) (sym count_is i)) ∙ slots ∙ ap (λ (k : ℕ). slots_of k number frames) n_is
-
-    there : AreStaged g number frames (take (length frames * slot_size g) now)
-    there = record { size = length-take-le (length frames * slot_size g) now fits; slots = slots_in-take (frame_bytes g) (length frames) now fits ∙ all }
+-- a buffer with room for 8 slots, or for all of a segment, has room for a group
+pub group_fits : (g : Geometry) (n count room : ℕ) → n ≡ frame_bytes g → count ≤ 8 → count ≤ g.slots → room ≡ min 8 g.slots * slot_size g → count * (32 + n) ≤ room
+group_fits g n count room n_is few most is =
+    let le : count * slot_size g ≤ min 8 g.slots * slot_size g = mul-le-mul_right (slot_size g) (omega (arith, few, most)) in
+    subst (λ (k : ℕ). count * (32 + k) ≤ room) (sym n_is) (omega (arith, le, is))
 
 -- what is written where, and what is known of the disk before
 pub record IsReady (g : Geometry) (j first number : ℕ) (frames : List Picture) (at gate : ℕ) (bytes gates old : List ℕ) : Type 0 where
@@ -274,7 +272,7 @@ commit_ok g j first number at gate frames bytes gates old new r ready stores =
     shown : (c : List ℕ) → ShowsStaged g j bytes (length frames) old.bytes c → ShowsFrames g j number frames old.bytes c
     shown c s = subst (λ (slots : List Slot). ShowsSegment g j (with_more slots (segment_in g old.bytes j)) old.bytes c) ready.staged.slots s
 
-pub commit_stray_ok : {T : Type 0} (g : Geometry) (j first number at gate : ℕ) (frames : List Picture) (bytes gates : List ℕ) (old new : Medium) (r : Result T DiskFault) → IsReady g j first number frames at gate bytes gates old.bytes
+pub commit_stray_done : {T : Type 0} (g : Geometry) (j first count at gate : ℕ) (bytes gates : List ℕ) (old new : Medium) (r : Result T DiskFault) → at ≡ slot_at g j first → gate ≡ gate_at g j first → CanCommit g j first count bytes old.bytes → AreGates count gates
     → StoresInTurn at bytes gate gates old new r → OnOk r (HasNoStray g j new.bytes)
-commit_stray_ok g j first number at gate frames bytes gates old new r ready stores =
-    on_ok_weaker r (λ (e : new.bytes ≡ written gate gates (written at bytes old.bytes)). subst (HasNoStray g j) (commit_is g j first at gate bytes gates old.bytes new.bytes ready.at_is ready.gate_is e) (commit_stray g j first (length frames) bytes gates old.bytes ready.can ready.gates_are)) stores.done
+commit_stray_done g j first count at gate bytes gates old new r at_is gate_is can are stores =
+    on_ok_weaker r (λ (e : new.bytes ≡ written gate gates (written at bytes old.bytes)). subst (HasNoStray g j) (commit_is g j first at gate bytes gates old.bytes new.bytes at_is gate_is e) (commit_stray g j first count bytes gates old.bytes can are)) stores.done

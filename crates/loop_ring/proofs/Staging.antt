@@ -114,3 +114,16 @@ turn_kept {A} n number i len buffer now out frames frame l is size same all room
     let slot' : slots_in n out 1 ≡ slots_of n (number + i) (picture frame ∷ []) = subst (λ (k : ℕ). slots_in k out 1 ≡ slots_of k (number + i) (picture frame ∷ [])) bytes slot in
     ap (λ (b : List ℕ). slots_in n b (i + 1) ++ slots_of n (number + (i + 1)) (pictures (drop (i + 1) frames))) (part-written (i * (32 + n)) (32 + n) len buffer now out same all whole (omega (arith, end, room)))
     ∙ staged_more n number i out buffer frames frame l is whole (omega (arith, end, room, all)) slot' so_far
+
+-- one slot at the front of a buffer
+pub staged_one : (n m number len : ℕ) (buffer now out : List ℕ) (p : Picture) → m ≡ n → now ≡ buffer → length buffer ≡ len → 32 + n ≤ len → length out ≡ length (take (32 + n - 0) now) → slots_in m out 1 ≡ slots_of m number (p ∷ [])
+    → slots_in n (take len (put_mid 0 (32 + n - 0) now out ++ drop (length (put_mid 0 (32 + n - 0) now out)) buffer)) 1 ≡ slots_of n number (p ∷ [])
+staged_one n m number len buffer now out p is same all room long slot =
+    let first : 0 * (32 + n) ≡ 0 = omega arith in
+    let size : 32 + n - 0 ≡ 0 + (32 + n) - 0 = omega arith in
+    let whole : length out ≡ 32 + n = omega (arith, long, room, all, ap (λ (b : List ℕ). length b) same, length-take (32 + n - 0) now) in
+    let there : slots_in n out 1 ≡ slots_of n number (p ∷ []) = subst (λ (k : ℕ). slots_in k out 1 ≡ slots_of k number (p ∷ [])) is slot in
+    ap (λ (k : ℕ). slots_in n (take len (put_mid 0 k now out ++ drop (length (put_mid 0 k now out)) buffer)) 1) size
+    ∙ ap (λ (b : List ℕ). slots_in n b 1) (part-written 0 (32 + n) len buffer now out same all whole (omega (arith, room)))
+    ∙ ap (λ (at : ℕ). slots_in n (written at out buffer) 1) (sym first)
+    ∙ slots-written n 0 out buffer (record { number = number; size = n; picture = p }) whole (omega (arith, first, all, room)) there

@@ -1,5 +1,5 @@
 // The ring of a store: its segments, written and read one at a time.
-ghost use Rattle.std.specs.Prelude.{◌≡◌, ◌≢◌, ◌+◌, ◌*◌, ◌<◌, ◌≤◌, ◌^◌, ◌↔◌, IsTrue, All, Err, IfOk, None, OnOk, Some, length, min, vec_len};
+ghost use Rattle.std.specs.Prelude.{◌≡◌, ◌≢◌, ◌+◌, ◌*◌, ◌<◌, ◌≤◌, ◌^◌, ◌↔◌, ◌∷◌, [], ℕ, IsTrue, All, Err, IfOk, List, None, OnOk, Some, length, min, vec_len};
 ghost use Rattle.loop_disk.specs.Calls.{CountedAny, Stays};
 ghost use Rattle.loop_disk.specs.Medium.{IsSettled, LeavesOnly};
 ghost use Rattle.loop_record.specs.Change.{ShowsSegment};
@@ -8,12 +8,13 @@ ghost use Rattle.loop_record.specs.Geometry.{disk_size, frame_bytes, is_good, sl
 ghost use Rattle.loop_record.specs.Layout.{segment_in, slot_head, whole_frames};
 ghost use Rattle.loop_record.specs.Plain.{pictures};
 ghost use Rattle.loop_record.specs.Reading.{begun};
+ghost use Rattle.loop_record.specs.Recording.{Picture, picture};
 ghost use Rattle.loop_ring.specs.Reads.{AnswersHead, CountedRead, slot_of};
-ghost use Rattle.loop_ring.specs.Writes.{HasNoStray, ShowsBeginning, ShowsFrames, ShowsOrNot};
+ghost use Rattle.loop_ring.specs.Writes.{HasNoStray, IsGroup, ShowsBeginning, ShowsFrames, ShowsOrNot};
 
 use crate::SlotFault;
 use crate::head::decode_head;
-use crate::stage::stage;
+use crate::stage::{stage, stage_one};
 use loop_disk::{Disk, DiskFault, store, store_in_turn};
 use loop_record::{Damage, Frame, FrameHead, Geometry, HEAD_SIZE, OPEN, put_u64};
 use std::alloc::{AllocError, Allocator, Global};
@@ -118,10 +119,45 @@ impl<A: Allocator> Ring<A> {
         let frame_bytes = self.geometry.frame_bytes() as usize;
         stage(&mut self.staged, frame_bytes, first_number, frames);
         let size = frames.len() * (HEAD_SIZE + frame_bytes);
-        let at = self.geometry.slot_at(segment, first_slot);
-        let gate = self.geometry.gate_at(segment, first_slot);
-        let gates = [OPEN; MAX_GROUP];
-        store_in_turn(disk, at, &self.staged[..size], gate, &gates[..frames.len()])
+        write_group(
+            disk,
+            &self.geometry,
+            segment,
+            first_slot,
+            frames.len(),
+            &self.staged[..size],
+        )
+    }
+
+    /// Adds one frame, as `commit` of a group of one.
+    pub fn commit_one<D: Disk>(
+        &mut self,
+        disk: &mut D,
+        segment: u32,
+        slot: u32,
+        number: u64,
+        frame: &Frame<A>,
+    ) -> Result<(), DiskFault>
+        requires extent { D.extent disk.old ≡ disk_size self.old.geometry }
+        requires segment { segment < self.old.geometry.segments }
+        requires room { slot < self.old.geometry.slots }
+        requires size { length frame.now.bytes.items ≡ frame_bytes self.old.geometry }
+        requires settled { D.honest disk.old → IsSettled (D.medium disk.old) }
+        requires whole { D.honest disk.old → whole_frames self.old.geometry (D.medium disk.old).bytes segment ≡ slot }
+        requires stray { D.honest disk.old → HasNoStray self.old.geometry segment (D.medium disk.old).bytes }
+        ensures moments { D.honest disk.old → LeavesOnly (D.medium disk.old) (D.medium disk.new) (ShowsBeginning self.old.geometry segment number (picture frame.now ∷ []) (D.medium disk.old).bytes) }
+        ensures committed { D.honest disk.old → OnOk result (ShowsFrames self.old.geometry segment number (picture frame.now ∷ []) (D.medium disk.old).bytes (D.medium disk.new).bytes) }
+        ensures stray { D.honest disk.old → OnOk result (HasNoStray self.old.geometry segment (D.medium disk.new).bytes) }
+        ensures settled { D.honest disk.old → OnOk result (IsSettled (D.medium disk.new)) }
+        ensures counted { CountedAny (D.faults disk.old) (D.faults disk.new) result }
+        ensures extent { D.extent disk.new ≡ D.extent disk.old }
+        ensures honest { D.honest disk.old ↔ D.honest disk.new }
+        ensures geometry { self.new.geometry ≡ self.old.geometry }
+    {
+        let frame_bytes = self.geometry.frame_bytes() as usize;
+        stage_one(&mut self.staged, frame_bytes, number, frame);
+        let slots = &self.staged[..HEAD_SIZE + frame_bytes];
+        write_group(disk, &self.geometry, segment, slot, 1, slots)
     }
 
     /// Reads a slot that should hold frame `number`: at most two reads. `out` has the size of a frame and gets the pixels.
@@ -153,4 +189,37 @@ impl<A: Allocator> Ring<A> {
         disk.read(at + HEAD_SIZE as u64, out)?;
         Ok(head)
     }
+}
+
+// Writes the slots of a group behind a segment's whole frames, and then, once they are on the disk, opens their gates.
+fn write_group<D: Disk>(
+    disk: &mut D,
+    geometry: &Geometry,
+    segment: u32,
+    first_slot: u32,
+    count: usize,
+    slots: &[u8],
+) -> Result<(), DiskFault>
+    requires good { IsTrue (is_good geometry.now) }
+    requires extent { D.extent disk.old ≡ disk_size geometry.now }
+    requires segment { segment < geometry.now.segments }
+    requires some { 1 ≤ count }
+    requires few { count ≤ 8 }
+    requires room { first_slot + count ≤ geometry.now.slots }
+    requires size { length slots.now ≡ count * slot_size geometry.now }
+    requires settled { D.honest disk.old → IsSettled (D.medium disk.old) }
+    requires whole { D.honest disk.old → whole_frames geometry.now (D.medium disk.old).bytes segment ≡ first_slot }
+    requires stray { D.honest disk.old → HasNoStray geometry.now segment (D.medium disk.old).bytes }
+    ensures moments { D.honest disk.old → (number : ℕ) (frames : List Picture) → IsGroup geometry.now number frames slots.now count → LeavesOnly (D.medium disk.old) (D.medium disk.new) (ShowsBeginning geometry.now segment number frames (D.medium disk.old).bytes) }
+    ensures committed { D.honest disk.old → (number : ℕ) (frames : List Picture) → IsGroup geometry.now number frames slots.now count → OnOk result (ShowsFrames geometry.now segment number frames (D.medium disk.old).bytes (D.medium disk.new).bytes) }
+    ensures stray { D.honest disk.old → OnOk result (HasNoStray geometry.now segment (D.medium disk.new).bytes) }
+    ensures settled { D.honest disk.old → OnOk result (IsSettled (D.medium disk.new)) }
+    ensures counted { CountedAny (D.faults disk.old) (D.faults disk.new) result }
+    ensures extent { D.extent disk.new ≡ D.extent disk.old }
+    ensures honest { D.honest disk.old ↔ D.honest disk.new }
+{
+    let at = geometry.slot_at(segment, first_slot);
+    let gate = geometry.gate_at(segment, first_slot);
+    let gates = [OPEN; MAX_GROUP];
+    store_in_turn(disk, at, slots, gate, &gates[..count])
 }

@@ -33,6 +33,22 @@ pub(crate) fn stage<A: Allocator>(
     }
 }
 
+/// Puts the slot of one frame at the front of a buffer, and leaves the rest of it.
+pub(crate) fn stage_one<A: Allocator>(
+    buffer: &mut Vec<u8, A>,
+    frame_bytes: usize,
+    number: u64,
+    frame: &Frame<A>,
+)
+    requires fits { frame_bytes < 2 ^ 32 }
+    requires size { length frame.now.bytes.items ≡ frame_bytes }
+    requires room { 32 + frame_bytes ≤ vec_len buffer.old }
+    ensures slots { slots_in frame_bytes buffer.new.items 1 ≡ slots_of frame_bytes number (picture frame.now ∷ []) }
+    ensures size { vec_len buffer.new ≡ vec_len buffer.old }
+{
+    stage_slot(&mut buffer[0..HEAD_SIZE + frame_bytes], number, frame);
+}
+
 // Puts a frame's slot into a place of its size.
 fn stage_slot<A: Allocator>(out: &mut [u8], number: u64, frame: &Frame<A>)
     requires fits { length frame.now.bytes.items < 2 ^ 32 }

@@ -1,0 +1,102 @@
+-- What formatting leaves of a disk, read.
+use Rattle.std.proofs.Common.{◌≡◌, ◌⊎◌, inl, inr, ⊎_elim, ℕ, ◌+◌, ◌-◌, ◌*◌, ◌<◌, ◌≤◌, Bool, true, false, cond, eqb, leb, Option, Some, None, Result, OnOk, Ok, Err, List, [], ◌∷◌, length, map, take, drop, get_or, refl, sym, ap, ◌∙◌, subst, arith}
+use Rattle.std.proofs.lemmas.Bool.{cases_lt}
+use Rattle.std.proofs.lemmas.List.{ext_get_or, get_or-take, get_or-drop, length-take, length-drop}
+use Rattle.std.proofs.lemmas.Result.{on_ok_weaker}
+use Rattle.std.specs.Prelude.{slice_range, IsTrue, ◌&&◌}
+use Rattle.std.specs.List.{list_any, range_with_len}
+use Rattle.loop_disk.specs.declared.fault.DiskFault.{DiskFault}
+use Rattle.loop_disk.specs.Calls.{Stays}
+use Rattle.loop_disk.specs.Medium.{Medium, IsSound, IsSettled, LeavesOnly, SameOutside, written}
+use Rattle.loop_disk.specs.Steps.{Stores}
+use Rattle.loop_disk.proofs.Images.{get_or-written_there, written_outside}
+use Rattle.loop_disk.proofs.Moments.{started, goes_on, weaker, stored}
+use Rattle.loop_record.specs.declared.damage.LayoutFault.TheVariants.{NotFormatted}
+use Rattle.loop_record.specs.declared.geometry.Geometry.{Geometry}
+use Rattle.loop_record.specs.declared.geometry.PixelFormat.{PixelFormat}
+use Rattle.loop_record.specs.declared.geometry.PixelFormat.TheVariants.{Grey, Ym12, Ym16, Ym24}
+use Rattle.loop_record.specs.Geometry.{clip_at, disk_size, is_good, segment_at}
+use Rattle.loop_record.specs.Layout.{Segment, checked_geometry, format_at, has_bytes, is_open, magic, segment_in, super_bytes}
+use Rattle.loop_record.specs.Reading.{Holds, IsFresh, contents, opened, parts_of, reading}
+use Rattle.loop_record.specs.Recording.{empty}
+use Rattle.loop_record.proofs.Decided.{equal}
+use Rattle.loop_record.proofs.Fresh.{reading-fresh}
+use Rattle.loop_record.proofs.Bounds.{limits}
+use Rattle.loop_store.specs.Formatted.{AreClosed, IsClosed, IsLaid, NoneOrEmpty, WasOrClosed, WasOrEmpty}
+
+-- behind a closed gate nothing is formatted
+pub closed-none : (image : List ℕ) → IsClosed image → reading image ≡ Err NotFormatted
+closed-none image closed = λ i. contents image (cond (all i) (checked_geometry image (format_at image 20)) (Err NotFormatted))
+  where
+    go : (a b : Bool) → (a && false && b) ≡ false
+    go true b = refl
+    go false b = refl
+
+    all : (leb 512 (length image) && is_open image 0 && has_bytes image 1 magic) ≡ false
+    all = (λ i. leb 512 (length image) && closed i && has_bytes image 1 magic) ∙ go (leb 512 (length image)) (has_bytes image 1 magic)
+
+super_length : (f : PixelFormat) (g : Geometry) → length (super_bytes (record g { format = f })) ≡ 512
+super_length Grey g = refl
+super_length Ym12 g = refl
+super_length Ym16 g = refl
+super_length Ym24 g = refl
+
+-- what was laid out, with its gate open
+pub opened-fresh : (g : Geometry) (old c : List ℕ) → IsLaid g g.segments old → SameOutside 0 1 old c → is_open c 0 ≡ true → IsFresh g c
+opened-fresh g old c laid torn gate = record {
+  size = torn.size ∙ laid.size;
+  superblock = ext_get_or 0 (take 512 c) (super_bytes g) (omega (arith, length-take 512 c, torn.size, laid.size, super_size)) (λ i l.
+      let within : i < 512 = omega (arith, l, length-take 512 c) in
+      get_or-take 512 c i 0 within ∙ place i within (cases_lt i 1));
+  clips = λ id l. ap (λ (b : ℕ). eqb b 165) (torn.behind (clip_at id) (omega arith)) ∙ laid.clips id l;
+  segments = λ j l. ap (λ (b : ℕ). eqb b 165) (torn.behind (segment_at g j) (omega arith)) ∙ laid.segments j l;
+}
+  where
+    super_size : length (super_bytes g) ≡ 512
+    super_size = super_length g.format g
+
+    first : get_or (super_bytes g) 0 0 ≡ 165
+    first = refl
+
+    place : (i : ℕ) → i < 512 → (i < 1) ⊎ (1 ≤ i) → get_or c i 0 ≡ get_or (super_bytes g) i 0
+    place i h (inl l) =
+        let zero_is : i ≡ 0 = omega (arith, l) in
+        ap (λ (k : ℕ). get_or c k 0) zero_is ∙ equal (get_or c 0 0) 165 gate ∙ sym first ∙ ap (λ (k : ℕ). get_or (super_bytes g) k 0) (sym zero_is)
+    place i h (inr l) =
+        let at : 1 + (i - 1) ≡ i = omega (arith, l) in
+        torn.behind i (omega (arith, l)) ∙ ap (λ (k : ℕ). get_or old k 0) (sym at)
+        ∙ sym (get_or-take 511 (drop 1 old) (i - 1) 0 (omega (arith, l, h)) ∙ get_or-drop 1 old (i - 1) 0)
+        ∙ ap (λ (b : List ℕ). get_or b (i - 1) 0) laid.superblock ∙ get_or-drop 1 (super_bytes g) (i - 1) 0 ∙ ap (λ (k : ℕ). get_or (super_bytes g) k 0) at
+
+-- an image in which the gate may be torn
+opening-torn : (g : Geometry) (old c : List ℕ) → IsTrue (is_good g) → IsLaid g g.segments old → SameOutside 0 1 old c → NoneOrEmpty g c
+opening-torn g old c good laid torn = go (is_open c 0) refl
+  where
+    go : (t : Bool) → is_open c 0 ≡ t → NoneOrEmpty g c
+    go true e = inr (reading-fresh g c good (opened-fresh g old c laid torn e))
+    go false e = inl (closed-none c e)
+
+pub opening-moments : {T : Type 0} (g : Geometry) (old new : Medium) (r : Result T DiskFault) → IsTrue (is_good g) → IsSettled old → IsLaid g g.segments old.bytes → Stores 0 (165 ∷ []) old new r → LeavesOnly old new (NoneOrEmpty g)
+opening-moments g old new r good settled laid stores = stored 0 (165 ∷ []) old new r (NoneOrEmpty g) settled stores (λ c torn. opening-torn g old.bytes c good laid torn)
+
+pub opening-fresh : {T : Type 0} (g : Geometry) (old new : Medium) (r : Result T DiskFault) → IsLaid g g.segments old.bytes → Stores 0 (165 ∷ []) old new r → OnOk r (IsFresh g new.bytes)
+opening-fresh g old new r laid stores =
+    let fits : 0 + 1 ≤ length old.bytes = omega (arith, laid.size) in
+    let gate : get_or (written 0 (165 ∷ []) old.bytes) 0 0 ≡ 165 = get_or-written_there 0 (165 ∷ []) old.bytes 0 (omega arith) (omega arith) in
+    on_ok_weaker r (λ (done : new.bytes ≡ written 0 (165 ∷ []) old.bytes). subst (λ (image : List ℕ). IsFresh g image) (sym done) (opened-fresh g old.bytes (written 0 (165 ∷ []) old.bytes) laid (written_outside 0 (165 ∷ []) old.bytes fits) (ap (λ (b : ℕ). eqb b 165) gate))) stores.done
+
+-- ---- the whole
+
+pub was-weaker : (g : Geometry) (old new : Medium) → LeavesOnly old new (WasOrClosed old) → LeavesOnly old new (WasOrEmpty g old)
+was-weaker g old new run = weaker old new _ _ run (λ c either. ⊎_elim (λ (was : old.may_leave c). inl was) (λ (closed : IsClosed c). inr (inl (closed-none c closed))) either)
+
+pub closed-weaker : (g : Geometry) (start old new : Medium) → LeavesOnly old new IsClosed → LeavesOnly old new (WasOrEmpty g start)
+closed-weaker g start old new run = weaker old new _ _ run (λ c closed. inr (inl (closed-none c closed)))
+
+pub none-weaker : (g : Geometry) (start old new : Medium) → LeavesOnly old new (NoneOrEmpty g) → LeavesOnly old new (WasOrEmpty g start)
+none-weaker g start old new run = weaker old new _ _ run (λ c either. inr either)
+
+-- a sync behind a closed gate
+pub sync-none : (size : ℕ) (g : Geometry) (old new : Medium) → IsSound size old → AreClosed old → Stays old new → LeavesOnly old new (NoneOrEmpty g)
+sync-none size g old new sound closed stays =
+    goes_on old old new (NoneOrEmpty g) old.may_leave (started size old (NoneOrEmpty g) sound (λ c left. inl (closed-none c (closed c left)))) stays.time (λ c left. inl (closed-none c (closed c left)))

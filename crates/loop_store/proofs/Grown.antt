@@ -1,0 +1,118 @@
+-- What a begun block and stored frames make of an image.
+use Rattle.std.proofs.Common.{◌≡◌, ◌⊎◌, inl, inr, ℕ, zero, suc, ◌+◌, ◌*◌, ◌/◌, ◌%◌, ◌<◌, ◌≤◌, Bool, true, false, ◌&&◌, eqb, Option, Some, None, List, [], ◌∷◌, ◌++◌, length, take, map, refl, sym, ap, ◌∙◌, subst, arith}
+use Rattle.std.proofs.lemmas.List.{length-map, length-append, length-take-le}
+use Rattle.std.proofs.lemmas.Bool.Decides.{nat_tests}
+use Rattle.std.proofs.Math.Nat.{div-add-mod', div-eq_of_lt, mod-eq_of_lt}
+use Rattle.loop_record.specs.declared.geometry.Geometry.{Geometry}
+use Rattle.loop_record.specs.Change.{ShowsSegment}
+use Rattle.loop_record.specs.Geometry.{frame_bytes}
+use Rattle.loop_record.specs.Recording.{Picture, Recording, Step, store, plain, ring_of}
+use Rattle.loop_record.specs.Layout.{Slot, Segment, is_too_high, segment_in, whole_frames}
+use Rattle.loop_record.specs.Reading.{Holds, hold_from, begun}
+use Rattle.loop_record.proofs.Readings.{reading-commit, reading-begin, reading-same, whole-length}
+use Rattle.loop_ring.specs.Writes.{HasNoStray, ShowsOrNot, ShowsFrames, ShowsBeginning, slots_of, with_more}
+use Rattle.loop_store.specs.Held.{HoldsFrom, HoldsSome, IsNewest, IsFreeFor}
+use Rattle.loop_store.specs.Seen.{IsFirst, IsFilled}
+
+-- ---- the slots of frames
+
+pub slots_of-hold : (n number : ℕ) (ps : List Picture) → hold_from n number (slots_of n number ps) ≡ true
+slots_of-hold n number [] = refl
+slots_of-hold n number (p ∷ ps) =
+    let rest = slots_of-hold n (number + 1) ps in
+    let a : eqb number number ≡ true = grind (arith, nat_tests) in
+    let b : eqb n n ≡ true = grind (arith, nat_tests) in
+    λ i. (a i && b i) && rest i
+
+pub slots_of-pictures : (n number : ℕ) (ps : List Picture) → map (λ t. t.picture) (slots_of n number ps) ≡ ps
+slots_of-pictures n number [] = refl
+slots_of-pictures n number (p ∷ ps) = ap (λ qs. p ∷ qs) (slots_of-pictures n (number + 1) ps)
+
+pub slots_of-length : (n number : ℕ) (ps : List Picture) → length (slots_of n number ps) ≡ length ps
+slots_of-length n number [] = refl
+slots_of-length n number (p ∷ ps) = omega (arith, slots_of-length n (number + 1) ps)
+
+take-stores : (k : ℕ) (ps : List Picture) → take k (map store ps) ≡ map store (take k ps)
+take-stores zero ps = refl
+take-stores (suc k) [] = refl
+take-stores (suc k) (p ∷ ps) = ap (λ steps. store p ∷ steps) (take-stores k ps)
+
+-- ---- frames that were stored
+
+pub frames-held : (g : Geometry) (r : Recording) (j next : ℕ) (ps : List Picture) (old c : List ℕ) → Holds g r old → r.next ≡ next → j < g.segments → IsNewest g next j old → ShowsFrames g j next ps old c → Holds g (plain (ring_of g) r (map store ps)) c
+frames-held g r j next ps old c held is l newest shows =
+    let u = newest.segment in
+    let ts = slots_of (frame_bytes g) next ps in
+    let part : with_more ts (segment_in g old j) ≡ Some (record u { slots = u.slots ++ ts }) = ap (with_more ts) newest.there in
+    let hold : hold_from (frame_bytes g) r.next ts ≡ true = ap (λ (n : ℕ). hold_from (frame_bytes g) n ts) is ∙ slots_of-hold (frame_bytes g) next ps in
+    subst (λ (qs : List Picture). Holds g (plain (ring_of g) r (map store qs)) c) (slots_of-pictures (frame_bytes g) next ps)
+    (reading-commit g r old c j u ts held l newest.there (newest.of_next ∙ ap (λ (n : ℕ). n / g.slots) (sym is)) hold (subst (λ (q : Option Segment). ShowsSegment g j q old c) part shows))
+
+pub beginning-held : (g : Geometry) (r : Recording) (j next : ℕ) (ps : List Picture) (old c : List ℕ) → Holds g r old → r.next ≡ next → j < g.segments → IsNewest g next j old → ShowsBeginning g j next ps old c → HoldsSome g r (map store ps) c
+beginning-held g r j next ps old c held is l newest some = record {
+  count = some.0;
+  enough = omega arith;
+  few = omega (arith, some.1.0, length-map ps store);
+  held = subst (λ (steps : List Step). Holds g (plain (ring_of g) r steps) c) (sym (take-stores some.0 ps)) (frames-held g r j next (take some.0 ps) old c held is l newest some.1.1);
+}
+
+-- ---- a block that was begun
+
+pub begun-newest : (g : Geometry) (next j : ℕ) (c : List ℕ) → next % g.slots ≡ 0 → segment_in g c j ≡ Some (begun (next / g.slots)) → HasNoStray g j c → IsNewest g next j c
+begun-newest g next j c first there stray = record {
+  segment = begun (next / g.slots);
+  there = there;
+  of_next = refl;
+  whole = whole-length g c j (begun (next / g.slots)) there ∙ sym first;
+  stray = stray;
+}
+
+pub begun-held : (g : Geometry) (r : Recording) (next j : ℕ) (old c : List ℕ) → Holds g r old → r.next ≡ next → j < g.segments → next % g.slots ≡ 0 → IsFreeFor g next j old → ShowsSegment g j (Some (begun (next / g.slots))) old c → Holds g r c
+begun-held g r next j old c held is l first free shows =
+    let at : r.next ≡ next / g.slots * g.slots = omega (arith, is, first, div-add-mod' next g.slots) in
+    reading-begin g r old c j (next / g.slots) held l free.closed free.apart at free.low_enough shows
+
+pub begun-held_or : (g : Geometry) (r : Recording) (next j : ℕ) (old c : List ℕ) → Holds g r old → r.next ≡ next → j < g.segments → next % g.slots ≡ 0 → IsFreeFor g next j old → ShowsOrNot g j (Some (begun (next / g.slots))) old c → Holds g r c
+begun-held_or g r next j old c held is l first free (inl same) = reading-same g r old c j held l same
+begun-held_or g r next j old c held is l first free (inr shows) = begun-held g r next j old c held is l first free shows
+
+-- ---- the first segment
+
+-- block 0 with the frames before the next number is the newest while it has room
+pub first-newest : (g : Geometry) (next : ℕ) (image : List ℕ) → next < g.slots → IsFirst g next image → IsNewest g next 0 image
+first-newest g next image room first = record {
+  segment = first.segment;
+  there = first.there;
+  of_next = first.block_is ∙ sym (div-eq_of_lt room);
+  whole = first.whole ∙ sym (mod-eq_of_lt room);
+  stray = first.stray;
+}
+
+-- it stays block 0 with one frame more
+pub more-filled : (g : Geometry) (next : ℕ) (p : Picture) (old c : List ℕ) → next < g.slots → IsNewest g next 0 old → ShowsFrames g 0 next (p ∷ []) old c → HasNoStray g 0 c → IsFilled g (next + 1) c
+more-filled g next p old c room newest shows stray = record {
+  empty = λ e. absurd (omega (arith, e));
+  first = λ some. record {
+    segment = record u { slots = u.slots ++ ts };
+    there = there;
+    block_is = newest.of_next ∙ div-eq_of_lt room;
+    whole = whole-length g c 0 (record u { slots = u.slots ++ ts }) there ∙ omega (arith, length-append u.slots ts, was, mod-eq_of_lt room);
+    stray = stray;
+  };
+}
+  where
+    u : Segment
+    u = newest.segment
+
+    ts : List Slot
+    ts = slots_of (frame_bytes g) next (p ∷ [])
+
+    there : segment_in g c 0 ≡ Some (record u { slots = u.slots ++ ts })
+    there = shows.holds ∙ ap (with_more ts) newest.there
+
+    was : length u.slots ≡ next % g.slots
+    was = sym (whole-length g old 0 u newest.there) ∙ newest.whole
+
+-- after none of the steps
+pub held-some : (g : Geometry) (r : Recording) (steps : List Step) (c : List ℕ) → Holds g r c → HoldsSome g r steps c
+held-some g r steps c held = record { count = 0; enough = omega arith; few = omega arith; held = held }

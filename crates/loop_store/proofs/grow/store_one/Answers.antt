@@ -1,0 +1,14 @@
+use Rattle.std.proofs.Common.{[], ◌∷◌}
+use Rattle.std.proofs.lemmas.Result.{on_ok_weaker}
+use Rattle.loop_disk.proofs.Moments.{weaker}
+use Rattle.loop_record.specs.Recording.{picture}
+use Rattle.loop_store.proofs.Grown.{frames-held, beginning-held}
+use Rattle.loop_store.proofs.grow.store_one.Goals as goal
+
+pub returns-clause-moments : goal.returns-clause-moments
+returns-clause-moments g c = λ r is honest held.
+    weaker _ _ _ _ (c.commit_one.ensures.moments honest) (λ image some. beginning-held c.args.ring.now.geometry r c.args.segment c.args.next (picture c.args.frame.now ∷ []) _ image held is c.requires.segment (c.requires.newest honest) some)
+
+pub returns-clause-stored : goal.returns-clause-stored
+returns-clause-stored g c = λ r is honest held.
+    on_ok_weaker c.commit_one.result (λ shows. frames-held c.args.ring.now.geometry r c.args.segment c.args.next (picture c.args.frame.now ∷ []) _ _ held is c.requires.segment (c.requires.newest honest) shows) (c.commit_one.ensures.committed honest)

@@ -1,0 +1,33 @@
+-- What a disk's image holds of a recording, before and after some steps.
+use Rattle.std.specs.Prelude.{◌≡◌, ◌==◌, ℕ, ◌/◌, ◌%◌, ◌≤◌, false, None, Some, List, length, take}
+use Rattle.std.specs.List.{list_any}
+use Rattle.loop_record.specs.declared.geometry.Geometry.{Geometry}
+use Rattle.loop_record.specs.Recording.{Recording, Step, ring_of, plain}
+use Rattle.loop_record.specs.Layout.{Segment, is_too_high, segment_in, whole_frames}
+use Rattle.loop_record.specs.Reading.{Holds, opened, parts_of}
+use Rattle.loop_ring.specs.Writes.{HasNoStray}
+
+-- the image reads as the recording after the first steps, none skipped, and those are at least so many
+pub record HoldsFrom (g : Geometry) (r : Recording) (least : ℕ) (steps : List Step) (image : List ℕ) : Type 0 where
+  pub count : ℕ
+  pub enough : least ≤ count
+  pub few : count ≤ length steps
+  pub held : Holds g (plain (ring_of g) r (take count steps)) image
+
+-- the image reads as the recording after some of the first steps, or after none
+abbrev pub HoldsSome : Geometry → Recording → List Step → List ℕ → Type 0
+HoldsSome g r steps image = HoldsFrom g r 0 steps image
+
+-- segment j has the block of the next number, the frames before it, and no frame gate open behind them
+pub record IsNewest (g : Geometry) (next j : ℕ) (image : List ℕ) : Type 0 where
+  pub segment : Segment
+  pub there : segment_in g image j ≡ Some segment
+  pub of_next : segment.block ≡ next / g.slots
+  pub whole : whole_frames g image j ≡ next % g.slots
+  pub stray : HasNoStray g j image
+
+-- segment j is closed, no segment has the block of the next number, and that block isn't too high
+pub record IsFreeFor (g : Geometry) (next j : ℕ) (image : List ℕ) : Type 0 where
+  pub closed : segment_in g image j ≡ None
+  pub apart : list_any (λ s. s.block == (next / g.slots)) (opened (parts_of g image).segments) ≡ false
+  pub low_enough : is_too_high g (next / g.slots) ≡ false

@@ -1,0 +1,4 @@
+pub mod Faults
+pub mod Formatted
+pub mod Held
+pub mod Seen

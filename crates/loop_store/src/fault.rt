@@ -1,0 +1,108 @@
+//! Refusals.
+
+ghost use Rattle.std.specs.Prelude.{◌≡◌};
+ghost use Rattle.loop_store.specs.Faults.{fault_number, slot_refusal};
+ghost use Rattle.loop_store.specs.declared.fault.StoreFault.TheVariants.{NoMemory, Disk, Damaged};
+
+use loop_disk::DiskFault;
+use loop_record::Damage;
+use loop_ring::SlotFault;
+use std::alloc::AllocError;
+
+/// Why a call of a store is refused. The names and numbers are this project's own; a refusal changes nothing, but for `Disk`
+/// in a call that writes.
+#[derive(Clone, Copy, Debug, PartialEq, Eq)]
+pub enum StoreFault {
+    /// Memory was refused.
+    NoMemory,
+    /// A call of the disk failed.
+    Disk(DiskFault),
+    /// A call that writes answered `Disk` before: the disk is to be taken out and opened again.
+    MustReopen,
+    /// The disk has no open superblock.
+    NotFormatted,
+    /// What stands on the disk can't be.
+    Damaged(Damage),
+    /// No frame has this number.
+    NotHeld,
+    /// A limit of the geometry is broken, or the disk's size isn't the geometry's.
+    BadGeometry,
+    /// The first segment has all its frames.
+    SegmentFull,
+}
+
+impl StoreFault {
+    /// The number that a refusal is printed with.
+    pub fn number(self) -> u8
+        ensures { result ≡ fault_number self }
+    {
+        match self {
+            StoreFault::NoMemory => 1,
+            StoreFault::Disk(_) => 2,
+            StoreFault::MustReopen => 3,
+            StoreFault::NotFormatted => 4,
+            StoreFault::Damaged(_) => 5,
+            StoreFault::NotHeld => 13,
+            StoreFault::BadGeometry => 16,
+            StoreFault::SegmentFull => 20,
+        }
+    }
+
+    /// The name that a refusal is printed with.
+    pub fn name(self) -> &'static str {
+        match self {
+            StoreFault::NoMemory => "NoMemory",
+            StoreFault::Disk(_) => "Disk",
+            StoreFault::MustReopen => "MustReopen",
+            StoreFault::NotFormatted => "NotFormatted",
+            StoreFault::Damaged(_) => "Damaged",
+            StoreFault::NotHeld => "NotHeld",
+            StoreFault::BadGeometry => "BadGeometry",
+            StoreFault::SegmentFull => "SegmentFull",
+        }
+    }
+}
+
+impl From<DiskFault> for StoreFault {
+    ghost from_gives = { λ fault made. made ≡ Disk fault };
+
+    fn from(fault: DiskFault) -> StoreFault {
+        StoreFault::Disk(fault)
+    }
+}
+
+impl From<Damage> for StoreFault {
+    ghost from_gives = { λ damage made. made ≡ Damaged damage };
+
+    fn from(damage: Damage) -> StoreFault {
+        StoreFault::Damaged(damage)
+    }
+}
+
+impl From<SlotFault> for StoreFault {
+    ghost from_gives = { λ fault made. made ≡ slot_refusal fault };
+
+    fn from(fault: SlotFault) -> StoreFault {
+        match fault {
+            SlotFault::Disk(fault) => StoreFault::Disk(fault),
+            SlotFault::Damaged(damage) => StoreFault::Damaged(damage),
+        }
+    }
+}
+
+impl From<AllocError> for StoreFault {
+    ghost from_gives = { λ refused made. made ≡ NoMemory };
+
+    fn from(_refused: AllocError) -> StoreFault {
+        StoreFault::NoMemory
+    }
+}
+
+/// A disk that gives no store, and why.
+#[derive(Drop)]
+pub struct OpenRefused<D> {
+    /// Why.
+    pub fault: StoreFault,
+    /// The disk, handed back.
+    pub disk: D,
+}

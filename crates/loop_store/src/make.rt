@@ -1,0 +1,76 @@
+//! Makes a store on a disk.
+
+ghost use Rattle.std.specs.Prelude.{◌≡◌, ◌&&◌, ◌==◌, ◌↔◌, IfErr, IfOk, false};
+ghost use Rattle.loop_disk.specs.Medium.{LeavesOnly};
+ghost use Rattle.loop_record.specs.Geometry.{disk_size, is_good};
+ghost use Rattle.loop_record.specs.Recording.{empty};
+ghost use Rattle.loop_store.specs.Faults.{faults_after, is_disk};
+ghost use Rattle.loop_store.specs.Formatted.{IsBadGeometry, IsFormatted, IsRefusedFormat, WasOrEmpty, disk_after, is_refused_disk};
+ghost use Rattle.loop_store.specs.Seen.{StandsFor};
+
+use crate::fresh::lay_out;
+use crate::{OpenRefused, Store, StoreFault};
+use loop_disk::Disk;
+use loop_record::Geometry;
+use loop_ring::Ring;
+use std::alloc::Allocator;
+
+/// Whether a geometry is good, and a disk has its size.
+fn fits<D: Disk>(disk: &D, geometry: &Geometry) -> bool
+    ensures { result ≡ (is_good geometry.now && (D.extent disk.now == disk_size geometry.now)) }
+{
+    match geometry.check() {
+        Ok(()) => disk.size() == geometry.disk_size(),
+        Err(_) => false,
+    }
+}
+
+/// Writes an empty recording over whatever stands on a disk, and hands out its store.
+///
+/// `BadGeometry` where a limit of the geometry is broken or the disk's size isn't the geometry's; otherwise `NoMemory` or
+/// `Disk`. A refusal hands the disk back, and the first two haven't called it. A stop at any moment leaves an image that
+/// reads as before the call, or isn't formatted, or is the empty recording. One read, and a write and a sync more where the
+/// disk was formatted; then 4 calls and one a segment.
+pub fn format<D: Disk + Drop, A: Allocator>(
+    alloc: A,
+    disk: D,
+    geometry: Geometry,
+) -> Result<Store<D, A>, OpenRefused<D>>
+    ensures bad { (IsBadGeometry result) ↔ ((is_good geometry && (D.extent disk == disk_size geometry)) ≡ false) }
+    ensures refusals { IfErr result IsRefusedFormat }
+    ensures untouched { IfErr result (λ refused. is_disk refused.fault ≡ false → refused.disk ≡ disk) }
+    ensures formatted { IfOk result (λ store. IsFormatted geometry store) }
+    ensures stands { IfOk result (λ store. StandsFor D.medium D.honest store empty) }
+    ensures moments { D.honest disk → LeavesOnly (D.medium disk) (D.medium (disk_after result)) (WasOrEmpty geometry (D.medium disk)) }
+    ensures counted { D.faults (disk_after result) ≡ faults_after (is_refused_disk result) (D.faults disk) }
+    ensures honest { D.honest disk ↔ D.honest (disk_after result) }
+{
+    let mut disk = disk;
+    if !fits(&disk, &geometry) {
+        return Err(OpenRefused {
+            fault: StoreFault::BadGeometry,
+            disk,
+        });
+    }
+    let ring = match Ring::new(alloc, geometry) {
+        Ok(ring) => ring,
+        Err(_) => {
+            return Err(OpenRefused {
+                fault: StoreFault::NoMemory,
+                disk,
+            });
+        }
+    };
+    match lay_out(&mut disk, &geometry) {
+        Ok(()) => Ok(Store {
+            disk,
+            ring,
+            next: 0,
+            must_reopen: false,
+        }),
+        Err(fault) => Err(OpenRefused {
+            fault: StoreFault::Disk(fault),
+            disk,
+        }),
+    }
+}
