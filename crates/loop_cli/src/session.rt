@@ -37,7 +37,7 @@ impl<A: Allocator + Copy> Session<A> {
             Ok(made) => made,
             Err(_) => return Err(StoreFault::NoMemory),
         };
-        let disk = MemDisk::new(alloc, geometry.disk_size()).map_err(|_| StoreFault::NoMemory)?;
+        let disk = MemDisk::new(alloc, geometry.disk_size())?;
         match loop_store::format(alloc, disk, geometry) {
             Err(OpenRefused { fault, disk: _ }) => Err(fault),
             Ok(store) => Ok(Session {
