@@ -77,6 +77,8 @@ int main(int argc, char **argv) {
         uint8_t *image = malloc(disk), *slot = malloc(32 + (size_t)size);
         if (!image || !slot)
             return 1;
+        /* Else malloc and memset become calloc, and the pages are first touched by the stores. */
+        __asm__ volatile("" : "+r"(image) : : "memory");
         memset(image, 0, disk);
         format(image, w, h, s, f, size, segment);
         puts("formatted");
