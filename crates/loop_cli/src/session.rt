@@ -1,6 +1,8 @@
 // A formatted store, and the frames that a script makes for it.
 ghost use Rattle.std.specs.Prelude.{◌≡◌, All, IsTrue, IfOk, length, vec_len};
 ghost use Rattle.loop_record.specs.Geometry.{frame_bytes, is_good};
+ghost use Rattle.loop_record.specs.Recording.{picture};
+ghost use Rattle.loop_cli.specs.Pattern.{pattern_picture};
 
 use crate::pattern::{PATTERN_FLAGS, fill_pattern, pattern_sequence, pattern_timestamp};
 use loop_disk::MemDisk;
@@ -80,7 +82,7 @@ impl<A: Allocator + Copy> Session<A> {
     }
 }
 
-// A group of one frame of the pattern, and bytes for another; all of them zero.
+// A group of one frame, and bytes for another; all of it zero.
 fn buffers<A: Allocator + Copy>(
     alloc: A,
     size: u32,
@@ -92,7 +94,7 @@ fn buffers<A: Allocator + Copy>(
     let mut group = Vec::new(alloc);
     group.push(Frame {
         sequence: 0,
-        flags: PATTERN_FLAGS,
+        flags: 0,
         timestamp: 0,
         bytes: vec![in alloc; 0; size as usize]?,
     })?;
@@ -107,9 +109,11 @@ fn fill_group<A: Allocator>(group: &mut Vec<Frame<A>, A>, n: u64, geometry: &Geo
     requires sizes { All (λ frame. length frame.bytes.items ≡ frame_bytes geometry.now) group.old.items }
     ensures one { vec_len group.new ≡ 1 }
     ensures sizes { All (λ frame. length frame.bytes.items ≡ frame_bytes geometry.now) group.new.items }
+    ensures frames { All (λ frame. picture frame ≡ pattern_picture geometry.now n) group.new.items }
 {
     let frame = &mut group[0];
     fill_pattern(&mut frame.bytes, n);
+    frame.flags = PATTERN_FLAGS;
     frame.sequence = pattern_sequence(n);
     frame.timestamp = pattern_timestamp(n, geometry.rate_num, geometry.rate_den);
 }
