@@ -1,5 +1,5 @@
 // Lines of a script, read in bounded memory.
-ghost use Rattle.std.specs.Prelude.{◌≡◌, ◌≤◌, IfOk, OnOk, true, vec_len};
+ghost use Rattle.std.specs.Prelude.{◌≤◌, OnOk, vec_len};
 
 use std::alloc::Allocator;
 use std::io::{BufRead, Read};

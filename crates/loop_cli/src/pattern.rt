@@ -1,5 +1,5 @@
 // Frames of the pattern, that tell by their bytes which frame they are.
-ghost use Rattle.std.specs.Prelude.{◌≡◌, ◌<◌, ◌≢◌, ◌%◌, ◌^◌, length};
+ghost use Rattle.std.specs.Prelude.{◌≡◌, ◌<◌, ◌%◌, ◌^◌, length};
 ghost use Rattle.loop_cli.specs.Pattern.{pattern_bytes, timestamp_of};
 
 /// The flags of each frame of the pattern: a monotonic timestamp, taken at the end of the frame, as the V4L2 userspace

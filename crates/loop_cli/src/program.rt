@@ -1,5 +1,4 @@
 // The program's words.
-ghost use Rattle.std.specs.Prelude.{◌≡◌};
 
 use crate::simulate::{print_refusal, simulate};
 use clap::Command;

@@ -1,5 +1,4 @@
 // Scripts, run line by line.
-ghost use Rattle.std.specs.Prelude.{◌≡◌};
 
 use crate::command::{Command, read_command};
 use crate::lines::{MAX_LINE, next_line};
