@@ -1,0 +1,97 @@
+// The lines of a script.
+ghost use Rattle.std.specs.Prelude.{◌≡◌, ◌∷◌};
+ghost use Rattle.loop_cli.specs.Script.{behind, format_named, geometry_said, rate_said, said, words};
+
+use crate::number::{number, small_number};
+use loop_record::{Geometry, PixelFormat};
+
+/// What a line of a script asks for.
+#[derive(Clone, Copy, Debug, PartialEq, Eq)]
+pub enum Command {
+    /// `format W H X N:D S F`: a fresh store. The geometry isn't checked yet.
+    Format(Geometry),
+    /// `store K`: so many frames of the pattern.
+    Store(u64),
+    /// `read N`: the frame of that number.
+    Read(u64),
+    /// `list`: the next number, and the held ones.
+    List,
+}
+
+/// What a line, without its 0x0A, asks for; `None` where it can't be read.
+pub fn read_command(line: &str) -> Option<Command>
+    ensures { result ≡ said (words line.now) }
+{
+    let (name, rest) = first_word(line);
+    match rest {
+        None if name == "list" => Some(Command::List),
+        None => None,
+        Some(rest) if name == "format" => Some(Command::Format(geometry(rest)?)),
+        Some(rest) => {
+            let (argument, rest) = first_word(rest);
+            match rest {
+                None if name == "store" => Some(Command::Store(number(argument)?)),
+                None if name == "read" => Some(Command::Read(number(argument)?)),
+                _ => None,
+            }
+        }
+    }
+}
+
+// The first word, and what stands behind the space that ends it.
+fn first_word(line: &str) -> (&str, Option<&str>)
+    ensures { words line.now ≡ result.0.now ∷ behind result.1 }
+{
+    match line.split_once(' ') {
+        Some((word, rest)) => (word, Some(rest)),
+        None => (line, None),
+    }
+}
+
+// The geometry that the words `W H X N:D S F` name.
+fn geometry(text: &str) -> Option<Geometry>
+    ensures { result ≡ geometry_said (words text.now) }
+{
+    let (width, rest) = first_word(text);
+    let (height, rest) = first_word(rest?);
+    let (format, rest) = first_word(rest?);
+    let (rate, rest) = first_word(rest?);
+    let (segments, rest) = first_word(rest?);
+    let (slots, rest) = first_word(rest?);
+    if rest.is_some() {
+        return None;
+    }
+    let width = small_number(width)?;
+    let height = small_number(height)?;
+    let format = pixel_format(format)?;
+    let (rate_num, rate_den) = frame_rate(rate)?;
+    Some(Geometry {
+        width,
+        height,
+        format,
+        rate_num,
+        rate_den,
+        segments: small_number(segments)?,
+        slots: small_number(slots)?,
+    })
+}
+
+// The two parts of a rate, `N:D`.
+fn frame_rate(word: &str) -> Option<(u32, u32)>
+    ensures { result ≡ rate_said word.now }
+{
+    let (num, den) = word.split_once(':')?;
+    Some((small_number(num)?, small_number(den)?))
+}
+
+fn pixel_format(word: &str) -> Option<PixelFormat>
+    ensures { result ≡ format_named word.now }
+{
+    match word {
+        "GREY" => Some(PixelFormat::Grey),
+        "YM12" => Some(PixelFormat::Ym12),
+        "YM16" => Some(PixelFormat::Ym16),
+        "YM24" => Some(PixelFormat::Ym24),
+        _ => None,
+    }
+}

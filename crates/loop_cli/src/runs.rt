@@ -1,0 +1,19 @@
+// Runs of numbers that follow one another.
+ghost use Rattle.std.specs.Prelude.{◌≡◌, ◌≢◌, ◌<◌, ◌≤◌, ◌+◌, ℕ, length, slice_index};
+
+/// How many numbers at the front follow one another, each one more than the one before it: as many as can be.
+pub fn run_length(numbers: &[u64]) -> usize
+    requires { 0 < length numbers.now }
+    ensures some { 0 < result }
+    ensures within { result ≤ length numbers.now }
+    ensures follow { (i : ℕ) → i < result → slice_index numbers.now i ≡ slice_index numbers.now 0 + i }
+    ensures longest { result < length numbers.now → slice_index numbers.now result ≢ slice_index numbers.now 0 + result }
+{
+    let first = numbers[0];
+    for (i, number) in numbers.iter().enumerate() {
+        if number.checked_sub(first) != Some(i as u64) {
+            return i;
+        }
+    }
+    numbers.len()
+}

@@ -1,0 +1,228 @@
+// Scripts, run line by line.
+
+use crate::command::{Command, read_command};
+use crate::lines::{MAX_LINE, next_line};
+use crate::runs::run_length;
+use crate::session::Session;
+use loop_record::Geometry;
+use loop_store::StoreFault;
+use std::alloc::Allocator;
+use std::io::{BufRead, BufReader, BufWriter, Error, Read, Write};
+use std::{io, str};
+
+/// The most lines of a script.
+const MAX_LINES: u32 = 1_000_000;
+
+/// How many bytes of a frame `read` prints.
+const SHOWN_BYTES: usize = 8;
+
+/// Why a script ends before its last line.
+#[derive(Debug, Drop)]
+enum ScriptFault {
+    /// The line of this number, from 1, can't be read.
+    BadLine(u32),
+    /// What was printed couldn't be written.
+    Write(Error),
+}
+
+impl From<Error> for ScriptFault {
+    fn from(error: Error) -> ScriptFault {
+        ScriptFault::Write(error)
+    }
+}
+
+/// Runs a script on a disk in memory and answers the program's status: 0 where each line was run, refused or not; 1 where a
+/// line can't be read, which `err` then names, where `out` or `err` fails, and where there is no memory for the buffers of
+/// input and output. Each line is run, and what it prints is printed, before the next one is read.
+pub fn simulate<A: Allocator + Copy, R: Read, W: Write, E: Write>(
+    alloc: A,
+    input: R,
+    out: &mut W,
+    err: &mut E,
+) -> u8
+where
+    R: Drop,
+{
+    let line = Vec::with_capacity(alloc, MAX_LINE + 1);
+    let reader = BufReader::new(alloc, input);
+    let writer = BufWriter::new(alloc, out);
+    match (line, reader, writer) {
+        (Ok(mut line), Ok(mut reader), Ok(mut writer)) => {
+            let ran = run_script(alloc, &mut reader, &mut line, &mut writer);
+            let written = writer.flush();
+            match (ran, written) {
+                (Ok(()), Ok(())) => 0,
+                (Err(ScriptFault::BadLine(number)), Ok(())) => {
+                    let _ = writeln!(err, "line {number}: bad command");
+                    1
+                }
+                _ => 1,
+            }
+        }
+        _ => {
+            let _ = print_refusal(err, StoreFault::NoMemory);
+            1
+        }
+    }
+}
+
+// Runs the lines of a script, up to the first that can't be read.
+fn run_script<A: Allocator + Copy, R: BufRead, W: Write>(
+    alloc: A,
+    input: &mut R,
+    line: &mut Vec<u8, A>,
+    out: &mut W,
+) -> Result<(), ScriptFault> {
+    let mut simulation = Simulation::new(alloc);
+    for number in 1..=MAX_LINES {
+        match next_line(input, line) {
+            Err(_) => return Err(ScriptFault::BadLine(number)),
+            Ok(false) => return Ok(()),
+            Ok(true) => (),
+        }
+        match str::from_utf8(line).ok().and_then(read_command) {
+            None => return Err(ScriptFault::BadLine(number)),
+            Some(command) => simulation.run(command, out)?,
+        }
+    }
+    match next_line(input, line) {
+        Ok(false) => Ok(()),
+        _ => Err(ScriptFault::BadLine(MAX_LINES + 1)),
+    }
+}
+
+// The store of a script, from its first accepted `format` on.
+#[derive(Drop)]
+struct Simulation<A: Allocator + Copy> {
+    alloc: A,
+    session: Option<Session<A>>,
+}
+
+impl<A: Allocator + Copy> Simulation<A> {
+    fn new(alloc: A) -> Self {
+        Simulation {
+            alloc,
+            session: None,
+        }
+    }
+
+    // Does what a line asks for and prints what came of it, refusals too. Only a failed write is an error.
+    fn run<W: Write>(&mut self, command: Command, out: &mut W) -> io::Result<()> {
+        match (command, &mut self.session) {
+            (Command::Format(geometry), _) => self.format(geometry, out),
+            (_, None) => print_refusal(out, StoreFault::NotFormatted),
+            (Command::Store(count), Some(session)) => store(session, count, out),
+            (Command::Read(number), Some(session)) => read(session, number, out),
+            (Command::List, Some(session)) => list(session, self.alloc, out),
+        }
+    }
+
+    // Takes a fresh store in place of the one that is there; refused, it keeps that one.
+    fn format<W: Write>(&mut self, geometry: Geometry, out: &mut W) -> io::Result<()> {
+        match Session::format(self.alloc, geometry) {
+            Err(fault) => print_refusal(out, fault),
+            Ok(session) => {
+                self.session = Some(session);
+                writeln!(out, "formatted")
+            }
+        }
+    }
+}
+
+// Stores so many frames, up to the first refusal.
+fn store<A: Allocator + Copy, W: Write>(
+    session: &mut Session<A>,
+    count: u64,
+    out: &mut W,
+) -> io::Result<()> {
+    let (stored, refusal) = store_up_to(session, count);
+    match stored {
+        Some((first, last)) => writeln!(out, "stored {first}..{last}")?,
+        None if refusal.is_none() => writeln!(out, "stored none")?,
+        None => (),
+    }
+    match refusal {
+        Some(fault) => print_refusal(out, fault),
+        None => Ok(()),
+    }
+}
+
+// The first and the last number of the frames that were stored, if any, and the refusal that stopped it, if one did.
+fn store_up_to<A: Allocator + Copy>(
+    session: &mut Session<A>,
+    count: u64,
+) -> (Option<(u64, u64)>, Option<StoreFault>) {
+    let mut stored = None;
+    for _ in 0..count {
+        match session.store_next() {
+            Ok(number) => {
+                let first = stored.map_or(number, |(first, _)| first);
+                stored = Some((first, number));
+            }
+            Err(fault) => return (stored, Some(fault)),
+        }
+    }
+    (stored, None)
+}
+
+// Prints a frame's head and its first bytes.
+fn read<A: Allocator + Copy, W: Write>(
+    session: &mut Session<A>,
+    number: u64,
+    out: &mut W,
+) -> io::Result<()> {
+    match session.read(number) {
+        Err(fault) => print_refusal(out, fault),
+        Ok(head) => {
+            let sequence = head.sequence;
+            let time = head.timestamp;
+            write!(out, "frame {number} sequence {sequence} time {time} bytes ")?;
+            for byte in session.pixels().iter().take(SHOWN_BYTES) {
+                write!(out, "{byte:02x}")?;
+            }
+            writeln!(out)
+        }
+    }
+}
+
+// Prints the next number and each longest run of held ones.
+fn list<A: Allocator + Copy, W: Write>(
+    session: &Session<A>,
+    alloc: A,
+    out: &mut W,
+) -> io::Result<()> {
+    match session.frames(alloc) {
+        Err(fault) => print_refusal(out, fault),
+        Ok(numbers) => {
+            let next = session.next();
+            writeln!(out, "next {next}")?;
+            print_runs(&numbers, out)
+        }
+    }
+}
+
+// Prints each longest run of numbers that follow one another.
+fn print_runs<W: Write>(numbers: &[u64], out: &mut W) -> io::Result<()> {
+    let mut rest = numbers;
+    while !rest.is_empty() {
+        let (run, behind) = rest.split_at(run_length(rest));
+        let first = run[0];
+        let last = run[run.len() - 1];
+        writeln!(out, "frames {first}..{last}")?;
+        rest = behind;
+    }
+    Ok(())
+}
+
+/// Prints a refusal: its number, its name and its arguments.
+pub fn print_refusal<W: Write>(out: &mut W, fault: StoreFault) -> io::Result<()> {
+    let number = fault.number();
+    let name = fault.name();
+    match fault {
+        StoreFault::Damaged(damage) => {
+            let kind = damage.number();
+            writeln!(out, "refused {number} {name} {kind}")
+        }
+        _ => writeln!(out, "refused {number} {name}"),
+    }
+}

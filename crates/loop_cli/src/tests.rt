@@ -1,0 +1,345 @@
+use crate::lines::{BadLine, next_line};
+use crate::program::run_words;
+use crate::simulate::simulate;
+use loop_budget::Budget;
+use std::alloc::{AllocError, Allocator, Global};
+use std::io;
+use std::io::{Error, ErrorKind, Read, Write};
+use std::test::Fail;
+
+// A script, what it prints, what it tells on the other output, and the status.
+type Row = (&'static [u8], &'static str, &'static str, u8);
+
+// Scripts that are read to their end.
+static RUNS: [Row; 14] = [
+    (b"", "", "", 0),
+    (
+        b"format 4 2 YM12 25:1 3 2\nstore 2\nlist\n",
+        "formatted\nstored 0..1\nnext 2\nframes 0..1\n",
+        "",
+        0,
+    ),
+    (
+        b"format 4 2 YM12 25:1 3 2\nstore 3\nread 1\n",
+        "formatted\nstored 0..1\nrefused 20 SegmentFull\nframe 1 sequence 1 time 40000 bytes 0102030405060708\n",
+        "",
+        0,
+    ),
+    // The last line needs no 0x0A.
+    (
+        b"format 4 2 YM12 25:1 3 2\nstore 1\nlist",
+        "formatted\nstored 0..0\nnext 1\nframes 0..0\n",
+        "",
+        0,
+    ),
+    // Nothing is done before the first accepted format.
+    (
+        b"store 0\nread 0\nlist\nformat 0 2 YM12 25:1 3 2\nlist\n",
+        "refused 4 NotFormatted\nrefused 4 NotFormatted\nrefused 4 NotFormatted\nrefused 16 BadGeometry\nrefused 4 NotFormatted\n",
+        "",
+        0,
+    ),
+    (
+        b"format 4 2 YM12 25:1 3 2\nstore 0\nlist\nread 0\n",
+        "formatted\nstored none\nnext 0\nrefused 13 NotHeld\n",
+        "",
+        0,
+    ),
+    // A refused format keeps the store, an accepted one begins anew.
+    (
+        b"format 4 2 YM12 25:1 3 2\nstore 1\nformat 4 2 YM12 25:1 1 2\nlist\nformat 1 1 GREY 1:1 2 1\nlist\nstore 1\nread 0\n",
+        "formatted\nstored 0..0\nrefused 16 BadGeometry\nnext 1\nframes 0..0\nformatted\nnext 0\nstored 0..0\nframe 0 sequence 0 time 0 bytes 00\n",
+        "",
+        0,
+    ),
+    // A refused frame isn't accepted.
+    (
+        b"format 4 2 YM12 25:1 3 2\nstore 9\nstore 1\nlist\n",
+        "formatted\nstored 0..1\nrefused 20 SegmentFull\nrefused 20 SegmentFull\nnext 2\nframes 0..1\n",
+        "",
+        0,
+    ),
+    // Times are rounded down.
+    (
+        b"format 4 2 YM24 30000:1001 2 3\nstore 3\nread 2\nformat 1 1 YM16 3:1 2 2\nstore 2\nread 1\n",
+        "formatted\nstored 0..2\nframe 2 sequence 2 time 66733 bytes 0203040506070809\nformatted\nstored 0..1\nframe 1 sequence 1 time 333333 bytes 010203\n",
+        "",
+        0,
+    ),
+    // Numbers at their limits, which are judged after the line was read.
+    (
+        b"read 18446744073709551615\nread 00000000000000000007\nstore 18446744073709551615\n",
+        "refused 4 NotFormatted\nrefused 4 NotFormatted\nrefused 4 NotFormatted\n",
+        "",
+        0,
+    ),
+    (
+        b"format 4294967295 2 GREY 1:1 2 1\nformat 4 4294967295 GREY 1:1 2 1\nformat 4 2 GREY 1:1 4294967295 1\nformat 4 2 GREY 1:1 2 4294967295\n",
+        "refused 16 BadGeometry\nrefused 16 BadGeometry\nrefused 16 BadGeometry\nrefused 16 BadGeometry\n",
+        "",
+        0,
+    ),
+    (
+        b"format 4 2 GREY 4294967295:4294967295 2 2\nstore 2\nread 1\nread 18446744073709551615\n",
+        "formatted\nstored 0..1\nframe 1 sequence 1 time 1000000 bytes 0102030405060708\nrefused 13 NotHeld\n",
+        "",
+        0,
+    ),
+    // What was done before a line that can't be read stays done.
+    (
+        b"format 4 2 YM12 25:1 3 2\nstore 1\nlist \nlist\n",
+        "formatted\nstored 0..0\n",
+        "line 3: bad command\n",
+        1,
+    ),
+    (
+        b"list\n\nlist\n",
+        "refused 4 NotFormatted\n",
+        "line 2: bad command\n",
+        1,
+    ),
+];
+
+// Lines that can't be read, each alone.
+static BAD_LINES: [&[u8]; 33] = [
+    b"\n",
+    b"list\r\n",
+    b"list \n",
+    b" list\n",
+    b"lists\n",
+    b"List\n",
+    b"list 1\n",
+    b"list\xff\n",
+    b"store\n",
+    b"store \n",
+    b"store  1\n",
+    b"store 1 \n",
+    b"store 1 1\n",
+    b"store +1\n",
+    b"store -1\n",
+    b"store 1.\n",
+    b"store 18446744073709551616\n",
+    b"store 000000000000000000007\n",
+    b"read\n",
+    b"read x\n",
+    b"read 1 2",
+    b"reopen\n",
+    b"flush\n",
+    b"submit 1\n",
+    b"lock 0 0\n",
+    b"unlock 0\n",
+    b"format 4 2 YM12 25:1 3\n",
+    b"format 4 2 YM12 25:1 3 2 1\n",
+    b"format 4 2 YM12 25 3 2\n",
+    b"format 4 2 YM12 25:1:1 3 2\n",
+    b"format 4 2 ym12 25:1 3 2\n",
+    b"format 4294967296 2 YM12 25:1 3 2\n",
+    b"format 4 2 YM12 4294967296:1 3 2\n",
+];
+
+// Words, what they tell beside the script's output, and the status.
+static WORDS: [(&[&str], &str, u8); 12] = [
+    (&[], "", 0),
+    (&["simulate"], "", 0),
+    (&["help"], "bad command\n", 2),
+    (&["help", "simulate"], "bad command\n", 2),
+    (&["--help"], "bad command\n", 2),
+    (&["-h"], "bad command\n", 2),
+    (&["--version"], "bad command\n", 2),
+    (&["junk"], "bad command\n", 2),
+    (&[""], "bad command\n", 2),
+    (&["simulate", "junk"], "bad command\n", 2),
+    (&["simulate", "--help"], "bad command\n", 2),
+    (&["list", "path"], "bad command\n", 2),
+];
+
+#[test]
+fn scripts_print_what_their_lines_did(rt: HostRuntime) -> Result<(), Fail> {
+    let alloc = rt.alloc();
+    for (script, printed, told, status) in &RUNS {
+        let mut out: Vec<u8> = Vec::new(alloc);
+        let mut err: Vec<u8> = Vec::new(alloc);
+        assert_eq!(rt;
+            simulate(alloc, *script, &mut out, &mut err),
+            *status,
+            "{printed}"
+        );
+        assert_eq!(rt; out.as_slice(), printed.as_bytes(), "{printed}");
+        assert_eq!(rt; err.as_slice(), told.as_bytes(), "{printed}");
+    }
+    for script in &BAD_LINES {
+        let mut out: Vec<u8> = Vec::new(alloc);
+        let mut err: Vec<u8> = Vec::new(alloc);
+        assert_eq!(rt;
+            simulate(alloc, *script, &mut out, &mut err),
+            1,
+            "{script:?}"
+        );
+        assert_eq!(rt; out.len(), 0, "{script:?}");
+        assert_eq!(rt;
+            err.as_slice(),
+            b"line 1: bad command\n".as_slice(),
+            "{script:?}"
+        );
+    }
+    Ok(())
+}
+
+#[test]
+fn words_that_cannot_be_read_are_told(rt: HostRuntime) -> Result<(), Fail> {
+    let alloc = rt.alloc();
+    for (words, told, status) in &WORDS {
+        let mut out: Vec<u8> = Vec::new(alloc);
+        let mut err: Vec<u8> = Vec::new(alloc);
+        let answer = run_words(&rt, *words, b"list\n".as_slice(), &mut out, &mut err);
+        assert_eq!(rt; answer, *status, "{words:?}");
+        assert_eq!(rt; err.as_slice(), told.as_bytes(), "{words:?}");
+        assert_eq!(rt; out.is_empty(), *status != 0, "{words:?}");
+        assert_eq!(rt;
+            run_words(&rt, *words, b"".as_slice(), &mut Broken, &mut Broken),
+            if *status == 0 { 0 } else { 1 },
+            "{words:?}"
+        );
+    }
+    Ok(())
+}
+
+// A writer that takes nothing.
+#[derive(Drop)]
+struct Broken;
+
+impl Write for Broken {
+    fn write(&mut self, _buf: &[u8]) -> io::Result<usize> {
+        Err(Error::from(ErrorKind::BrokenPipe))
+    }
+
+    fn flush(&mut self) -> io::Result<()> {
+        Ok(())
+    }
+}
+
+// So many lines `list`, and then a read that fails, if it is to.
+#[derive(Drop)]
+struct Lists {
+    lines: u32,
+    fails: bool,
+}
+
+impl Read for Lists {
+    fn read(&mut self, buf: &mut [u8]) -> io::Result<usize> {
+        let line = b"list\n";
+        if self.lines == 0 && self.fails {
+            return Err(Error::from(ErrorKind::Other));
+        }
+        if self.lines == 0 || buf.len() < line.len() {
+            return Ok(0);
+        }
+        self.lines -= 1;
+        buf[..line.len()].copy_from_slice(line);
+        Ok(line.len())
+    }
+}
+
+#[test]
+fn input_and_output_that_fail_end_the_run(rt: HostRuntime) -> Result<(), Fail> {
+    let alloc = rt.alloc();
+    for (lines, fails, told, status) in [
+        (3, false, "", 0),
+        (3, true, "line 4: bad command\n", 1),
+        (1_000_000, false, "", 0),
+        (1_000_001, false, "line 1000001: bad command\n", 1),
+    ] {
+        let mut err: Vec<u8> = Vec::new(alloc);
+        let answer = simulate(alloc, Lists { lines, fails }, &mut io::sink(), &mut err);
+        assert_eq!(rt; answer, status, "{lines} {fails}");
+        assert_eq!(rt; err.as_slice(), told.as_bytes(), "{lines} {fails}");
+    }
+    let mut err: Vec<u8> = Vec::new(alloc);
+    assert_eq!(rt;
+        simulate(alloc, b"list\n".as_slice(), &mut Broken, &mut err),
+        1
+    );
+    assert_eq!(rt; err.len(), 0);
+    let mut out: Vec<u8> = Vec::new(alloc);
+    assert_eq!(rt;
+        simulate(alloc, b"list \n".as_slice(), &mut out, &mut Broken),
+        1
+    );
+    Ok(())
+}
+
+#[test]
+fn a_line_of_4096_bytes_is_read_and_a_longer_one_is_not(rt: HostRuntime) -> Result<(), Fail> {
+    let alloc = rt.alloc();
+    for (length, ending, answer) in [
+        (0, "", Ok(false)),
+        (0, "\n", Ok(true)),
+        (4096, "", Ok(true)),
+        (4096, "\n", Ok(true)),
+        (4097, "", Err(BadLine)),
+        (4097, "\n", Err(BadLine)),
+        (9000, "\n", Err(BadLine)),
+    ] {
+        let mut text = vec![in alloc; b'a'; length]?;
+        text.extend_from_slice(ending.as_bytes())?;
+        let mut input = text.as_slice();
+        let mut line = Vec::with_capacity(alloc, 4097)?;
+        assert_eq!(rt; next_line(&mut input, &mut line), answer, "{length}");
+        assert!(rt; line.capacity() == 4097, "{length}");
+        if answer == Ok(true) {
+            assert_eq!(rt; line.len(), length, "{length}");
+            assert_eq!(rt; next_line(&mut input, &mut line), Ok(false), "{length}");
+        }
+    }
+    Ok(())
+}
+
+// The script of the README over an allocator, and what it prints.
+fn printed<A: Allocator + Copy>(
+    alloc: A,
+    home: Global,
+) -> Result<(u8, Vec<u8>, Vec<u8>), AllocError> {
+    let mut out = Vec::new(home);
+    let mut err = Vec::new(home);
+    let script = b"format 4 2 YM12 25:1 3 2\nstore 2\nlist\n".as_slice();
+    let status = simulate(alloc, script, &mut out, &mut err);
+    Ok((status, out, err))
+}
+
+#[test]
+fn want_of_memory_is_a_refusal_of_its_line(rt: HostRuntime) -> Result<(), Fail> {
+    let budget = Budget::new(rt.alloc());
+    let (mut buffers, mut formats) = (0u32, 0u32);
+    for blocks in 0..100u64 {
+        budget.allow(blocks);
+        let (status, out, err) = printed(&budget, rt.alloc())?;
+        if !err.is_empty() {
+            buffers = buffers.saturating_add(1);
+            assert_eq!(rt; status, 1, "{blocks}");
+            assert_eq!(rt;
+                err.as_slice(),
+                b"refused 1 NoMemory\n".as_slice(),
+                "{blocks}"
+            );
+            assert_eq!(rt; out.len(), 0, "{blocks}");
+        } else if !out.starts_with(b"formatted\n") {
+            formats = formats.saturating_add(1);
+            assert_eq!(rt; status, 0, "{blocks}");
+            // A disk in memory fails where its record can't grow.
+            let memory = b"refused 1 NoMemory\nrefused 4 NotFormatted\nrefused 4 NotFormatted\n";
+            let disk = b"refused 2 Disk\nrefused 4 NotFormatted\nrefused 4 NotFormatted\n";
+            let is_memory = out.as_slice() == memory.as_slice();
+            assert!(rt; is_memory || out.as_slice() == disk.as_slice(), "{blocks}");
+        } else {
+            assert_eq!(rt; status, 0, "{blocks}");
+        }
+    }
+    assert_eq!(rt; buffers, 3);
+    assert!(rt; formats >= 4, "{formats}");
+    budget.allow(1000);
+    let (status, out, _) = printed(&budget, rt.alloc())?;
+    assert_eq!(rt; status, 0);
+    let all = b"formatted\nstored 0..1\nnext 2\nframes 0..1\n";
+    assert_eq!(rt; out.as_slice(), all.as_slice());
+    Ok(())
+}
