@@ -29,10 +29,10 @@ get_or-map_range f lo zero j d l = absurd (omega (arith, l))
 get_or-map_range f lo (suc n) zero d l = ap f (omega arith)
 get_or-map_range f lo (suc n) (suc j) d l = get_or-map_range f (lo + 1) n j d (omega (arith, l)) ∙ ap f (omega arith)
 
-segments_length : (g : Geometry) (image : List ℕ) → length (parts_of g image).segments ≡ g.segments
+pub segments_length : (g : Geometry) (image : List ℕ) → length (parts_of g image).segments ≡ g.segments
 segments_length g image = omega (arith, length-map (range_with_len 0 g.segments) (segment_in g image), length-range 0 g.segments)
 
-segment_there : (g : Geometry) (image : List ℕ) (j : ℕ) → j < g.segments → get_or (parts_of g image).segments j None ≡ segment_in g image j
+pub segment_there : (g : Geometry) (image : List ℕ) (j : ℕ) → j < g.segments → get_or (parts_of g image).segments j None ≡ segment_in g image j
 segment_there g image j l =
     let at : 0 + j ≡ j = omega arith in
     get_or-map_range (segment_in g image) 0 g.segments j None l ∙ ap (segment_in g image) at

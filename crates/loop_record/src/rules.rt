@@ -62,7 +62,7 @@ pub(crate) fn holds<A: Allocator>(frames: &[Numbered<A>], number: u64) -> bool
 }
 
 /// Whether a block isn't the newest, and no clip meets it.
-pub(crate) fn may_go(geometry: &Geometry, clips: &[Option<Span>], newest: u64, wanted: u64) -> bool
+pub fn may_go(geometry: &Geometry, clips: &[Option<Span>], newest: u64, wanted: u64) -> bool
     requires { IsTrue (is_good geometry.now) }
     ensures { result ≡ (not (wanted == newest) && not (list_any (meets (ring_of geometry.now) wanted) clips.now)) }
 {

@@ -3,7 +3,7 @@ ghost use Rattle.std.specs.Prelude.{◌≡◌, ◌<◌, All, IfOk, length, vec_l
 use super::*;
 use loop_budget::Budget;
 use loop_disk::{Disk, DiskFault, FuseDisk, MemDisk, OnceDisk};
-use loop_record::{Damage, Frame, FrameHead, Geometry, OPEN, PixelFormat};
+use loop_record::{Damage, Frame, FrameHead, Geometry, OPEN, PixelFormat, SegmentHead, Span};
 use std::alloc::{AllocError, Allocator, Global};
 use std::test::Fail;
 
@@ -273,5 +273,98 @@ fn memory_is_taken_once(rt: HostRuntime) -> Result<(), Fail> {
     memory.allow(0);
     let mut disk = Bare(MemDisk::new(rt.alloc(), 4360)?);
     assert_eq!(rt; begin_commit_retire(&mut ring, &mut disk, &frames), Ok(()));
+    Ok(())
+}
+
+// A table of three segments.
+fn table<A: Allocator>(
+    alloc: A,
+    heads: [Option<SegmentHead>; 3],
+) -> Result<SegmentTable<A>, AllocError> {
+    let mut table = SegmentTable::new(alloc, 3)?;
+    table.set(0, heads[0]);
+    table.set(1, heads[1]);
+    table.set(2, heads[2]);
+    Ok(table)
+}
+
+// The header of an open segment.
+fn open(block: u64, frames: u32) -> Option<SegmentHead> {
+    Some(SegmentHead { block, frames })
+}
+
+// A clip of one frame.
+fn clip(number: u64) -> Option<Span> {
+    Some(Span {
+        from: number,
+        to: number,
+    })
+}
+
+#[test]
+fn segments_are_found_by_what_they_hold(rt: HostRuntime) -> Result<(), Fail> {
+    let memory = Budget::new(rt.alloc());
+    memory.allow(0);
+    assert!(rt; SegmentTable::new(&memory, 3).is_err());
+    memory.allow(1);
+    let mut table = table(&memory, [open(3, 1), None, open(2, 2)])?;
+    memory.allow(0);
+    assert_eq!(rt;
+        (table.find(2), table.find(1), table.first_closed()),
+        (Some(2), None, Some(1))
+    );
+    assert_eq!(rt; table.held_blocks(), 2);
+    let held = [3, 4, 5, 6, 7].map(|number: u64| table.holds(2, number));
+    assert_eq!(rt; held, [false, true, true, true, false]);
+    table.set(1, open(4, 0));
+    assert_eq!(rt;
+        (table.get(1), table.find(4), table.first_closed()),
+        (open(4, 0), Some(1), None)
+    );
+    assert_eq!(rt; table.held_blocks(), 2);
+    assert!(rt; !table.holds(2, 8));
+    Ok(())
+}
+
+#[test]
+fn the_least_block_that_no_clip_meets_goes(rt: HostRuntime) -> Result<(), Fail> {
+    // What the headers of three segments of two slots say, the clips, and the block that goes with its segment. Block 3 of the
+    // third row is begun and has no frame. From the fourth row on, blocks 0 and then 2 go, and frames 2 and 6 are locked.
+    let rows = [
+        ([None, None, None], [None, None], None),
+        ([open(0, 2), None, None], [None, None], None),
+        (
+            [open(3, 0), open(1, 2), open(2, 2)],
+            [None, None],
+            Some((1, 1)),
+        ),
+        (
+            [open(3, 2), open(1, 2), open(2, 2)],
+            [None, clip(2)],
+            Some((2, 2)),
+        ),
+        (
+            [open(3, 2), open(1, 2), open(4, 2)],
+            [clip(2), clip(6)],
+            None,
+        ),
+        (
+            [open(3, 2), open(1, 2), open(4, 2)],
+            [clip(2), None],
+            Some((3, 0)),
+        ),
+        (
+            [open(5, 1), open(1, 2), open(4, 2)],
+            [clip(2), None],
+            Some((4, 2)),
+        ),
+    ];
+    for (heads, clips, goes) in rows {
+        let table = table(rt.alloc(), heads)?;
+        let block = victim_block(&SMALL, &table, &clips);
+        let segment = victim_segment(&SMALL, &table, &clips);
+        assert_eq!(rt; block.zip(segment), goes);
+        assert_eq!(rt; block.is_some(), segment.is_some());
+    }
     Ok(())
 }
