@@ -1,23 +1,22 @@
 -- The block that goes, found by the headers of a store's segments.
-use Rattle.std.proofs.Common.{◌≡◌, ◌⊎◌, inl, inr, ℕ, ◌+◌, ◌<◌, ◌≤◌, Bool, true, false, not, ◌&&◌, cond, eqb, ltb, min, max, Option, Some, None, List, [], ◌∷◌, length, get_or, refl, sym, ap, ◌∙◌, subst, arith}
+use Rattle.std.proofs.Common.{◌≡◌, ◌⊎◌, inl, inr, ℕ, ◌<◌, ◌≤◌, Bool, true, false, not, ◌&&◌, cond, eqb, ltb, min, max, Option, Some, None, List, [], ◌∷◌, get_or, refl, sym, ap, ◌∙◌, subst, arith}
 use Rattle.std.proofs.lemmas.Bool.{cases_lt}
 use Rattle.std.proofs.lemmas.List.Folds.{list_any_at}
 use Rattle.std.proofs.lemmas.List.Quantifiers.{position-Some}
 use Rattle.std.specs.Prelude.{◌||◌}
-use Rattle.std.specs.List.{list_any, filter, filter_map, find, fold, cons_option, position, reduce}
+use Rattle.std.specs.List.{list_any, filter, filter_map, fold, cons_option, position, reduce}
 use Rattle.loop_record.specs.declared.clip.Span.{Span}
 use Rattle.loop_record.specs.declared.geometry.Geometry.{Geometry}
 use Rattle.loop_record.specs.declared.segment.SegmentHead.{SegmentHead}
 use Rattle.loop_record.specs.Reading.{Holds}
-use Rattle.loop_record.specs.Recording.{Recording, Ring, ring_of, block, meets, held_blocks, older_blocks, is_locked, victim}
-use Rattle.loop_record.proofs.Bounds.{limits}
+use Rattle.loop_record.specs.Recording.{Recording, Ring, ring_of, block, held_blocks, older_blocks, is_locked, victim}
 use Rattle.loop_record.proofs.Decided.{clash, both, not_true, equal, equal_test, differ, differ_test}
 use Rattle.loop_record.proofs.Form.{reading-well_formed}
 use Rattle.loop_record.proofs.Rising.{Among}
 use Rattle.loop_record.proofs.Victim.{RiseFrom, blocks-rise, RiseFrom-front, FirstOf, find-first, find-none, front-below, below-front}
 use Rattle.loop_ring.specs.Heads.{IsPlaceOf, going_block, held_block, heads_of, is_going, is_of}
 use Rattle.loop_ring.proofs.Heads.{any-index, position-none}
-use Rattle.loop_ring.proofs.Held.{Sorted, sorted, is_held, held-any, any-held_block}
+use Rattle.loop_ring.proofs.Held.{sorted, is_held, held-any, any-held_block}
 
 -- ---- the blocks of the headers
 

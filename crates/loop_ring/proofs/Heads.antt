@@ -8,13 +8,12 @@ use Rattle.std.proofs.lemmas.List.Folds.{list_any_at}
 use Rattle.std.proofs.lemmas.List.Quantifiers.{position-Some}
 use Rattle.std.proofs.lemmas.Simd.{map-map}
 use Rattle.std.specs.Prelude.{◌||◌}
-use Rattle.std.specs.List.{list_any, count_by, position, position_or_len, range_with_len}
-use Rattle.byteorder.specs.Endian.{little_from}
+use Rattle.std.specs.List.{list_any, position, position_or_len, range_with_len}
 use Rattle.loop_record.specs.declared.geometry.Geometry.{Geometry}
 use Rattle.loop_record.specs.declared.segment.SegmentHead.{SegmentHead}
 use Rattle.loop_record.specs.Change.{ShowsSegment}
-use Rattle.loop_record.specs.Geometry.{frame_bytes, segment_at, slot_at}
-use Rattle.loop_record.specs.Layout.{Slot, Segment, is_open, slot_in, whole_frames, segment_in, header_at}
+use Rattle.loop_record.specs.Geometry.{frame_bytes, segment_at}
+use Rattle.loop_record.specs.Layout.{Slot, Segment, is_open, whole_frames, segment_in, header_at}
 use Rattle.loop_record.specs.Recording.{Picture, Recording}
 use Rattle.loop_record.specs.Reading.{parts_of, opened, by_block, next_after, repeats, Holds}
 use Rattle.loop_record.proofs.Bounds.{limits}

@@ -309,62 +309,45 @@ fn segments_are_found_by_what_they_hold(rt: HostRuntime) -> Result<(), Fail> {
     memory.allow(1);
     let mut table = table(&memory, [open(3, 1), None, open(2, 2)])?;
     memory.allow(0);
-    assert_eq!(rt;
-        (table.find(2), table.find(1), table.first_closed()),
-        (Some(2), None, Some(1))
-    );
+    assert_eq!(rt; table.find(2), Some(2));
+    assert_eq!(rt; table.find(1), None);
+    assert_eq!(rt; table.first_closed(), Some(1));
     assert_eq!(rt; table.held_blocks(), 2);
-    let held = [3, 4, 5, 6, 7].map(|number: u64| table.holds(2, number));
-    assert_eq!(rt; held, [false, true, true, true, false]);
+    assert!(rt; table.holds(2, 5) && table.holds(2, 6));
+    assert!(rt; !table.holds(2, 3) && !table.holds(2, 7));
     table.set(1, open(4, 0));
-    assert_eq!(rt;
-        (table.get(1), table.find(4), table.first_closed()),
-        (open(4, 0), Some(1), None)
-    );
+    assert_eq!(rt; table.get(1), open(4, 0));
+    assert_eq!(rt; table.first_closed(), None);
     assert_eq!(rt; table.held_blocks(), 2);
-    assert!(rt; !table.holds(2, 8));
     Ok(())
+}
+
+// The block that goes where the headers of three segments of two slots say this, and its segment.
+fn goes(
+    alloc: Global,
+    heads: [Option<SegmentHead>; 3],
+    clips: &[Option<Span>],
+) -> Result<Option<(u64, u32)>, AllocError> {
+    let table = table(alloc, heads)?;
+    let block = victim_block(&SMALL, &table, clips);
+    let segment = victim_segment(&SMALL, &table, clips);
+    Ok(block.zip(segment))
 }
 
 #[test]
 fn the_least_block_that_no_clip_meets_goes(rt: HostRuntime) -> Result<(), Fail> {
-    // What the headers of three segments of two slots say, the clips, and the block that goes with its segment. Block 3 of the
-    // third row is begun and has no frame. From the fourth row on, blocks 0 and then 2 go, and frames 2 and 6 are locked.
-    let rows = [
-        ([None, None, None], [None, None], None),
-        ([open(0, 2), None, None], [None, None], None),
-        (
-            [open(3, 0), open(1, 2), open(2, 2)],
-            [None, None],
-            Some((1, 1)),
-        ),
-        (
-            [open(3, 2), open(1, 2), open(2, 2)],
-            [None, clip(2)],
-            Some((2, 2)),
-        ),
-        (
-            [open(3, 2), open(1, 2), open(4, 2)],
-            [clip(2), clip(6)],
-            None,
-        ),
-        (
-            [open(3, 2), open(1, 2), open(4, 2)],
-            [clip(2), None],
-            Some((3, 0)),
-        ),
-        (
-            [open(5, 1), open(1, 2), open(4, 2)],
-            [clip(2), None],
-            Some((4, 2)),
-        ),
-    ];
-    for (heads, clips, goes) in rows {
-        let table = table(rt.alloc(), heads)?;
-        let block = victim_block(&SMALL, &table, &clips);
-        let segment = victim_segment(&SMALL, &table, &clips);
-        assert_eq!(rt; block.zip(segment), goes);
-        assert_eq!(rt; block.is_some(), segment.is_some());
-    }
+    let alloc = rt.alloc();
+    assert_eq!(rt; goes(alloc, [None, None, open(0, 2)], &[])?, None);
+    // Block 3 is begun and has no frame: 2 is the newest.
+    let begun = [open(3, 0), open(1, 2), open(2, 2)];
+    assert_eq!(rt; goes(alloc, begun, &[])?, Some((1, 1)));
+    let begun_alone = [open(1, 0), open(0, 2), None];
+    assert_eq!(rt; goes(alloc, begun_alone, &[])?, None);
+    // Block 1 is locked, and then 3 with it.
+    let full = [open(3, 2), open(1, 2), open(2, 2)];
+    assert_eq!(rt; goes(alloc, full, &[None, clip(2)])?, Some((2, 2)));
+    let later = [open(3, 2), open(1, 2), open(4, 2)];
+    assert_eq!(rt; goes(alloc, later, &[clip(2), clip(6)])?, None);
+    assert_eq!(rt; goes(alloc, later, &[clip(2), None])?, Some((3, 0)));
     Ok(())
 }
