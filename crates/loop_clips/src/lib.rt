@@ -2,7 +2,7 @@
 //!
 //! `table` has the `ClipTable`: the clips in memory, as their entries stand on a disk. Reading it takes one call of the disk and
 //! no memory. What stands in an entry isn't judged here: whether a clip's frames are held is known only when the frames are.
-//! `clip` has what a caller is shown of a clip; `specs/Table` says which clips a list has, and what a read of the disk counts.
+//! `clip` has what a caller is shown of a clip; `specs/Table` says which clips the table lists.
 #![tactic(auto)]
 
 mod clip;

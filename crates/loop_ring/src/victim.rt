@@ -26,7 +26,8 @@ pub fn victim_block<A: Allocator>(
     oldest_block(geometry, heads, clips, newest)
 }
 
-/// The segment of that block, or nothing where no block may go.
+/// The segment of the block that goes when room is needed, as `victim_block` answers it, or nothing where no block may go. It
+/// takes no memory.
 pub fn victim_segment<A: Allocator>(
     geometry: &Geometry,
     table: &SegmentTable<A>,
