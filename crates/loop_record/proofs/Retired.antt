@@ -31,7 +31,7 @@ enumerate_in ring b n (p ∷ ps) low high =
     let rest = enumerate_in ring b (n + 1) ps (omega (arith, low)) (omega (arith, high)) in
     λ i. first i && rest i
 
-frames_in : (ring : Ring) (g : Geometry) (s : Segment) → ring.slots ≡ g.slots → is_overfull g s ≡ false → list_all (is_in ring s.block) (frames_of g s) ≡ true
+pub frames_in : (ring : Ring) (g : Geometry) (s : Segment) → ring.slots ≡ g.slots → is_overfull g s ≡ false → list_all (is_in ring s.block) (frames_of g s) ≡ true
 frames_in ring g s same fits =
     let most : length s.slots ≤ g.slots = grind (arith, nat_tests, fits) in
     let split : (s.block + 1) * ring.slots ≡ s.block * ring.slots + ring.slots = omega (arith, add-mul s.block 1 ring.slots) in

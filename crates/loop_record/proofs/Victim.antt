@@ -14,7 +14,7 @@ use Rattle.loop_record.proofs.Rising.{Among, numbers_of, held-among, among-held,
 -- ---- blocks that rise
 
 -- the blocks rise from low on
-abbrev RiseFrom : ℕ → List ℕ → Type 0
+abbrev pub RiseFrom : ℕ → List ℕ → Type 0
 RiseFrom low [] = Unit {0}
 RiseFrom low (b ∷ bs) = (low ≤ b) × RiseFrom (b + 1) bs
 
@@ -42,7 +42,7 @@ block-le : (ring : Ring) (m n : ℕ) → 1 ≤ ring.slots → m ≤ n → block 
 block-le ring m n some l = (le-div_iff_mul-le some).1 (omega (arith, l, div-mul-le_self m ring.slots))
 
 -- the blocks of frames whose numbers rise, rise
-blocks-rise : (ring : Ring) (low high : ℕ) (fs : List (ℕ × Picture)) → 1 ≤ ring.slots → RiseBetween low high fs → RiseFrom (block ring low) (blocks_of ring fs)
+pub blocks-rise : (ring : Ring) (low high : ℕ) (fs : List (ℕ × Picture)) → 1 ≤ ring.slots → RiseBetween low high fs → RiseFrom (block ring low) (blocks_of ring fs)
 blocks-rise ring low high [] some h = tt
 blocks-rise ring low high (f ∷ fs) some h =
     let rest = blocks-rise ring (f.0 + 1) high fs some h.1 in
@@ -84,7 +84,7 @@ number-block ring n (f ∷ fs) (inr rest) = among-with (block ring n) (block rin
 
 -- ---- all but the last
 
-abbrev front : List ℕ → List ℕ
+abbrev pub front : List ℕ → List ℕ
 front bs = take (length bs - 1) bs
 
 front-more : (b c : ℕ) (bs : List ℕ) → front (b ∷ c ∷ bs) ≡ b ∷ front (c ∷ bs)
@@ -93,7 +93,7 @@ front-more b c bs =
     ap (λ (k : ℕ). take k (b ∷ c ∷ bs)) e
 
 -- one of those before the last is below another
-front-below : (low b : ℕ) (bs : List ℕ) → RiseFrom low bs → Among b (front bs) → Among b bs × ((c : ℕ) × (Among c bs × (b < c)))
+pub front-below : (low b : ℕ) (bs : List ℕ) → RiseFrom low bs → Among b (front bs) → Among b bs × ((c : ℕ) × (Among c bs × (b < c)))
 front-below low b [] h e = elim e [ ]
 front-below low b (c ∷ []) h e = elim e [ ]
 front-below low b (c ∷ d ∷ bs) h e = go (λ k. front-below (c + 1) b (d ∷ bs) h.1 k) (subst (Among b) (front-more c d bs) e)
@@ -102,7 +102,7 @@ front-below low b (c ∷ d ∷ bs) h e = go (λ k. front-below (c + 1) b (d ∷ 
     go rest (inl is) = (inl is, (d, (inr (inl refl), omega (arith, is, h.1.0))))
     go rest (inr k) = let x = rest k in (inr x.0, (x.1.0, (inr x.1.1.0, x.1.1.1)))
 
-below-front : (low b c : ℕ) (bs : List ℕ) → RiseFrom low bs → Among b bs → Among c bs → b < c → Among b (front bs)
+pub below-front : (low b c : ℕ) (bs : List ℕ) → RiseFrom low bs → Among b bs → Among c bs → b < c → Among b (front bs)
 below-front low b c [] h e f l = elim e [ ]
 below-front low b c (d ∷ []) h (inl is) (inl is') l = absurd (omega (arith, is, is', l))
 below-front low b c (d ∷ []) h (inl is) (inr f) l = elim f [ ]
@@ -111,7 +111,7 @@ below-front low b c (d ∷ x ∷ bs) h (inl is) f l = subst (Among b) (sym (fron
 below-front low b c (d ∷ x ∷ bs) h (inr e) (inl is) l = absurd (omega (arith, is, l, RiseFrom-among (d + 1) b (x ∷ bs) h.1 e))
 below-front low b c (d ∷ x ∷ bs) h (inr e) (inr f) l = subst (Among b) (sym (front-more d x bs)) (inr (below-front (d + 1) b c (x ∷ bs) h.1 e f l))
 
-RiseFrom-front : (low : ℕ) (bs : List ℕ) → RiseFrom low bs → RiseFrom low (front bs)
+pub RiseFrom-front : (low : ℕ) (bs : List ℕ) → RiseFrom low bs → RiseFrom low (front bs)
 RiseFrom-front low [] h = tt
 RiseFrom-front low (b ∷ []) h = tt
 RiseFrom-front low (b ∷ c ∷ bs) h = subst (RiseFrom low) (sym (front-more b c bs)) (h.0, RiseFrom-front (b + 1) (c ∷ bs) h.1)
@@ -123,7 +123,7 @@ pub record FirstOf (p : ℕ → Bool) (bs : List ℕ) (b : ℕ) : Type 0 where
   pub passes : p b ≡ true
   pub least : (c : ℕ) → Among c bs → p c ≡ true → b ≤ c
 
-find-first : (p : ℕ → Bool) (low b : ℕ) (bs : List ℕ) → RiseFrom low bs → find p bs ≡ Some b → FirstOf p bs b
+pub find-first : (p : ℕ → Bool) (low b : ℕ) (bs : List ℕ) → RiseFrom low bs → find p bs ≡ Some b → FirstOf p bs b
 find-first p low b [] h e = absurd cc
 find-first p low b (c ∷ bs) h e = go (p c) refl (λ k. find-first p (c + 1) b bs h.1 k) e
   where
@@ -143,7 +143,7 @@ find-first p low b (c ∷ bs) h e = go (p c) refl (λ k. find-first p (c + 1) b 
         from x d (inl e) pd = absurd (clash (p d) pd (sym (ap p e) ∙ is))
         from x d (inr e) pd = x.least d e pd
 
-find-none : (p : ℕ → Bool) (b : ℕ) (bs : List ℕ) → find p bs ≡ None → Among b bs → p b ≡ true → ⊥
+pub find-none : (p : ℕ → Bool) (b : ℕ) (bs : List ℕ) → find p bs ≡ None → Among b bs → p b ≡ true → ⊥
 find-none p b [] e at pb = elim at [ ]
 find-none p b (c ∷ bs) e at pb = go (p c) refl (λ k m. find-none p b bs k m pb) e at
   where

@@ -19,8 +19,8 @@ pub(crate) fn block(geometry: &Geometry, number: u64) -> u64
     number / u64::from(geometry.slots)
 }
 
-/// Whether some number of a clip has this block.
-pub(crate) fn meets(geometry: &Geometry, wanted: u64, clip: Option<Span>) -> bool
+/// Whether some number of a clip has this block. Without a clip none has.
+pub fn meets(geometry: &Geometry, wanted: u64, clip: Option<Span>) -> bool
     requires { IsTrue (is_good geometry.now) }
     ensures { result ≡ meets (ring_of geometry.now) wanted clip }
 {
@@ -34,8 +34,8 @@ pub(crate) fn meets(geometry: &Geometry, wanted: u64, clip: Option<Span>) -> boo
     }
 }
 
-/// Whether some clip meets a block.
-pub(crate) fn is_locked(geometry: &Geometry, wanted: u64, clips: &[Option<Span>]) -> bool
+/// Whether some clip meets a block: whether one has a number of it. The clips stand in the order of their ids.
+pub fn is_locked(geometry: &Geometry, wanted: u64, clips: &[Option<Span>]) -> bool
     requires { IsTrue (is_good geometry.now) }
     ensures { result ≡ list_any (meets (ring_of geometry.now) wanted) clips.now }
 {
@@ -62,7 +62,7 @@ pub(crate) fn holds<A: Allocator>(frames: &[Numbered<A>], number: u64) -> bool
 }
 
 /// Whether a block isn't the newest, and no clip meets it.
-pub(crate) fn may_go(geometry: &Geometry, clips: &[Option<Span>], newest: u64, wanted: u64) -> bool
+pub fn may_go(geometry: &Geometry, clips: &[Option<Span>], newest: u64, wanted: u64) -> bool
     requires { IsTrue (is_good geometry.now) }
     ensures { result ≡ (not (wanted == newest) && not (list_any (meets (ring_of geometry.now) wanted) clips.now)) }
 {

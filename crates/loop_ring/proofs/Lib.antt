@@ -1,3 +1,6 @@
+pub mod Heads
+pub mod Held
+pub mod Chosen
 pub mod Bytes
 pub mod Retiring
 pub mod Beginning

@@ -1,18 +1,26 @@
-//! The segments of a store's ring on a disk: what opens one, what it gains, what closes it, and how a frame is read back.
+//! The segments of a store's ring: on a disk, what opens one, what it gains, what closes it, and how a frame is read back;
+//! in memory, which of them is which.
 //!
 //! `ring` has the `Ring`: its geometry, and the memory in which a group's slots are put together before they are written.
 //! At no moment does a crash during one of its calls leave a segment but as it was or as was asked for, or a commit's
 //! segment with a beginning of the group: `specs/Writes` says so segment by segment, and never speaks of bytes.
 //! Each call makes at most four calls of the disk, and none of them takes memory.
+//! `table` has the `SegmentTable`, what the header of each segment says, and `victim` finds in it the block that goes when
+//! room is needed. `specs/Heads` says what a table has where it agrees with a disk; `proofs/Heads` and `proofs/Held` what
+//! it then says of the recording.
 #![tactic(auto)]
 
 mod fault;
 mod head;
 mod ring;
 mod stage;
+mod table;
+mod victim;
 
 pub use fault::SlotFault;
 pub use ring::{MAX_GROUP, Ring};
+pub use table::SegmentTable;
+pub use victim::{victim_block, victim_segment};
 
 #[cfg(test)]
 mod tests;

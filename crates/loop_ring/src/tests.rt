@@ -3,7 +3,7 @@ ghost use Rattle.std.specs.Prelude.{◌≡◌, ◌<◌, All, IfOk, length, vec_l
 use super::*;
 use loop_budget::Budget;
 use loop_disk::{Disk, DiskFault, FuseDisk, MemDisk, OnceDisk};
-use loop_record::{Damage, Frame, FrameHead, Geometry, OPEN, PixelFormat};
+use loop_record::{Damage, Frame, FrameHead, Geometry, OPEN, PixelFormat, SegmentHead, Span};
 use std::alloc::{AllocError, Allocator, Global};
 use std::test::Fail;
 
@@ -273,5 +273,81 @@ fn memory_is_taken_once(rt: HostRuntime) -> Result<(), Fail> {
     memory.allow(0);
     let mut disk = Bare(MemDisk::new(rt.alloc(), 4360)?);
     assert_eq!(rt; begin_commit_retire(&mut ring, &mut disk, &frames), Ok(()));
+    Ok(())
+}
+
+// A table of three segments.
+fn table<A: Allocator>(
+    alloc: A,
+    heads: [Option<SegmentHead>; 3],
+) -> Result<SegmentTable<A>, AllocError> {
+    let mut table = SegmentTable::new(alloc, 3)?;
+    table.set(0, heads[0]);
+    table.set(1, heads[1]);
+    table.set(2, heads[2]);
+    Ok(table)
+}
+
+// The header of an open segment.
+fn open(block: u64, frames: u32) -> Option<SegmentHead> {
+    Some(SegmentHead { block, frames })
+}
+
+// A clip of one frame.
+fn clip(number: u64) -> Option<Span> {
+    Some(Span {
+        from: number,
+        to: number,
+    })
+}
+
+#[test]
+fn segments_are_found_by_what_they_hold(rt: HostRuntime) -> Result<(), Fail> {
+    let memory = Budget::new(rt.alloc());
+    memory.allow(0);
+    assert!(rt; SegmentTable::new(&memory, 3).is_err());
+    memory.allow(1);
+    let mut table = table(&memory, [open(3, 1), None, open(2, 2)])?;
+    memory.allow(0);
+    assert_eq!(rt; table.find(2), Some(2));
+    assert_eq!(rt; table.find(1), None);
+    assert_eq!(rt; table.first_closed(), Some(1));
+    assert_eq!(rt; table.held_blocks(), 2);
+    assert!(rt; table.holds(2, 5) && table.holds(2, 6));
+    assert!(rt; !table.holds(2, 3) && !table.holds(2, 7));
+    table.set(1, open(4, 0));
+    assert_eq!(rt; table.get(1), open(4, 0));
+    assert_eq!(rt; table.first_closed(), None);
+    assert_eq!(rt; table.held_blocks(), 2);
+    Ok(())
+}
+
+// The block that goes where the headers of three segments of two slots say this, and its segment.
+fn goes(
+    alloc: Global,
+    heads: [Option<SegmentHead>; 3],
+    clips: &[Option<Span>],
+) -> Result<Option<(u64, u32)>, AllocError> {
+    let table = table(alloc, heads)?;
+    let block = victim_block(&SMALL, &table, clips);
+    let segment = victim_segment(&SMALL, &table, clips);
+    Ok(block.zip(segment))
+}
+
+#[test]
+fn the_least_block_that_no_clip_meets_goes(rt: HostRuntime) -> Result<(), Fail> {
+    let alloc = rt.alloc();
+    assert_eq!(rt; goes(alloc, [None, None, open(0, 2)], &[])?, None);
+    // Block 3 is begun and has no frame: 2 is the newest.
+    let begun = [open(3, 0), open(1, 2), open(2, 2)];
+    assert_eq!(rt; goes(alloc, begun, &[])?, Some((1, 1)));
+    let begun_alone = [open(1, 0), open(0, 2), None];
+    assert_eq!(rt; goes(alloc, begun_alone, &[])?, None);
+    // Block 1 is locked, and then 3 with it.
+    let full = [open(3, 2), open(1, 2), open(2, 2)];
+    assert_eq!(rt; goes(alloc, full, &[None, clip(2)])?, Some((2, 2)));
+    let later = [open(3, 2), open(1, 2), open(4, 2)];
+    assert_eq!(rt; goes(alloc, later, &[clip(2), clip(6)])?, None);
+    assert_eq!(rt; goes(alloc, later, &[clip(2), None])?, Some((3, 0)));
     Ok(())
 }

@@ -1,0 +1,47 @@
+-- The segments of a store as their headers say, in the order in which they lie on the disk.
+use Rattle.std.specs.Prelude.{◌≡◌, ℕ, ◌/◌, ◌%◌, Bool, false, not, ◌&&◌, ◌==◌, nat_lt, if◌then◌else◌, Option, None, Some, List, map, slice_index_or}
+use Rattle.std.specs.List.{list_any, range_with_len}
+use Rattle.loop_record.specs.declared.clip.Span.{Span}
+use Rattle.loop_record.specs.declared.geometry.Geometry.{Geometry}
+use Rattle.loop_record.specs.declared.segment.SegmentHead.{SegmentHead}
+use Rattle.loop_record.specs.Geometry.{segment_at}
+use Rattle.loop_record.specs.Layout.{header_at}
+use Rattle.loop_record.specs.Recording.{Ring, meets}
+
+-- what the header of each segment says
+abbrev pub heads_of : Geometry → List ℕ → List (Option SegmentHead)
+heads_of g image = map (λ j. header_at g image (segment_at g j)) (range_with_len 0 g.segments)
+
+-- the segment is open and holds block b
+abbrev pub is_of : ℕ → Option SegmentHead → Bool
+is_of b None = false
+is_of b (Some head) = head.block == b
+
+-- the segment is open and has a whole frame
+abbrev pub has_frame : Option SegmentHead → Bool
+has_frame None = false
+has_frame (Some head) = nat_lt 0 head.frames
+
+-- the segment is open and has the frame of a number, where blocks have so many frames
+abbrev pub has_number : ℕ → ℕ → Option SegmentHead → Bool
+has_number slots number None = false
+has_number slots number (Some head) = (head.block == number / slots) && nat_lt (number % slots) head.frames
+
+-- the block of a segment that is open and has a whole frame
+abbrev pub held_block : Option SegmentHead → Option ℕ
+held_block None = None
+held_block (Some head) = if nat_lt 0 head.frames then Some head.block else None
+
+-- the block may go, where this is the newest one: it is another, and no clip meets it
+abbrev pub is_going : Ring → List (Option Span) → ℕ → ℕ → Bool
+is_going ring clips newest block = not (block == newest) && not (list_any (meets ring block) clips)
+
+-- the block of a segment that is open and has a whole frame, if that block may go
+abbrev pub going_block : Ring → List (Option Span) → ℕ → Option SegmentHead → Option ℕ
+going_block ring clips newest None = None
+going_block ring clips newest (Some head) = if nat_lt 0 head.frames && is_going ring clips newest head.block then Some head.block else None
+
+-- the place of a segment that holds this block, or no place where there is no block
+abbrev pub IsPlaceOf : List (Option SegmentHead) → Option ℕ → Option ℕ → Type 0
+IsPlaceOf heads block None = block ≡ None
+IsPlaceOf heads block (Some j) = (head : SegmentHead) × (slice_index_or heads j None ≡ Some head) × (block ≡ Some head.block)

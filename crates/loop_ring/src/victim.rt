@@ -1,0 +1,93 @@
+// Which block goes when room is needed, by the segments and the clips of a store.
+ghost use Rattle.std.specs.Prelude.{◌≡◌, ℕ, List, IsTrue, max, min};
+ghost use Rattle.std.specs.List.{filter_map, reduce};
+ghost use Rattle.loop_record.specs.Geometry.{is_good};
+ghost use Rattle.loop_record.specs.Reading.{Holds};
+ghost use Rattle.loop_record.specs.Recording.{Recording, ring_of, victim};
+ghost use Rattle.loop_ring.specs.Heads.{IsPlaceOf, going_block, held_block, heads_of};
+
+use crate::SegmentTable;
+use loop_record::{Geometry, SegmentHead, Span, may_go};
+use std::alloc::Allocator;
+
+/// The block that goes when room is needed: the least block of a held frame that no clip meets and that isn't the block of the
+/// newest held frame. Nothing where none may go. A segment without frames holds none and is passed over. It takes no memory.
+pub fn victim_block<A: Allocator>(
+    geometry: &Geometry,
+    table: &SegmentTable<A>,
+    clips: &[Option<Span>],
+) -> Option<u64>
+    requires { IsTrue (is_good geometry.now) }
+    ensures { (r : Recording) (image : List ℕ) → Holds geometry.now r image → table.now ≡ heads_of geometry.now image → clips.now ≡ r.clips
+        → result ≡ victim (ring_of geometry.now) r }
+{
+    let heads = table.as_slice();
+    let newest = newest_block(heads)?;
+    oldest_block(geometry, heads, clips, newest)
+}
+
+/// The segment of the block that goes when room is needed, as `victim_block` answers it, or nothing where no block may go. It
+/// takes no memory.
+pub fn victim_segment<A: Allocator>(
+    geometry: &Geometry,
+    table: &SegmentTable<A>,
+    clips: &[Option<Span>],
+) -> Option<u32>
+    requires { IsTrue (is_good geometry.now) }
+    ensures { (r : Recording) (image : List ℕ) → Holds geometry.now r image → table.now ≡ heads_of geometry.now image → clips.now ≡ r.clips
+        → IsPlaceOf table.now (victim (ring_of geometry.now) r) result }
+{
+    let block = victim_block(geometry, table, clips)?;
+    table.find(block)
+}
+
+// The block of a segment that is open and has a whole frame.
+fn held_block(head: Option<SegmentHead>) -> Option<u64>
+    ensures { result ≡ held_block head }
+{
+    match head {
+        Some(head) if head.frames > 0 => Some(head.block),
+        _ => None,
+    }
+}
+
+// The greatest block of a held frame.
+fn newest_block(heads: &[Option<SegmentHead>]) -> Option<u64>
+    ensures { result ≡ reduce max (filter_map held_block heads.now) }
+{
+    heads.iter().filter_map(|head| held_block(*head)).max()
+}
+
+// The block of a segment that is open and has a whole frame, if that block may go.
+fn going_block(
+    geometry: &Geometry,
+    clips: &[Option<Span>],
+    newest: u64,
+    head: Option<SegmentHead>,
+) -> Option<u64>
+    requires { IsTrue (is_good geometry.now) }
+    ensures { result ≡ going_block (ring_of geometry.now) clips.now newest head }
+{
+    let head = head?;
+    if head.frames > 0 && may_go(geometry, clips, newest, head.block) {
+        Some(head.block)
+    } else {
+        None
+    }
+}
+
+// The least block of a held frame that may go, where this is the newest block.
+fn oldest_block(
+    geometry: &Geometry,
+    heads: &[Option<SegmentHead>],
+    clips: &[Option<Span>],
+    newest: u64,
+) -> Option<u64>
+    requires { IsTrue (is_good geometry.now) }
+    ensures { result ≡ reduce min (filter_map (going_block (ring_of geometry.now) clips.now newest) heads.now) }
+{
+    heads
+        .iter()
+        .filter_map(|head| going_block(geometry, clips, newest, *head))
+        .min()
+}
