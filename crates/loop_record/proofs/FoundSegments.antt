@@ -20,7 +20,7 @@ use Rattle.loop_record.specs.declared.segment.SegmentHead.{SegmentHead}
 use Rattle.loop_record.specs.Geometry.{frame_bytes, segment_at, segment_size, slot_at, disk_size}
 use Rattle.loop_record.specs.Layout.{Slot, Segment, slot_head, is_open, is_slot_of, is_too_high, slot_in, segment_in, whole_frames, entry_at, clip_in, geometry_in, header_at, checked_header}
 use Rattle.loop_record.specs.Reading.{reading, Contents, Holds, contents, with_geometry, shown, checked, recording_of, is_bad_clip, has_bad_clip, parts_of, opened, by_block, in_place, repeats, lacks_frame, hold_from, is_bad_slot, is_high, next_after, all_frames}
-use Rattle.loop_record.specs.Plain.{numbered, segment_of, segments_of, found_of, found_at, held_clip, with_segment, Reads, IsIn, AreIn, IsSomeHigh, IsFrameIn}
+use Rattle.loop_record.specs.Plain.{numbered, segment_of, segments_of, found_of, found_at, held_clip, lacks_number, table_clips, with_segment, Reads, IsIn, AreIn, IsSomeHigh, IsFrameIn}
 use Rattle.loop_record.proofs.Fresh.{header_at-slice, slot_in-slice, entry_at-slice}
 use Rattle.std.proofs.Math.Nat.{mul-le-mul_right, add-mul}
 use Rattle.loop_record.proofs.Framing.{prefix_range-le, slot_within}
@@ -91,14 +91,22 @@ found-is g image j at r few is e = ap (found_of j) (e ∙ ap (checked_header g) 
 abbrev pub read_slots : Geometry → List ℕ → ℕ → ℕ → List Slot
 read_slots g image j n = map (λ i. slot_in (frame_bytes g) image (slot_at g j i)) (range_with_len 0 n)
 
-read_slots-split : (g : Geometry) (image : List ℕ) (j i m : ℕ) → read_slots g image j (i + m) ≡ read_slots g image j i ++ map (λ k. slot_in (frame_bytes g) image (slot_at g j k)) (range_with_len i m)
+pub read_slots-split : (g : Geometry) (image : List ℕ) (j i m : ℕ) → read_slots g image j (i + m) ≡ read_slots g image j i ++ map (λ k. slot_in (frame_bytes g) image (slot_at g j k)) (range_with_len i m)
 read_slots-split g image j i m =
     let slot = λ (k : ℕ). slot_in (frame_bytes g) image (slot_at g j k) in
     let at : 0 + i ≡ i = omega arith in
     ap (map slot) (range_append 0 i m) ∙ map-append slot (range_with_len 0 i) (range_with_len (0 + i) m) ∙ ap (λ (k : ℕ). read_slots g image j i ++ map slot (range_with_len k m)) at
 
-length-read_slots : (g : Geometry) (image : List ℕ) (j n : ℕ) → length (read_slots g image j n) ≡ n
+pub length-read_slots : (g : Geometry) (image : List ℕ) (j n : ℕ) → length (read_slots g image j n) ≡ n
 length-read_slots g image j n = length-map (range_with_len 0 n) (λ i. slot_in (frame_bytes g) image (slot_at g j i)) ∙ length-range 0 n
+
+-- the slots so far hold their frames, and one more does
+pub slots-hold : (g : Geometry) (image : List ℕ) (j i first : ℕ) → hold_from (frame_bytes g) first (read_slots g image j i) ≡ true → is_slot_of (frame_bytes g) (first + i) (slot_in (frame_bytes g) image (slot_at g j i)) ≡ true
+    → hold_from (frame_bytes g) first (read_slots g image j (i + 1)) ≡ true
+slots-hold g image j i first held one =
+    let s = slot_in (frame_bytes g) image (slot_at g j i) in
+    let end : first + length (read_slots g image j i) ≡ first + i = ap (λ (k : ℕ). first + k) (length-read_slots g image j i) in
+    ap (hold_from (frame_bytes g) first) (read_slots-split g image j i 1) ∙ hold_from-append (frame_bytes g) first (read_slots g image j i) (s ∷ []) (first + i) end ∙ (λ k. held k && (one k && true))
 
 -- the slots so far, and one more that holds its frame
 pub slots-more : {A : Type 0} (g : Geometry) (image : List ℕ) (j i first : ℕ) (kept : List (ℕ × Picture)) (x : Numbered A) (old new pushed : List (Numbered A))
@@ -113,11 +121,8 @@ slots-more {A} g image j i first kept x old new pushed held so_far is e = (holds
     split : read_slots g image j (i + 1) ≡ read_slots g image j i ++ s ∷ []
     split = read_slots-split g image j i 1
 
-    end : first + length (read_slots g image j i) ≡ first + i
-    end = ap (λ (k : ℕ). first + k) (length-read_slots g image j i)
-
     holds : hold_from (frame_bytes g) first (read_slots g image j (i + 1)) ≡ true
-    holds = ap (hold_from (frame_bytes g) first) split ∙ hold_from-append (frame_bytes g) first (read_slots g image j i) (s ∷ []) (first + i) end ∙ (λ k. held k && (is.holds k && true))
+    holds = slots-hold g image j i first held is.holds
 
     pics : map (λ t. t.picture) (read_slots g image j (i + 1)) ≡ map (λ t. t.picture) (read_slots g image j i) ++ s.picture ∷ []
     pics = ap (map (λ t. t.picture)) split ∙ map-append (λ t. t.picture) (read_slots g image j i) (s ∷ [])
@@ -370,8 +375,8 @@ block-fits g b low =
 abbrev pub some_bad : List (ℕ × Picture) → List (Option Span) → Bool
 some_bad frames clips = list_any (is_bad_clip (record empty { frames = frames })) clips
 
-entry-cut : (image cut : List ℕ) (id : ℕ) → cut ≡ slice_range image (512 + id * 32) (512 + id * 32 + 32) → entry_at cut 0 ≡ clip_in image id
-entry-cut image cut id is = ap (λ (c : List ℕ). entry_at c 0) is ∙ entry_at-slice image (512 + id * 32)
+entry-cut : (table cut : List ℕ) (id : ℕ) → cut ≡ slice_range table (id * 32) (id * 32 + 32) → entry_at cut 0 ≡ entry_at table (id * 32)
+entry-cut table cut id is = ap (λ (c : List ℕ). entry_at c 0) is ∙ entry_at-slice table (id * 32)
 
 any-range : (p : Option Span → Bool) (f : ℕ → Option Span) (lo n j : ℕ) → lo ≤ j → j < lo + n → p (f j) ≡ true → list_any p (map f (range_with_len lo n)) ≡ true
 any-range p f lo zero j low up e = absurd (omega (arith, low, up))
@@ -388,9 +393,13 @@ any-range p f lo (suc n) j low up e = pick (eqb lo j) refl (λ l. any-range p f 
         beyond : eqb lo j ≡ false → lo + 1 ≤ j
         beyond e = grind (arith, nat_tests, e, low)
 
-pub clip-wrong : (frames : List (ℕ × Picture)) (image cut : List ℕ) (id : ℕ) (d : Damage) → id < 64 → cut ≡ slice_range image (512 + id * 32) (512 + id * 32 + 32) → (let r : Result (Option Span) Damage = Err d in r) ≡ held_clip frames (entry_at cut 0)
-    → (d ≡ ClipRange) × (some_bad frames (map (clip_in image) (range_with_len 0 64)) ≡ true)
-clip-wrong frames image cut id d l is e = go (is_bad_clip (record empty { frames = frames }) (clip_in image id)) refl (e ∙ ap (held_clip frames) (entry-cut image cut id is))
+-- the entries of a clip table
+abbrev pub entries : List ℕ → ℕ → Option Span
+entries table id = entry_at table (id * 32)
+
+pub clip-wrong : (g : Geometry) (fs : List Found) (table cut : List ℕ) (id : ℕ) (d : Damage) → id < 64 → cut ≡ slice_range table (id * 32) (id * 32 + 32) → (let r : Result (Option Span) Damage = Err d in r) ≡ held_clip g fs (entry_at cut 0)
+    → (d ≡ ClipRange) × (list_any (lacks_number g fs) (table_clips table) ≡ true)
+clip-wrong g fs table cut id d l is e = go (lacks_number g fs (entries table id)) refl (e ∙ ap (held_clip g fs) (entry-cut table cut id is))
   where
     err : Damage → Result (Option Span) Damage
     err x = Err x
@@ -398,33 +407,38 @@ clip-wrong frames image cut id d l is e = go (is_bad_clip (record empty { frames
     same : err d ≡ err ClipRange → d ≡ ClipRange
     same e = cc
 
-    go : (t : Bool) → is_bad_clip (record empty { frames = frames }) (clip_in image id) ≡ t → err d ≡ cond t (Err ClipRange) (Ok (clip_in image id)) → (d ≡ ClipRange) × (some_bad frames (map (clip_in image) (range_with_len 0 64)) ≡ true)
-    go true bad e = (same e, any-range (is_bad_clip (record empty { frames = frames })) (clip_in image) 0 64 id (omega arith) (omega (arith, l)) bad)
+    go : (t : Bool) → lacks_number g fs (entries table id) ≡ t → err d ≡ cond t (Err ClipRange) (Ok (entries table id)) → (d ≡ ClipRange) × (list_any (lacks_number g fs) (table_clips table) ≡ true)
+    go true bad e = (same e, any-range (lacks_number g fs) (entries table) 0 64 id (omega arith) (omega (arith, l)) bad)
     go false bad e = absurd cc
 
-pub clips-more : (frames : List (ℕ × Picture)) (image cut : List ℕ) (clips : List (Option Span)) (id : ℕ) (c : Option Span) → id < length clips → cut ≡ slice_range image (512 + id * 32) (512 + id * 32 + 32) → (let r : Result (Option Span) Damage = Ok c in r) ≡ held_clip frames (entry_at cut 0)
-    → take id clips ≡ map (clip_in image) (range_with_len 0 id) → some_bad frames (map (clip_in image) (range_with_len 0 id)) ≡ false
-    → (take (id + 1) (set clips id c) ≡ map (clip_in image) (range_with_len 0 (id + 1))) × (some_bad frames (map (clip_in image) (range_with_len 0 (id + 1))) ≡ false)
-clips-more frames image cut clips id c l is e so_far good = go (is_bad_clip (record empty { frames = frames }) (clip_in image id)) refl (e ∙ ap (held_clip frames) (entry-cut image cut id is))
+pub clips-more : (g : Geometry) (fs : List Found) (table cut : List ℕ) (clips : List (Option Span)) (id : ℕ) (c : Option Span) → id < length clips → cut ≡ slice_range table (id * 32) (id * 32 + 32) → (let r : Result (Option Span) Damage = Ok c in r) ≡ held_clip g fs (entry_at cut 0)
+    → take id clips ≡ map (entries table) (range_with_len 0 id) → list_any (lacks_number g fs) (map (entries table) (range_with_len 0 id)) ≡ false
+    → (take (id + 1) (set clips id c) ≡ map (entries table) (range_with_len 0 (id + 1))) × (list_any (lacks_number g fs) (map (entries table) (range_with_len 0 (id + 1))) ≡ false)
+clips-more g fs table cut clips id c l is e so_far good = go (lacks_number g fs (entries table id)) refl (e ∙ ap (held_clip g fs) (entry-cut table cut id is))
   where
     ok : Option Span → Result (Option Span) Damage
     ok x = Ok x
 
-    same : ok c ≡ ok (clip_in image id) → c ≡ clip_in image id
+    same : ok c ≡ ok (entries table id) → c ≡ entries table id
     same e = cc
 
-    split : map (clip_in image) (range_with_len 0 (id + 1)) ≡ map (clip_in image) (range_with_len 0 id) ++ clip_in image id ∷ []
+    split : map (entries table) (range_with_len 0 (id + 1)) ≡ map (entries table) (range_with_len 0 id) ++ entries table id ∷ []
     split =
         let at : 0 + id ≡ id = omega arith in
-        ap (map (clip_in image)) (range_append 0 id 1) ∙ map-append (clip_in image) (range_with_len 0 id) (range_with_len (0 + id) 1) ∙ ap (λ (k : ℕ). map (clip_in image) (range_with_len 0 id) ++ clip_in image k ∷ []) at
+        ap (map (entries table)) (range_append 0 id 1) ∙ map-append (entries table) (range_with_len 0 id) (range_with_len (0 + id) 1) ∙ ap (λ (k : ℕ). map (entries table) (range_with_len 0 id) ++ entries table k ∷ []) at
 
-    go : (t : Bool) → is_bad_clip (record empty { frames = frames }) (clip_in image id) ≡ t → ok c ≡ cond t (Err ClipRange) (Ok (clip_in image id)) → (take (id + 1) (set clips id c) ≡ map (clip_in image) (range_with_len 0 (id + 1))) × (some_bad frames (map (clip_in image) (range_with_len 0 (id + 1))) ≡ false)
+    go : (t : Bool) → lacks_number g fs (entries table id) ≡ t → ok c ≡ cond t (Err ClipRange) (Ok (entries table id)) → (take (id + 1) (set clips id c) ≡ map (entries table) (range_with_len 0 (id + 1))) × (list_any (lacks_number g fs) (map (entries table) (range_with_len 0 (id + 1))) ≡ false)
     go true bad e = absurd cc
     go false bad e =
         let n : id + 1 ≡ suc id = omega arith in (
           ap (λ (k : ℕ). take k (set clips id c)) n ∙ take-suc-set clips id c l ∙ (λ i. so_far i ++ same e i ∷ []) ∙ sym split,
-          ap (some_bad frames) split ∙ list_any-append (is_bad_clip (record empty { frames = frames })) (map (clip_in image) (range_with_len 0 id)) (clip_in image id ∷ []) ∙ (λ i. good i || (bad i || false)),
+          ap (list_any (lacks_number g fs)) split ∙ list_any-append (lacks_number g fs) (map (entries table) (range_with_len 0 id)) (entries table id ∷ []) ∙ (λ i. good i || (bad i || false)),
         )
+
+pub clips-all : (g : Geometry) (fs : List Found) (table : List ℕ) (clips : List (Option Span)) (id : ℕ) → id ≡ 64 → length clips ≡ 64 → take id clips ≡ map (entries table) (range_with_len 0 id) → list_any (lacks_number g fs) (map (entries table) (range_with_len 0 id)) ≡ false
+    → (clips ≡ table_clips table) × (list_any (lacks_number g fs) (table_clips table) ≡ false)
+clips-all g fs table clips id last size are good =
+    (sym (take_all id clips (omega (arith, last, size))) ∙ are ∙ ap (λ (n : ℕ). map (entries table) (range_with_len 0 n)) last, ap (λ (n : ℕ). list_any (lacks_number g fs) (map (entries table) (range_with_len 0 n))) (sym last) ∙ good)
 
 -- ---- the whole
 
@@ -435,11 +449,6 @@ pub reading-other_size : (g : Geometry) (image : List ℕ) → (let r : Result G
 reading-other_size g image e other =
     let sized : eqb (length image) (disk_size g) ≡ false = differ_test (length image) (disk_size g) other in
     ap (contents image) (sym e) ∙ (λ i. cond (sized i) (with_geometry g (shown g (parts_of g image))) (Err (Damaged DiskSize)))
-
-pub clips-all : (frames : List (ℕ × Picture)) (image : List ℕ) (clips : List (Option Span)) (id : ℕ) → id ≡ 64 → length clips ≡ 64 → take id clips ≡ map (clip_in image) (range_with_len 0 id) → some_bad frames (map (clip_in image) (range_with_len 0 id)) ≡ false
-    → (clips ≡ map (clip_in image) (range_with_len 0 64)) × (some_bad frames (map (clip_in image) (range_with_len 0 64)) ≡ false)
-clips-all frames image clips id last size are good =
-    (sym (take_all id clips (omega (arith, last, size))) ∙ are ∙ ap (λ (n : ℕ). map (clip_in image) (range_with_len 0 n)) last, ap (λ (n : ℕ). some_bad frames (map (clip_in image) (range_with_len 0 n))) (sym last) ∙ good)
 
 -- found segments aren't too high
 pub AreIn-low : (g : Geometry) (image : List ℕ) (fs : List Found) → AreIn g fs → list_any (is_high g) (segments_of g image fs) ≡ false
@@ -507,10 +516,10 @@ pub record IsFoundIn (g : Geometry) (image : List ℕ) (fs xs : List Found) : Ty
   pub within : AreIn g fs
   pub same : xs ≡ fs
 
-found-read : (g : Geometry) (image : List ℕ) (fs xs : List Found) → IsFoundIn g image fs xs → IsRead g image (segments_of g image xs)
+pub found-read : (g : Geometry) (image : List ℕ) (fs xs : List Found) → IsFoundIn g image fs xs → IsRead g image (segments_of g image xs)
 found-read g image fs xs f = record { geometry = f.geometry; size = f.size; are = ap (λ (ys : List Found). segments_of g image ys) f.same ∙ f.are }
 
-found-low : (g : Geometry) (image : List ℕ) (fs xs : List Found) → IsFoundIn g image fs xs → list_any (is_high g) (segments_of g image xs) ≡ false
+pub found-low : (g : Geometry) (image : List ℕ) (fs xs : List Found) → IsFoundIn g image fs xs → list_any (is_high g) (segments_of g image xs) ≡ false
 found-low g image fs xs f = ap (λ (ys : List Found). list_any (is_high g) (segments_of g image ys)) f.same ∙ AreIn-low g image fs f.within
 
 pub found-within : (g : Geometry) (image : List ℕ) (fs xs : List Found) → IsFoundIn g image fs xs → AreIn g xs
@@ -560,8 +569,8 @@ read-all g image fs xs next frames clips a right are after clips_are good =
 pub read-into : {A : Type 0} (g : Geometry) (ss : List Segment) (old new xs : List (Numbered A)) → old ≡ [] → numbered new ≡ numbered old ++ all_frames g ss → xs ≡ new → numbered xs ≡ all_frames g ss
 read-into {A} g ss old new xs none are same = ap (λ (ys : List (Numbered A)). numbered ys) same ∙ are ∙ ap (λ (ys : List (Numbered A)). numbered ys ++ all_frames g ss) none
 
-pub same_frames : {A : Type 0} (image : List ℕ) (xs ys : List (Numbered A)) → xs ≡ ys → some_bad (numbered xs) (clips_in image) ≡ false → some_bad (numbered ys) (clips_in image) ≡ false
-same_frames {A} image xs ys e good = sym (ap (λ (zs : List (Numbered A)). some_bad (numbered zs) (clips_in image)) e) ∙ good
+pub good-frames : (image : List ℕ) (fs gs : List (ℕ × Picture)) → gs ≡ fs → some_bad fs (clips_in image) ≡ false → some_bad gs (clips_in image) ≡ false
+good-frames image fs gs e good = ap (λ (q : List (ℕ × Picture)). some_bad q (clips_in image)) e ∙ good
 
 pub fault-of : {f h : LayoutFault} → f ≡ h → fault_is f ≡ fault_is h
 fault-of e = ap fault_is e

@@ -1,20 +1,24 @@
 -- What a freshly formatted image reads as, and what a part reads as once it has been written.
-use Rattle.std.proofs.Common.{◌≡◌, inr, ℕ, zero, suc, ◌+◌, ◌-◌, ◌^◌, ◌<◌, ◌≤◌, true, false, cond, ◌&&◌, eqb, IsTrue, Option, Some, None, Ok, Err, List, [], ◌++◌, length, take, drop, get_or, map, replicate, refl, sym, ap, ◌∙◌, arith}
-use Rattle.std.proofs.lemmas.List.{take_all, append-nil, take-append-drop, get_or-take, get_or-drop, drop-take, drop-drop, take-take}
+use Rattle.std.proofs.Common.{◌≡◌, inr, ℕ, zero, suc, ◌+◌, ◌-◌, ◌^◌, ◌<◌, ◌≤◌, true, false, cond, ◌&&◌, eqb, leb, IsTrue, Option, Some, None, Ok, Err, List, [], ◌∷◌, ◌++◌, length, take, drop, get_or, map, replicate, refl, sym, ap, ◌∙◌, arith}
+use Rattle.std.proofs.lemmas.List.{length-take, length-drop, take_all, append-nil, take-append-drop, get_or-take, get_or-drop, drop-take, drop-drop, take-take}
 use Rattle.std.specs.Prelude.{slice_range}
-use Rattle.std.specs.List.{range_with_len}
+use Rattle.std.specs.List.{list_all, range_with_len}
 use Rattle.byteorder.specs.Endian.{little_from}
 use Rattle.byteorder.specs.Numbers.{little_number-reads_back}
 use Rattle.loop_record.specs.declared.clip.Span.{Span}
-use Rattle.loop_record.specs.declared.damage.Damage.TheVariants.{SlotHead}
+use Rattle.loop_record.specs.declared.damage.Damage.TheVariants.{SlotHead, Superblock}
+use Rattle.loop_record.specs.declared.damage.LayoutFault.TheVariants.{NotFormatted, Damaged}
+use Rattle.loop_record.specs.declared.geometry.PixelFormat.{PixelFormat}
+use Rattle.loop_record.specs.declared.geometry.PixelFormat.TheVariants.{Grey, Ym12, Ym16, Ym24}
 use Rattle.loop_record.specs.declared.geometry.Geometry.{Geometry}
 use Rattle.loop_record.specs.Geometry.{frame_bytes, is_good, segment_at, slot_at, clip_at}
 use Rattle.loop_record.specs.Recording.{Picture, empty, head}
-use Rattle.loop_record.specs.Layout.{is_open, open_gates, whole_frames, segment_in, entry_at, clip_in, header_at, super_bytes, header_bytes, entry_bytes, geometry_in, slot_in, slot_bytes, slot_head}
+use Rattle.loop_record.specs.Layout.{magic, format_bytes, has_bytes, format_at, geometry_fields, checked_geometry, is_open, open_gates, whole_frames, segment_in, entry_at, clip_in, header_at, super_bytes, header_bytes, entry_bytes, geometry_in, slot_in, slot_bytes, slot_head}
 use Rattle.loop_record.specs.Reading.{checked, by_block, opened, begun, Holds, IsFresh}
 use Rattle.loop_record.specs.Laws.{FitsSlot, WrittenIsRead}
 use Rattle.loop_record.proofs.Bounds.{limits}
-use Rattle.loop_record.proofs.Decided.{equal_test}
+use Rattle.loop_record.proofs.Decided.{equal_test, at_most_test}
+use Rattle.loop_record.proofs.Fields.{length-format_bytes}
 use Rattle.loop_record.proofs.Framing.{map_range, prefix_range}
 use Rattle.loop_record.proofs.Gates.{open_gates-are}
 use Rattle.loop_record.proofs.Parts.{stages-reading}
@@ -79,11 +83,60 @@ clip_in-entry_bytes image id s low high e =
 -- ---- a part by itself
 
 -- the number at a place of a part
-number-slice : (at n i m : ℕ) (image : List ℕ) → i + m ≤ n → little_from i m (slice_range image at (at + n)) ≡ little_from (at + i) m image
+pub number-slice : (at n i m : ℕ) (image : List ℕ) → i + m ≤ n → little_from i m (slice_range image at (at + n)) ≡ little_from (at + i) m image
 number-slice at n i m image h = sym (little_from-slice at (at + n) i m image (omega (arith, h)))
 
-open-slice : (at n i : ℕ) (image : List ℕ) → i < n → is_open (slice_range image at (at + n)) i ≡ is_open image (at + i)
+pub open-slice : (at n i : ℕ) (image : List ℕ) → i < n → is_open (slice_range image at (at + n)) i ≡ is_open image (at + i)
 open-slice at n i image l = ap (λ (x : ℕ). eqb x 0xA5) (sym (byte-slice at n i image l))
+
+bytes-slice : (at n : ℕ) (image : List ℕ) (i : ℕ) (bs : List ℕ) → i + length bs ≤ n → has_bytes (slice_range image at (at + n)) i bs ≡ has_bytes image (at + i) bs
+bytes-slice at n image i [] h = refl
+bytes-slice at n image i (b ∷ bs) h =
+    let first : eqb (get_or (slice_range image at (at + n)) i 0) b ≡ eqb (get_or image (at + i) 0) b = ap (λ (x : ℕ). eqb x b) (sym (byte-slice at n i image (omega (arith, h)))) in
+    let place : at + (i + 1) ≡ at + i + 1 = omega arith in
+    let rest = bytes-slice at n image (i + 1) bs (omega (arith, h)) ∙ ap (λ (k : ℕ). has_bytes image k bs) place in
+    λ j. first j && rest j
+
+-- the superblock, cut out of its image, says what it says in it
+pub geometry_in-slice : (image : List ℕ) → 512 ≤ length image → geometry_in (slice_range image 0 512) ≡ geometry_in image
+geometry_in-slice image room = λ i. cond (whole i && gate i && name i) (geometry i) (Err NotFormatted)
+  where
+    cut : List ℕ
+    cut = slice_range image 0 512
+
+    whole : leb 512 (length cut) ≡ leb 512 (length image)
+    whole = at_most_test 512 (length cut) (omega (arith, length-take 512 (drop 0 image), length-drop 0 image, room)) ∙ sym (at_most_test 512 (length image) room)
+
+    gate : is_open cut 0 ≡ is_open image 0
+    gate = open-slice 0 512 0 image (omega arith)
+
+    name : has_bytes cut 1 magic ≡ has_bytes image 1 magic
+    name = bytes-slice 0 512 image 1 magic (omega arith)
+
+    format : format_at cut 20 ≡ format_at image 20
+    format =
+        let named : (f : PixelFormat) → has_bytes cut 20 (format_bytes f) ≡ has_bytes image 20 (format_bytes f) = λ f. bytes-slice 0 512 image 20 (format_bytes f) (omega (arith, length-format_bytes f)) in
+        λ i. cond (named Grey i) (Some Grey) (cond (named Ym12 i) (Some Ym12) (cond (named Ym16 i) (Some Ym16) (cond (named Ym24 i) (Some Ym24) None)))
+
+    field : (at : ℕ) → at + 4 ≤ 512 → little_from at 4 cut ≡ little_from at 4 image
+    field at h =
+        let here : 0 + at ≡ at = omega arith in
+        number-slice 0 512 at 4 image h ∙ ap (λ (k : ℕ). little_from k 4 image) here
+
+    zeros : slice_range cut 44 512 ≡ slice_range image 44 512
+    zeros = ap (take 468) (drop-take 44 468 image) ∙ take-take 468 468 (drop 44 image) (omega arith)
+
+    of_format : (o : Option PixelFormat) → checked_geometry cut o ≡ checked_geometry image o
+    of_format None = refl
+    of_format (Some f) =
+        let fields : geometry_fields cut f ≡ geometry_fields image f =
+        λ i. record { width = field 12 (omega arith) i; height = field 16 (omega arith) i; format = f; rate_num = field 24 (omega arith) i; rate_den = field 28 (omega arith) i; segments = field 32 (omega arith) i; slots = field 36 (omega arith) i } in
+        let version = field 8 (omega arith) in
+        let size = field 40 (omega arith) in
+        λ i. cond (eqb (version i) 1 && is_good (fields i) && eqb (size i) (frame_bytes (fields i)) && list_all (λ x. eqb x 0) (zeros i)) (Ok (fields i)) (Err (Damaged Superblock))
+
+    geometry : checked_geometry cut (format_at cut 20) ≡ checked_geometry image (format_at image 20)
+    geometry = ap (λ (o : Option PixelFormat). checked_geometry cut o) format ∙ of_format (format_at image 20)
 
 -- the header of a segment, cut out of its image, says what it says in it
 pub header_at-slice : (g : Geometry) (image : List ℕ) (at : ℕ) → g.slots ≤ 256 → header_at g (slice_range image at (at + 512)) 0 ≡ header_at g image at

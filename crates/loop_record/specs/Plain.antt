@@ -1,6 +1,6 @@
 -- The plain recorder as a program's value, and what its calls do to it.
-use Rattle.std.specs.Prelude.{◌≡◌, ◌<◌, ◌≤◌, ℕ, true, false, [], ◌∷◌, IsTrue, ◌&&◌, nat_le, nat_lt, if◌then◌else◌, Option, Some, None, Result, Ok, Err, List, map}
-use Rattle.std.specs.List.{range_with_len}
+use Rattle.std.specs.Prelude.{◌≡◌, ◌<◌, ◌≤◌, ℕ, ◌+◌, ◌-◌, ◌*◌, ◌/◌, ◌%◌, ◌==◌, ◌||◌, Bool, true, false, not, [], ◌∷◌, IsTrue, ◌&&◌, nat_le, nat_lt, if◌then◌else◌, Option, Some, None, Result, Ok, Err, List, map}
+use Rattle.std.specs.List.{list_all, list_any, range_with_len}
 use Rattle.loop_record.specs.declared.clip.Span.{Span}
 use Rattle.loop_record.specs.declared.frame.Frame.{Frame}
 use Rattle.loop_record.specs.declared.frame.Numbered.{Numbered}
@@ -14,9 +14,9 @@ use Rattle.loop_record.specs.declared.image.Found.{Found}
 use Rattle.loop_record.specs.declared.plain.AppendFault.{AppendFault}
 use Rattle.loop_record.specs.declared.segment.SegmentHead.{SegmentHead}
 use Rattle.loop_record.specs.Geometry.{is_good, frame_bytes, segment_at, slot_at}
-use Rattle.loop_record.specs.Recording.{Picture, Recording, Step, store, recycle, empty, free_id, holds_all, picture, ring_of, after, IsWellFormed}
-use Rattle.loop_record.specs.Layout.{Slot, Segment, slot_in, is_slot_of, is_too_high, header_at, checked_header}
-use Rattle.loop_record.specs.Reading.{Contents, in_place, is_high, is_bad_clip}
+use Rattle.loop_record.specs.Recording.{Picture, Recording, Step, store, recycle, free_id, holds_all, picture, ring_of, after, IsWellFormed}
+use Rattle.loop_record.specs.Layout.{Slot, Segment, slot_in, is_slot_of, is_too_high, header_at, checked_header, entry_at}
+use Rattle.loop_record.specs.Reading.{Contents, in_place, is_high}
 
 -- frames with their numbers, without where their bytes lie in memory
 abbrev pub numbered : {A : Type 0} → List (Numbered A) → List (ℕ × Picture)
@@ -98,6 +98,19 @@ pub record IsFrameIn {A : Type 0} (n number : ℕ) (s : Slot) (x : Numbered A) :
   pub number_is : x.number ≡ number
   pub picture_is : picture x.frame ≡ s.picture
 
--- a clip of which each number is one of the frames'
-abbrev pub held_clip : List (ℕ × Picture) → Option Span → Result (Option Span) Damage
-held_clip frames clip = if is_bad_clip (record empty { frames = frames }) clip then Err ClipRange else Ok clip
+-- a found segment has the frame of that number
+abbrev pub has_number : Geometry → ℕ → Found → Bool
+has_number g n f = (f.block == n / g.slots) && nat_lt (n % g.slots) f.frames
+
+-- a clip that is empty or has a number of which no segment has the frame
+abbrev pub lacks_number : Geometry → List Found → Option Span → Bool
+lacks_number g fs None = false
+lacks_number g fs (Some s) = nat_lt s.to s.from || not (list_all (λ n. list_any (has_number g n) fs) (range_with_len s.from (s.to + 1 - s.from)))
+
+-- a clip of which the segments have each number
+abbrev pub held_clip : Geometry → List Found → Option Span → Result (Option Span) Damage
+held_clip g fs clip = if lacks_number g fs clip then Err ClipRange else Ok clip
+
+-- the clip of each id in a clip table
+abbrev pub table_clips : List ℕ → List (Option Span)
+table_clips table = map (λ id. entry_at table (id * 32)) (range_with_len 0 64)

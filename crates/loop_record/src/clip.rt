@@ -9,6 +9,9 @@ use crate::numbers::{OPEN, u64_at};
 /// The bytes of an entry of the clip table.
 pub const CLIP_SIZE: usize = 32;
 
+/// The bytes of the clip table: an entry for each of the 64 ids.
+pub const TABLE_SIZE: usize = 64 * CLIP_SIZE;
+
 /// The frames of a clip: those whose numbers are from `from` to `to`, both among them.
 #[derive(Clone, Copy, Debug, PartialEq, Eq)]
 pub struct Span {

@@ -1,6 +1,7 @@
 //! Slots: a frame's number and head, and its bytes.
 
-ghost use Rattle.std.specs.Prelude.{◌≡◌, ◌+◌, ◌-◌, ◌<◌, ◌≤◌, ◌^◌, length};
+ghost use Rattle.std.specs.Prelude.{◌≡◌, ◌+◌, ◌-◌, ◌<◌, ◌≤◌, ◌^◌, IfErr, length};
+ghost use Rattle.loop_record.specs.declared.damage.Damage.TheVariants.{SlotHead};
 ghost use Rattle.loop_record.specs.Recording.{picture};
 ghost use Rattle.loop_record.specs.Layout.{slot_bytes, slot_in, slot_head};
 
@@ -33,6 +34,24 @@ pub fn decode_slot(bytes: &[u8], number: u64) -> Result<FrameHead, Damage>
     ensures { result ≡ slot_head (length bytes.now - 32) number (slot_in (length bytes.now - 32) bytes.now 0) }
 {
     if u64_at(bytes, 0) != number || u32_at(bytes, 24) as usize != bytes.len() - HEAD_SIZE {
+        return Err(Damage::SlotHead);
+    }
+    Ok(FrameHead {
+        number,
+        sequence: u32_at(bytes, 8),
+        flags: u32_at(bytes, 12),
+        timestamp: u64_at(bytes, 16),
+    })
+}
+
+/// The head at the front of a slot, of which the first 32 bytes are looked at, that should hold frame `number`, of `size`
+/// bytes; `SlotHead` where the slot names another number or another count of bytes.
+pub fn decode_head(bytes: &[u8], number: u64, size: u32) -> Result<FrameHead, Damage>
+    requires { 32 ≤ length bytes.now }
+    ensures head { result ≡ slot_head size number (slot_in size bytes.now 0) }
+    ensures damage { IfErr result (λ damage. damage ≡ SlotHead) }
+{
+    if u64_at(bytes, 0) != number || u32_at(bytes, 24) != size {
         return Err(Damage::SlotHead);
     }
     Ok(FrameHead {

@@ -8,3 +8,4 @@ pub mod Staging
 pub mod Committing
 pub mod SlotReads
 pub mod Frames
+pub mod Clearing

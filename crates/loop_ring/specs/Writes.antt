@@ -33,6 +33,10 @@ ShowsBeginning g j number frames old new = (k : ℕ) × ((k ≤ length frames) �
 abbrev pub HasNoStray : Geometry → ℕ → List ℕ → Type 0
 HasNoStray g j image = (i : ℕ) → whole_frames g image j ≤ i → i < g.slots → is_open image (gate_at g j i) ≡ false
 
+-- the gates in the n places from one on are closed
+abbrev pub AreClosed : ℕ → ℕ → List ℕ → Type 0
+AreClosed at n image = (i : ℕ) → at ≤ i → i < at + n → is_open image i ≡ false
+
 -- the first k slots in some bytes, with frames of n bytes
 abbrev pub slots_in : ℕ → List ℕ → ℕ → List Slot
 slots_in n bytes k = map (λ i. slot_in n bytes (i * (32 + n))) (range_with_len 0 k)

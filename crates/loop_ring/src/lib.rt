@@ -5,15 +5,16 @@
 //! At no moment does a crash during one of its calls leave a segment but as it was or as was asked for, or a commit's
 //! segment with a beginning of the group: `specs/Writes` says so segment by segment, and never speaks of bytes.
 //! Each call makes at most four calls of the disk, and none of them takes memory.
+//! `stray` closes the gates that a stopped commit left open behind a closed one.
 //! `table` has the `SegmentTable`, what the header of each segment says, and `victim` finds in it the block that goes when
 //! room is needed. `specs/Heads` says what a table has where it agrees with a disk; `proofs/Heads` and `proofs/Held` what
 //! it then says of the recording.
 #![tactic(auto)]
 
 mod fault;
-mod head;
 mod ring;
 mod stage;
+mod stray;
 mod table;
 mod victim;
 

@@ -13,10 +13,9 @@ ghost use Rattle.loop_ring.specs.Reads.{AnswersHead, CountedRead, slot_of};
 ghost use Rattle.loop_ring.specs.Writes.{HasNoStray, IsGroup, ShowsBeginning, ShowsFrames, ShowsOrNot};
 
 use crate::SlotFault;
-use crate::head::decode_head;
 use crate::stage::{stage, stage_one};
 use loop_disk::{Disk, DiskFault, store, store_in_turn};
-use loop_record::{Damage, Frame, FrameHead, Geometry, HEAD_SIZE, OPEN, put_u64};
+use loop_record::{Damage, Frame, FrameHead, Geometry, HEAD_SIZE, OPEN, decode_head, put_u64};
 use std::alloc::{AllocError, Allocator, Global};
 
 /// The most frames that one commit takes.

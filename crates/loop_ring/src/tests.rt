@@ -1,4 +1,4 @@
-ghost use Rattle.std.specs.Prelude.{◌≡◌, ◌<◌, All, IfOk, length, vec_len};
+ghost use Rattle.std.specs.Prelude.{◌≡◌, ◌<◌, ◌≤◌, All, IfOk, length, vec_len};
 
 use super::*;
 use loop_budget::Budget;
@@ -27,6 +27,17 @@ const LONG: Geometry = Geometry {
     rate_den: 1,
     segments: 2,
     slots: 12,
+};
+
+// Two segments with four slots each.
+const FOUR: Geometry = Geometry {
+    width: 4,
+    height: 2,
+    format: PixelFormat::Ym12,
+    rate_num: 25,
+    rate_den: 1,
+    segments: 2,
+    slots: 4,
 };
 
 // A disk that claims nothing of its bytes: a test may begin with any image, and looks at what is left.
@@ -273,6 +284,64 @@ fn memory_is_taken_once(rt: HostRuntime) -> Result<(), Fail> {
     memory.allow(0);
     let mut disk = Bare(MemDisk::new(rt.alloc(), 4360)?);
     assert_eq!(rt; begin_commit_retire(&mut ring, &mut disk, &frames), Ok(()));
+    Ok(())
+}
+
+// The disk of 0x5A with segment 0 for block 0, and these frame gates of it.
+fn gated(alloc: Global, gates: [u8; 4]) -> Result<Vec<u8>, AllocError>
+    ensures { IfOk result (λ image. vec_len image ≡ 3936) }
+{
+    let mut image = vec![in alloc; 0x5A; 3936]?;
+    image[2560..3072].fill(0);
+    image[2560] = OPEN;
+    image[2816..2820].copy_from_slice(&gates);
+    Ok(image)
+}
+
+// Clears the stray gates of segment 0.
+fn clear<D: Disk>(ring: &Ring, disk: &mut Bare<D>, frames: u32) -> Result<(), DiskFault>
+    requires ring { ring.now.geometry ≡ FOUR }
+    requires extent { D.extent disk.old.0 ≡ 3936 }
+    requires frames { frames ≤ 4 }
+{
+    ring.clear_stray(disk, 0, frames)
+}
+
+// The frame gates of a segment, how many of its frames are whole, how many calls are made, and the gates afterwards.
+const CLEARED: [([u8; 4], u32, u64, [u8; 4]); 6] = [
+    ([0xA5, 0x07, 0xA5, 0x00], 1, 3, [0xA5, 0x07, 0x00, 0x00]),
+    ([0xA5, 0x07, 0x01, 0xA5], 1, 3, [0xA5, 0x07, 0x00, 0x00]),
+    ([0x07, 0xA5, 0xA5, 0xA5], 0, 3, [0x07, 0x00, 0x00, 0x00]),
+    ([0xA5, 0x07, 0x01, 0x02], 1, 1, [0xA5, 0x07, 0x01, 0x02]),
+    ([0xA5, 0xA5, 0xA5, 0x07], 3, 0, [0xA5, 0xA5, 0xA5, 0x07]),
+    ([0xA5, 0xA5, 0xA5, 0xA5], 4, 0, [0xA5, 0xA5, 0xA5, 0xA5]),
+];
+
+// The number of the call that fails, how many bytes of it are written if it is a write, its fault, and the gates that are
+// left of 0xA5, 0x07, 0xA5, 0x01.
+const UNCLEARED: [(u64, usize, DiskFault, [u8; 4]); 4] = [
+    (0, 0, DiskFault::Read, [0xA5, 0x07, 0xA5, 0x01]),
+    (1, 0, DiskFault::Write, [0xA5, 0x07, 0xA5, 0x01]),
+    (1, 1, DiskFault::Write, [0xA5, 0x07, 0x00, 0x01]),
+    (2, 0, DiskFault::Sync, [0xA5, 0x07, 0x00, 0x00]),
+];
+
+#[test]
+fn stray_gates_are_cleared_and_no_others(rt: HostRuntime) -> Result<(), Fail> {
+    let alloc = rt.alloc();
+    let ring = Ring::new(alloc, FOUR)?;
+    for (before, frames, calls, after) in CLEARED {
+        let mut disk = Bare(FuseDisk::new(MemDisk::of(alloc, gated(alloc, before)?), calls));
+        assert_eq!(rt; clear(&ring, &mut disk, frames), Ok(()), "{before:?}");
+        assert_eq!(rt; disk.0.left, 0, "{before:?}");
+        assert_eq!(rt; disk.0.inner.bytes(), gated(alloc, after)?.as_slice());
+    }
+    for (call, keep, fault, after) in UNCLEARED {
+        let image = gated(alloc, [0xA5, 0x07, 0xA5, 0x01])?;
+        let mut disk = Bare(OnceDisk::torn(MemDisk::of(alloc, image), call, keep));
+        assert_eq!(rt; clear(&ring, &mut disk, 1), Err(fault), "call {call}");
+        assert_eq!(rt; disk.0.inner.bytes(), gated(alloc, after)?.as_slice());
+    }
     Ok(())
 }
 

@@ -1,5 +1,5 @@
 // Which block goes when room is needed, by the segments and the clips of a store.
-ghost use Rattle.std.specs.Prelude.{◌≡◌, ℕ, List, IsTrue, max, min};
+ghost use Rattle.std.specs.Prelude.{◌≡◌, ◌<◌, ℕ, List, IfSome, IsTrue, length, max, min};
 ghost use Rattle.std.specs.List.{filter_map, reduce};
 ghost use Rattle.loop_record.specs.Geometry.{is_good};
 ghost use Rattle.loop_record.specs.Reading.{Holds};
@@ -34,7 +34,8 @@ pub fn victim_segment<A: Allocator>(
     clips: &[Option<Span>],
 ) -> Option<u32>
     requires { IsTrue (is_good geometry.now) }
-    ensures { (r : Recording) (image : List ℕ) → Holds geometry.now r image → table.now ≡ heads_of geometry.now image → clips.now ≡ r.clips
+    ensures within { IfSome result (λ segment. segment < length table.now) }
+    ensures place { (r : Recording) (image : List ℕ) → Holds geometry.now r image → table.now ≡ heads_of geometry.now image → clips.now ≡ r.clips
         → IsPlaceOf table.now (victim (ring_of geometry.now) r) result }
 {
     let block = victim_block(geometry, table, clips)?;

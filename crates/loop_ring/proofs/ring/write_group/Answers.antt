@@ -1,4 +1,4 @@
-use Rattle.std.proofs.Common.{◌≡◌, ℕ, ◌+◌, ◌*◌, ◌≤◌, ◌<◌, IsTrue, List, length, take, replicate, sym, subst, ◌∙◌, ap, arith}
+use Rattle.std.proofs.Common.{◌≡◌, ℕ, ◌+◌, ◌*◌, ◌≤◌, ◌<◌, IsTrue, List, length, take, replicate, subst, ◌∙◌, ap, arith}
 use Rattle.std.proofs.lemmas.List.{get_or-replicate, get_or-take, length-take}
 use Rattle.loop_record.specs.declared.geometry.Geometry.{Geometry}
 use Rattle.loop_record.specs.Geometry.{is_good, frame_bytes, slot_size, disk_size, slot_at, gate_at}
@@ -7,7 +7,7 @@ use Rattle.loop_record.specs.Recording.{Picture}
 use Rattle.loop_record.proofs.Bounds.{limits}
 use Rattle.loop_record.proofs.Parts.{apart}
 use Rattle.loop_ring.specs.Writes.{HasNoStray, IsGroup, slots_in, slots_of}
-use Rattle.loop_ring.proofs.Committing.{AreGates, IsReady, slots_end, commit_moments, commit_ok, commit_stray, CanCommit, commit_stray_done}
+use Rattle.loop_ring.proofs.Committing.{AreGates, IsReady, slots_end, commit_moments, commit_ok, CanCommit, commit_stray_done}
 use Rattle.loop_ring.proofs.ring.write_group.Goals as goal
 
 abbrev gates_8 : List ℕ

@@ -1,0 +1,83 @@
+// The frame gates that a stop left open behind a closed one.
+ghost use Rattle.std.specs.Prelude.{◌≡◌, ◌+◌, ◌<◌, ◌≤◌, ◌↔◌, ◌==◌, OnOk, length};
+ghost use Rattle.std.specs.List.{list_any};
+ghost use Rattle.loop_disk.specs.Calls.{CountedAny, Stays};
+ghost use Rattle.loop_disk.specs.Medium.{IsSettled, LeavesOnly, SameOutside};
+ghost use Rattle.loop_record.specs.Change.{ShowsSegment};
+ghost use Rattle.loop_record.specs.Geometry.{disk_size};
+ghost use Rattle.loop_record.specs.Layout.{segment_in, whole_frames};
+ghost use Rattle.loop_ring.specs.Writes.{AreClosed, HasNoStray};
+
+use crate::Ring;
+use loop_disk::{Disk, DiskFault, store};
+use loop_record::OPEN;
+use std::alloc::Allocator;
+
+// The most frame gates of a segment.
+const MAX_GATES: usize = 256;
+
+impl<A: Allocator> Ring<A> {
+    /// Closes the frame gates behind a segment's first closed one, where one of them is open: one read, and then at most
+    /// one write and one sync. `frames` is how many whole frames the segment has. Without a gate behind the first closed
+    /// one nothing is read. A failed read changes nothing; a failed write or sync may leave some of these gates open.
+    /// At each moment, and after each failure, the segment reads as before.
+    pub fn clear_stray<D: Disk>(
+        &self,
+        disk: &mut D,
+        segment: u32,
+        frames: u32,
+    ) -> Result<(), DiskFault>
+        requires extent { D.extent disk.old ≡ disk_size self.now.geometry }
+        requires segment { segment < self.now.geometry.segments }
+        requires few { frames ≤ self.now.geometry.slots }
+        requires settled { D.honest disk.old → IsSettled (D.medium disk.old) }
+        requires whole { D.honest disk.old → whole_frames self.now.geometry (D.medium disk.old).bytes segment ≡ frames }
+        ensures moments { D.honest disk.old → LeavesOnly (D.medium disk.old) (D.medium disk.new) (ShowsSegment self.now.geometry segment (segment_in self.now.geometry (D.medium disk.old).bytes segment) (D.medium disk.old).bytes) }
+        ensures same { D.honest disk.old → OnOk result (ShowsSegment self.now.geometry segment (segment_in self.now.geometry (D.medium disk.old).bytes segment) (D.medium disk.old).bytes (D.medium disk.new).bytes) }
+        ensures stray { D.honest disk.old → OnOk result (HasNoStray self.now.geometry segment (D.medium disk.new).bytes) }
+        ensures quiet { D.honest disk.old → HasNoStray self.now.geometry segment (D.medium disk.old).bytes → Stays (D.medium disk.old) (D.medium disk.new) }
+        ensures settled { D.honest disk.old → OnOk result (IsSettled (D.medium disk.new)) }
+        ensures counted { CountedAny (D.faults disk.old) (D.faults disk.new) result }
+        ensures extent { D.extent disk.new ≡ D.extent disk.old }
+        ensures honest { D.honest disk.old ↔ D.honest disk.new }
+    {
+        let first = frames + 1;
+        if first >= self.geometry.slots {
+            return Ok(());
+        }
+        let at = self.geometry.gate_at(segment, first);
+        let count = self.geometry.slots - first;
+        close_gates(disk, at, count as usize)
+    }
+}
+
+// Closes the gates of a range, where one of them is open.
+fn close_gates<D: Disk>(disk: &mut D, at: u64, count: usize) -> Result<(), DiskFault>
+    requires inside { at + count ≤ D.extent disk.old }
+    requires few { count ≤ 256 }
+    requires settled { D.honest disk.old → IsSettled (D.medium disk.old) }
+    ensures moments { D.honest disk.old → LeavesOnly (D.medium disk.old) (D.medium disk.new) (SameOutside at count (D.medium disk.old).bytes) }
+    ensures elsewhere { D.honest disk.old → SameOutside at count (D.medium disk.old).bytes (D.medium disk.new).bytes }
+    ensures closed { D.honest disk.old → OnOk result (AreClosed at count (D.medium disk.new).bytes) }
+    ensures quiet { D.honest disk.old → AreClosed at count (D.medium disk.old).bytes → Stays (D.medium disk.old) (D.medium disk.new) }
+    ensures settled { D.honest disk.old → OnOk result (IsSettled (D.medium disk.new)) }
+    ensures counted { CountedAny (D.faults disk.old) (D.faults disk.new) result }
+    ensures extent { D.extent disk.new ≡ D.extent disk.old }
+    ensures honest { D.honest disk.old ↔ D.honest disk.new }
+{
+    let mut buffer = [0; MAX_GATES];
+    let gates = &mut buffer[..count];
+    disk.read(at, gates)?;
+    if !has_open(gates) {
+        return Ok(());
+    }
+    let closed = [0; MAX_GATES];
+    store(disk, at, &closed[..count])
+}
+
+// Whether one of these gates is open.
+fn has_open(gates: &[u8]) -> bool
+    ensures { result ≡ list_any (λ gate. gate == 0xA5) gates.now }
+{
+    gates.iter().any(|gate| *gate == OPEN)
+}
