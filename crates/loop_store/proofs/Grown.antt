@@ -1,6 +1,6 @@
 -- What a begun block and stored frames make of an image.
 use Rattle.std.proofs.Common.{◌≡◌, ◌⊎◌, inl, inr, ℕ, zero, suc, ◌+◌, ◌*◌, ◌/◌, ◌%◌, ◌<◌, ◌≤◌, Bool, true, false, ◌&&◌, eqb, Option, Some, None, List, [], ◌∷◌, ◌++◌, length, take, map, refl, sym, ap, ◌∙◌, subst, arith}
-use Rattle.std.proofs.lemmas.List.{length-map, length-append, length-take-le}
+use Rattle.std.proofs.lemmas.List.{length-map, length-append, take_all}
 use Rattle.std.proofs.lemmas.Bool.Decides.{nat_tests}
 use Rattle.std.proofs.Math.Nat.{div-add-mod', div-eq_of_lt, mod-eq_of_lt}
 use Rattle.loop_record.specs.declared.geometry.Geometry.{Geometry}
@@ -9,6 +9,7 @@ use Rattle.loop_record.specs.Geometry.{frame_bytes}
 use Rattle.loop_record.specs.Recording.{Picture, Recording, Step, store, plain, ring_of}
 use Rattle.loop_record.specs.Layout.{Slot, Segment, is_too_high, segment_in, whole_frames}
 use Rattle.loop_record.specs.Reading.{Holds, hold_from, begun}
+use Rattle.loop_record.proofs.Steps.{plain-append}
 use Rattle.loop_record.proofs.Readings.{reading-commit, reading-begin, reading-same, whole-length}
 use Rattle.loop_ring.specs.Writes.{HasNoStray, ShowsOrNot, ShowsFrames, ShowsBeginning, slots_of, with_more}
 use Rattle.loop_store.specs.Held.{HoldsFrom, HoldsSome, IsNewest, IsFreeFor}
@@ -76,6 +77,46 @@ pub begun-held_or : (g : Geometry) (r : Recording) (next j : ℕ) (old c : List 
 begun-held_or g r next j old c held is l first free (inl same) = reading-same g r old c j held l same
 begun-held_or g r next j old c held is l first free (inr shows) = begun-held g r next j old c held is l first free shows
 
+-- after none of the steps
+pub held-some : (g : Geometry) (r : Recording) (steps : List Step) (c : List ℕ) → Holds g r c → HoldsSome g r steps c
+held-some g r steps c held = record { count = 0; enough = omega arith; few = omega arith; held = held }
+
+-- after all of them
+pub all-held : (g : Geometry) (r : Recording) (steps : List Step) (c : List ℕ) → Holds g (plain (ring_of g) r steps) c → HoldsSome g r steps c
+all-held g r steps c held = record { count = length steps; enough = omega arith; few = omega arith; held = subst (λ (l : List Step). Holds g (plain (ring_of g) r l) c) (sym (take_all (length steps) steps (omega arith))) held }
+
+-- ---- steps behind steps
+
+take_behind : (a b : List Step) (k : ℕ) → take (length a + k) (a ++ b) ≡ a ++ take k b
+take_behind [] b k = let e : 0 + k ≡ k = omega arith in ap (λ (n : ℕ). take n b) e
+take_behind (s ∷ a) b k =
+    let e : length (s ∷ a) + k ≡ suc (length a + k) = omega arith in
+    ap (λ (n : ℕ). take n (s ∷ (a ++ b))) e ∙ ap (λ (l : List Step). s ∷ l) (take_behind a b k)
+
+take_front : (a b : List Step) (k : ℕ) → k ≤ length a → take k (a ++ b) ≡ take k a
+take_front a b zero le = refl
+take_front [] b (suc k) le = absurd (omega (arith, le))
+take_front (s ∷ a) b (suc k) le = ap (λ (l : List Step). s ∷ l) (take_front a b k (omega (arith, le)))
+
+pub later-steps : (g : Geometry) (r : Recording) (a b : List Step) (least : ℕ) (c : List ℕ) → HoldsFrom g (plain (ring_of g) r a) least b c → HoldsFrom g r (length a + least) (a ++ b) c
+later-steps g r a b least c some = record {
+  count = length a + some.count;
+  enough = omega (arith, some.enough);
+  few = omega (arith, some.few, length-append a b);
+  held = subst (λ (q : Recording). Holds g q c) (sym (ap (plain (ring_of g) r) (take_behind a b some.count) ∙ plain-append (ring_of g) r a (take some.count b))) some.held;
+}
+
+pub earlier-steps : (g : Geometry) (r : Recording) (a b : List Step) (c : List ℕ) → HoldsSome g r a c → HoldsSome g r (a ++ b) c
+earlier-steps g r a b c some = record {
+  count = some.count;
+  enough = omega arith;
+  few = omega (arith, some.few, length-append a b);
+  held = subst (λ (steps : List Step). Holds g (plain (ring_of g) r steps) c) (sym (take_front a b some.count some.few)) some.held;
+}
+
+pub from-none : (g : Geometry) (r : Recording) (least : ℕ) (steps : List Step) (c : List ℕ) → HoldsFrom g r least steps c → HoldsSome g r steps c
+from-none g r least steps c some = record { count = some.count; enough = omega arith; few = some.few; held = some.held }
+
 -- ---- the first segment
 
 -- block 0 with the frames before the next number is the newest while it has room
@@ -112,7 +153,3 @@ more-filled g next p old c room newest shows stray = record {
 
     was : length u.slots ≡ next % g.slots
     was = sym (whole-length g old 0 u newest.there) ∙ newest.whole
-
--- after none of the steps
-pub held-some : (g : Geometry) (r : Recording) (steps : List Step) (c : List ℕ) → Holds g r c → HoldsSome g r steps c
-held-some g r steps c held = record { count = 0; enough = omega arith; few = omega arith; held = held }

@@ -1,7 +1,9 @@
 pub mod Formatting
 pub mod Formatted
-pub mod First
+pub mod NewStore
 pub mod Grown
+pub mod Placing
+pub mod Room
 pub mod Looked
 pub mod Looks
 pub mod Numbers
@@ -9,3 +11,5 @@ pub mod Replied
 pub mod Stands
 pub mod Asked
 pub mod Ran
+pub mod RecoveredParts
+pub mod RecoveredWhole

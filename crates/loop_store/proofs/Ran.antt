@@ -19,41 +19,9 @@ use Rattle.loop_store.specs.Faults.{answers_disk, is_disk}
 use Rattle.loop_store.specs.Held.{EachNow, HoldsFrom, HoldsSome}
 use Rattle.loop_store.specs.Runs.{AnswersStore, AreAnswers, IsAnswer, RefusesStore, begun_by, begun_in, has_failed, made_by, made_in, some_failed, steps_if_failed, steps_if_stored}
 use Rattle.loop_store.specs.Seen.{Seen, StandsFor, steps_in_first, steps_or_none}
-use Rattle.loop_store.proofs.Grown.{held-some}
+use Rattle.loop_store.proofs.Grown.{earlier-steps, from-none, held-some, later-steps}
 use Rattle.loop_store.proofs.Stands.{unmoved-some}
 use Rattle.loop_store.proofs.Asked.{answers-more, begun-more, failed-more, made-more}
-
--- ---- steps behind steps
-
-take_behind : (a b : List Step) (k : ℕ) → take (length a + k) (a ++ b) ≡ a ++ take k b
-take_behind [] b k = let e : 0 + k ≡ k = omega arith in ap (λ (n : ℕ). take n b) e
-take_behind (s ∷ a) b k =
-    let e : length (s ∷ a) + k ≡ suc (length a + k) = omega arith in
-    ap (λ (n : ℕ). take n (s ∷ (a ++ b))) e ∙ ap (λ (l : List Step). s ∷ l) (take_behind a b k)
-
-take_front : (a b : List Step) (k : ℕ) → k ≤ length a → take k (a ++ b) ≡ take k a
-take_front a b zero le = refl
-take_front [] b (suc k) le = absurd (omega (arith, le))
-take_front (s ∷ a) b (suc k) le = ap (λ (l : List Step). s ∷ l) (take_front a b k (omega (arith, le)))
-
-later-steps : (g : Geometry) (r : Recording) (a b : List Step) (least : ℕ) (c : List ℕ) → HoldsFrom g (plain (ring_of g) r a) least b c → HoldsFrom g r (length a + least) (a ++ b) c
-later-steps g r a b least c some = record {
-  count = length a + some.count;
-  enough = omega (arith, some.enough);
-  few = omega (arith, some.few, length-append a b);
-  held = subst (λ (q : Recording). Holds g q c) (sym (ap (plain (ring_of g) r) (take_behind a b some.count) ∙ plain-append (ring_of g) r a (take some.count b))) some.held;
-}
-
-earlier-steps : (g : Geometry) (r : Recording) (a b : List Step) (c : List ℕ) → HoldsSome g r a c → HoldsSome g r (a ++ b) c
-earlier-steps g r a b c some = record {
-  count = some.count;
-  enough = omega arith;
-  few = omega (arith, some.few, length-append a b);
-  held = subst (λ (steps : List Step). Holds g (plain (ring_of g) r steps) c) (sym (take_front a b some.count some.few)) some.held;
-}
-
-from-none : (g : Geometry) (r : Recording) (least : ℕ) (steps : List Step) (c : List ℕ) → HoldsFrom g r least steps c → HoldsSome g r steps c
-from-none g r least steps c some = record { count = some.count; enough = omega arith; few = some.few; held = some.held }
 
 -- ---- what has not failed has begun nothing
 

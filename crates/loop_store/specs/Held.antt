@@ -1,5 +1,5 @@
 -- What a disk's image holds of a recording, before and after some steps.
-use Rattle.std.specs.Prelude.{◌≡◌, ◌==◌, ℕ, ◌/◌, ◌%◌, ◌≤◌, false, None, Some, List, length, take}
+use Rattle.std.specs.Prelude.{◌≡◌, ◌≢◌, ◌==◌, ℕ, ◌/◌, ◌%◌, ◌<◌, ◌≤◌, false, None, Some, List, length, take}
 use Rattle.std.specs.List.{list_any}
 use Rattle.loop_disk.specs.Medium.{Medium}
 use Rattle.loop_record.specs.declared.geometry.Geometry.{Geometry}
@@ -36,3 +36,7 @@ pub record IsFreeFor (g : Geometry) (next j : ℕ) (image : List ℕ) : Type 0 w
 -- so is each image that a crash now may leave
 abbrev pub EachNow : Medium → (List ℕ → Type 0) → Type 0
 EachNow m P = (image : List ℕ) → m.may_leave image → P image
+
+-- no frame gate is open behind the frames of an open segment
+abbrev pub HasNoneStray : Geometry → List ℕ → Type 0
+HasNoneStray g image = (j : ℕ) → j < g.segments → segment_in g image j ≢ None → HasNoStray g j image

@@ -1,15 +1,20 @@
 //! What an append writes: the block that it begins, and the frames.
 
-ghost use Rattle.std.specs.Prelude.{◌≡◌, ◌+◌, ◌<◌, ◌%◌, ◌↔◌, ◌∷◌, [], OnOk, length};
+ghost use Rattle.std.specs.Prelude.{◌≡◌, ◌≢◌, ◌+◌, ◌<◌, ◌≤◌, ◌/◌, ◌%◌, ◌^◌, ◌↔◌, ◌∷◌, ◌++◌, [], ℕ, All, None, OnOk, Some, length, map};
 ghost use Rattle.loop_disk.specs.Calls.{CountedAny};
 ghost use Rattle.loop_disk.specs.Medium.{IsSettled, LeavesOnly};
 ghost use Rattle.loop_record.specs.Geometry.{disk_size, frame_bytes};
-ghost use Rattle.loop_record.specs.Reading.{Holds};
-ghost use Rattle.loop_record.specs.Recording.{Recording, picture, plain, ring_of, store};
+ghost use Rattle.loop_record.specs.Plain.{pictures};
+ghost use Rattle.loop_record.specs.Change.{ShowsSegment};
+ghost use Rattle.loop_record.specs.Layout.{segment_in};
+ghost use Rattle.loop_record.specs.Reading.{Holds, begun};
+ghost use Rattle.loop_record.specs.Recording.{Recording, after, picture, plain, recycle, ring_of, store, victim};
 ghost use Rattle.loop_ring.specs.Writes.{HasNoStray, ShowsFrames};
+ghost use Rattle.loop_store.specs.declared.place.Place.TheVariants.{Victim};
 ghost use Rattle.loop_store.specs.Held.{HoldsSome, IsFreeFor, IsNewest};
-ghost use Rattle.loop_store.specs.Seen.{IsFilled};
+ghost use Rattle.loop_store.specs.Places.{IsBegunAt, IsGrownAt, IsKnown, IsOldFor, segment_of, steps_before};
 
+use crate::place::Place;
 use loop_disk::{Disk, DiskFault};
 use loop_record::Frame;
 use loop_ring::Ring;
@@ -24,12 +29,13 @@ pub(crate) fn begin<D: Disk, A: Allocator>(
 ) -> Result<(), DiskFault>
     requires extent { D.extent disk.old ≡ disk_size ring.now.geometry }
     requires segment { segment < ring.now.geometry.segments }
-    requires first { next % ring.now.geometry.slots ≡ 0 }
+    requires first { D.honest disk.old → next % ring.now.geometry.slots ≡ 0 }
     requires settled { D.honest disk.old → IsSettled (D.medium disk.old) }
     requires free { D.honest disk.old → IsFreeFor ring.now.geometry next segment (D.medium disk.old).bytes }
     ensures moments { (r : Recording) → r.next ≡ next → D.honest disk.old → Holds ring.now.geometry r (D.medium disk.old).bytes → LeavesOnly (D.medium disk.old) (D.medium disk.new) (Holds ring.now.geometry r) }
     ensures held { (r : Recording) → r.next ≡ next → D.honest disk.old → Holds ring.now.geometry r (D.medium disk.old).bytes → OnOk result (Holds ring.now.geometry r (D.medium disk.new).bytes) }
     ensures newest { D.honest disk.old → OnOk result (IsNewest ring.now.geometry next segment (D.medium disk.new).bytes) }
+    ensures begun { D.honest disk.old → OnOk result (ShowsSegment ring.now.geometry segment (Some (begun (next / ring.now.geometry.slots))) (D.medium disk.old).bytes (D.medium disk.new).bytes) }
     ensures settled { D.honest disk.old → OnOk result (IsSettled (D.medium disk.new)) }
     ensures counted { CountedAny (D.faults disk.old) (D.faults disk.new) result }
     ensures extent { D.extent disk.new ≡ D.extent disk.old }
@@ -65,52 +71,161 @@ pub(crate) fn store_one<D: Disk, A: Allocator>(
     ring.commit_one(disk, segment, slot, next, frame)
 }
 
-/// Begins block 0 where nothing has been stored yet; otherwise it is there. The recording stays as it is.
-fn begin_first<D: Disk, A: Allocator>(
-    disk: &mut D,
-    ring: &Ring<A>,
-    next: u64,
-) -> Result<(), DiskFault>
-    requires extent { D.extent disk.old ≡ disk_size ring.now.geometry }
-    requires room { next < ring.now.geometry.slots }
-    requires settled { D.honest disk.old → IsSettled (D.medium disk.old) }
-    requires filled { D.honest disk.old → IsFilled ring.now.geometry next (D.medium disk.old).bytes }
-    ensures moments { (r : Recording) → r.next ≡ next → D.honest disk.old → Holds ring.now.geometry r (D.medium disk.old).bytes → LeavesOnly (D.medium disk.old) (D.medium disk.new) (Holds ring.now.geometry r) }
-    ensures held { (r : Recording) → r.next ≡ next → D.honest disk.old → Holds ring.now.geometry r (D.medium disk.old).bytes → OnOk result (Holds ring.now.geometry r (D.medium disk.new).bytes) }
-    ensures newest { D.honest disk.old → OnOk result (IsNewest ring.now.geometry next 0 (D.medium disk.new).bytes) }
-    ensures settled { D.honest disk.old → OnOk result (IsSettled (D.medium disk.new)) }
-    ensures counted { CountedAny (D.faults disk.old) (D.faults disk.new) result }
-    ensures extent { D.extent disk.new ≡ D.extent disk.old }
-    ensures honest { D.honest disk.old ↔ D.honest disk.new }
-{
-    if next == 0 {
-        begin(disk, ring, 0, 0)
-    } else {
-        Ok(())
-    }
-}
-
-/// Stores a frame in block 0, which is begun where nothing has been stored yet.
-pub(crate) fn append_first<D: Disk, A: Allocator>(
+/// Stores a group of frames in the block that has begun, behind its others.
+pub(crate) fn store_group<D: Disk, A: Allocator>(
     disk: &mut D,
     ring: &mut Ring<A>,
+    segment: u32,
     next: u64,
-    frame: &Frame<A>,
+    frames: &[Frame<A>],
 ) -> Result<(), DiskFault>
     requires extent { D.extent disk.old ≡ disk_size ring.old.geometry }
-    requires room { next < ring.old.geometry.slots }
-    requires size { length frame.now.bytes.items ≡ frame_bytes ring.old.geometry }
+    requires segment { segment < ring.old.geometry.segments }
+    requires some { 1 ≤ length frames.now }
+    requires few { length frames.now ≤ 8 }
+    requires room { next % ring.old.geometry.slots + length frames.now ≤ ring.old.geometry.slots }
+    requires numbers { next + length frames.now ≤ 2 ^ 64 }
+    requires sizes { All (λ frame. length frame.bytes.items ≡ frame_bytes ring.old.geometry) frames.now }
     requires settled { D.honest disk.old → IsSettled (D.medium disk.old) }
-    requires filled { D.honest disk.old → IsFilled ring.old.geometry next (D.medium disk.old).bytes }
-    ensures moments { (r : Recording) → r.next ≡ next → D.honest disk.old → Holds ring.old.geometry r (D.medium disk.old).bytes → LeavesOnly (D.medium disk.old) (D.medium disk.new) (HoldsSome ring.old.geometry r (store (picture frame.now) ∷ [])) }
-    ensures stored { (r : Recording) → r.next ≡ next → D.honest disk.old → Holds ring.old.geometry r (D.medium disk.old).bytes → OnOk result (Holds ring.old.geometry (plain (ring_of ring.old.geometry) r (store (picture frame.now) ∷ [])) (D.medium disk.new).bytes) }
-    ensures filled { D.honest disk.old → OnOk result (IsFilled ring.old.geometry (next + 1) (D.medium disk.new).bytes) }
+    requires newest { D.honest disk.old → IsNewest ring.old.geometry next segment (D.medium disk.old).bytes }
+    ensures moments { (r : Recording) → r.next ≡ next → D.honest disk.old → Holds ring.old.geometry r (D.medium disk.old).bytes → LeavesOnly (D.medium disk.old) (D.medium disk.new) (HoldsSome ring.old.geometry r (map store (pictures frames.now))) }
+    ensures stored { (r : Recording) → r.next ≡ next → D.honest disk.old → Holds ring.old.geometry r (D.medium disk.old).bytes → OnOk result (Holds ring.old.geometry (plain (ring_of ring.old.geometry) r (map store (pictures frames.now))) (D.medium disk.new).bytes) }
+    ensures committed { D.honest disk.old → OnOk result (ShowsFrames ring.old.geometry segment next (pictures frames.now) (D.medium disk.old).bytes (D.medium disk.new).bytes) }
+    ensures stray { D.honest disk.old → OnOk result (HasNoStray ring.old.geometry segment (D.medium disk.new).bytes) }
     ensures settled { D.honest disk.old → OnOk result (IsSettled (D.medium disk.new)) }
     ensures counted { CountedAny (D.faults disk.old) (D.faults disk.new) result }
     ensures extent { D.extent disk.new ≡ D.extent disk.old }
     ensures honest { D.honest disk.old ↔ D.honest disk.new }
     ensures geometry { ring.new.geometry ≡ ring.old.geometry }
 {
-    begin_first(disk, ring, next)?;
-    store_one(disk, ring, 0, next, frame)
+    let slot = (next % u64::from(ring.geometry.slots)) as u32;
+    ring.commit(disk, segment, slot, next, frames)
+}
+
+/// Retires the segment of the victim.
+fn recycle<D: Disk, A: Allocator>(
+    disk: &mut D,
+    ring: &Ring<A>,
+    segment: u32,
+) -> Result<(), DiskFault>
+    requires extent { D.extent disk.old ≡ disk_size ring.now.geometry }
+    requires segment { segment < ring.now.geometry.segments }
+    requires settled { D.honest disk.old → IsSettled (D.medium disk.old) }
+    requires there { D.honest disk.old → segment_in ring.now.geometry (D.medium disk.old).bytes segment ≢ None }
+    ensures moments { (r : Recording) (b : ℕ) → victim (ring_of ring.now.geometry) r ≡ Some b → IsOldFor ring.now.geometry r.next b segment (D.medium disk.old).bytes → D.honest disk.old → Holds ring.now.geometry r (D.medium disk.old).bytes → LeavesOnly (D.medium disk.old) (D.medium disk.new) (HoldsSome ring.now.geometry r (recycle b ∷ [])) }
+    ensures held { (r : Recording) (b : ℕ) → victim (ring_of ring.now.geometry) r ≡ Some b → IsOldFor ring.now.geometry r.next b segment (D.medium disk.old).bytes → D.honest disk.old → Holds ring.now.geometry r (D.medium disk.old).bytes → OnOk result (Holds ring.now.geometry (after (ring_of ring.now.geometry) r (recycle b)) (D.medium disk.new).bytes) }
+    ensures retired { D.honest disk.old → OnOk result (ShowsSegment ring.now.geometry segment None (D.medium disk.old).bytes (D.medium disk.new).bytes) }
+    ensures settled { D.honest disk.old → OnOk result (IsSettled (D.medium disk.new)) }
+    ensures counted { CountedAny (D.faults disk.old) (D.faults disk.new) result }
+    ensures extent { D.extent disk.new ≡ D.extent disk.old }
+    ensures honest { D.honest disk.old ↔ D.honest disk.new }
+{
+    ring.retire(disk, segment)
+}
+
+/// Recycles the victim's segment for the block of the next number.
+fn replace<D: Disk, A: Allocator>(
+    disk: &mut D,
+    ring: &Ring<A>,
+    segment: u32,
+    next: u64,
+) -> Result<(), DiskFault>
+    requires extent { D.extent disk.old ≡ disk_size ring.now.geometry }
+    requires segment { segment < ring.now.geometry.segments }
+    requires settled { D.honest disk.old → IsSettled (D.medium disk.old) }
+    requires known { D.honest disk.old → IsKnown ring.now.geometry next (Victim segment) (D.medium disk.old).bytes }
+    ensures moments { (r : Recording) → r.next ≡ next → D.honest disk.old → Holds ring.now.geometry r (D.medium disk.old).bytes → LeavesOnly (D.medium disk.old) (D.medium disk.new) (HoldsSome ring.now.geometry r (steps_before ring.now.geometry r)) }
+    ensures held { (r : Recording) → r.next ≡ next → D.honest disk.old → Holds ring.now.geometry r (D.medium disk.old).bytes → OnOk result (Holds ring.now.geometry (plain (ring_of ring.now.geometry) r (steps_before ring.now.geometry r)) (D.medium disk.new).bytes) }
+    ensures newest { D.honest disk.old → OnOk result (IsNewest ring.now.geometry next segment (D.medium disk.new).bytes) }
+    ensures replaced { D.honest disk.old → OnOk result (IsBegunAt ring.now.geometry next segment (D.medium disk.old).bytes (D.medium disk.new).bytes) }
+    ensures settled { D.honest disk.old → OnOk result (IsSettled (D.medium disk.new)) }
+    ensures counted { CountedAny (D.faults disk.old) (D.faults disk.new) result }
+    ensures extent { D.extent disk.new ≡ D.extent disk.old }
+    ensures honest { D.honest disk.old ↔ D.honest disk.new }
+{
+    recycle(disk, ring, segment)?;
+    begin(disk, ring, segment, next)
+}
+
+/// Makes room for the next frames at a place: a block is recycled and another begun, or one is begun, or nothing is to be done.
+fn make_room<D: Disk, A: Allocator>(
+    disk: &mut D,
+    ring: &Ring<A>,
+    place: Place,
+    next: u64,
+) -> Result<(), DiskFault>
+    requires extent { D.extent disk.old ≡ disk_size ring.now.geometry }
+    requires segment { segment_of place < ring.now.geometry.segments }
+    requires settled { D.honest disk.old → IsSettled (D.medium disk.old) }
+    requires known { D.honest disk.old → IsKnown ring.now.geometry next place (D.medium disk.old).bytes }
+    ensures moments { (r : Recording) → r.next ≡ next → D.honest disk.old → Holds ring.now.geometry r (D.medium disk.old).bytes → LeavesOnly (D.medium disk.old) (D.medium disk.new) (HoldsSome ring.now.geometry r (steps_before ring.now.geometry r)) }
+    ensures held { (r : Recording) → r.next ≡ next → D.honest disk.old → Holds ring.now.geometry r (D.medium disk.old).bytes → OnOk result (Holds ring.now.geometry (plain (ring_of ring.now.geometry) r (steps_before ring.now.geometry r)) (D.medium disk.new).bytes) }
+    ensures newest { D.honest disk.old → OnOk result (IsNewest ring.now.geometry next (segment_of place) (D.medium disk.new).bytes) }
+    ensures begun { D.honest disk.old → OnOk result (IsBegunAt ring.now.geometry next (segment_of place) (D.medium disk.old).bytes (D.medium disk.new).bytes) }
+    ensures settled { D.honest disk.old → OnOk result (IsSettled (D.medium disk.new)) }
+    ensures counted { CountedAny (D.faults disk.old) (D.faults disk.new) result }
+    ensures extent { D.extent disk.new ≡ D.extent disk.old }
+    ensures honest { D.honest disk.old ↔ D.honest disk.new }
+{
+    match place {
+        Place::Newest(_) => Ok(()),
+        Place::Closed(segment) => begin(disk, ring, segment, next),
+        Place::Victim(segment) => replace(disk, ring, segment, next),
+    }
+}
+
+/// Makes room at a place, and stores a group of frames there.
+pub(crate) fn append_group<D: Disk, A: Allocator>(
+    disk: &mut D,
+    ring: &mut Ring<A>,
+    place: Place,
+    next: u64,
+    frames: &[Frame<A>],
+) -> Result<(), DiskFault>
+    requires extent { D.extent disk.old ≡ disk_size ring.old.geometry }
+    requires segment { segment_of place < ring.old.geometry.segments }
+    requires some { 1 ≤ length frames.now }
+    requires few { length frames.now ≤ 8 }
+    requires room { next % ring.old.geometry.slots + length frames.now ≤ ring.old.geometry.slots }
+    requires numbers { next + length frames.now ≤ 2 ^ 64 }
+    requires sizes { All (λ frame. length frame.bytes.items ≡ frame_bytes ring.old.geometry) frames.now }
+    requires settled { D.honest disk.old → IsSettled (D.medium disk.old) }
+    requires known { D.honest disk.old → IsKnown ring.old.geometry next place (D.medium disk.old).bytes }
+    ensures moments { (r : Recording) → r.next ≡ next → D.honest disk.old → Holds ring.old.geometry r (D.medium disk.old).bytes → LeavesOnly (D.medium disk.old) (D.medium disk.new) (HoldsSome ring.old.geometry r (steps_before ring.old.geometry r ++ map store (pictures frames.now))) }
+    ensures stored { (r : Recording) → r.next ≡ next → D.honest disk.old → Holds ring.old.geometry r (D.medium disk.old).bytes → OnOk result (Holds ring.old.geometry (plain (ring_of ring.old.geometry) r (steps_before ring.old.geometry r ++ map store (pictures frames.now))) (D.medium disk.new).bytes) }
+    ensures grown { D.honest disk.old → OnOk result (IsGrownAt ring.old.geometry next (length frames.now) (segment_of place) (D.medium disk.old).bytes (D.medium disk.new).bytes) }
+    ensures settled { D.honest disk.old → OnOk result (IsSettled (D.medium disk.new)) }
+    ensures counted { CountedAny (D.faults disk.old) (D.faults disk.new) result }
+    ensures extent { D.extent disk.new ≡ D.extent disk.old }
+    ensures honest { D.honest disk.old ↔ D.honest disk.new }
+    ensures geometry { ring.new.geometry ≡ ring.old.geometry }
+{
+    make_room(disk, ring, place, next)?;
+    store_group(disk, ring, place.segment(), next, frames)
+}
+
+/// Makes room at a place, and stores a frame there, as `append_group` a group of one.
+pub(crate) fn append_one<D: Disk, A: Allocator>(
+    disk: &mut D,
+    ring: &mut Ring<A>,
+    place: Place,
+    next: u64,
+    frame: &Frame<A>,
+) -> Result<(), DiskFault>
+    requires extent { D.extent disk.old ≡ disk_size ring.old.geometry }
+    requires segment { segment_of place < ring.old.geometry.segments }
+    requires size { length frame.now.bytes.items ≡ frame_bytes ring.old.geometry }
+    requires settled { D.honest disk.old → IsSettled (D.medium disk.old) }
+    requires known { D.honest disk.old → IsKnown ring.old.geometry next place (D.medium disk.old).bytes }
+    ensures moments { (r : Recording) → r.next ≡ next → D.honest disk.old → Holds ring.old.geometry r (D.medium disk.old).bytes → LeavesOnly (D.medium disk.old) (D.medium disk.new) (HoldsSome ring.old.geometry r (steps_before ring.old.geometry r ++ (store (picture frame.now) ∷ []))) }
+    ensures stored { (r : Recording) → r.next ≡ next → D.honest disk.old → Holds ring.old.geometry r (D.medium disk.old).bytes → OnOk result (Holds ring.old.geometry (plain (ring_of ring.old.geometry) r (steps_before ring.old.geometry r ++ (store (picture frame.now) ∷ []))) (D.medium disk.new).bytes) }
+    ensures grown { D.honest disk.old → OnOk result (IsGrownAt ring.old.geometry next 1 (segment_of place) (D.medium disk.old).bytes (D.medium disk.new).bytes) }
+    ensures settled { D.honest disk.old → OnOk result (IsSettled (D.medium disk.new)) }
+    ensures counted { CountedAny (D.faults disk.old) (D.faults disk.new) result }
+    ensures extent { D.extent disk.new ≡ D.extent disk.old }
+    ensures honest { D.honest disk.old ↔ D.honest disk.new }
+    ensures geometry { ring.new.geometry ≡ ring.old.geometry }
+{
+    make_room(disk, ring, place, next)?;
+    store_one(disk, ring, place.segment(), next, frame)
 }

@@ -13,7 +13,7 @@ ghost use Rattle.loop_store.specs.Runs.{AnswersStore};
 ghost use Rattle.loop_store.specs.Seen.{AnswersFrame, IsKept, IsRefusedAppend, IsRefusedRead, Refused, Seen, TellsTheSame, StandsFor, steps_in_first, steps_or_none};
 
 use crate::StoreFault;
-use crate::grow::append_first;
+use crate::first::append_first;
 use crate::look::read_first;
 use loop_disk::Disk;
 use loop_record::{Frame, FrameHead, Geometry};

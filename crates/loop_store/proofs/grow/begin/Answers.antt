@@ -17,11 +17,11 @@ either_slots g j next slots old new is shows = subst (λ (n : ℕ). ShowsOrNot g
 pub returns-clause-moments : goal.returns-clause-moments
 returns-clause-moments g c = λ r is honest held.
     weaker _ _ _ _ (c.begin_block.ensures.moments honest) (λ image either.
-    begun-held_or c.args.ring.now.geometry r c.args.next c.args.segment _ image held is c.requires.segment c.requires.first (c.requires.free honest) (either_slots c.args.ring.now.geometry c.args.segment c.args.next c.from.result _ image c.from.ensures either))
+    begun-held_or c.args.ring.now.geometry r c.args.next c.args.segment _ image held is c.requires.segment (c.requires.first honest) (c.requires.free honest) (either_slots c.args.ring.now.geometry c.args.segment c.args.next c.from.result _ image c.from.ensures either))
 
 pub returns-clause-held : goal.returns-clause-held
 returns-clause-held g c = λ r is honest held.
-    on_ok_weaker c.begin_block.result (λ shows. begun-held c.args.ring.now.geometry r c.args.next c.args.segment _ _ held is c.requires.segment c.requires.first (c.requires.free honest) (shows_slots c.args.ring.now.geometry c.args.segment c.args.next c.from.result _ _ c.from.ensures shows)) (c.begin_block.ensures.begun honest)
+    on_ok_weaker c.begin_block.result (λ shows. begun-held c.args.ring.now.geometry r c.args.next c.args.segment _ _ held is c.requires.segment (c.requires.first honest) (c.requires.free honest) (shows_slots c.args.ring.now.geometry c.args.segment c.args.next c.from.result _ _ c.from.ensures shows)) (c.begin_block.ensures.begun honest)
 
 both_ok : {T E : Type 0} {P Q R : Type 0} (r : Result T E) → (P → Q → R) → OnOk r P → OnOk r Q → OnOk r R
 both_ok (Ok x) f p q = f p q
@@ -30,5 +30,9 @@ both_ok (Err e) f p q = tt
 pub returns-clause-newest : goal.returns-clause-newest
 returns-clause-newest g c = λ honest.
     both_ok c.begin_block.result (λ shows stray.
-    begun-newest c.args.ring.now.geometry c.args.next c.args.segment _ c.requires.first (shows_slots c.args.ring.now.geometry c.args.segment c.args.next c.from.result _ _ c.from.ensures shows).holds stray)
+    begun-newest c.args.ring.now.geometry c.args.next c.args.segment _ (c.requires.first honest) (shows_slots c.args.ring.now.geometry c.args.segment c.args.next c.from.result _ _ c.from.ensures shows).holds stray)
     (c.begin_block.ensures.begun honest) (c.begin_block.ensures.stray honest)
+
+pub returns-clause-begun : goal.returns-clause-begun
+returns-clause-begun g c = λ honest.
+    on_ok_weaker c.begin_block.result (λ shows. shows_slots c.args.ring.now.geometry c.args.segment c.args.next c.from.result _ _ c.from.ensures shows) (c.begin_block.ensures.begun honest)

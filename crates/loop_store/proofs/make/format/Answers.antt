@@ -1,7 +1,7 @@
 use Rattle.std.proofs.Common.{◌≡◌, true, false, eqb, ◌&&◌, sym, ◌∙◌, refl}
 use Rattle.loop_record.specs.Geometry.{disk_size, is_good}
 use Rattle.loop_record.proofs.Decided.{both, equal}
-use Rattle.loop_store.proofs.First.{fresh-kept, fresh-stands}
+use Rattle.loop_store.proofs.NewStore.{fresh-kept, fresh-stands}
 use Rattle.loop_store.proofs.make.format.Goals as goal
 
 pub invariant_of-result : goal.invariant_of-result

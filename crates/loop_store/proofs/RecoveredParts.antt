@@ -1,0 +1,209 @@
+-- What a read of each part of a disk says of its image.
+use Rattle.std.proofs.Common.{◌≡◌, ℕ, ◌+◌, ◌-◌, ◌*◌, ◌<◌, ◌≤◌, Bool, true, false, cond, IsTrue, IsErrAnd, Option, Some, None, Result, Ok, Err, List, [], ◌∷◌, ◌++◌, length, take, drop, get_or, map, refl, sym, ap, ◌∙◌, subst, arith}
+use Rattle.std.specs.Prelude.{◌||◌}
+use Rattle.std.specs.List.{list_any, range_with_len}
+use Rattle.loop_disk.specs.Medium.{piece}
+use Rattle.loop_record.specs.declared.clip.Span.{Span}
+use Rattle.loop_record.specs.declared.damage.Damage.{Damage}
+use Rattle.loop_record.specs.declared.damage.LayoutFault.{LayoutFault}
+use Rattle.loop_record.specs.declared.frame.FrameHead.{FrameHead}
+use Rattle.loop_record.specs.declared.geometry.Geometry.{Geometry}
+use Rattle.loop_record.specs.declared.image.Found.{Found}
+use Rattle.loop_record.specs.declared.segment.SegmentHead.{SegmentHead}
+use Rattle.loop_record.specs.Geometry.{frame_bytes, is_good, segment_at, slot_at}
+use Rattle.loop_record.specs.Layout.{Segment, Slot, open_gates, checked_header, geometry_in, header_at, is_open, is_slot_of, is_too_high, segment_in, slot_head, slot_in, whole_frames}
+use Rattle.loop_record.specs.Plain.{AreIn, IsIn, IsSomeHigh, found_of, lacks_number, segment_of, segments_of, table_clips, with_segment}
+use Rattle.loop_record.specs.Reading.{by_block, hold_from, is_bad_slot, is_high, opened, parts_of, reading}
+use Rattle.std.proofs.lemmas.List.{map-append}
+use Rattle.loop_record.proofs.Gates.{range_append}
+use Rattle.loop_record.proofs.Bounds.{limits}
+use Rattle.loop_record.proofs.Framing.{prefix_range-le}
+use Rattle.loop_record.proofs.Fresh.{geometry_in-slice, header_at-slice}
+use Rattle.loop_record.proofs.FoundSegments.{found-high, opened-more, read_slots, reading-no_geometry, slots-bad, slots-hold, some-high}
+use Rattle.loop_record.proofs.HeldNumbers.{bad-lacks, clips-table}
+use Rattle.loop_record.proofs.Readings.{get_or-map_range}
+use Rattle.loop_record.specs.Recording.{head}
+use Rattle.byteorder.specs.Endian.{little_from}
+use Rattle.loop_ring.proofs.SlotReads.{head_read}
+use Rattle.loop_store.specs.declared.fault.StoreFault.{StoreFault}
+use Rattle.loop_ring.specs.Heads.{heads_of}
+use Rattle.loop_store.specs.Recovered.{IsHeadIn, Recovers, clips_of, refusal, segment_said, some_bad_clip}
+
+-- ---- refusals
+
+-- a refusal of the layout is answered as it is
+pub recovers-refusal : {T : Type 0} (r : Result T StoreFault) (fault : LayoutFault) (P : T → Type 0) (Q : LayoutFault → Type 0) → Q fault → IsErrAnd r (λ made. made ≡ refusal fault) → Recovers r P Q
+recovers-refusal (Ok x) fault P Q q made = absurd made
+recovers-refusal (Err e) LayoutFault.NotFormatted P Q q made = subst (λ (x : StoreFault). Recovers (Err x) P Q) (sym made) q
+recovers-refusal (Err e) (LayoutFault.Damaged d) P Q q made = subst (λ (x : StoreFault). Recovers (Err x) P Q) (sym made) q
+
+-- a damage is answered as it is
+pub recovers-damage : {T : Type 0} (r : Result T StoreFault) (d : Damage) (P : T → Type 0) (Q : LayoutFault → Type 0) → Q (LayoutFault.Damaged d) → IsErrAnd r (λ made. made ≡ StoreFault.Damaged d) → Recovers r P Q
+recovers-damage r d P Q q made = recovers-refusal r (LayoutFault.Damaged d) P Q q made
+
+-- what a callee refused
+pub recovers-on : {T U : Type 0} (r : Result U StoreFault) (e : StoreFault) (P : T → Type 0) (P' : U → Type 0) (Q Q' : LayoutFault → Type 0) → ((f : LayoutFault) → Q f → Q' f) → IsErrAnd r (λ made. made ≡ e)
+    → Recovers (let s : Result T StoreFault = Err e in s) P Q → Recovers r P' Q'
+recovers-on {T} {U} (Ok x) e P P' Q Q' h made said = absurd made
+recovers-on {T} {U} (Err x) e P P' Q Q' h made said = subst (λ (y : StoreFault). Recovers (Err y) P' Q') (sym made) (go e said)
+  where
+    go : (y : StoreFault) → Recovers (let s : Result T StoreFault = Err y in s) P Q → Recovers (let s : Result U StoreFault = Err y in s) P' Q'
+    go StoreFault.NoMemory said = tt
+    go (StoreFault.Disk fault) said = tt
+    go StoreFault.NotFormatted said = h LayoutFault.NotFormatted said
+    go (StoreFault.Damaged d) said = h (LayoutFault.Damaged d) said
+    go StoreFault.MustReopen said = said
+    go StoreFault.NotHeld said = said
+    go StoreFault.BadGeometry said = said
+    go StoreFault.SegmentFull said = said
+
+-- ---- the superblock
+
+-- what is decoded from the first 512 bytes is what the image says
+pub geometry-read : (image bytes : List ℕ) (said : Result Geometry LayoutFault) → 512 ≤ length image → bytes ≡ piece 0 512 image → said ≡ geometry_in bytes → said ≡ geometry_in image
+geometry-read image bytes said room read is = is ∙ ap geometry_in read ∙ geometry_in-slice image room
+
+pub refused-read : (image bytes : List ℕ) (fault : LayoutFault) → 512 ≤ length image → bytes ≡ piece 0 512 image → (let r : Result Geometry LayoutFault = Err fault in r) ≡ geometry_in bytes → reading image ≡ Err fault
+refused-read image bytes fault room read is = reading-no_geometry image fault (geometry-read image bytes (Err fault) room read is)
+
+-- ---- headers
+
+-- what is decoded from a read of a header is what the image says
+pub head-read : (g : Geometry) (j at : ℕ) (image bytes : List ℕ) (said : Result (Option SegmentHead) Damage) → IsTrue (is_good g) → at ≡ segment_at g j → bytes ≡ piece at 512 image → said ≡ checked_header g (header_at g bytes 0)
+    → said ≡ checked_header g (header_at g image (segment_at g j))
+head-read g j at image bytes said good at_is read is =
+    let count : 512 ≡ at + 512 - at = omega arith in
+    is ∙ ap (λ (b : List ℕ). checked_header g (header_at g b 0)) (read ∙ ap (λ (n : ℕ). take n (drop at image)) count)
+    ∙ ap (checked_header g) (header_at-slice g image at (limits g good).slots.1 ∙ ap (header_at g image) at_is)
+
+-- a header that is answered is the one that stands there
+pub head-same : (g : Geometry) (said h : Option SegmentHead) → (let r : Result (Option SegmentHead) Damage = Ok said in r) ≡ checked_header g h → said ≡ h
+head-same g said None e = cc
+head-same g said (Some h) e = go (is_too_high g h.block) e
+  where
+    ok : Option SegmentHead → Result (Option SegmentHead) Damage
+    ok x = Ok x
+
+    go : (t : Bool) → ok said ≡ cond t (Err Damage.BlockTooHigh) (ok (Some h)) → said ≡ Some h
+    go true e = absurd cc
+    go false e = cc
+
+-- and has no more frames than there are slots, and no block that is too high
+pub head-in : (g : Geometry) (bytes : List ℕ) (at : ℕ) (said : Option SegmentHead) → (let r : Result (Option SegmentHead) Damage = Ok said in r) ≡ checked_header g (header_at g bytes at) → IsHeadIn g said
+head-in g bytes at said e = gate (is_open bytes at) e
+  where
+    there : SegmentHead
+    there = record { block = little_from (at + 8) 8 bytes; frames = open_gates g.slots bytes (at + 256) }
+
+    ok : Option SegmentHead → Result (Option SegmentHead) Damage
+    ok x = Ok x
+
+    low : (t : Bool) → is_too_high g there.block ≡ t → ok said ≡ cond t (Err Damage.BlockTooHigh) (ok (Some there)) → IsHeadIn g said
+    low true up e = absurd cc
+    low false up e =
+        let same : said ≡ Some there = cc in
+        subst (IsHeadIn g) (sym same) (prefix_range-le (λ i. is_open bytes (at + 256 + i)) 0 g.slots, up)
+
+    gate : (t : Bool) → ok said ≡ checked_header g (cond t (Some there) None) → IsHeadIn g said
+    gate true e = low (is_too_high g there.block) refl e
+    gate false e =
+        let same : said ≡ None = cc in
+        subst (IsHeadIn g) (sym same) tt
+
+-- a header that is refused has a block that is too high
+pub head-high : (g : Geometry) (image : List ℕ) (j : ℕ) (d : Damage) → (let r : Result (Option SegmentHead) Damage = Err d in r) ≡ checked_header g (header_at g image (segment_at g j))
+    → (LayoutFault.Damaged d ≡ LayoutFault.Damaged Damage.BlockTooHigh) × IsSomeHigh g (segment_in g image j)
+head-high g image j d e =
+    let k = found-high g image j d (ap (found_of j) e) in
+    (ap (λ (x : Damage). LayoutFault.Damaged x) k.0, k.1)
+
+-- one more header that was read
+pub heads-more : (g : Geometry) (image mid : List ℕ) (n : ℕ) (said : Option SegmentHead) (heads new : List (Option SegmentHead)) → mid ≡ image → said ≡ header_at g mid (segment_at g n) → heads ≡ map (λ j. header_at g image (segment_at g j)) (range_with_len 0 n) → new ≡ heads ++ said ∷ []
+    → new ≡ map (λ j. header_at g image (segment_at g j)) (range_with_len 0 (n + 1))
+heads-more g image mid n said heads new same is so_far pushed =
+    let f = λ (j : ℕ). header_at g image (segment_at g j) in
+    let at : 0 + n ≡ n = omega arith in
+    pushed ∙ (λ i. so_far i ++ (is ∙ ap (λ (c : List ℕ). header_at g c (segment_at g n)) same) i ∷ [])
+    ∙ sym (ap (map f) (range_append 0 n 1) ∙ map-append f (range_with_len 0 n) (range_with_len (0 + n) 1) ∙ ap (λ (k : ℕ). map f (range_with_len 0 n) ++ f k ∷ []) at)
+
+-- an open segment is what its header says, and its slots
+pub segment-said : (g : Geometry) (image : List ℕ) (j : ℕ) → segment_in g image j ≡ segment_said g image j (header_at g image (segment_at g j))
+segment-said g image j = go (is_open image (segment_at g j))
+  where
+    there : SegmentHead
+    there = record { block = little_from (segment_at g j + 8) 8 image; frames = whole_frames g image j }
+
+    these : Segment
+    these = segment_of g image (record { segment = j; block = there.block; frames = there.frames })
+
+    go : (t : Bool) → cond t (Some these) None ≡ segment_said g image j (cond t (Some there) None)
+    go true = refl
+    go false = refl
+
+-- ---- slots
+
+-- what is decoded from a read of a slot's head is what the image says
+pub slot-read : (g : Geometry) (j i number at n : ℕ) (image head : List ℕ) (said : Result FrameHead Damage) → at ≡ slot_at g j i → n ≡ frame_bytes g → head ≡ piece at 32 image → said ≡ slot_head n number (slot_in n head 0)
+    → said ≡ slot_head (frame_bytes g) number (slot_in (frame_bytes g) image (slot_at g j i))
+slot-read g j i number at n image head said at_is n_is read is = sym (head_read g j i number at n image head said at_is n_is read is)
+
+pub slot-right : (n number : ℕ) (s : Slot) (h : FrameHead) → (let r : Result FrameHead Damage = Ok h in r) ≡ slot_head n number s → is_slot_of n number s ≡ true
+slot-right n number s h e = go (is_slot_of n number s) refl e
+  where
+    ok : FrameHead → Result FrameHead Damage
+    ok x = Ok x
+
+    go : (t : Bool) → is_slot_of n number s ≡ t → ok h ≡ cond t (ok (head number s.picture)) (Err Damage.SlotHead) → is_slot_of n number s ≡ true
+    go true is e = is
+    go false is e = absurd cc
+
+-- ---- loops
+
+-- a header that was refused, in an image that is as it was
+pub heads-wrong : (g : Geometry) (image mid : List ℕ) (j : ℕ) → j < g.segments → mid ≡ image → IsSomeHigh g (segment_in g mid j) → list_any (is_high g) (by_block (opened (parts_of g image).segments)) ≡ true
+heads-wrong g image mid j l same high = some-high g image j l (subst (λ (c : List ℕ). IsSomeHigh g (segment_in g c j)) same high)
+
+-- one more segment in its place
+pub order-more : (g : Geometry) (image : List ℕ) (heads : List (Option SegmentHead)) (done : ℕ) (head d : Option SegmentHead) (old new : List Found) → heads ≡ heads_of g image → done < g.segments → head ≡ get_or heads (g.segments - 1 - done) d
+    → segments_of g image new ≡ with_segment (segment_said g image (g.segments - 1 - done) head) (segments_of g image old)
+    → segments_of g image old ≡ by_block (opened (map (segment_in g image) (range_with_len (g.segments - done) done)))
+    → segments_of g image new ≡ by_block (opened (map (segment_in g image) (range_with_len (g.segments - (done + 1)) (done + 1))))
+order-more g image heads done head d old new are l is placed so_far =
+    let j = g.segments - 1 - done in
+    let at : 0 + j ≡ j = omega arith in
+    let f = λ (k : ℕ). header_at g image (segment_at g k) in
+    let said : head ≡ f j = is ∙ ap (λ (hs : List (Option SegmentHead)). get_or hs j d) are ∙ get_or-map_range f 0 g.segments j d (omega (arith, l)) ∙ ap f at in
+    let there : segment_said g image j head ≡ segment_in g image j = ap (segment_said g image j) said ∙ sym (segment-said g image j) in
+    placed ∙ (λ i. with_segment (there i) (so_far i)) ∙ sym (opened-more g image done l)
+
+-- a slot that was refused, in an image that is as it was
+pub slots-wrong : (g : Geometry) (image mid : List ℕ) (f : Found) (i number : ℕ) → mid ≡ image → number ≡ f.block * g.slots + i → i < f.frames → is_slot_of (frame_bytes g) number (slot_in (frame_bytes g) mid (slot_at g f.segment i)) ≡ false
+    → is_bad_slot g (segment_of g image f) ≡ true
+slots-wrong g image mid f i number same counted l fails =
+    slots-bad g image f i l (sym (λ q. is_slot_of (frame_bytes g) (counted q) (slot_in (frame_bytes g) (same q) (slot_at g f.segment i))) ∙ fails)
+
+-- and one that holds its frame
+pub slots-right : (g : Geometry) (image mid : List ℕ) (j i first number : ℕ) → mid ≡ image → number ≡ first + i → hold_from (frame_bytes g) first (read_slots g image j i) ≡ true → is_slot_of (frame_bytes g) number (slot_in (frame_bytes g) mid (slot_at g j i)) ≡ true
+    → hold_from (frame_bytes g) first (read_slots g image j (i + 1)) ≡ true
+slots-right g image mid j i first number same counted held one =
+    slots-hold g image j i first held (sym (λ q. is_slot_of (frame_bytes g) (counted q) (slot_in (frame_bytes g) (same q) (slot_at g j i))) ∙ one)
+
+-- ---- the clip table
+
+pub table-bad : (g : Geometry) (image table : List ℕ) (fs : List Found) (t : Bool) → IsTrue (is_good g) → AreIn g fs → table ≡ piece 512 2048 image → list_any (lacks_number g fs) (table_clips table) ≡ t → some_bad_clip g image fs ≡ t
+table-bad g image table fs t good within read e = bad-lacks g image fs t (limits g good).slots.0 within (ap (λ (b : List ℕ). list_any (lacks_number g fs) (table_clips b)) (sym read) ∙ e)
+
+pub table-read : (image table : List ℕ) (clips : List (Option Span)) → table ≡ piece 512 2048 image → clips ≡ table_clips table → clips ≡ clips_of image
+table-read image table clips read are = are ∙ ap table_clips read ∙ clips-table image
+
+-- ---- a segment and the others
+
+pub AreIn-first : (g : Geometry) (all xs : List Found) (x : Found) → all ≡ x ∷ xs → AreIn g all → IsIn g x × AreIn g xs
+AreIn-first g all xs x is h = subst (AreIn g) is h
+
+pub bad-first : (g : Geometry) (image : List ℕ) (all xs : List Found) (x : Found) → all ≡ x ∷ xs → is_bad_slot g (segment_of g image x) ≡ true → list_any (is_bad_slot g) (segments_of g image all) ≡ true
+bad-first g image all xs x is e = ap (λ (ys : List Found). list_any (is_bad_slot g) (segments_of g image ys)) is ∙ (λ i. e i || list_any (is_bad_slot g) (segments_of g image xs))
+
+pub bad-others : (g : Geometry) (image mid : List ℕ) (all xs : List Found) (x : Found) (t : Bool) → all ≡ x ∷ xs → mid ≡ image → is_bad_slot g (segment_of g image x) ≡ false → list_any (is_bad_slot g) (segments_of g mid xs) ≡ t → list_any (is_bad_slot g) (segments_of g image all) ≡ t
+bad-others g image mid all xs x t is same e rest =
+    ap (λ (ys : List Found). list_any (is_bad_slot g) (segments_of g image ys)) is ∙ (λ i. e i || list_any (is_bad_slot g) (segments_of g (sym same i) xs)) ∙ rest

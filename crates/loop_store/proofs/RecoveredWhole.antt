@@ -1,0 +1,53 @@
+-- What the parts of a disk, read one after the other, say of its image.
+use Rattle.std.proofs.Common.{◌≡◌, ℕ, Bool, true, false, Option, Ok, Err, List, length, refl, sym, ap, ◌∙◌}
+use Rattle.std.specs.List.{list_any}
+use Rattle.loop_record.specs.declared.clip.Span.{Span}
+use Rattle.loop_record.specs.declared.damage.Damage.{Damage}
+use Rattle.loop_record.specs.declared.damage.LayoutFault.{LayoutFault}
+use Rattle.loop_record.specs.declared.geometry.Geometry.{Geometry}
+use Rattle.loop_record.specs.declared.image.Found.{Found}
+use Rattle.loop_record.specs.declared.segment.SegmentHead.{SegmentHead}
+use Rattle.loop_record.specs.Geometry.{disk_size}
+use Rattle.loop_record.specs.Layout.{geometry_in}
+use Rattle.loop_record.specs.Plain.{segments_of}
+use Rattle.loop_record.specs.Reading.{all_frames, by_block, is_bad_slot, is_high, lacks_frame, next_after, opened, parts_of, reading, repeats}
+use Rattle.loop_record.proofs.FoundSegments.{AreFull, IsFoundIn, fault-of, found-low, found-read, read-all, read-bad_clip, reading-bad_slot, reading-high}
+use Rattle.loop_ring.specs.Heads.{heads_of}
+use Rattle.loop_store.specs.Recovered.{IsRecovered, clips_of, some_bad_clip}
+
+-- the segments that were found, once none repeats a block and none but the last lacks a frame
+pub full : (g : Geometry) (image : List ℕ) (fs xs : List Found) (twice lacks : Bool) → IsFoundIn g image fs xs → twice ≡ repeats (segments_of g image xs) → twice ≡ false → lacks ≡ lacks_frame g (segments_of g image xs) → lacks ≡ false → AreFull g image fs xs
+full g image fs xs twice lacks found is single is' whole = record { found = found; single = sym is ∙ single; full = sym is' ∙ whole }
+
+-- a header's refusal
+pub refused-head : (g : Geometry) (image : List ℕ) (fault : LayoutFault) → geometry_in image ≡ Ok g → length image ≡ disk_size g → (fault ≡ LayoutFault.Damaged Damage.BlockTooHigh) × (list_any (is_high g) (by_block (opened (parts_of g image).segments)) ≡ true) → reading image ≡ Err fault
+refused-head g image fault geometry size q = reading-high g image geometry size q.1 ∙ fault-of (sym q.0)
+
+-- a slot's refusal, in an image that is as it was
+pub refused-slot : (g : Geometry) (image mid : List ℕ) (fs xs : List Found) (fault : LayoutFault) → AreFull g image fs xs → mid ≡ image → (fault ≡ LayoutFault.Damaged Damage.SlotHead) × (list_any (is_bad_slot g) (segments_of g mid xs) ≡ true) → reading image ≡ Err fault
+refused-slot g image mid fs xs fault a same q =
+    let bad = ap (λ (c : List ℕ). list_any (is_bad_slot g) (segments_of g c xs)) (sym same) ∙ q.1 in
+    reading-bad_slot g image (segments_of g image xs) (found-read g image fs xs a.found) (found-low g image fs xs a.found) a.single a.full bad ∙ fault-of (sym q.0)
+
+-- a clip's refusal
+pub refused-clip : (g : Geometry) (image mid last : List ℕ) (fs xs : List Found) (fault : LayoutFault) → AreFull g image fs xs → mid ≡ image → list_any (is_bad_slot g) (segments_of g mid xs) ≡ false → last ≡ image
+    → (fault ≡ LayoutFault.Damaged Damage.ClipRange) × (some_bad_clip g last xs ≡ true) → reading image ≡ Err fault
+refused-clip g image mid last fs xs fault a same right same' q =
+    let sound = ap (λ (c : List ℕ). list_any (is_bad_slot g) (segments_of g c xs)) (sym same) ∙ right in
+    let bad = ap (λ (c : List ℕ). some_bad_clip g c xs) (sym same') ∙ q.1 in
+    read-bad_clip g image fs xs (all_frames g (segments_of g image xs)) Damage.ClipRange a sound refl refl bad ∙ fault-of (sym q.0)
+
+-- nothing is refused
+pub recovered : (g : Geometry) (image mid last : List ℕ) (fs xs : List Found) (heads : List (Option SegmentHead)) (clips : List (Option Span)) (next : ℕ) → AreFull g image fs xs → mid ≡ image → list_any (is_bad_slot g) (segments_of g mid xs) ≡ false → last ≡ image
+    → (clips ≡ clips_of last) × (some_bad_clip g last xs ≡ false) → next ≡ next_after g (segments_of g image xs) → heads ≡ heads_of g image → IsRecovered g heads clips next image
+recovered g image mid last fs xs heads clips next a same right same' q after are =
+    let sound = ap (λ (c : List ℕ). list_any (is_bad_slot g) (segments_of g c xs)) (sym same) ∙ right in
+    let good = ap (λ (c : List ℕ). some_bad_clip g c xs) (sym same') ∙ q.1 in
+    let frames = all_frames g (segments_of g image xs) in
+    record {
+      recording = record { next = next; frames = frames; clips = clips };
+      held = read-all g image fs xs next frames clips a sound refl after (q.0 ∙ ap clips_of same') good;
+      next_is = refl;
+      clips_are = refl;
+      heads_are = are;
+    }

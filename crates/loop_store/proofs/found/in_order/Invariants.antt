@@ -1,0 +1,11 @@
+use Rattle.std.proofs.Common.{◌≡◌, ◌-◌, ℕ, List, map}
+use Rattle.std.specs.List.{range_with_len}
+use Rattle.loop_record.specs.Layout.{segment_in}
+use Rattle.loop_record.specs.Plain.{AreIn, segments_of}
+use Rattle.loop_record.specs.Reading.{by_block, opened}
+use Rattle.loop_ring.specs.Heads.{heads_of}
+use Rattle.loop_store.proofs.found.in_order.Given as goal
+
+abbrev pub invariant-loop-done : goal.invariant-loop-done
+invariant-loop-done g l = AreIn l.geometry l.«open».items
+    × ((image : List ℕ) → l.heads ≡ heads_of l.geometry image → segments_of l.geometry image l.«open».items ≡ by_block (opened (map (segment_in l.geometry image) (range_with_len (l.geometry.segments - l.done) l.done))))

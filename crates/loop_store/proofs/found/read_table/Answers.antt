@@ -1,0 +1,17 @@
+use Rattle.std.proofs.Common.{true, false, ap}
+use Rattle.loop_record.specs.declared.damage.Damage.{Damage}
+use Rattle.loop_record.specs.declared.damage.LayoutFault.{LayoutFault}
+use Rattle.loop_store.proofs.RecoveredParts.{recovers-damage, table-bad, table-read}
+use Rattle.loop_store.proofs.found.read_table.Goals as goal
+
+pub returns-in_err-clips-clause-clips : goal.returns-in_err-clips-clause-clips
+returns-in_err-clips-clause-clips g c = λ honest.
+    recovers-damage _ c.in_err-clips.field-0.0 _ _
+    (ap (λ (d : Damage). LayoutFault.Damaged d) c.in_err-clips.ensures.0, table-bad c.args.geometry.now (g.D.Disk.medium c.args.disk.now).bytes c.read.new.buf c.args.open.now true c.requires.good c.requires.within (c.in_ok-read.ensures.read honest) c.in_err-clips.ensures.1)
+    c.from_residual-in_err-clips.ensures.1
+
+pub returns-clause-clips : goal.returns-clause-clips
+returns-clause-clips g c = λ honest. (
+  table-read (g.D.Disk.medium c.args.disk.now).bytes c.read.new.buf c.in_ok-clips.clips (c.in_ok-read.ensures.read honest) c.in_ok-clips.ensures.0,
+  table-bad c.args.geometry.now (g.D.Disk.medium c.args.disk.now).bytes c.read.new.buf c.args.open.now false c.requires.good c.requires.within (c.in_ok-read.ensures.read honest) c.in_ok-clips.ensures.1,
+)

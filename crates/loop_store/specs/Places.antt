@@ -1,0 +1,72 @@
+-- Where an append goes.
+use Rattle.std.specs.Prelude.{◌≡◌, ℕ, ◌+◌, ◌/◌, ◌%◌, ◌<◌, ◌==◌, false, true, Bool, Option, Some, None, List, [], ◌∷◌, length, slice_index_or, slice_set}
+use Rattle.std.specs.List.{list_any, position}
+use Rattle.loop_record.specs.declared.geometry.Geometry.{Geometry}
+use Rattle.loop_record.specs.declared.segment.SegmentHead.{SegmentHead}
+use Rattle.loop_record.specs.Layout.{Segment, is_too_high, segment_in, whole_frames}
+use Rattle.loop_record.specs.Reading.{Holds, opened, parts_of}
+use Rattle.loop_record.specs.Recording.{Recording, Step, needs_recycling, recycle, recycling_first, ring_of, victim}
+use Rattle.loop_ring.specs.Heads.{heads_of}
+use Rattle.loop_store.specs.declared.place.Place.{Place}
+use Rattle.loop_store.specs.declared.place.Place.TheVariants.{Newest, Closed, Victim}
+use Rattle.loop_store.specs.Held.{HasNoneStray, IsFreeFor}
+use Rattle.loop_store.specs.Seen.{steps_or_none}
+
+-- the segment of a place
+abbrev pub segment_of : Place → ℕ
+segment_of (Newest j) = j
+segment_of (Closed j) = j
+segment_of (Victim j) = j
+
+-- segment j has the block of the next number, and the frames before it
+pub record IsNext (g : Geometry) (next j : ℕ) (image : List ℕ) : Type 0 where
+  pub segment : Segment
+  pub there : segment_in g image j ≡ Some segment
+  pub of_next : segment.block ≡ next / g.slots
+  pub whole : whole_frames g image j ≡ next % g.slots
+  pub head : slice_index_or (heads_of g image) j None ≡ Some (record { block = next / g.slots; frames = next % g.slots })
+
+-- segment j has block b, no segment has the block of the next number, and that block isn't too high
+pub record IsOldFor (g : Geometry) (next b j : ℕ) (image : List ℕ) : Type 0 where
+  pub segment : Segment
+  pub there : segment_in g image j ≡ Some segment
+  pub block_is : segment.block ≡ b
+  pub apart : list_any (λ s. s.block == (next / g.slots)) (opened (parts_of g image).segments) ≡ false
+  pub low_enough : is_too_high g (next / g.slots) ≡ false
+
+-- what a place says of the image, and of the steps that come before the stores
+abbrev pub IsPlaceAt : Geometry → Recording → List ℕ → Place → Type 0
+IsPlaceAt g r image (Newest j) = IsNext g r.next j image × (needs_recycling (ring_of g) r ≡ false)
+IsPlaceAt g r image (Closed j) = IsFreeFor g r.next j image × ((r.next % g.slots ≡ 0) × (needs_recycling (ring_of g) r ≡ false))
+IsPlaceAt g r image (Victim j) = (b : ℕ) × ((victim (ring_of g) r ≡ Some b) × (IsOldFor g r.next b j image × ((r.next % g.slots ≡ 0) × (needs_recycling (ring_of g) r ≡ true))))
+
+-- there is such a place, or a block has to be recycled first and there is no victim
+abbrev pub IsPlace : Geometry → Recording → List ℕ → Option Place → Type 0
+IsPlace g r image None = recycling_first (needs_recycling (ring_of g) r) (victim (ring_of g) r) ≡ None
+IsPlace g r image (Some place) = IsPlaceAt g r image place
+
+-- the image holds a recording with this next number, such a place is there, and no stray gate
+pub record IsKnown (g : Geometry) (next : ℕ) (place : Place) (image : List ℕ) : Type 0 where
+  pub recording : Recording
+  pub held : Holds g recording image
+  pub next_is : recording.next ≡ next
+  pub is_place : IsPlaceAt g recording image place
+  pub unstray : HasNoneStray g image
+
+-- the steps before the stores of an append: a recycling, or none
+abbrev pub steps_before : Geometry → Recording → List Step
+steps_before g r = steps_or_none (recycling_first (needs_recycling (ring_of g) r) (victim (ring_of g) r))
+
+-- the header of the segment at a place, before the frames are stored
+abbrev pub head_at : Geometry → ℕ → SegmentHead
+head_at g next = record { block = next / g.slots; frames = next % g.slots }
+
+-- the segments' headers are the old ones, but that segment j has begun the block of the next number, with the frames before it; and no stray gate is there
+pub record IsBegunAt (g : Geometry) (next j : ℕ) (old new : List ℕ) : Type 0 where
+  pub heads : heads_of g new ≡ slice_set (heads_of g old) j (Some (head_at g next))
+  pub unstray : HasNoneStray g new
+
+-- the segments' headers are the old ones, but that segment j has so many frames of the block of the next number from there on; and no stray gate is there
+pub record IsGrownAt (g : Geometry) (next count j : ℕ) (old new : List ℕ) : Type 0 where
+  pub heads : heads_of g new ≡ slice_set (heads_of g old) j (Some (record { block = next / g.slots; frames = next % g.slots + count }))
+  pub unstray : HasNoneStray g new

@@ -1,0 +1,81 @@
+-- What is found on a disk again, and in which order damage is answered.
+use Rattle.std.specs.Prelude.{◌≡◌, ℕ, ◌≤◌, Bool, false, Option, Some, None, Result, Ok, Err, List, map}
+use Rattle.std.specs.List.{list_any, range_with_len}
+use Rattle.loop_disk.specs.Calls.{one_more}
+use Rattle.loop_record.specs.declared.clip.Span.{Span}
+use Rattle.loop_record.specs.declared.damage.LayoutFault.{LayoutFault}
+use Rattle.loop_record.specs.declared.geometry.Geometry.{Geometry}
+use Rattle.loop_record.specs.declared.image.Found.{Found}
+use Rattle.loop_record.specs.declared.segment.SegmentHead.{SegmentHead}
+use Rattle.loop_record.specs.Geometry.{segment_at}
+use Rattle.loop_record.specs.Layout.{Segment, header_at, clip_in, is_too_high}
+use Rattle.loop_record.specs.Plain.{segment_of, segments_of}
+use Rattle.loop_record.specs.Reading.{Holds, all_frames, is_bad_clip}
+use Rattle.loop_record.specs.Recording.{Recording, empty}
+use Rattle.loop_ring.specs.Heads.{heads_of}
+use Rattle.loop_store.specs.declared.fault.StoreFault.{StoreFault}
+
+-- the refusal that stands for the layout's
+abbrev pub refusal : LayoutFault → StoreFault
+refusal LayoutFault.NotFormatted = StoreFault.NotFormatted
+refusal (LayoutFault.Damaged damage) = StoreFault.Damaged damage
+
+-- The answer is as the first says, or the layout's refusal as the second, or memory was refused, or a call of the disk failed.
+abbrev pub Recovers : {T : Type 0} → Result T StoreFault → (T → Type 0) → (LayoutFault → Type 0) → Type 0
+Recovers (Ok x) P Q = P x
+Recovers (Err StoreFault.NoMemory) P Q = Unit {0}
+Recovers (Err (StoreFault.Disk fault)) P Q = Unit {0}
+Recovers (Err StoreFault.NotFormatted) P Q = Q LayoutFault.NotFormatted
+Recovers (Err (StoreFault.Damaged damage)) P Q = Q (LayoutFault.Damaged damage)
+Recovers (Err StoreFault.MustReopen) P Q = ⊥
+Recovers (Err StoreFault.NotHeld) P Q = ⊥
+Recovers (Err StoreFault.BadGeometry) P Q = ⊥
+Recovers (Err StoreFault.SegmentFull) P Q = ⊥
+
+-- The refusal is that a call of the disk failed, which is counted, or none failed. No other refusal is made here.
+abbrev pub CountedRefusal : ℕ → ℕ → StoreFault → Type 0
+CountedRefusal before now (StoreFault.Disk fault) = now ≡ one_more before
+CountedRefusal before now StoreFault.NoMemory = now ≡ before
+CountedRefusal before now StoreFault.NotFormatted = now ≡ before
+CountedRefusal before now (StoreFault.Damaged damage) = now ≡ before
+CountedRefusal before now StoreFault.MustReopen = ⊥
+CountedRefusal before now StoreFault.NotHeld = ⊥
+CountedRefusal before now StoreFault.BadGeometry = ⊥
+CountedRefusal before now StoreFault.SegmentFull = ⊥
+
+-- A call of the disk failed, which is counted and answered, or none did.
+abbrev pub CountedRecovery : {T : Type 0} → ℕ → ℕ → Result T StoreFault → Type 0
+CountedRecovery before now (Ok x) = now ≡ before
+CountedRecovery before now (Err fault) = CountedRefusal before now fault
+
+-- ---- segments
+
+-- the header of an open segment has no more frames than there are slots, and its block isn't too high
+abbrev pub IsHeadIn : Geometry → Option SegmentHead → Type 0
+IsHeadIn g None = Unit {0}
+IsHeadIn g (Some h) = (h.frames ≤ g.slots) × (is_too_high g h.block ≡ false)
+
+-- segment j, where its header says so
+abbrev pub segment_said : Geometry → List ℕ → ℕ → Option SegmentHead → Option Segment
+segment_said g image j None = None
+segment_said g image j (Some h) = Some (segment_of g image (record { segment = j; block = h.block; frames = h.frames }))
+
+-- ---- clips
+
+-- the clip of each id
+abbrev pub clips_of : List ℕ → List (Option Span)
+clips_of image = map (clip_in image) (range_with_len 0 64)
+
+-- some clip of the image is empty or has a number of which the segments have no frame
+abbrev pub some_bad_clip : Geometry → List ℕ → List Found → Bool
+some_bad_clip g image fs = list_any (is_bad_clip (record empty { frames = all_frames g (segments_of g image fs) })) (clips_of image)
+
+-- ---- the whole
+
+-- the image holds a recording of this geometry with these clips and this next number, and its segments have these heads
+pub record IsRecovered (g : Geometry) (heads : List (Option SegmentHead)) (clips : List (Option Span)) (next : ℕ) (image : List ℕ) : Type 0 where
+  pub recording : Recording
+  pub held : Holds g recording image
+  pub next_is : next ≡ recording.next
+  pub clips_are : clips ≡ recording.clips
+  pub heads_are : heads ≡ heads_of g image

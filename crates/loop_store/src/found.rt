@@ -1,0 +1,239 @@
+//! The parts of a recording on a disk, each read alone: the superblock, the headers, the heads of the slots, the clip table.
+//!
+//! Each call reads and never writes; after a refusal the disk is as it was.
+
+ghost use Rattle.std.specs.Prelude.{◌≡◌, ◌+◌, ◌<◌, ◌≤◌, ◌↔◌, ℕ, List, Ok, Err, IsTrue, IfOk, OnOk, All, true, false, length};
+ghost use Rattle.std.specs.List.{list_any};
+ghost use Rattle.loop_disk.specs.Calls.{Stays};
+ghost use Rattle.loop_record.specs.declared.damage.Damage.{Damage};
+ghost use Rattle.loop_record.specs.declared.damage.LayoutFault.{LayoutFault};
+ghost use Rattle.loop_record.specs.declared.geometry.Geometry.{Geometry};
+ghost use Rattle.loop_record.specs.Geometry.{disk_size, frame_bytes, is_good, segment_at, slot_at};
+ghost use Rattle.loop_record.specs.Layout.{checked_header, geometry_in, header_at, is_slot_of, is_too_high, segment_in, slot_in};
+ghost use Rattle.loop_record.specs.Plain.{AreIn, IsSomeHigh, segment_of, segments_of, with_segment};
+ghost use Rattle.loop_record.specs.Reading.{by_block, is_bad_slot, is_high, opened, parts_of, reading};
+ghost use Rattle.loop_ring.specs.Heads.{heads_of};
+ghost use Rattle.loop_store.specs.Recovered.{CountedRecovery, IsHeadIn, Recovers, clips_of, refusal, segment_said, some_bad_clip};
+
+use crate::StoreFault;
+use loop_disk::Disk;
+use loop_record::{
+    Damage, Found, Geometry, HEAD_SIZE, HEADER_SIZE, LayoutFault, SUPER_SIZE, SegmentHead, Span,
+    TABLE_SIZE, decode_head, decode_header, decode_super, put_in_place, read_clips,
+};
+use std::alloc::{AllocError, Allocator};
+
+impl From<LayoutFault> for StoreFault {
+    ghost from_gives = { λ fault made. made ≡ refusal fault };
+
+    fn from(fault: LayoutFault) -> StoreFault {
+        match fault {
+            LayoutFault::NotFormatted => StoreFault::NotFormatted,
+            LayoutFault::Damaged(damage) => StoreFault::Damaged(damage),
+        }
+    }
+}
+
+/// The geometry in the superblock of a disk of its size: one read, or none where the disk has no room for a superblock.
+pub(crate) fn read_geometry<D: Disk>(disk: &mut D) -> Result<Geometry, StoreFault>
+    ensures good { IfOk result (λ geometry. IsTrue (is_good geometry)) }
+    ensures size { IfOk result (λ geometry. D.extent disk.old ≡ disk_size geometry) }
+    ensures geometry { D.honest disk.old → Recovers result (λ geometry. geometry_in (D.medium disk.old).bytes ≡ Ok geometry) (λ fault. reading (D.medium disk.old).bytes ≡ Err fault) }
+    ensures disk { D.honest disk.old → Stays (D.medium disk.old) (D.medium disk.new) }
+    ensures counted { CountedRecovery (D.faults disk.old) (D.faults disk.new) result }
+    ensures extent { D.extent disk.new ≡ D.extent disk.old }
+    ensures honest { D.honest disk.old ↔ D.honest disk.new }
+{
+    let size = disk.size();
+    if size < SUPER_SIZE as u64 {
+        return Err(StoreFault::NotFormatted);
+    }
+    let mut superblock = [0; SUPER_SIZE];
+    disk.read(0, &mut superblock)?;
+    let geometry = decode_super(&superblock)?;
+    if size != geometry.disk_size() {
+        return Err(StoreFault::Damaged(Damage::DiskSize));
+    }
+    Ok(geometry)
+}
+
+/// What the header of a segment says: one read.
+fn read_head<D: Disk>(
+    disk: &mut D,
+    geometry: &Geometry,
+    segment: u32,
+) -> Result<Option<SegmentHead>, StoreFault>
+    requires good { IsTrue (is_good geometry.now) }
+    requires size { D.extent disk.old ≡ disk_size geometry.now }
+    requires segment { segment < geometry.now.segments }
+    ensures within { IfOk result (IsHeadIn geometry.now) }
+    ensures head { D.honest disk.old → Recovers result (λ head. head ≡ header_at geometry.now (D.medium disk.old).bytes (segment_at geometry.now segment))
+        (λ fault. (fault ≡ LayoutFault.Damaged Damage.BlockTooHigh) × IsSomeHigh geometry.now (segment_in geometry.now (D.medium disk.old).bytes segment)) }
+    ensures disk { D.honest disk.old → Stays (D.medium disk.old) (D.medium disk.new) }
+    ensures counted { CountedRecovery (D.faults disk.old) (D.faults disk.new) result }
+    ensures extent { D.extent disk.new ≡ D.extent disk.old }
+    ensures honest { D.honest disk.old ↔ D.honest disk.new }
+{
+    let mut header = [0; HEADER_SIZE];
+    disk.read(geometry.segment_at(segment), &mut header)?;
+    let head = decode_header(geometry, &header)?;
+    Ok(head)
+}
+
+/// What the header of each segment says, in the order of the segments: a read each. `BlockTooHigh` where one has such a block.
+pub(crate) fn read_heads<D: Disk, A: Allocator>(
+    alloc: A,
+    disk: &mut D,
+    geometry: &Geometry,
+) -> Result<Vec<Option<SegmentHead>, A>, StoreFault>
+    requires good { IsTrue (is_good geometry.now) }
+    requires size { D.extent disk.old ≡ disk_size geometry.now }
+    ensures count { IfOk result (λ heads. length heads.items ≡ geometry.now.segments) }
+    ensures within { IfOk result (λ heads. All (IsHeadIn geometry.now) heads.items) }
+    ensures heads { D.honest disk.old → Recovers result (λ heads. heads.items ≡ heads_of geometry.now (D.medium disk.old).bytes)
+        (λ fault. (fault ≡ LayoutFault.Damaged Damage.BlockTooHigh) × (list_any (is_high geometry.now) (by_block (opened (parts_of geometry.now (D.medium disk.old).bytes).segments)) ≡ true)) }
+    ensures disk { D.honest disk.old → Stays (D.medium disk.old) (D.medium disk.new) }
+    ensures counted { CountedRecovery (D.faults disk.old) (D.faults disk.new) result }
+    ensures extent { D.extent disk.new ≡ D.extent disk.old }
+    ensures honest { D.honest disk.old ↔ D.honest disk.new }
+{
+    let mut heads = Vec::with_capacity(alloc, geometry.segments as usize)?;
+    for segment in 0..geometry.segments {
+        let head = read_head(disk, geometry, segment)?;
+        heads.push_reserved(head);
+    }
+    Ok(heads)
+}
+
+/// Puts a segment in its place among those whose blocks don't fall, if it is open.
+fn add_head<A: Allocator>(
+    segment: u32,
+    head: Option<SegmentHead>,
+    open: &mut Vec<Found, A>,
+) -> Result<(), AllocError>
+    ensures within { OnOk result ((g : Geometry) → IsHeadIn g head → segment < g.segments → AreIn g open.old.items → AreIn g open.new.items) }
+    ensures placed { OnOk result ((g : Geometry) (image : List ℕ) → segments_of g image open.new.items ≡ with_segment (segment_said g image segment head) (segments_of g image open.old.items)) }
+{
+    if let Some(SegmentHead { block, frames }) = head {
+        put_in_place(
+            open,
+            Found {
+                segment,
+                block,
+                frames,
+            },
+        )?;
+    }
+    Ok(())
+}
+
+/// The open segments in the order of their blocks. Its memory is taken at once.
+pub(crate) fn in_order<A: Allocator>(
+    alloc: A,
+    geometry: &Geometry,
+    heads: &[Option<SegmentHead>],
+) -> Result<Vec<Found, A>, AllocError>
+    requires count { length heads.now ≡ geometry.now.segments }
+    requires within { All (IsHeadIn geometry.now) heads.now }
+    ensures within { IfOk result (λ found. AreIn geometry.now found.items) }
+    ensures order { (image : List ℕ) → heads.now ≡ heads_of geometry.now image
+        → IfOk result (λ found. segments_of geometry.now image found.items ≡ by_block (opened (parts_of geometry.now image).segments)) }
+{
+    let mut open = Vec::with_capacity(alloc, geometry.segments as usize)?;
+    for done in 0..geometry.segments {
+        let segment = geometry.segments - 1 - done;
+        add_head(segment, heads[segment as usize], &mut open)?;
+    }
+    Ok(open)
+}
+
+/// Whether a slot holds frame `number`, or `SlotHead`: one read of its first `HEAD_SIZE` bytes.
+fn check_slot<D: Disk>(
+    disk: &mut D,
+    geometry: &Geometry,
+    segment: u32,
+    slot: u32,
+    number: u64,
+) -> Result<(), StoreFault>
+    requires good { IsTrue (is_good geometry.now) }
+    requires size { D.extent disk.old ≡ disk_size geometry.now }
+    requires segment { segment < geometry.now.segments }
+    requires slot { slot < geometry.now.slots }
+    ensures slot { let n = frame_bytes geometry.now in let said = is_slot_of n number (slot_in n (D.medium disk.old).bytes (slot_at geometry.now segment slot)) in
+        D.honest disk.old → Recovers result (λ _. said ≡ true) (λ fault. (fault ≡ LayoutFault.Damaged Damage.SlotHead) × (said ≡ false)) }
+    ensures disk { D.honest disk.old → Stays (D.medium disk.old) (D.medium disk.new) }
+    ensures counted { CountedRecovery (D.faults disk.old) (D.faults disk.new) result }
+    ensures extent { D.extent disk.new ≡ D.extent disk.old }
+    ensures honest { D.honest disk.old ↔ D.honest disk.new }
+{
+    let mut head = [0; HEAD_SIZE];
+    disk.read(geometry.slot_at(segment, slot), &mut head)?;
+    decode_head(&head, number, geometry.frame_bytes())?;
+    Ok(())
+}
+
+/// Whether the slots of a segment's whole frames hold these frames, or `SlotHead`: a read each.
+fn check_segment<D: Disk>(disk: &mut D, geometry: &Geometry, found: Found) -> Result<(), StoreFault>
+    requires good { IsTrue (is_good geometry.now) }
+    requires size { D.extent disk.old ≡ disk_size geometry.now }
+    requires segment { found.segment < geometry.now.segments }
+    requires few { found.frames ≤ geometry.now.slots }
+    requires low { is_too_high geometry.now found.block ≡ false }
+    ensures slots { let bad = is_bad_slot geometry.now (segment_of geometry.now (D.medium disk.old).bytes found) in
+        D.honest disk.old → Recovers result (λ _. bad ≡ false) (λ fault. (fault ≡ LayoutFault.Damaged Damage.SlotHead) × (bad ≡ true)) }
+    ensures disk { D.honest disk.old → Stays (D.medium disk.old) (D.medium disk.new) }
+    ensures counted { CountedRecovery (D.faults disk.old) (D.faults disk.new) result }
+    ensures extent { D.extent disk.new ≡ D.extent disk.old }
+    ensures honest { D.honest disk.old ↔ D.honest disk.new }
+{
+    let first = found.block * u64::from(geometry.slots);
+    for slot in 0..found.frames {
+        check_slot(disk, geometry, found.segment, slot, first + u64::from(slot))?;
+    }
+    Ok(())
+}
+
+/// Whether the slots of all segments' whole frames hold these frames, or `SlotHead`: a read each.
+pub(crate) fn check_slots<D: Disk>(
+    disk: &mut D,
+    geometry: &Geometry,
+    open: &[Found],
+) -> Result<(), StoreFault>
+    requires good { IsTrue (is_good geometry.now) }
+    requires size { D.extent disk.old ≡ disk_size geometry.now }
+    requires within { AreIn geometry.now open.now }
+    ensures slots { let bad = list_any (is_bad_slot geometry.now) (segments_of geometry.now (D.medium disk.old).bytes open.now) in
+        D.honest disk.old → Recovers result (λ _. bad ≡ false) (λ fault. (fault ≡ LayoutFault.Damaged Damage.SlotHead) × (bad ≡ true)) }
+    ensures disk { D.honest disk.old → Stays (D.medium disk.old) (D.medium disk.new) }
+    ensures counted { CountedRecovery (D.faults disk.old) (D.faults disk.new) result }
+    ensures extent { D.extent disk.new ≡ D.extent disk.old }
+    ensures honest { D.honest disk.old ↔ D.honest disk.new }
+{
+    let Some((first, others)) = open.split_first() else {
+        return Ok(());
+    };
+    check_segment(disk, geometry, *first)?;
+    check_slots(disk, geometry, others)
+}
+
+/// The clip of each id, or `ClipRange` where one is empty or has a number of which no segment has the frame: one read.
+pub(crate) fn read_table<D: Disk>(
+    disk: &mut D,
+    geometry: &Geometry,
+    open: &[Found],
+) -> Result<[Option<Span>; 64], StoreFault>
+    requires good { IsTrue (is_good geometry.now) }
+    requires size { D.extent disk.old ≡ disk_size geometry.now }
+    requires within { AreIn geometry.now open.now }
+    ensures clips { let bad = some_bad_clip geometry.now (D.medium disk.old).bytes open.now in
+        D.honest disk.old → Recovers result (λ clips. (clips ≡ clips_of (D.medium disk.old).bytes) × (bad ≡ false)) (λ fault. (fault ≡ LayoutFault.Damaged Damage.ClipRange) × (bad ≡ true)) }
+    ensures disk { D.honest disk.old → Stays (D.medium disk.old) (D.medium disk.new) }
+    ensures counted { CountedRecovery (D.faults disk.old) (D.faults disk.new) result }
+    ensures extent { D.extent disk.new ≡ D.extent disk.old }
+    ensures honest { D.honest disk.old ↔ D.honest disk.new }
+{
+    let mut table = [0; TABLE_SIZE];
+    disk.read(SUPER_SIZE as u64, &mut table)?;
+    let clips = read_clips(geometry, &table, open)?;
+    Ok(clips)
+}

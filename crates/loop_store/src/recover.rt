@@ -1,0 +1,85 @@
+//! What a disk's image reads as, found with few reads and without pixels.
+
+ghost use Rattle.std.specs.Prelude.{◌≡◌, ◌↔◌, Ok, Err, IsTrue};
+ghost use Rattle.loop_disk.specs.Calls.{Stays};
+ghost use Rattle.loop_record.specs.Geometry.{disk_size, is_good};
+ghost use Rattle.loop_record.specs.Layout.{geometry_in};
+ghost use Rattle.loop_record.specs.Reading.{reading};
+ghost use Rattle.loop_store.specs.Recovered.{CountedRecovery, IsRecovered, Recovers};
+
+use crate::StoreFault;
+use crate::found::{check_slots, in_order, read_geometry, read_heads, read_table};
+use loop_disk::Disk;
+use loop_record::{Damage, Geometry, SegmentHead, Span, lacks_frame, next_after, repeats};
+use std::alloc::Allocator;
+
+/// What a disk's image reads as, without pixels.
+#[derive(Drop)]
+pub(crate) struct Recovered<A: Allocator> {
+    /// The geometry in the superblock.
+    pub(crate) geometry: Geometry,
+    /// What the header of each segment says, in the order of the segments; nothing for a closed one.
+    pub(crate) heads: Vec<Option<SegmentHead>, A>,
+    /// The clip of each id.
+    pub(crate) clips: [Option<Span>; 64],
+    /// The number that the next frame gets.
+    pub(crate) next: u64,
+}
+
+/// What a disk's image reads as where it has a geometry of the disk's size.
+fn recover_parts<D: Disk, A: Allocator + Copy>(
+    alloc: A,
+    disk: &mut D,
+    geometry: Geometry,
+) -> Result<Recovered<A>, StoreFault>
+    requires good { IsTrue (is_good geometry) }
+    requires size { D.extent disk.old ≡ disk_size geometry }
+    requires geometry { D.honest disk.old → geometry_in (D.medium disk.old).bytes ≡ Ok geometry }
+    ensures recovered { D.honest disk.old → Recovers result (λ found. IsRecovered found.geometry found.heads.items found.clips found.next (D.medium disk.old).bytes)
+        (λ fault. reading (D.medium disk.old).bytes ≡ Err fault) }
+    ensures disk { D.honest disk.old → Stays (D.medium disk.old) (D.medium disk.new) }
+    ensures counted { CountedRecovery (D.faults disk.old) (D.faults disk.new) result }
+    ensures extent { D.extent disk.new ≡ D.extent disk.old }
+    ensures honest { D.honest disk.old ↔ D.honest disk.new }
+{
+    let heads = read_heads(alloc, disk, &geometry)?;
+    let segments = in_order(alloc, &geometry, heads.as_slice())?;
+    let open = segments.as_slice();
+    if repeats(open) {
+        return Err(StoreFault::Damaged(Damage::RepeatedBlock));
+    }
+    if lacks_frame(&geometry, open) {
+        return Err(StoreFault::Damaged(Damage::ClosedGate));
+    }
+    check_slots(disk, &geometry, open)?;
+    let clips = read_table(disk, &geometry, open)?;
+    let next = next_after(&geometry, open);
+    Ok(Recovered {
+        geometry,
+        heads,
+        clips,
+        next,
+    })
+}
+
+/// What a disk's image reads as: the geometry, the header of each segment, the clips and the number that comes next.
+///
+/// It reads the superblock, each header, the first `HEAD_SIZE` bytes of each slot before the first closed gate of an open
+/// segment, and the clip table. It writes nothing. Memory is taken twice: a list of the headers and one of the open segments.
+///
+/// `NotFormatted` where the disk has no open superblock; `Damaged` with the first damage in the layout's order; `Disk` where
+/// a read failed; `NoMemory`. After each of these the disk is as it was.
+pub(crate) fn recover<D: Disk, A: Allocator + Copy>(
+    alloc: A,
+    disk: &mut D,
+) -> Result<Recovered<A>, StoreFault>
+    ensures recovered { D.honest disk.old → Recovers result (λ found. IsRecovered found.geometry found.heads.items found.clips found.next (D.medium disk.old).bytes)
+        (λ fault. reading (D.medium disk.old).bytes ≡ Err fault) }
+    ensures disk { D.honest disk.old → Stays (D.medium disk.old) (D.medium disk.new) }
+    ensures counted { CountedRecovery (D.faults disk.old) (D.faults disk.new) result }
+    ensures extent { D.extent disk.new ≡ D.extent disk.old }
+    ensures honest { D.honest disk.old ↔ D.honest disk.new }
+{
+    let geometry = read_geometry(disk)?;
+    recover_parts(alloc, disk, geometry)
+}
