@@ -1,10 +1,9 @@
 -- What formatting leaves of a disk, read.
-use Rattle.std.proofs.Common.{◌≡◌, ◌⊎◌, inl, inr, ⊎_elim, ℕ, ◌+◌, ◌-◌, ◌*◌, ◌<◌, ◌≤◌, Bool, true, false, cond, eqb, leb, Option, Some, None, Result, OnOk, Ok, Err, List, [], ◌∷◌, length, map, take, drop, get_or, refl, sym, ap, ◌∙◌, subst, arith}
+use Rattle.std.proofs.Common.{◌≡◌, ◌⊎◌, inl, inr, ⊎_elim, ℕ, ◌+◌, ◌-◌, ◌<◌, ◌≤◌, Bool, true, false, cond, eqb, leb, Result, OnOk, Err, List, [], ◌∷◌, length, take, drop, get_or, refl, sym, ap, ◌∙◌, subst, arith}
 use Rattle.std.proofs.lemmas.Bool.{cases_lt}
-use Rattle.std.proofs.lemmas.List.{ext_get_or, get_or-take, get_or-drop, length-take, length-drop}
+use Rattle.std.proofs.lemmas.List.{ext_get_or, get_or-take, get_or-drop, length-take}
 use Rattle.std.proofs.lemmas.Result.{on_ok_weaker}
-use Rattle.std.specs.Prelude.{slice_range, IsTrue, ◌&&◌}
-use Rattle.std.specs.List.{list_any, range_with_len}
+use Rattle.std.specs.Prelude.{IsTrue, ◌&&◌}
 use Rattle.loop_disk.specs.declared.fault.DiskFault.{DiskFault}
 use Rattle.loop_disk.specs.Calls.{Stays}
 use Rattle.loop_disk.specs.Medium.{Medium, IsSound, IsSettled, LeavesOnly, SameOutside, written}
@@ -15,13 +14,11 @@ use Rattle.loop_record.specs.declared.damage.LayoutFault.TheVariants.{NotFormatt
 use Rattle.loop_record.specs.declared.geometry.Geometry.{Geometry}
 use Rattle.loop_record.specs.declared.geometry.PixelFormat.{PixelFormat}
 use Rattle.loop_record.specs.declared.geometry.PixelFormat.TheVariants.{Grey, Ym12, Ym16, Ym24}
-use Rattle.loop_record.specs.Geometry.{clip_at, disk_size, is_good, segment_at}
-use Rattle.loop_record.specs.Layout.{Segment, checked_geometry, format_at, has_bytes, is_open, magic, segment_in, super_bytes}
-use Rattle.loop_record.specs.Reading.{Holds, IsFresh, contents, opened, parts_of, reading}
-use Rattle.loop_record.specs.Recording.{empty}
+use Rattle.loop_record.specs.Geometry.{clip_at, is_good, segment_at}
+use Rattle.loop_record.specs.Layout.{checked_geometry, format_at, has_bytes, is_open, magic, super_bytes}
+use Rattle.loop_record.specs.Reading.{IsFresh, contents, reading}
 use Rattle.loop_record.proofs.Decided.{equal}
 use Rattle.loop_record.proofs.Fresh.{reading-fresh}
-use Rattle.loop_record.proofs.Bounds.{limits}
 use Rattle.loop_store.specs.Formatted.{AreClosed, IsClosed, IsLaid, NoneOrEmpty, WasOrClosed, WasOrEmpty}
 
 -- behind a closed gate nothing is formatted

@@ -1,18 +1,16 @@
 -- What formatting leaves of a disk, write by write.
-use Rattle.std.proofs.Common.{◌≡◌, ◌⊎◌, inl, inr, ⊎_elim, ℕ, zero, suc, ◌+◌, ◌-◌, ◌*◌, ◌<◌, ◌≤◌, Bool, true, false, cond, eqb, Result, OnOk, Ok, Err, List, [], ◌∷◌, ◌++◌, length, take, drop, get_or, replicate, refl, sym, ap, ◌∙◌, subst, arith}
+use Rattle.std.proofs.Common.{◌≡◌, ◌⊎◌, inl, inr, ℕ, ◌+◌, ◌-◌, ◌*◌, ◌<◌, ◌≤◌, Bool, true, false, eqb, Result, OnOk, Ok, Err, List, [], ◌∷◌, ◌++◌, length, drop, get_or, replicate, refl, sym, ap, ◌∙◌, subst, arith}
 use Rattle.std.proofs.lemmas.Bool.{cases_lt}
 use Rattle.std.proofs.lemmas.List.{ext_get_or, get_or-take, get_or-drop, get_or-replicate, get_or_append_left, get_or-append_right, length-take, length-drop, length-append, length-replicate}
 use Rattle.std.proofs.lemmas.Result.{on_ok_weaker}
-use Rattle.std.specs.Prelude.{slice_range, IsTrue}
-use Rattle.byteorder.specs.Endian.{little_bytes}
 use Rattle.loop_disk.specs.declared.fault.DiskFault.{DiskFault}
 use Rattle.loop_disk.specs.Calls.{Stays, Writes}
 use Rattle.loop_disk.specs.Medium.{Medium, IsSound, IsSettled, LeavesOnly, SameOutside, TornAt, written, piece}
 use Rattle.loop_disk.specs.Steps.{Stores}
-use Rattle.loop_disk.proofs.Images.{get_or-written_before, get_or-written_there, get_or-written_behind, length-written, get_or-piece}
-use Rattle.loop_disk.proofs.Moments.{started, goes_on, joined, weaker, stored}
+use Rattle.loop_disk.proofs.Images.{get_or-written_before, get_or-written_there, length-written, get_or-piece}
+use Rattle.loop_disk.proofs.Moments.{started, goes_on, joined, stored}
 use Rattle.loop_record.specs.declared.geometry.Geometry.{Geometry}
-use Rattle.loop_record.specs.Geometry.{clip_at, disk_size, is_good, segment_at, segment_size}
+use Rattle.loop_record.specs.Geometry.{clip_at, disk_size, segment_at}
 use Rattle.loop_record.specs.Layout.{is_open, super_bytes}
 use Rattle.loop_record.proofs.Decided.{equal}
 use Rattle.loop_record.proofs.Parts.{apart}

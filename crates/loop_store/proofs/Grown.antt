@@ -1,5 +1,5 @@
 -- What a begun block and stored frames make of an image.
-use Rattle.std.proofs.Common.{◌≡◌, ◌⊎◌, inl, inr, ℕ, zero, suc, ◌+◌, ◌*◌, ◌/◌, ◌%◌, ◌<◌, ◌≤◌, Bool, true, false, ◌&&◌, eqb, Option, Some, None, List, [], ◌∷◌, ◌++◌, length, take, map, refl, sym, ap, ◌∙◌, subst, arith}
+use Rattle.std.proofs.Common.{◌≡◌, inl, inr, ℕ, zero, suc, ◌+◌, ◌*◌, ◌/◌, ◌%◌, ◌<◌, ◌≤◌, true, ◌&&◌, eqb, Option, Some, List, [], ◌∷◌, ◌++◌, length, take, map, refl, sym, ap, ◌∙◌, subst, arith}
 use Rattle.std.proofs.lemmas.List.{length-map, length-append, take_all}
 use Rattle.std.proofs.lemmas.Bool.Decides.{nat_tests}
 use Rattle.std.proofs.Math.Nat.{div-add-mod', div-eq_of_lt, mod-eq_of_lt}
@@ -7,7 +7,7 @@ use Rattle.loop_record.specs.declared.geometry.Geometry.{Geometry}
 use Rattle.loop_record.specs.Change.{ShowsSegment}
 use Rattle.loop_record.specs.Geometry.{frame_bytes}
 use Rattle.loop_record.specs.Recording.{Picture, Recording, Step, store, plain, ring_of}
-use Rattle.loop_record.specs.Layout.{Slot, Segment, is_too_high, segment_in, whole_frames}
+use Rattle.loop_record.specs.Layout.{Slot, Segment, segment_in}
 use Rattle.loop_record.specs.Reading.{Holds, hold_from, begun}
 use Rattle.loop_record.proofs.Steps.{plain-append}
 use Rattle.loop_record.proofs.Readings.{reading-commit, reading-begin, reading-same, whole-length}

@@ -1,5 +1,5 @@
 -- A call that only looks leaves the store as it was.
-use Rattle.std.proofs.Common.{◌≡◌, ◌⊎◌, inl, inr, ℕ, ◌<◌, ◌≤◌, Bool, true, false, ltb, is_some, IfErr, Option, Some, None, Result, Ok, Err, List, refl, sym, ap, ◌∙◌, subst, arith}
+use Rattle.std.proofs.Common.{◌≡◌, ◌⊎◌, inl, inr, ℕ, ◌<◌, ◌≤◌, Bool, true, false, ltb, is_some, IfErr, Option, Some, None, Result, Err, List, refl, sym, ◌∙◌, subst, arith}
 use Rattle.std.proofs.lemmas.Bool.Decides.{nat_tests}
 use Rattle.loop_disk.specs.Calls.{Stays}
 use Rattle.loop_disk.specs.Medium.{Medium, IsSettled}
@@ -8,7 +8,7 @@ use Rattle.loop_record.specs.declared.damage.Damage.TheVariants.{SlotHead}
 use Rattle.loop_record.specs.declared.frame.FrameHead.{FrameHead}
 use Rattle.loop_record.specs.declared.geometry.Geometry.{Geometry}
 use Rattle.loop_record.specs.Reading.{Holds}
-use Rattle.loop_record.specs.Recording.{Picture, Recording, frame_under, holds}
+use Rattle.loop_record.specs.Recording.{Picture, Recording, holds}
 use Rattle.loop_store.specs.declared.fault.StoreFault.{StoreFault}
 use Rattle.loop_store.specs.declared.fault.StoreFault.TheVariants.{NotHeld, Damaged}
 use Rattle.loop_store.specs.Faults.{is_disk}

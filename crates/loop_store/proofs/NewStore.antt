@@ -1,19 +1,18 @@
 -- A store that was just formatted.
-use Rattle.std.proofs.Common.{◌≡◌, ℕ, zero, suc, ◌+◌, ◌*◌, ◌/◌, ◌<◌, ◌≤◌, ◌^◌, Bool, true, false, eqb, cond, IsTrue, Option, Some, None, List, [], ◌∷◌, length, map, refl, sym, ap, ◌∙◌, subst, arith}
+use Rattle.std.proofs.Common.{◌≡◌, ℕ, zero, suc, ◌+◌, ◌*◌, ◌/◌, ◌<◌, ◌^◌, false, eqb, IsTrue, Option, None, List, [], ◌∷◌, map, refl, sym, ap, ◌∙◌, subst, arith}
 use Rattle.std.proofs.Math.Nat.{div-eq_of_lt}
 use Rattle.std.specs.List.{list_any, range_with_len}
 use Rattle.loop_disk.specs.Medium.{Medium, IsSettled}
 use Rattle.loop_record.specs.declared.geometry.Geometry.{Geometry}
 use Rattle.loop_record.specs.Geometry.{disk_size, is_good, segment_at}
 use Rattle.loop_record.specs.Layout.{Segment, is_open, is_too_high, segment_in}
-use Rattle.loop_record.specs.Reading.{Holds, IsFresh, opened, parts_of}
+use Rattle.loop_record.specs.Reading.{Holds, IsFresh, opened}
 use Rattle.loop_record.specs.Recording.{empty}
 use Rattle.loop_record.proofs.Bounds.{limits}
 use Rattle.loop_record.proofs.Decided.{not_below_test}
 use Rattle.loop_record.proofs.Fresh.{reading-fresh}
 use Rattle.loop_ring.proofs.Bytes.{closed_none}
-use Rattle.loop_store.specs.Held.{IsFreeFor}
-use Rattle.loop_store.specs.Seen.{IsFilled, IsKept, Seen, StandsFor}
+use Rattle.loop_store.specs.Seen.{IsFilled, IsKept, StandsFor}
 
 none-open : (g : Geometry) (image : List ℕ) (lo n : ℕ) → ((j : ℕ) → j < lo + n → is_open image (segment_at g j) ≡ false) → opened (map (segment_in g image) (range_with_len lo n)) ≡ []
 none-open g image lo zero closed = refl

@@ -1,21 +1,21 @@
 -- Where an append goes: what the segments in memory say of the recording.
-use Rattle.std.proofs.Common.{◌≡◌, ◌≢◌, ◌⊎◌, inl, inr, ℕ, zero, suc, ◌+◌, ◌*◌, ◌/◌, ◌%◌, ◌^◌, ◌<◌, ◌≤◌, Bool, true, false, cond, not, eqb, is_some, IfSome, IsTrue, Option, Some, None, List, [], ◌∷◌, length, get_or, refl, sym, ap, ◌∙◌, subst, arith}
+use Rattle.std.proofs.Common.{◌≡◌, ◌≢◌, ◌⊎◌, inl, inr, ℕ, zero, suc, ◌+◌, ◌*◌, ◌/◌, ◌%◌, ◌^◌, ◌<◌, ◌≤◌, Bool, true, false, cond, not, eqb, is_some, Option, Some, None, List, [], ◌∷◌, length, get_or, refl, sym, ap, ◌∙◌, arith}
 use Rattle.std.proofs.Math.Nat.{add-mul, div-add-mod', mul-le-mul_right, mul_comm}
 use Rattle.std.proofs.lemmas.Nat.{le-div}
 use Rattle.std.proofs.lemmas.Bool.{cases_lt}
 use Rattle.std.proofs.lemmas.List.Sums.{count_by-le-length, sum_by-cons}
-use Rattle.std.specs.Prelude.{◌&&◌, ◌||◌}
+use Rattle.std.specs.Prelude.{◌&&◌}
 use Rattle.std.specs.List.{count_by, list_any, position}
 use Rattle.loop_record.specs.declared.geometry.Geometry.{Geometry}
 use Rattle.loop_record.specs.declared.segment.SegmentHead.{SegmentHead}
-use Rattle.loop_record.specs.Layout.{Segment, is_too_high, segment_in, whole_frames}
+use Rattle.loop_record.specs.Layout.{Segment, is_too_high, segment_in}
 use Rattle.loop_record.specs.Reading.{Holds, by_block, is_high, next_after, opened, parts_of}
-use Rattle.loop_record.specs.Recording.{Recording, Step, held_blocks, last_number, needs_recycling, recycling_first, ring_of, victim}
+use Rattle.loop_record.specs.Recording.{Recording, held_blocks, last_number, needs_recycling, recycling_first, ring_of, victim}
 use Rattle.loop_record.proofs.Bounds.{limits}
 use Rattle.loop_record.proofs.Changes.{shown_of, is_overfull}
 use Rattle.loop_record.proofs.Decided.{differ_test, equal_test, neither, not_below, not_below_test}
 use Rattle.loop_record.proofs.Parts.{reading-stages, geometry-good}
-use Rattle.loop_record.proofs.Readings.{overfull_none, whole-length}
+use Rattle.loop_record.proofs.Readings.{overfull_none}
 use Rattle.loop_ring.specs.Heads.{IsPlaceOf, has_frame, heads_of, is_of}
 use Rattle.loop_ring.proofs.Heads.{Newest, closed-found, head-some, head-there, heads-length, newest-found, newest-missing, there}
 use Rattle.loop_ring.proofs.Held.{held-count, none-closed}

@@ -1,12 +1,12 @@
 -- A list of commands, one turn after another.
-use Rattle.std.proofs.Common.{◌≡◌, ◌≢◌, ◌⊎◌, inl, inr, ℕ, zero, suc, ◌+◌, ◌<◌, ◌≤◌, Bool, true, false, Option, Some, None, Result, Ok, Err, List, [], ◌∷◌, ◌++◌, length, take, get_or, refl, sym, ap, ◌∙◌, subst, append_assoc, arith}
+use Rattle.std.proofs.Common.{◌≡◌, inl, inr, ℕ, ◌+◌, ◌<◌, ◌≤◌, Bool, true, false, Ok, Err, List, [], ◌∷◌, ◌++◌, length, take, get_or, refl, sym, ap, ◌∙◌, subst, append_assoc, arith}
 use Rattle.std.proofs.lemmas.List.{append-nil, length-append, take_all, take_more}
 use Rattle.std.specs.Prelude.{◌||◌}
 use Rattle.loop_disk.specs.Medium.{Medium, IsSound, LeavesOnly}
 use Rattle.loop_disk.proofs.Moments.{joined, weaker}
 use Rattle.loop_record.specs.declared.geometry.Geometry.{Geometry}
 use Rattle.loop_record.specs.Reading.{Holds}
-use Rattle.loop_record.specs.Recording.{Picture, Recording, Ring, Step, picture, plain, ring_of}
+use Rattle.loop_record.specs.Recording.{Recording, Ring, Step, picture, plain, ring_of}
 use Rattle.loop_record.proofs.Decided.{clash, neither}
 use Rattle.loop_record.proofs.Steps.{plain-append}
 use Rattle.loop_store.specs.declared.command.Command.{Command}
@@ -14,11 +14,10 @@ use Rattle.loop_store.specs.declared.command.Command.TheVariants as command
 use Rattle.loop_store.specs.declared.command.Reply.{Reply}
 use Rattle.loop_store.specs.declared.command.Reply.TheVariants as reply
 use Rattle.loop_store.specs.declared.fault.StoreFault.{StoreFault}
-use Rattle.loop_store.specs.declared.fault.StoreFault.TheVariants.{MustReopen}
-use Rattle.loop_store.specs.Faults.{answers_disk, is_disk}
+use Rattle.loop_store.specs.Faults.{is_disk}
 use Rattle.loop_store.specs.Held.{EachNow, HoldsFrom, HoldsSome}
-use Rattle.loop_store.specs.Runs.{AnswersStore, AreAnswers, IsAnswer, RefusesStore, begun_by, begun_in, has_failed, made_by, made_in, some_failed, steps_if_failed, steps_if_stored}
-use Rattle.loop_store.specs.Seen.{Seen, StandsFor, steps_in_first, steps_or_none}
+use Rattle.loop_store.specs.Runs.{AreAnswers, IsAnswer, RefusesStore, begun_by, begun_in, has_failed, made_by, made_in, some_failed, steps_if_failed}
+use Rattle.loop_store.specs.Seen.{Seen, StandsFor}
 use Rattle.loop_store.proofs.Grown.{earlier-steps, from-none, held-some, later-steps}
 use Rattle.loop_store.proofs.Stands.{unmoved-some}
 use Rattle.loop_store.proofs.Asked.{answers-more, begun-more, failed-more, made-more}

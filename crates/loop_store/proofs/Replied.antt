@@ -1,13 +1,10 @@
 -- What a read into memory of its own answers.
-use Rattle.std.proofs.Common.{◌≡◌, ◌⊎◌, inl, inr, ℕ, Bool, true, false, is_some, Option, Some, None, Result, Ok, Err, List, length, take, drop, ◌++◌, refl, sym, ap, ◌∙◌, subst, arith}
+use Rattle.std.proofs.Common.{◌≡◌, inr, ℕ, Bool, true, false, is_some, Option, Some, None, Result, Ok, Err, List, length, take, ◌++◌, refl, ◌∙◌}
 use Rattle.std.proofs.lemmas.List.{take_at}
 use Rattle.loop_record.specs.declared.frame.FrameHead.{FrameHead}
 use Rattle.loop_record.specs.Recording.{Picture, Recording, frame_under, head, holds}
-use Rattle.loop_record.proofs.Decided.{clash}
-use Rattle.loop_store.specs.declared.command.ReadFrame.{ReadFrame}
 use Rattle.loop_store.specs.declared.fault.StoreFault.{StoreFault}
 use Rattle.loop_store.specs.declared.fault.StoreFault.TheVariants.{NotHeld}
-use Rattle.loop_store.specs.Faults.{is_disk}
 use Rattle.loop_store.specs.Runs.{RefusesRead}
 use Rattle.loop_store.specs.Seen.{AnswersFrame}
 

@@ -1,6 +1,5 @@
 -- What making room leaves: a block recycled, a block begun, or nothing done.
-use Rattle.std.proofs.Common.{◌≡◌, ◌≢◌, ◌⊎◌, inl, inr, ℕ, zero, suc, ◌+◌, ◌*◌, ◌/◌, ◌%◌, ◌<◌, ◌≤◌, Bool, true, false, cond, eqb, Option, Some, None, Ok, Err, Result, List, [], ◌∷◌, ◌++◌, length, take, set, get_or, map, refl, sym, ap, ◌∙◌, subst, arith}
-use Rattle.std.proofs.Math.Nat.{mul-le-mul_right, add-mul}
+use Rattle.std.proofs.Common.{◌≡◌, ◌≢◌, ◌⊎◌, inl, inr, ℕ, zero, suc, ◌+◌, ◌/◌, ◌%◌, ◌<◌, ◌≤◌, Bool, true, false, eqb, Option, Some, None, Ok, Result, List, [], ◌∷◌, length, set, get_or, refl, sym, ap, ◌∙◌, subst, arith}
 use Rattle.std.proofs.lemmas.Bool.{cases_lt}
 use Rattle.std.proofs.lemmas.List.{set-get_or, get_or-set_same}
 use Rattle.std.specs.Prelude.{◌||◌}
@@ -8,23 +7,22 @@ use Rattle.std.specs.List.{list_any}
 use Rattle.loop_record.specs.declared.damage.LayoutFault.{LayoutFault}
 use Rattle.loop_record.specs.declared.geometry.Geometry.{Geometry}
 use Rattle.loop_record.specs.declared.segment.SegmentHead.{SegmentHead}
-use Rattle.loop_record.specs.Change.{SameBut, ShowsSegment}
+use Rattle.loop_record.specs.Change.{ShowsSegment}
 use Rattle.loop_record.specs.Geometry.{gate_at, segment_at, segment_size}
-use Rattle.loop_record.specs.Layout.{Segment, is_open, segment_in, whole_frames}
-use Rattle.loop_record.specs.Reading.{Contents, Holds, begun, opened, parts_of, reading}
-use Rattle.loop_record.specs.Recording.{Picture, Recording, Step, after, needs_recycling, plain, recycle, recycling_first, ring_of, victim}
-use Rattle.loop_record.proofs.Bounds.{limits}
+use Rattle.loop_record.specs.Layout.{Segment, segment_in}
+use Rattle.loop_record.specs.Reading.{Contents, Holds, begun, opened, parts_of}
+use Rattle.loop_record.specs.Recording.{Picture, Recording, after, needs_recycling, plain, recycle, recycling_first, ring_of, victim}
 use Rattle.loop_record.proofs.Decided.{neither}
 use Rattle.loop_record.proofs.Framing.{SameWithin, same_open, same_segment, same_whole_frames}
-use Rattle.loop_record.proofs.Parts.{apart, geometry-good, parts-shows, reading-stages, these, within_before, within_behind}
+use Rattle.loop_record.proofs.Parts.{apart, parts-shows, these, within_before, within_behind}
 use Rattle.loop_record.proofs.Readings.{reading-retire, reading-same}
 use Rattle.loop_ring.specs.Heads.{heads_of}
 use Rattle.loop_ring.specs.Writes.{HasNoStray, ShowsFrames, ShowsOrNot}
-use Rattle.loop_ring.proofs.Heads.{head_of, heads-committed, heads-length, heads-shown}
+use Rattle.loop_ring.proofs.Heads.{heads-committed, heads-length, heads-shown}
 use Rattle.loop_store.specs.declared.place.Place.{Place}
 use Rattle.loop_store.specs.declared.place.Place.TheVariants.{Newest, Closed, Victim}
-use Rattle.loop_store.specs.Held.{HasNoneStray, HoldsFrom, HoldsSome, IsFreeFor, IsNewest}
-use Rattle.loop_store.specs.Places.{IsBegunAt, IsGrownAt, IsKnown, IsNext, IsOldFor, IsPlaceAt, head_at, segment_of, steps_before}
+use Rattle.loop_store.specs.Held.{HasNoneStray, HoldsSome, IsFreeFor, IsNewest}
+use Rattle.loop_store.specs.Places.{IsBegunAt, IsGrownAt, IsKnown, IsOldFor, IsPlaceAt, head_at, segment_of, steps_before}
 use Rattle.loop_store.specs.Seen.{steps_or_none}
 
 -- ---- one image holds one recording

@@ -1,11 +1,11 @@
 -- Where an append goes.
-use Rattle.std.specs.Prelude.{◌≡◌, ℕ, ◌+◌, ◌/◌, ◌%◌, ◌<◌, ◌==◌, false, true, Bool, Option, Some, None, List, [], ◌∷◌, length, slice_index_or, slice_set}
-use Rattle.std.specs.List.{list_any, position}
+use Rattle.std.specs.Prelude.{◌≡◌, ℕ, ◌+◌, ◌/◌, ◌%◌, ◌==◌, false, true, Option, Some, None, List, slice_index_or, slice_set}
+use Rattle.std.specs.List.{list_any}
 use Rattle.loop_record.specs.declared.geometry.Geometry.{Geometry}
 use Rattle.loop_record.specs.declared.segment.SegmentHead.{SegmentHead}
 use Rattle.loop_record.specs.Layout.{Segment, is_too_high, segment_in, whole_frames}
 use Rattle.loop_record.specs.Reading.{Holds, opened, parts_of}
-use Rattle.loop_record.specs.Recording.{Recording, Step, needs_recycling, recycle, recycling_first, ring_of, victim}
+use Rattle.loop_record.specs.Recording.{Recording, Step, needs_recycling, recycling_first, ring_of, victim}
 use Rattle.loop_ring.specs.Heads.{heads_of}
 use Rattle.loop_store.specs.declared.place.Place.{Place}
 use Rattle.loop_store.specs.declared.place.Place.TheVariants.{Newest, Closed, Victim}

@@ -7,8 +7,7 @@ use Rattle.loop_record.specs.declared.damage.LayoutFault.{LayoutFault}
 use Rattle.loop_record.specs.declared.geometry.Geometry.{Geometry}
 use Rattle.loop_record.specs.declared.image.Found.{Found}
 use Rattle.loop_record.specs.declared.segment.SegmentHead.{SegmentHead}
-use Rattle.loop_record.specs.Geometry.{segment_at}
-use Rattle.loop_record.specs.Layout.{Segment, header_at, clip_in, is_too_high}
+use Rattle.loop_record.specs.Layout.{Segment, clip_in, is_too_high}
 use Rattle.loop_record.specs.Plain.{segment_of, segments_of}
 use Rattle.loop_record.specs.Reading.{Holds, all_frames, is_bad_clip}
 use Rattle.loop_record.specs.Recording.{Recording, empty}

@@ -1,8 +1,6 @@
 -- What lists of commands make of a recording, and which replies they get.
-use Rattle.std.specs.Prelude.{◌≡◌, ◌≢◌, ◌⊎◌, ℕ, ◌+◌, ◌≤◌, Bool, true, false, ◌||◌, Option, Some, None, Result, Ok, Err, List, [], ◌∷◌, ◌++◌, length}
-use Rattle.loop_disk.specs.Calls.{one_more}
+use Rattle.std.specs.Prelude.{◌≡◌, ◌≢◌, ◌⊎◌, ℕ, Bool, true, false, ◌||◌, Some, None, Result, Ok, Err, List, [], ◌∷◌, ◌++◌, length}
 use Rattle.loop_record.specs.declared.geometry.Geometry.{Geometry}
-use Rattle.loop_record.specs.declared.frame.Frame.{Frame}
 use Rattle.loop_record.specs.Geometry.{frame_bytes}
 use Rattle.loop_record.specs.Recording.{Picture, Recording, Ring, Step, frame_under, head, holds, picture, plain, ring_of}
 use Rattle.loop_store.specs.declared.command.Command.{Command}
@@ -11,7 +9,7 @@ use Rattle.loop_store.specs.declared.command.ReadFrame.{ReadFrame}
 use Rattle.loop_store.specs.declared.command.Reply.{Reply}
 use Rattle.loop_store.specs.declared.command.Reply.TheVariants as reply
 use Rattle.loop_store.specs.declared.fault.StoreFault.{StoreFault}
-use Rattle.loop_store.specs.declared.fault.StoreFault.TheVariants.{NoMemory, Disk, MustReopen, NotHeld, SegmentFull}
+use Rattle.loop_store.specs.declared.fault.StoreFault.TheVariants.{NoMemory, MustReopen, NotHeld, SegmentFull}
 use Rattle.loop_store.specs.Faults.{answers_disk, faults_after, is_disk}
 use Rattle.loop_store.specs.Seen.{steps_in_first, steps_or_none}
 

@@ -1,4 +1,4 @@
-use Rattle.std.proofs.Common.{◌≡◌, [], ◌∷◌, arith, Result, Ok, Err, OnOk}
+use Rattle.std.proofs.Common.{[], ◌∷◌, Result, Ok, Err, OnOk}
 use Rattle.loop_disk.proofs.Moments.{weaker, joined}
 use Rattle.loop_record.specs.Recording.{picture, store}
 use Rattle.loop_store.proofs.Grown.{more-filled, held-some}

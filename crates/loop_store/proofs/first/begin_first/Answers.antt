@@ -1,4 +1,4 @@
-use Rattle.std.proofs.Common.{◌≡◌, ℕ, ◌<◌, arith}
+use Rattle.std.proofs.Common.{arith}
 use Rattle.loop_store.proofs.Grown.{first-newest}
 use Rattle.loop_store.proofs.Stands.{unmoved}
 use Rattle.loop_store.proofs.first.begin_first.Goals as goal

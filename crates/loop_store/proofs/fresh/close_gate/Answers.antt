@@ -1,5 +1,3 @@
-use Rattle.std.proofs.Common.{◌≡◌, ◌≤◌, ℕ, true, eqb, List, get_or, ap, sym, ◌∙◌, refl, arith}
-use Rattle.loop_disk.proofs.Images.{get_or-piece}
 use Rattle.loop_store.proofs.Formatting.{closing, gate-read}
 use Rattle.loop_store.proofs.fresh.close_gate.Goals as goal
 

@@ -1,4 +1,4 @@
-use Rattle.std.proofs.Common.{◌≤◌, arith}
+use Rattle.std.proofs.Common.{arith}
 use Rattle.loop_store.proofs.Formatting.{writing-closed, front-closed, front-laid}
 use Rattle.loop_store.proofs.fresh.write_front.Goals as goal
 

@@ -1,4 +1,4 @@
-use Rattle.std.proofs.Common.{◌≤◌, ◌+◌, arith}
+use Rattle.std.proofs.Common.{arith}
 use Rattle.loop_record.proofs.Parts.{apart}
 use Rattle.loop_store.proofs.Formatting.{writing-closed, header-laid}
 use Rattle.loop_store.proofs.fresh.write_header.Goals as goal

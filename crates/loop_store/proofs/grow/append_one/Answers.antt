@@ -1,13 +1,10 @@
-use Rattle.std.proofs.Common.{◌≡◌, ◌<◌, ◌++◌, ◌∷◌, [], ℕ, length, List, Result, Ok, Err, OnOk, map, refl, sym, ap, ◌∙◌, subst}
-use Rattle.std.proofs.lemmas.List.{length-map}
-use Rattle.std.proofs.lemmas.Result.{on_ok_weaker}
+use Rattle.std.proofs.Common.{◌++◌, ◌∷◌, [], Result, Ok, Err, OnOk, refl, sym, ◌∙◌, subst}
 use Rattle.loop_disk.proofs.Moments.{weaker, joined}
-use Rattle.loop_record.specs.Plain.{pictures}
 use Rattle.loop_record.specs.Reading.{Holds}
 use Rattle.loop_record.specs.Recording.{Recording, picture, plain, ring_of, store}
 use Rattle.loop_record.proofs.Bounds.{limits}
 use Rattle.loop_record.proofs.Steps.{plain-append}
-use Rattle.loop_store.specs.Places.{IsBegunAt, IsGrownAt, segment_of, steps_before}
+use Rattle.loop_store.specs.Places.{steps_before}
 use Rattle.loop_store.proofs.Grown.{earlier-steps, from-none, later-steps}
 use Rattle.loop_store.proofs.Room.{before-next, grown-place}
 use Rattle.loop_store.proofs.grow.append_one.Goals as goal

@@ -1,10 +1,8 @@
-use Rattle.std.proofs.Common.{◌≡◌, ℕ, List, Result, Ok, Err, OnOk, sym, subst}
-use Rattle.loop_disk.specs.Medium.{LeavesOnly}
+use Rattle.std.proofs.Common.{List, Result, Ok, Err, OnOk, sym, subst}
 use Rattle.loop_disk.proofs.Moments.{weaker}
 use Rattle.loop_record.specs.Reading.{Holds}
-use Rattle.loop_record.specs.Recording.{Recording, Step, plain, ring_of}
+use Rattle.loop_record.specs.Recording.{Step, plain, ring_of}
 use Rattle.loop_record.proofs.Bounds.{limits}
-use Rattle.loop_store.specs.Held.{HoldsSome}
 use Rattle.loop_store.proofs.Grown.{held-some}
 use Rattle.loop_store.proofs.Room.{closed-at, known-closed, known-newest}
 use Rattle.loop_store.proofs.Stands.{unmoved-some}

@@ -1,12 +1,10 @@
-use Rattle.std.proofs.Common.{◌≡◌, ℕ, [], ◌∷◌, List, Some, Result, Ok, Err, OnOk, refl, sym, ap, ◌∙◌, subst}
-use Rattle.std.proofs.lemmas.Result.{on_ok_weaker}
+use Rattle.std.proofs.Common.{ℕ, [], ◌∷◌, List, Result, Ok, Err, OnOk, sym, subst}
 use Rattle.loop_disk.specs.Medium.{LeavesOnly}
 use Rattle.loop_disk.proofs.Moments.{weaker, joined}
 use Rattle.loop_record.specs.Reading.{Holds}
-use Rattle.loop_record.specs.Recording.{Recording, Step, after, plain, recycle, ring_of}
+use Rattle.loop_record.specs.Recording.{Step, after, plain, recycle, ring_of}
 use Rattle.loop_record.proofs.Bounds.{limits}
 use Rattle.loop_store.specs.Held.{HoldsSome, IsFreeFor}
-use Rattle.loop_store.specs.Places.{steps_before}
 use Rattle.loop_store.proofs.Grown.{all-held}
 use Rattle.loop_store.proofs.Room.{first-of, goes, replaced-begun, retired-free}
 use Rattle.loop_store.proofs.grow.replace.Goals as goal

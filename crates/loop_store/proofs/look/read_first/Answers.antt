@@ -1,7 +1,6 @@
-use Rattle.std.proofs.Common.{◌≡◌, ◌<◌, ◌≤◌, sym, subst, arith}
+use Rattle.std.proofs.Common.{arith}
 use Rattle.std.proofs.lemmas.Result.{err_from_is_err_and}
 use Rattle.loop_record.proofs.Bounds.{limits}
-use Rattle.loop_ring.specs.Reads.{slot_of}
 use Rattle.loop_store.proofs.Looked.{first-slot, answers-ok, answers-err}
 use Rattle.loop_store.proofs.look.read_first.Goals as goal
 

@@ -1,4 +1,4 @@
-use Rattle.std.proofs.Common.{◌≡◌, true, false, eqb, ◌&&◌, sym, ◌∙◌, refl}
+use Rattle.std.proofs.Common.{eqb, sym, ◌∙◌}
 use Rattle.loop_record.specs.Geometry.{disk_size, is_good}
 use Rattle.loop_record.proofs.Decided.{both, equal}
 use Rattle.loop_store.proofs.NewStore.{fresh-kept, fresh-stands}

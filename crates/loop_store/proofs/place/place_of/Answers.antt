@@ -1,7 +1,4 @@
-use Rattle.std.proofs.Common.{◌≡◌, ◌≢◌, ℕ, ◌/◌, Some, None, List, sym, ap, ◌∙◌, subst}
-use Rattle.std.specs.List.{position}
-use Rattle.loop_record.specs.Recording.{last_number, ring_of}
-use Rattle.loop_ring.specs.Heads.{heads_of, is_of}
+use Rattle.std.proofs.Common.{Some, None, sym, ◌∙◌}
 use Rattle.loop_store.proofs.Placing.{found-of, newest-place}
 use Rattle.loop_store.proofs.place.place_of.Goals as goal
 

@@ -1,4 +1,4 @@
-use Rattle.std.proofs.Common.{◌≡◌, ℕ, not, is_some, List, Option, sym, ap, ◌∙◌}
+use Rattle.std.proofs.Common.{not, is_some, List, Option, sym, ap, ◌∙◌}
 use Rattle.std.specs.List.{count_by, position}
 use Rattle.loop_record.specs.declared.segment.SegmentHead.{SegmentHead}
 use Rattle.loop_ring.specs.Heads.{has_frame}

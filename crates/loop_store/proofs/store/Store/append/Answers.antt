@@ -1,8 +1,8 @@
-use Rattle.std.proofs.Common.{◌≡◌, List, [], ◌∷◌, length, subst}
+use Rattle.std.proofs.Common.{List, subst}
 use Rattle.loop_disk.specs.Medium.{LeavesOnly}
-use Rattle.loop_record.specs.Recording.{Picture, plain, picture, ring_of}
+use Rattle.loop_record.specs.Recording.{Picture, ring_of}
 use Rattle.loop_store.specs.Held.{HoldsSome}
-use Rattle.loop_store.specs.Seen.{StandsFor, steps_in_first, steps_or_none}
+use Rattle.loop_store.specs.Seen.{steps_in_first, steps_or_none}
 use Rattle.loop_store.proofs.Stands.{one-picture}
 use Rattle.loop_store.proofs.store.Store.append.Goals as goal
 

@@ -1,5 +1,4 @@
-use Rattle.std.proofs.Common.{◌≡◌, ◌≤◌, ◌<◌, ◌+◌, ◌++◌, ◌∷◌, [], length, vec_len, ap, sym, ◌∙◌, arith}
-use Rattle.std.specs.List.{range_with_len}
+use Rattle.std.proofs.Common.{◌≡◌, ◌+◌, ◌++◌, ◌∷◌, [], length, vec_len, ap, sym, ◌∙◌, arith}
 use Rattle.loop_record.proofs.Readings.{length-range}
 use Rattle.loop_store.proofs.Numbers.{numbers-more}
 use Rattle.loop_store.proofs.store.Store.frames.Goals as goal

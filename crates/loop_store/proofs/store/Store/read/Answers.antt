@@ -1,5 +1,5 @@
-use Rattle.std.proofs.Common.{◌≡◌, ◌≤◌, ◌<◌, ℕ, List, Err, false, refl, sym, ap, ◌∙◌, subst, arith}
-use Rattle.loop_record.specs.Recording.{Recording, frame_under, holds}
+use Rattle.std.proofs.Common.{◌≡◌, false, refl, sym, ap, subst, arith}
+use Rattle.loop_record.specs.Recording.{Recording, frame_under}
 use Rattle.loop_store.specs.Seen.{Seen, StandsFor, AnswersFrame}
 use Rattle.loop_store.proofs.Looks.{looked-kept, looked-stands, above-missing, below-there, missing-answer, not-missing}
 use Rattle.loop_store.proofs.store.Store.read.Goals as goal

@@ -1,9 +1,9 @@
-use Rattle.std.proofs.Common.{◌≡◌, ◌+◌, ◌<◌, ◌≤◌, ◌++◌, ◌∷◌, [], false, length, take, get_or, vec_len, vec_capacity, refl, sym, ap, ◌∙◌, subst, arith}
+use Rattle.std.proofs.Common.{◌≡◌, false, get_or, refl, sym, ap, ◌∙◌, subst, arith}
 use Rattle.loop_record.specs.declared.geometry.Geometry.{Geometry}
 use Rattle.loop_store.specs.declared.command.Command.{Command}
 use Rattle.loop_store.specs.Runs.{IsOfSize, faults_in, faults_of}
 use Rattle.loop_store.proofs.Asked.{faults-more}
-use Rattle.loop_store.proofs.Ran.{Ran, Turned, ran-none_yet, ran-turn, ran-all}
+use Rattle.loop_store.proofs.Ran.{ran-none_yet, ran-turn, ran-all}
 use Rattle.loop_store.proofs.store.Store.run.Goals as goal
 
 pub loop-command-init : goal.loop-command-init

@@ -1,9 +1,7 @@
-use Rattle.std.proofs.Common.{◌≡◌, ◌++◌, ◌||◌, List, OnOk, Ok, Err, Result, false, true, refl, sym, ap, ◌∙◌, subst}
-use Rattle.loop_disk.specs.Medium.{LeavesOnly, IsSettled}
-use Rattle.loop_record.specs.Reading.{Holds}
-use Rattle.loop_record.specs.Recording.{Step, picture, plain, ring_of}
+use Rattle.std.proofs.Common.{List, OnOk, Ok, Err, Result, subst}
+use Rattle.loop_disk.specs.Medium.{LeavesOnly}
+use Rattle.loop_record.specs.Recording.{Step, picture}
 use Rattle.loop_store.specs.Held.{HoldsSome}
-use Rattle.loop_store.specs.Runs.{AnswersStore, steps_if_failed, steps_if_stored}
 use Rattle.loop_store.proofs.Asked.{asked-is, stored-now}
 use Rattle.loop_store.proofs.store.Store.store_frame.Goals as goal
 
