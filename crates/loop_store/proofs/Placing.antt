@@ -119,9 +119,10 @@ apart-next g r image e missing = (newest-missing g r image e missing).0
 pub closed-place : (g : Geometry) (r : Recording) (image : List ℕ) (j count : ℕ) → Holds g r image → r.next ≢ last_number (ring_of g) → position (is_of (r.next / g.slots)) (heads_of g image) ≡ None → position (λ h. not (is_some h)) (heads_of g image) ≡ Some j
     → count ≡ count_by has_frame (heads_of g image) → count ≢ g.segments → IsFreeFor g r.next j image × ((r.next % g.slots ≡ 0) × (needs_recycling (ring_of g) r ≡ false))
 closed-place g r image j count e unspent missing found counted fewer =
-    let first = (newest-missing g r image e missing).1 in
-    (record { closed = (closed-found g image j found).1; apart = apart-next g r image e missing; low_enough = next-low g r image e first unspent },
-    (first, needs-not g r (λ all. fewer (counted ∙ held-count g r image e ∙ all))))
+    let first = (newest-missing g r image e missing).1 in (
+      record { closed = (closed-found g image j found).1; apart = apart-next g r image e missing; low_enough = next-low g r image e first unspent },
+      (first, needs-not g r (λ all. fewer (counted ∙ held-count g r image e ∙ all))),
+    )
 
 pub victim-place : (g : Geometry) (r : Recording) (image : List ℕ) (j count : ℕ) (heads : List (Option SegmentHead)) → Holds g r image → heads ≡ heads_of g image → r.next ≢ last_number (ring_of g) → position (is_of (r.next / g.slots)) (heads_of g image) ≡ None
     → count ≡ count_by has_frame heads → count ≡ g.segments → IsPlaceOf heads (victim (ring_of g) r) (Some j)
@@ -130,10 +131,16 @@ victim-place g r image j count heads e is unspent missing counted all place =
     let first = (newest-missing g r image e missing).1 in
     let head : get_or (heads_of g image) j None ≡ Some place.0 = ap (λ (hs : List (Option SegmentHead)). get_or hs j None) (sym is) ∙ place.1 in
     let within = there (heads_of g image) j place.0 head in
-    let s = head-some (segment_in g image j) place.0 (sym (head-there g image j (omega (arith, within, heads-length g image))) ∙ head) in
-    (place.0.block, (place.2,
-    (record { segment = s.0; there = s.1.0; block_is = s.1.1.0; apart = apart-next g r image e missing; low_enough = next-low g r image e first unspent },
-    (first, needs-so g r first (sym (held-count g r image e) ∙ ap (count_by has_frame) (sym is) ∙ sym counted ∙ all)))))
+    let s = head-some (segment_in g image j) place.0 (sym (head-there g image j (omega (arith, within, heads-length g image))) ∙ head) in (
+      place.0.block,
+      (
+        place.2,
+        (
+          record { segment = s.0; there = s.1.0; block_is = s.1.1.0; apart = apart-next g r image e missing; low_enough = next-low g r image e first unspent },
+          (first, needs-so g r first (sym (held-count g r image e) ∙ ap (count_by has_frame) (sym is) ∙ sym counted ∙ all)),
+        ),
+      ),
+    )
 
 pub no-victim : (g : Geometry) (r : Recording) (image : List ℕ) (count : ℕ) (heads : List (Option SegmentHead)) → Holds g r image → heads ≡ heads_of g image → position (is_of (r.next / g.slots)) (heads_of g image) ≡ None → count ≡ count_by has_frame heads → count ≡ g.segments
     → victim (ring_of g) r ≡ None → recycling_first (needs_recycling (ring_of g) r) (victim (ring_of g) r) ≡ None

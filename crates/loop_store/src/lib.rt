@@ -32,3 +32,5 @@ pub use store::Store;
 
 #[cfg(test)]
 mod recover_tests;
+#[cfg(test)]
+mod tests;
