@@ -3,6 +3,7 @@
 ghost use Rattle.std.specs.Prelude.{◌≡◌, ◌≤◌, All, IfOk, length};
 
 use super::*;
+use loop_budget::Budget;
 use loop_disk::{Disk, DiskFault, FuseDisk, MemDisk, OnceDisk};
 use loop_record::{
     Damage, Frame, FrameHead, Geometry, ImageFault, LayoutFault, OPEN, PixelFormat, read_image,
@@ -318,6 +319,96 @@ fn a_failed_read_is_no_end(rt: HostRuntime) -> Result<(), Fail> {
         assert_eq!(rt; store.read(1, &mut out), Ok(head(1)));
         assert_eq!(rt; store.frames(alloc)?.len(), 2);
     }
+    Ok(())
+}
+
+// A store of frames 0 and 1, whose memory is counted.
+fn filled<'a>(
+    rt: &impl Abort,
+    memory: &'a Budget,
+    disk: MemDisk,
+) -> Result<Store<MemDisk, &'a Budget>, Fail> {
+    let mut store = match format(memory, disk, SMALL) {
+        Ok(store) => store,
+        Err(_) => return Err("the disk is formatted".into()),
+    };
+    stores_next(rt, &mut store, &[frame(memory, 0)?], 0);
+    stores_next(rt, &mut store, &[frame(memory, 1)?], 1);
+    Ok(store)
+}
+
+// The number that a reply names, of a frame that is whole, or why it was refused.
+fn told<A: Allocator>(reply: &Reply<A>) -> Result<u64, StoreFault> {
+    match reply {
+        Reply::Store(answer) => *answer,
+        Reply::Read(Ok(read)) => {
+            let n = (read.head.sequence % 256) as u8;
+            Ok(if read.head == head(n) && is_frame(&read.bytes, n) {
+                u64::from(n)
+            } else {
+                99
+            })
+        }
+        Reply::Read(Err(fault)) => Err(*fault),
+    }
+}
+
+#[test]
+fn each_growth_is_refused_in_turn(rt: HostRuntime) -> Result<(), Fail> {
+    let memory = Budget::new(rt.alloc());
+    memory.allow(0);
+    let disk = match format(&memory, MemDisk::new(rt.alloc(), 4360)?, SMALL) {
+        Err(refused) => {
+            assert_eq!(rt; refused.fault, StoreFault::NoMemory);
+            refused.disk
+        }
+        Ok(_) => return Err("a ring takes memory".into()),
+    };
+    // Two frames, and the ring.
+    memory.allow(3);
+    let mut store = filled(&rt, &memory, disk)?;
+    assert_eq!(rt; memory.left(), 0);
+    assert_eq!(rt; store.frames(&memory).err(), Some(StoreFault::NoMemory));
+    let asked = [Command::Read(1)];
+    assert_eq!(rt;
+        store.run(&memory, &asked).err(),
+        Some(StoreFault::NoMemory)
+    );
+    memory.allow(1);
+    assert_eq!(rt; store.frames(&memory)?.len(), 2);
+    memory.allow(1);
+    let replies = store.run(&memory, &asked)?;
+    assert_eq!(rt;
+        replies.first().map(|reply| told(reply)),
+        Some(Err(StoreFault::NoMemory))
+    );
+    memory.allow(2);
+    let replies = store.run(&memory, &asked)?;
+    assert_eq!(rt;
+        (memory.left(), replies.first().map(|reply| told(reply))),
+        (0, Some(Ok(1)))
+    );
+    Ok(())
+}
+
+#[test]
+fn a_command_is_answered_as_its_call(rt: HostRuntime) -> Result<(), Fail> {
+    let alloc = rt.alloc();
+    let mut store = match format(alloc, MemDisk::new(alloc, 4360)?, SMALL) {
+        Ok(store) => store,
+        Err(_) => return Err("the disk is formatted".into()),
+    };
+    let asked = [Command::Store(frame(alloc, 0)?)];
+    let replies = store.run(alloc, &asked)?;
+    assert_eq!(rt; replies.first().map(|reply| told(reply)), Some(Ok(0)));
+    let replies = store.run(alloc, &[Command::Read(0)])?;
+    assert_eq!(rt; replies.first().map(|reply| told(reply)), Some(Ok(0)));
+    let replies = store.run(alloc, &[Command::Read(1)])?;
+    assert_eq!(rt;
+        replies.first().map(|reply| told(reply)),
+        Some(Err(StoreFault::NotHeld))
+    );
+    assert_eq!(rt; store.next(), 1);
     Ok(())
 }
 
