@@ -42,6 +42,13 @@ impl ClipTable {
         }
     }
 
+    /// Clips that were read before: the place of each is its id.
+    pub fn of(clips: [Option<Span>; CLIPS]) -> ClipTable
+        ensures { result ≡ clips }
+    {
+        ClipTable { clips }
+    }
+
     /// The clips whose entries are open on a disk of at least 2,560 bytes, as they stand there, sound or not: one read, and no
     /// memory. Its only refusal is that the read fails.
     pub fn read<D: Disk>(disk: &mut D) -> Result<ClipTable, DiskFault>

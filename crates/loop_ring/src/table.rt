@@ -32,6 +32,14 @@ impl<A: Allocator> SegmentTable<A> {
         Ok(SegmentTable { heads })
     }
 
+    /// Segments whose headers were read before, one entry each. It takes no memory.
+    pub fn of(heads: Vec<Option<SegmentHead>, A>) -> Self
+        requires { length heads.items < 2 ^ 32 }
+        ensures { result ≡ heads.items }
+    {
+        SegmentTable { heads }
+    }
+
     /// What the header of a segment says, or nothing where it is closed.
     pub fn get(&self, segment: u32) -> Option<SegmentHead>
         requires { segment < length self.now }

@@ -7,29 +7,32 @@ use Rattle.loop_disk.specs.Medium.{Medium, IsSettled, IsSound, LeavesOnly}
 use Rattle.loop_disk.proofs.Moments.{started, goes_on}
 use Rattle.loop_record.specs.declared.geometry.Geometry.{Geometry}
 use Rattle.loop_record.specs.Reading.{Holds}
-use Rattle.loop_record.specs.Recording.{Picture, Recording, Ring, Step, plain, ring_of}
+use Rattle.loop_record.specs.Recording.{Picture, Recording, Ring, Step, plain, ring_of, steps}
 use Rattle.loop_record.proofs.Decided.{clash}
 use Rattle.loop_record.proofs.Steps.{plain-append}
+use Rattle.loop_ring.specs.Heads.{heads_of}
 use Rattle.loop_store.specs.declared.fault.StoreFault.{StoreFault}
 use Rattle.loop_store.specs.Faults.{answers_disk, is_disk}
 use Rattle.loop_store.specs.Held.{EachNow, HoldsFrom, HoldsSome}
 use Rattle.loop_store.specs.declared.command.Command.{Command}
 use Rattle.loop_store.specs.declared.command.Command.TheVariants as command
 use Rattle.loop_store.specs.declared.command.Reply.{Reply}
-use Rattle.loop_store.specs.Runs.{AnswersStore, AreAnswers, IsAnswer, RefusesStore, begun_by, begun_in, faults_in, faults_of, has_failed, made_by, made_in, some_failed, steps_if_failed, steps_if_stored}
+use Rattle.loop_store.specs.Runs.{AnswersAppend, AreAnswers, IsAnswer, RefusesAppend, begun_by, begun_in, faults_in, faults_of, has_failed, made_by, made_in, some_failed, steps_if_failed, steps_if_stored}
+use Rattle.loop_store.proofs.Appended.{steps-spent}
 use Rattle.loop_store.proofs.Grown.{held-some}
-use Rattle.loop_store.specs.Seen.{Seen, StandsFor, steps_in_first, steps_or_none}
+use Rattle.loop_store.specs.Seen.{Refused, Seen, StandsFor, Unless, steps_or_none}
 
 -- the steps of an append are those that it made, and then those that it had begun
-pub asked-is : (g : Geometry) (r : Recording) (must : Bool) (p : Picture) (result : Result ℕ StoreFault) → must ≡ false → AnswersStore g r must p result
-    → steps_or_none (steps_in_first (ring_of g) r (p ∷ [])) ≡ steps_if_stored (ring_of g) r p result ++ steps_if_failed (ring_of g) r p (answers_disk result)
-asked-is g r must p (Ok number) fine said = sym (append-nil (steps_or_none (steps_in_first (ring_of g) r (p ∷ []))))
+pub asked-is : (g : Geometry) (r : Recording) (must : Bool) (p : Picture) (result : Result ℕ StoreFault) → must ≡ false → AnswersAppend g r must (p ∷ []) result
+    → steps_or_none (steps (ring_of g) r (p ∷ [])) ≡ steps_if_stored (ring_of g) r p result ++ steps_if_failed (ring_of g) r p (answers_disk result)
+asked-is g r must p (Ok number) fine said = sym (append-nil (steps_or_none (steps (ring_of g) r (p ∷ []))))
 asked-is g r must p (Err fault) fine said = go said
   where
-    go : RefusesStore g r must p fault → steps_or_none (steps_in_first (ring_of g) r (p ∷ [])) ≡ steps_if_failed (ring_of g) r p (is_disk fault)
+    go : RefusesAppend g r must (p ∷ []) fault → steps_or_none (steps (ring_of g) r (p ∷ [])) ≡ steps_if_failed (ring_of g) r p (is_disk fault)
     go (inl x) = absurd (clash must x.1 fine)
-    go (inr (inl x)) = ap steps_or_none x.1.1 ∙ sym (ap (λ (f : StoreFault). steps_if_failed (ring_of g) r p (is_disk f)) x.0)
-    go (inr (inr x)) = sym (ap (λ (b : Bool). steps_if_failed (ring_of g) r p b) x.0)
+    go (inr (inl x)) = ap steps_or_none (steps-spent g r (p ∷ []) x.1.1) ∙ sym (ap (λ (f : StoreFault). steps_if_failed (ring_of g) r p (is_disk f)) x.0)
+    go (inr (inr (inl x))) = ap steps_or_none x.1.1.1 ∙ sym (ap (λ (f : StoreFault). steps_if_failed (ring_of g) r p (is_disk f)) x.0)
+    go (inr (inr (inr x))) = sym (ap (λ (b : Bool). steps_if_failed (ring_of g) r p b) x.0)
 
 -- all of some steps, with none behind them
 pub holds-all : (g : Geometry) (r : Recording) (steps more : List Step) (image : List ℕ) → Holds g (plain (ring_of g) r steps) image → HoldsFrom g r (length steps) (steps ++ more) image
@@ -49,19 +52,41 @@ pub now-held : (size : ℕ) (g : Geometry) (r : Recording) (p : Picture) (old ne
     → OnOk result (IsSettled new) → OnOk result (Holds g (plain (ring_of g) r (steps_if_stored (ring_of g) r p result)) new.bytes)
     → EachNow new (HoldsFrom g r (length (steps_if_stored (ring_of g) r p result)) (steps_if_stored (ring_of g) r p result ++ steps_if_failed (ring_of g) r p (answers_disk result)))
 now-held size g r p old new (Ok number) sound run settled held = λ c left.
-    let steps = steps_or_none (steps_in_first (ring_of g) r (p ∷ [])) in
-    subst (λ (image : List ℕ). HoldsFrom g r (length steps) (steps ++ []) image) (sym (settled c left)) (holds-all g r steps [] new.bytes held)
+    let made = steps_or_none (steps (ring_of g) r (p ∷ [])) in
+    subst (λ (image : List ℕ). HoldsFrom g r (length made) (made ++ []) image) (sym (settled c left)) (holds-all g r made [] new.bytes held)
 now-held size g r p old new (Err fault) sound run settled held = each-now size old new _ sound run
 
 -- the same of a store that stands for the recording with the steps made
 pub stored-now : {D : Type 0} {size : ℕ} (medium : D → Medium) (honest : D → Type 0) (old new : Seen D) (r : Recording) (p : Picture) (result : Result ℕ StoreFault) → old.must_reopen ≡ false → new.must_reopen ≡ (old.must_reopen || answers_disk result) → new.geometry ≡ old.geometry
     → IsSound size (medium new.disk) → honest new.disk → LeavesOnly (medium old.disk) (medium new.disk) (HoldsSome old.geometry r (steps_if_stored (ring_of old.geometry) r p result ++ steps_if_failed (ring_of old.geometry) r p (answers_disk result)))
-    → OnOk result (StandsFor medium honest new (plain (ring_of old.geometry) r (steps_or_none (steps_in_first (ring_of old.geometry) r (p ∷ [])))))
+    → OnOk result (StandsFor medium honest new (plain (ring_of old.geometry) r (steps_or_none (steps (ring_of old.geometry) r (p ∷ [])))))
     → EachNow (medium new.disk) (HoldsFrom old.geometry r (length (steps_if_stored (ring_of old.geometry) r p result)) (steps_if_stored (ring_of old.geometry) r p result ++ steps_if_failed (ring_of old.geometry) r p (answers_disk result)))
 stored-now {size = size} medium honest old new r p (Ok number) fine failed same sound now run stood =
     let still : new.must_reopen ≡ false = failed ∙ ap (λ (b : Bool). b || false) fine in
-    now-held size old.geometry r p (medium old.disk) (medium new.disk) (Ok number) sound run (stood.settled still now) (subst (λ (g : Geometry). Holds g (plain (ring_of old.geometry) r (steps_or_none (steps_in_first (ring_of old.geometry) r (p ∷ [])))) (medium new.disk).bytes) same (stood.held still now))
+    now-held size old.geometry r p (medium old.disk) (medium new.disk) (Ok number) sound run (stood.settled still now) (subst (λ (g : Geometry). Holds g (plain (ring_of old.geometry) r (steps_or_none (steps (ring_of old.geometry) r (p ∷ [])))) (medium new.disk).bytes) same (stood.held still now))
 stored-now {size = size} medium honest old new r p (Err fault) fine failed same sound now run stood = now-held size old.geometry r p (medium old.disk) (medium new.disk) (Err fault) sound run tt tt
+
+-- a refused store stands for what it stood for
+pub refused-stands : {D : Type 0} (medium : D → Medium) (honest : D → Type 0) (old new : Seen D) (r : Recording) (failed : Bool) → Unless failed old new → (honest new.disk → honest old.disk) → StandsFor medium honest old r → StandsFor medium honest new r
+refused-stands medium honest old new r false same back stands = subst (λ (s : Seen _). StandsFor medium honest s r) (sym same) stands
+refused-stands medium honest old new r true failed back stands = record {
+  remembered = λ now. let m = stands.remembered (back now) in record {
+    image = m.image;
+    held = subst (λ (g : Geometry). Holds g r m.image) (sym failed.geometry) m.held;
+    next_is = failed.next ∙ m.next_is;
+    heads_are = failed.heads ∙ m.heads_are ∙ ap (λ (g : Geometry). heads_of g m.image) (sym failed.geometry);
+    clips_are = failed.clips ∙ m.clips_are;
+  };
+  settled = λ fine now. absurd (clash new.must_reopen failed.must_reopen fine);
+  held = λ fine now. absurd (clash new.must_reopen failed.must_reopen fine);
+  agrees = λ fine now. absurd (clash new.must_reopen failed.must_reopen fine);
+}
+
+-- so does one that was answered, with its steps
+pub stored-stands : {D : Type 0} (medium : D → Medium) (honest : D → Type 0) (old new : Seen D) (r : Recording) (p : Picture) (result : Result ℕ StoreFault) → Refused old new result → (honest new.disk → honest old.disk) → StandsFor medium honest old r
+    → OnOk result (StandsFor medium honest new (plain (ring_of old.geometry) r (steps_or_none (steps (ring_of old.geometry) r (p ∷ []))))) → StandsFor medium honest new (plain (ring_of old.geometry) r (steps_if_stored (ring_of old.geometry) r p result))
+stored-stands medium honest old new r p (Ok number) refused back stands stood = stood
+stored-stands medium honest old new r p (Err fault) refused back stands stood = refused-stands medium honest old new r (is_disk fault) refused back stands
 
 -- ---- a command that only looks
 

@@ -2,18 +2,19 @@
 use Rattle.std.proofs.Common.{◌≡◌, inl, inr, ℕ, zero, suc, ◌+◌, ◌*◌, ◌/◌, ◌%◌, ◌<◌, ◌≤◌, true, ◌&&◌, eqb, Option, Some, List, [], ◌∷◌, ◌++◌, length, take, map, refl, sym, ap, ◌∙◌, subst, arith}
 use Rattle.std.proofs.lemmas.List.{length-map, length-append, take_all}
 use Rattle.std.proofs.lemmas.Bool.Decides.{nat_tests}
-use Rattle.std.proofs.Math.Nat.{div-add-mod', div-eq_of_lt, mod-eq_of_lt}
+use Rattle.std.proofs.Math.Nat.{div-add-mod'}
+use Rattle.loop_disk.specs.Medium.{Medium, LeavesOnly}
+use Rattle.loop_disk.proofs.Moments.{joined, weaker}
 use Rattle.loop_record.specs.declared.geometry.Geometry.{Geometry}
 use Rattle.loop_record.specs.Change.{ShowsSegment}
 use Rattle.loop_record.specs.Geometry.{frame_bytes}
 use Rattle.loop_record.specs.Recording.{Picture, Recording, Step, store, plain, ring_of}
-use Rattle.loop_record.specs.Layout.{Slot, Segment, segment_in}
+use Rattle.loop_record.specs.Layout.{Segment, segment_in}
 use Rattle.loop_record.specs.Reading.{Holds, hold_from, begun}
 use Rattle.loop_record.proofs.Steps.{plain-append}
 use Rattle.loop_record.proofs.Readings.{reading-commit, reading-begin, reading-same, whole-length}
 use Rattle.loop_ring.specs.Writes.{HasNoStray, ShowsOrNot, ShowsFrames, ShowsBeginning, slots_of, with_more}
 use Rattle.loop_store.specs.Held.{HoldsFrom, HoldsSome, IsNewest, IsFreeFor}
-use Rattle.loop_store.specs.Seen.{IsFirst, IsFilled}
 
 -- ---- the slots of frames
 
@@ -117,39 +118,8 @@ earlier-steps g r a b c some = record {
 pub from-none : (g : Geometry) (r : Recording) (least : ℕ) (steps : List Step) (c : List ℕ) → HoldsFrom g r least steps c → HoldsSome g r steps c
 from-none g r least steps c some = record { count = some.count; enough = omega arith; few = some.few; held = some.held }
 
--- ---- the first segment
-
--- block 0 with the frames before the next number is the newest while it has room
-pub first-newest : (g : Geometry) (next : ℕ) (image : List ℕ) → next < g.slots → IsFirst g next image → IsNewest g next 0 image
-first-newest g next image room first = record {
-  segment = first.segment;
-  there = first.there;
-  of_next = first.block_is ∙ sym (div-eq_of_lt room);
-  whole = first.whole ∙ sym (mod-eq_of_lt room);
-  stray = first.stray;
-}
-
--- it stays block 0 with one frame more
-pub more-filled : (g : Geometry) (next : ℕ) (p : Picture) (old c : List ℕ) → next < g.slots → IsNewest g next 0 old → ShowsFrames g 0 next (p ∷ []) old c → HasNoStray g 0 c → IsFilled g (next + 1) c
-more-filled g next p old c room newest shows stray = record {
-  empty = λ e. absurd (omega (arith, e));
-  first = λ some. record {
-    segment = record u { slots = u.slots ++ ts };
-    there = there;
-    block_is = newest.of_next ∙ div-eq_of_lt room;
-    whole = whole-length g c 0 (record u { slots = u.slots ++ ts }) there ∙ omega (arith, length-append u.slots ts, was, mod-eq_of_lt room);
-    stray = stray;
-  };
-}
-  where
-    u : Segment
-    u = newest.segment
-
-    ts : List Slot
-    ts = slots_of (frame_bytes g) next (p ∷ [])
-
-    there : segment_in g c 0 ≡ Some (record u { slots = u.slots ++ ts })
-    there = shows.holds ∙ ap (with_more ts) newest.there
-
-    was : length u.slots ≡ next % g.slots
-    was = sym (whole-length g old 0 u newest.there) ∙ newest.whole
+-- Two calls, one after the other: what the first leaves is a beginning of its steps, what the second leaves one of its own behind these. So both leave a beginning of all of them.
+pub steps-joined : (g : Geometry) (r : Recording) (a b : List Step) (old mid new : Medium) → LeavesOnly old mid (HoldsSome g r a) → LeavesOnly mid new (HoldsSome g (plain (ring_of g) r a) b) → LeavesOnly old new (HoldsSome g r (a ++ b))
+steps-joined g r a b old mid new first second =
+    joined old mid new (HoldsSome g r (a ++ b)) (weaker old mid (HoldsSome g r a) (HoldsSome g r (a ++ b)) first (λ image some. earlier-steps g r a b image some))
+    (weaker mid new (HoldsSome g (plain (ring_of g) r a) b) (HoldsSome g r (a ++ b)) second (λ image some. from-none g r (length a + 0) (a ++ b) image (later-steps g r a b 0 image some)))

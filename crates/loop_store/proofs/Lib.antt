@@ -1,3 +1,4 @@
+pub mod Answered
 pub mod Formatting
 pub mod Formatted
 pub mod NewStore
@@ -9,6 +10,8 @@ pub mod Looks
 pub mod Numbers
 pub mod Replied
 pub mod Stands
+pub mod Appended
+pub mod Reopened
 pub mod Asked
 pub mod Ran
 pub mod RecoveredParts

@@ -1,53 +1,68 @@
 -- A store that was just formatted.
-use Rattle.std.proofs.Common.{◌≡◌, ℕ, zero, suc, ◌+◌, ◌*◌, ◌/◌, ◌<◌, ◌^◌, false, eqb, IsTrue, Option, None, List, [], ◌∷◌, map, refl, sym, ap, ◌∙◌, subst, arith}
-use Rattle.std.proofs.Math.Nat.{div-eq_of_lt}
-use Rattle.std.specs.List.{list_any, range_with_len}
+use Rattle.std.proofs.Common.{◌≡◌, ℕ, zero, suc, ◌+◌, ◌<◌, cond, false, IsTrue, Option, None, Some, List, ◌∷◌, length, map, replicate, refl, sym, ap, ◌∙◌, subst, arith}
+use Rattle.std.proofs.lemmas.List.{length-replicate}
+use Rattle.std.proofs.lemmas.List.Elements.{All-replicate}
+use Rattle.std.specs.List.{All, range_with_len}
+use Rattle.byteorder.specs.Endian.{little_from}
 use Rattle.loop_disk.specs.Medium.{Medium, IsSettled}
+use Rattle.loop_record.specs.declared.clip.Span.{Span}
 use Rattle.loop_record.specs.declared.geometry.Geometry.{Geometry}
+use Rattle.loop_record.specs.declared.segment.SegmentHead.{SegmentHead}
 use Rattle.loop_record.specs.Geometry.{disk_size, is_good, segment_at}
-use Rattle.loop_record.specs.Layout.{Segment, is_open, is_too_high, segment_in}
-use Rattle.loop_record.specs.Reading.{Holds, IsFresh, opened}
+use Rattle.loop_record.specs.Layout.{header_at, open_gates}
+use Rattle.loop_record.specs.Reading.{Holds, IsFresh}
 use Rattle.loop_record.specs.Recording.{empty}
-use Rattle.loop_record.proofs.Bounds.{limits}
-use Rattle.loop_record.proofs.Decided.{not_below_test}
 use Rattle.loop_record.proofs.Fresh.{reading-fresh}
+use Rattle.loop_ring.specs.Heads.{heads_of}
 use Rattle.loop_ring.proofs.Bytes.{closed_none}
-use Rattle.loop_store.specs.Seen.{IsFilled, IsKept, StandsFor}
+use Rattle.loop_store.specs.Recovered.{IsHeadIn}
+use Rattle.loop_store.specs.Seen.{IsKept, StandsFor}
 
-none-open : (g : Geometry) (image : List ℕ) (lo n : ℕ) → ((j : ℕ) → j < lo + n → is_open image (segment_at g j) ≡ false) → opened (map (segment_in g image) (range_with_len lo n)) ≡ []
-none-open g image lo zero closed = refl
-none-open g image lo (suc n) closed =
-    let first : segment_in g image lo ≡ None = closed_none g image lo (closed lo (omega arith)) in
-    ap (λ (o : Option Segment). opened (o ∷ map (segment_in g image) (range_with_len (lo + 1) n))) first ∙ none-open g image (lo + 1) n (λ j l. closed j (omega (arith, l)))
+all-none : {X : Type 0} (f : ℕ → Option X) (lo n : ℕ) → ((j : ℕ) → j < lo + n → f j ≡ None) → map f (range_with_len lo n) ≡ replicate n None
+all-none f lo zero none = refl
+all-none f lo (suc n) none = λ i. none lo (omega arith) i ∷ all-none f (lo + 1) n (λ j l. none j (omega (arith, l))) i
 
-first-low : (g : Geometry) → IsTrue (is_good g) → is_too_high g (0 / g.slots) ≡ false
-first-low g good =
-    let limit = (limits g good).slots in
-    let block : 0 / g.slots ≡ 0 = div-eq_of_lt (omega (arith, limit.0)) in
-    let count : (0 / g.slots + 1) * g.slots ≡ g.slots = ap (λ (b : ℕ). (b + 1) * g.slots) block ∙ omega arith in
-    not_below_test (2 ^ 62) ((0 / g.slots + 1) * g.slots) (omega (arith, count, limit.1))
+-- each header is closed
+fresh-heads : (g : Geometry) (image : List ℕ) → IsFresh g image → heads_of g image ≡ replicate g.segments None
+fresh-heads g image fresh = all-none (λ j. header_at g image (segment_at g j)) 0 g.segments (λ j l. closed-head j (omega (arith, l)))
+  where
+    closed-head : (j : ℕ) → j < g.segments → header_at g image (segment_at g j) ≡ None
+    closed-head j l = λ i. cond (fresh.segments j l i) (Some (record { block = little_from (segment_at g j + 8) 8 image; frames = open_gates g.slots image (segment_at g j + 256) })) None
 
-pub fresh-filled : (g : Geometry) (image : List ℕ) → IsTrue (is_good g) → IsFresh g image → IsFilled g 0 image
-fresh-filled g image good fresh = record {
-  empty = λ e. record {
-    closed = closed_none g image 0 (fresh.segments 0 (omega (arith, (limits g good).segments.0)));
-    apart = ap (list_any (λ (s : Segment). eqb s.block (0 / g.slots))) (none-open g image 0 g.segments (λ j l. fresh.segments j (omega (arith, l))));
-    low_enough = first-low g good;
-  };
-  first = λ some. absurd (omega (arith, some));
-}
+-- the image of a disk that was formatted, with the memory of its store
+pub fresh-kept : {D : Type 0} (extent : D → ℕ) (medium : D → Medium) (honest : D → Type 0) (g h : Geometry) (disk : D) (heads : List (Option SegmentHead)) (clips : List (Option Span)) → h ≡ g → heads ≡ replicate g.segments None → clips ≡ replicate 64 None → IsTrue (is_good g) → extent disk ≡ disk_size g
+    → (honest disk → IsSettled (medium disk)) → (honest disk → IsFresh g (medium disk).bytes) → IsKept extent medium honest h disk 0 heads clips false
+fresh-kept extent medium honest g h disk heads clips same closed none good size settled fresh =
+    subst (λ (k : Geometry). IsKept extent medium honest k disk 0 heads clips false) (sym same)
+    (record {
+      size = size;
+      few = omega arith;
+      count = ap length closed ∙ length-replicate g.segments None;
+      within = subst (All (IsHeadIn g)) (sym closed) (All-replicate (IsHeadIn g) g.segments None tt);
+      unstray = λ fine now j l there. absurd (there (closed_none g (medium disk).bytes j ((fresh now).segments j l)));
+      settled = λ fine now. settled now;
+      recorded = λ fine now. record {
+        recording = empty;
+        held = reading-fresh g (medium disk).bytes good (fresh now);
+        next_is = refl;
+        clips_are = none;
+        heads_are = closed ∙ sym (fresh-heads g (medium disk).bytes (fresh now));
+      };
+    })
 
-pub fresh-kept : {D : Type 0} (extent : D → ℕ) (medium : D → Medium) (honest : D → Type 0) (g h : Geometry) (disk : D) → h ≡ g → IsTrue (is_good g) → extent disk ≡ disk_size g → (honest disk → IsSettled (medium disk)) → (honest disk → IsFresh g (medium disk).bytes)
-    → IsKept extent medium honest h disk 0 false
-fresh-kept extent medium honest g h disk same good size settled fresh =
-    subst (λ (k : Geometry). IsKept extent medium honest k disk 0 false) (sym same)
-    (record { size = size; few = omega arith; settled = λ fine now. settled now; filled = λ fine now. fresh-filled g (medium disk).bytes good (fresh now) })
+pub fresh-stands : {D : Type 0} (medium : D → Medium) (honest : D → Type 0) (g h : Geometry) (disk : D) (heads : List (Option SegmentHead)) (clips : List (Option Span)) → h ≡ g → heads ≡ replicate g.segments None → clips ≡ replicate 64 None → IsTrue (is_good g)
+    → (honest disk → IsSettled (medium disk)) → (honest disk → IsFresh g (medium disk).bytes) → StandsFor medium honest (record { disk = disk; geometry = h; next = 0; heads = heads; clips = clips; must_reopen = false }) empty
+fresh-stands medium honest g h disk heads clips same closed none good settled fresh =
+    subst (λ (k : Geometry). StandsFor medium honest (record { disk = disk; geometry = k; next = 0; heads = heads; clips = clips; must_reopen = false }) empty) (sym same)
+    (record {
+      remembered = λ now. record { image = (medium disk).bytes; held = held now; next_is = refl; heads_are = heads_are now; clips_are = none };
+      settled = λ fine now. settled now;
+      held = λ fine now. held now;
+      agrees = λ fine now. heads_are now;
+    })
+  where
+    held : honest disk → Holds g empty (medium disk).bytes
+    held now = reading-fresh g (medium disk).bytes good (fresh now)
 
-pub fresh-stands : {D : Type 0} (medium : D → Medium) (honest : D → Type 0) (g h : Geometry) (disk : D) → h ≡ g → IsTrue (is_good g) → (honest disk → IsSettled (medium disk)) → (honest disk → IsFresh g (medium disk).bytes)
-    → StandsFor medium honest (record { disk = disk; geometry = h; next = 0; numbers = []; must_reopen = false }) empty
-fresh-stands medium honest g h disk same good settled fresh = record {
-  next_is = refl;
-  numbers_are = refl;
-  settled = λ fine now. settled now;
-  held = λ fine now. subst (λ (k : Geometry). Holds k empty (medium disk).bytes) (sym same) (reading-fresh g (medium disk).bytes good (fresh now));
-}
+    heads_are : honest disk → heads ≡ heads_of g (medium disk).bytes
+    heads_are now = closed ∙ sym (fresh-heads g (medium disk).bytes (fresh now))

@@ -1,47 +1,77 @@
 -- The numbers of held frames.
-use Rattle.std.proofs.Common.{◌≡◌, inl, inr, ℕ, zero, suc, ◌+◌, ◌<◌, ◌≤◌, Bool, true, false, ltb, is_some, List, [], ◌∷◌, ◌++◌, refl, sym, ap, ◌∙◌, subst, arith}
-use Rattle.std.proofs.lemmas.Bool.Decides.{nat_tests}
-use Rattle.std.specs.List.{range_with_len}
-use Rattle.loop_record.specs.Recording.{Picture, frame_under}
-use Rattle.loop_record.proofs.Rising.{Among, numbers_of, held-among, among-held}
+use Rattle.std.proofs.Common.{◌≡◌, ℕ, zero, suc, ◌+◌, ◌*◌, ◌<◌, ◌≤◌, List, [], ◌∷◌, ◌++◌, get_or, length, map, take, refl, sym, ap, ◌∙◌, arith}
+use Rattle.std.proofs.Math.Nat.{add-mul}
+use Rattle.std.proofs.lemmas.List.{append-nil, append_assoc, length-append, length-map, map-append, take_more}
+use Rattle.std.proofs.lemmas.Nat.{mul-le}
+use Rattle.std.specs.List.{enumerate_from, range_with_len}
+use Rattle.loop_record.specs.declared.geometry.Geometry.{Geometry}
+use Rattle.loop_record.specs.declared.image.Found.{Found}
+use Rattle.loop_record.specs.Geometry.{frame_bytes, slot_at}
+use Rattle.loop_record.specs.Layout.{Segment, slot_in}
+use Rattle.loop_record.specs.Plain.{AreIn, IsIn, segment_of, segments_of}
+use Rattle.loop_record.specs.Reading.{Holds, all_frames, by_block, frames_of, opened, parts_of}
+use Rattle.loop_record.specs.Recording.{Picture, Recording}
+use Rattle.loop_record.proofs.Gates.{range_append}
+use Rattle.loop_record.proofs.Readings.{length-range}
+use Rattle.loop_ring.proofs.Held.{sorted}
+use Rattle.loop_store.specs.Numbers.{numbers_in}
 
-among-range : (lo len n : ℕ) → Among n (range_with_len lo len) → (lo ≤ n) × (n < lo + len)
-among-range lo zero n e = elim e [ ]
-among-range lo (suc len) n (inl e) = (omega (arith, e), omega (arith, e))
-among-range lo (suc len) n (inr e) = let h = among-range (lo + 1) len n e in (omega (arith, h.0), omega (arith, h.1))
+enumerated : (n : ℕ) (ps : List Picture) → map (λ f. f.0) (enumerate_from n ps) ≡ range_with_len n (length ps)
+enumerated n [] = refl
+enumerated n (p ∷ ps) = ap (λ (ns : List ℕ). n ∷ ns) (enumerated (n + 1) ps)
 
-range-among : (lo len n : ℕ) → lo ≤ n → n < lo + len → Among n (range_with_len lo len)
-range-among lo zero n l h = absurd (omega (arith, l, h))
-range-among lo (suc len) n l h = go (ltb lo n) refl (λ more. range-among (lo + 1) len n (omega (arith, more)) (omega (arith, h)))
-  where
-    go : (t : Bool) → ltb lo n ≡ t → (lo < n → Among n (range_with_len (lo + 1) len)) → Among n (range_with_len lo (suc len))
-    go true e later = let more : lo < n = grind (arith, nat_tests, e) in inr (later more)
-    go false e later = let least : n ≤ lo = grind (arith, nat_tests, e) in inl (omega (arith, l, least))
+segment-numbers : (g : Geometry) (image : List ℕ) (f : Found) → map (λ f. f.0) (frames_of g (segment_of g image f)) ≡ range_with_len (f.block * g.slots) f.frames
+segment-numbers g image f =
+    let slots = map (λ i. slot_in (frame_bytes g) image (slot_at g f.segment i)) (range_with_len 0 f.frames) in
+    enumerated (f.block * g.slots) (map (λ t. t.picture) slots)
+    ∙ ap (range_with_len (f.block * g.slots)) (length-map slots (λ t. t.picture) ∙ length-map (range_with_len 0 f.frames) (λ i. slot_in (frame_bytes g) image (slot_at g f.segment i)) ∙ length-range 0 f.frames)
 
-same_test : (s t : Bool) → (s ≡ true → t ≡ true) → (t ≡ true → s ≡ true) → s ≡ t
-same_test true t f g = sym (f refl)
-same_test false true f g = g refl
-same_test false false f g = refl
+numbers-are : (g : Geometry) (image : List ℕ) (fs : List Found) → map (λ f. f.0) (all_frames g (segments_of g image fs)) ≡ numbers_in g fs
+numbers-are g image [] = refl
+numbers-are g image (f ∷ fs) = map-append (λ f. f.0) (frames_of g (segment_of g image f)) (all_frames g (segments_of g image fs)) ∙ (λ i. segment-numbers g image f i ++ numbers-are g image fs i)
 
--- where the numbers are those below the next one, a number is held that is below it
-pub below-held : (next n : ℕ) (fs : List (ℕ × Picture)) → range_with_len 0 next ≡ numbers_of fs → ltb n next ≡ is_some (frame_under fs n)
-below-held next n fs are = same_test (ltb n next) (is_some (frame_under fs n)) there back
-  where
-    there : ltb n next ≡ true → is_some (frame_under fs n) ≡ true
-    there e =
-        let below : n < next = grind (arith, nat_tests, e) in
-        among-held n fs (subst (λ (ns : List ℕ). Among n ns) are (range-among 0 next n (omega arith) (omega (arith, below))))
+-- the numbers of the open segments, in the order of their blocks, are those of the recording
+pub held-numbers : (g : Geometry) (r : Recording) (image : List ℕ) (fs : List Found) → Holds g r image → segments_of g image fs ≡ by_block (opened (parts_of g image).segments) → numbers_in g fs ≡ map (λ f. f.0) r.frames
+held-numbers g r image fs held are =
+    sym (numbers-are g image fs) ∙ ap (λ (ss : List Segment). map (λ f. f.0) (all_frames g ss)) are ∙ ap (λ (ps : List (ℕ × Picture)). map (λ f. f.0) ps) (sorted g r image held).frames
 
-    back : is_some (frame_under fs n) ≡ true → ltb n next ≡ true
-    back e =
-        let h = among-range 0 next n (subst (λ (ns : List ℕ). Among n ns) (sym are) (held-among n fs e)) in
-        let below : n < next = omega (arith, h.1) in
-        grind (arith, nat_tests, below)
+-- ---- the numbers, one behind the other
 
--- the numbers below the next one, with that one
-pub numbers-more : (lo next : ℕ) → range_with_len lo (next + 1) ≡ range_with_len lo next ++ (lo + next) ∷ []
-numbers-more lo zero = let e : lo ≡ lo + 0 = omega arith in λ i. e i ∷ []
-numbers-more lo (suc next) =
-    let e : lo + 1 + next ≡ lo + suc next = omega arith in
-    let count : suc next + 1 ≡ suc (next + 1) = omega arith in
-    ap (range_with_len lo) count ∙ ap (λ (ns : List ℕ). lo ∷ ns) (numbers-more (lo + 1) next) ∙ (λ i. lo ∷ (range_with_len (lo + 1) next ++ e i ∷ []))
+-- one number more
+pub number-more : (first n number : ℕ) (old new now : List ℕ) → number ≡ first + n → now ≡ old ++ range_with_len first n → new ≡ now ++ number ∷ [] → new ≡ old ++ range_with_len first (n + 1)
+number-more first n number old new now is so_far pushed =
+    pushed ∙ (λ i. so_far i ++ is i ∷ []) ∙ append_assoc old (range_with_len first n) ((first + n) ∷ []) ∙ ap (λ (ns : List ℕ). old ++ ns) (sym (range_append first n 1))
+
+-- how many they are
+pub number-count : (first n : ℕ) (old now : List ℕ) → now ≡ old ++ range_with_len first n → length now ≡ length old + n
+number-count first n old now so_far = omega (arith, ap (λ (ns : List ℕ). length ns) so_far, length-append old (range_with_len first n), length-range first n)
+
+numbers-append : (g : Geometry) (fs hs : List Found) → numbers_in g (fs ++ hs) ≡ numbers_in g fs ++ numbers_in g hs
+numbers-append g [] hs = refl
+numbers-append g (f ∷ fs) hs =
+    let ns = range_with_len (f.block * g.slots) f.frames in
+    ap (λ (ms : List ℕ). ns ++ ms) (numbers-append g fs hs) ∙ sym (append_assoc ns (numbers_in g fs) (numbers_in g hs))
+
+-- the numbers of one segment more
+pub segment-more : (g : Geometry) (fs : List Found) (k : ℕ) (d : Found) (now new : List ℕ) → k < length fs → now ≡ numbers_in g (take k fs) → (let f = get_or fs k d in new ≡ now ++ range_with_len (f.block * g.slots) f.frames) → new ≡ numbers_in g (take (k + 1) fs)
+segment-more g fs k d now new l so_far added =
+    let f = get_or fs k d in
+    let ns = range_with_len (f.block * g.slots) f.frames in
+    added ∙ ap (λ (ms : List ℕ). ms ++ ns) so_far ∙ ap (λ (ms : List ℕ). numbers_in g (take k fs) ++ ms) (sym (append-nil ns)) ∙ sym (numbers-append g (take k fs) (f ∷ [])) ∙ ap (numbers_in g) (sym (take_more fs k d l))
+
+-- and they are no more than the slots so far
+pub few-more : (slots k first frames : ℕ) (now new : List ℕ) → new ≡ now ++ range_with_len first frames → length now ≤ k * slots → frames ≤ slots → length new ≤ (k + 1) * slots
+few-more slots k first frames now new added few in_slots = omega (arith, number-count first frames now new added, add-mul k 1 slots, few, in_slots)
+
+-- one of those found
+pub one-in : (g : Geometry) (fs : List Found) (k : ℕ) (d : Found) → AreIn g fs → k < length fs → IsIn g (get_or fs k d)
+one-in g [] k d all l = absurd (omega (arith, l))
+one-in g (f ∷ fs) zero d all l = all.0
+one-in g (f ∷ fs) (suc k) d all l = one-in g fs k d all.1 (omega (arith, l))
+
+-- there is room for its numbers
+pub room-for : (slots k count have frames room : ℕ) → k < count → have ≤ k * slots → frames ≤ slots → count * slots ≤ room → have + frames ≤ room
+room-for slots k count have frames room l few in_slots enough =
+    let one : (k + 1) * slots ≡ k * slots + slots = omega (arith, add-mul k 1 slots) in
+    let all : (k + 1) * slots ≤ count * slots = mul-le (k + 1) slots count slots (omega (arith, l)) (omega arith) in
+    omega (arith, one, all, few, in_slots, enough)

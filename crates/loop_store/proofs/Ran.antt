@@ -3,7 +3,6 @@ use Rattle.std.proofs.Common.{◌≡◌, inl, inr, ℕ, ◌+◌, ◌<◌, ◌≤
 use Rattle.std.proofs.lemmas.List.{append-nil, length-append, take_all, take_more}
 use Rattle.std.specs.Prelude.{◌||◌}
 use Rattle.loop_disk.specs.Medium.{Medium, IsSound, LeavesOnly}
-use Rattle.loop_disk.proofs.Moments.{joined, weaker}
 use Rattle.loop_record.specs.declared.geometry.Geometry.{Geometry}
 use Rattle.loop_record.specs.Reading.{Holds}
 use Rattle.loop_record.specs.Recording.{Recording, Ring, Step, picture, plain, ring_of}
@@ -16,9 +15,9 @@ use Rattle.loop_store.specs.declared.command.Reply.TheVariants as reply
 use Rattle.loop_store.specs.declared.fault.StoreFault.{StoreFault}
 use Rattle.loop_store.specs.Faults.{is_disk}
 use Rattle.loop_store.specs.Held.{EachNow, HoldsFrom, HoldsSome}
-use Rattle.loop_store.specs.Runs.{AreAnswers, IsAnswer, RefusesStore, begun_by, begun_in, has_failed, made_by, made_in, some_failed, steps_if_failed}
+use Rattle.loop_store.specs.Runs.{AreAnswers, IsAnswer, RefusesAppend, begun_by, begun_in, has_failed, made_by, made_in, some_failed, steps_if_failed}
 use Rattle.loop_store.specs.Seen.{Seen, StandsFor}
-use Rattle.loop_store.proofs.Grown.{earlier-steps, from-none, held-some, later-steps}
+use Rattle.loop_store.proofs.Grown.{held-some, later-steps, steps-joined}
 use Rattle.loop_store.proofs.Stands.{unmoved-some}
 use Rattle.loop_store.proofs.Asked.{answers-more, begun-more, failed-more, made-more}
 
@@ -47,10 +46,11 @@ idle : {A : Type 0} (g : Geometry) (r : Recording) (c : Command A) (p : Reply A)
 idle g r (command.Store frame) (reply.Store (Ok number)) said = absurd (clash true refl said.0)
 idle g r (command.Store frame) (reply.Store (Err fault)) said = record { made = refl; begun = go said }
   where
-    go : RefusesStore g r true (picture frame) fault → steps_if_failed (ring_of g) r (picture frame) (is_disk fault) ≡ []
+    go : RefusesAppend g r true (picture frame ∷ []) fault → steps_if_failed (ring_of g) r (picture frame) (is_disk fault) ≡ []
     go (inl x) = ap (λ (f : StoreFault). steps_if_failed (ring_of g) r (picture frame) (is_disk f)) x.0
     go (inr (inl x)) = absurd (clash true refl x.1.0)
-    go (inr (inr x)) = absurd (clash true refl x.1.0)
+    go (inr (inr (inl x))) = absurd (clash true refl x.1.0)
+    go (inr (inr (inr x))) = absurd (clash true refl x.1.0)
 idle g r (command.Store frame) (reply.Read result) said = elim said [ ]
 idle g r (command.Read number) p said = record { made = refl; begun = refl }
 
@@ -166,12 +166,12 @@ ran-more {D} {A} medium honest old now new cs ps c p ran turn = record {
         let made = made_in ring r cs ps in
         let more = made_by ring (after r) c p ++ begun_by ring (after r) c p in
         let none : made ++ begun_in ring r cs ps ≡ made = ap (λ (l : List Step). made ++ l) (begun_in-none ring r cs ps (sym ran.failed ∙ fine)) ∙ append-nil made in
-        let first : LeavesOnly (medium old.disk) (medium now.disk) (HoldsSome old.geometry r (made ++ more)) =
-        weaker _ _ (HoldsSome old.geometry r made) _ (subst (λ (l : List Step). LeavesOnly (medium old.disk) (medium now.disk) (HoldsSome old.geometry r l)) none (ran.moments r stands h)) (λ image some. earlier-steps old.geometry r made more image some) in
+        let first : LeavesOnly (medium old.disk) (medium now.disk) (HoldsSome old.geometry r made) =
+        subst (λ (l : List Step). LeavesOnly (medium old.disk) (medium now.disk) (HoldsSome old.geometry r l)) none (ran.moments r stands h) in
         let second : LeavesOnly (medium now.disk) (medium new.disk) (HoldsSome old.geometry (after r) more) =
         subst (λ (g : Geometry). LeavesOnly (medium now.disk) (medium new.disk) (HoldsSome g (after r) (made_by (ring_of g) (after r) c p ++ begun_by (ring_of g) (after r) c p))) ran.geometry (turn.moments (after r) (ran.stands r stands) fine (ran.honesty h)) in
         subst (λ (l : List Step). LeavesOnly (medium old.disk) (medium new.disk) (HoldsSome old.geometry r l)) (sym (lists-fine ring r cs ps c p ran.count (sym ran.failed ∙ fine)))
-        (joined _ _ _ _ first (weaker _ _ _ _ second (λ image some. from-none old.geometry r (length made + 0) (made ++ more) image (later-steps old.geometry r made more 0 image some))))
+        (steps-joined old.geometry r made more (medium old.disk) (medium now.disk) (medium new.disk) first second)
 
     go_each : (r : Recording) → StandsFor medium honest old r → honest old.disk → (b : Bool) → now.must_reopen ≡ b
         → EachNow (medium new.disk) (HoldsFrom old.geometry r (length (made_in ring r (cs ++ c ∷ []) (ps ++ p ∷ []))) (made_in ring r (cs ++ c ∷ []) (ps ++ p ∷ []) ++ begun_in ring r (cs ++ c ∷ []) (ps ++ p ∷ [])))

@@ -4,7 +4,7 @@ use Rattle.loop_disk.specs.Calls.{one_more}
 use Rattle.loop_ring.specs.declared.fault.SlotFault.{SlotFault}
 use Rattle.loop_ring.specs.declared.fault.SlotFault.TheVariants as slot
 use Rattle.loop_store.specs.declared.fault.StoreFault.{StoreFault}
-use Rattle.loop_store.specs.declared.fault.StoreFault.TheVariants.{NoMemory, Disk, MustReopen, NotFormatted, Damaged, NotHeld, BadGeometry, SegmentFull}
+use Rattle.loop_store.specs.declared.fault.StoreFault.TheVariants.{NoMemory, Disk, MustReopen, NotFormatted, Damaged, NotHeld, BadGeometry, NumbersSpent, AllLocked}
 
 -- the number of each refusal
 abbrev pub fault_number : StoreFault → ℕ
@@ -13,9 +13,10 @@ fault_number (Disk fault) = 2
 fault_number MustReopen = 3
 fault_number NotFormatted = 4
 fault_number (Damaged damage) = 5
+fault_number AllLocked = 6
 fault_number NotHeld = 13
+fault_number NumbersSpent = 14
 fault_number BadGeometry = 16
-fault_number SegmentFull = 20
 
 -- a call of the disk has failed
 abbrev pub is_disk : StoreFault → Bool
@@ -26,7 +27,8 @@ is_disk NotFormatted = false
 is_disk (Damaged damage) = false
 is_disk NotHeld = false
 is_disk BadGeometry = false
-is_disk SegmentFull = false
+is_disk NumbersSpent = false
+is_disk AllLocked = false
 
 -- the answer is that a call of the disk has failed
 abbrev pub answers_disk : {T : Type 0} → Result T StoreFault → Bool

@@ -1,5 +1,5 @@
 -- What formatting leaves of a disk.
-use Rattle.std.specs.Prelude.{◌≡◌, ◌⊎◌, ℕ, ◌<◌, Bool, true, false, [], Result, Ok, Err, List, length, drop, slice_range}
+use Rattle.std.specs.Prelude.{◌≡◌, ◌⊎◌, ℕ, ◌<◌, Bool, true, false, None, replicate, Result, Ok, Err, List, length, drop, slice_range}
 use Rattle.loop_disk.specs.Medium.{Medium}
 use Rattle.loop_record.specs.declared.damage.LayoutFault.TheVariants.{NotFormatted}
 use Rattle.loop_record.specs.declared.geometry.Geometry.{Geometry}
@@ -54,7 +54,8 @@ IsRefusedFormat refused = (refused.fault ≡ BadGeometry) ⊎ ((refused.fault �
 pub record IsFormatted {D : Type 0} (g : Geometry) (store : Seen D) : Type 0 where
   pub geometry : store.geometry ≡ g
   pub next : store.next ≡ 0
-  pub numbers : store.numbers ≡ []
+  pub heads : store.heads ≡ replicate g.segments None
+  pub clips : store.clips ≡ replicate 64 None
   pub must_reopen : store.must_reopen ≡ false
 
 -- the disk, in the store or handed back

@@ -1,6 +1,8 @@
 pub mod Faults
 pub mod Formatted
 pub mod Held
+pub mod Numbers
+pub mod Opened
 pub mod Seen
 pub mod Places
 pub mod Recovered

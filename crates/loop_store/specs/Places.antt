@@ -1,12 +1,14 @@
 -- Where an append goes.
-use Rattle.std.specs.Prelude.{◌≡◌, ℕ, ◌+◌, ◌/◌, ◌%◌, ◌==◌, false, true, Option, Some, None, List, slice_index_or, slice_set}
+use Rattle.std.specs.Prelude.{◌≡◌, ◌≢◌, ◌⊎◌, ℕ, ◌+◌, ◌/◌, ◌%◌, ◌==◌, false, true, Result, Ok, Err, Bool, Option, Some, None, List, slice_index_or, slice_set}
 use Rattle.std.specs.List.{list_any}
 use Rattle.loop_record.specs.declared.geometry.Geometry.{Geometry}
 use Rattle.loop_record.specs.declared.segment.SegmentHead.{SegmentHead}
 use Rattle.loop_record.specs.Layout.{Segment, is_too_high, segment_in, whole_frames}
 use Rattle.loop_record.specs.Reading.{Holds, opened, parts_of}
-use Rattle.loop_record.specs.Recording.{Recording, Step, needs_recycling, recycling_first, ring_of, victim}
+use Rattle.loop_record.specs.Recording.{Recording, Step, last_number, needs_recycling, recycling_first, ring_of, victim}
 use Rattle.loop_ring.specs.Heads.{heads_of}
+use Rattle.loop_store.specs.declared.fault.StoreFault.{StoreFault}
+use Rattle.loop_store.specs.declared.fault.StoreFault.TheVariants.{AllLocked, MustReopen, NumbersSpent}
 use Rattle.loop_store.specs.declared.place.Place.{Place}
 use Rattle.loop_store.specs.declared.place.Place.TheVariants.{Newest, Closed, Victim}
 use Rattle.loop_store.specs.Held.{HasNoneStray, IsFreeFor}
@@ -61,6 +63,10 @@ steps_before g r = steps_or_none (recycling_first (needs_recycling (ring_of g) r
 abbrev pub head_at : Geometry → ℕ → SegmentHead
 head_at g next = record { block = next / g.slots; frames = next % g.slots }
 
+-- the header of that segment when so many frames of the block are stored from the next number on
+abbrev pub head_after : Geometry → ℕ → ℕ → SegmentHead
+head_after g next count = record { block = next / g.slots; frames = next % g.slots + count }
+
 -- the segments' headers are the old ones, but that segment j has begun the block of the next number, with the frames before it; and no stray gate is there
 pub record IsBegunAt (g : Geometry) (next j : ℕ) (old new : List ℕ) : Type 0 where
   pub heads : heads_of g new ≡ slice_set (heads_of g old) j (Some (head_at g next))
@@ -68,5 +74,21 @@ pub record IsBegunAt (g : Geometry) (next j : ℕ) (old new : List ℕ) : Type 0
 
 -- the segments' headers are the old ones, but that segment j has so many frames of the block of the next number from there on; and no stray gate is there
 pub record IsGrownAt (g : Geometry) (next count j : ℕ) (old new : List ℕ) : Type 0 where
-  pub heads : heads_of g new ≡ slice_set (heads_of g old) j (Some (record { block = next / g.slots; frames = next % g.slots + count }))
+  pub heads : heads_of g new ≡ slice_set (heads_of g old) j (Some (head_after g next count))
   pub unstray : HasNoneStray g new
+
+-- there is no place for one of these reasons
+abbrev pub IsRefusedPlace : StoreFault → Type 0
+IsRefusedPlace fault = (fault ≡ MustReopen) ⊎ ((fault ≡ NumbersSpent) ⊎ (fault ≡ AllLocked))
+
+-- why there is no place: whether the store has to be reopened comes first, then whether the numbers are spent, then whether a victim is missing
+abbrev pub RefusesPlace : Geometry → Recording → Bool → StoreFault → Type 0
+RefusesPlace g r must fault =
+    (fault ≡ MustReopen) × (must ≡ true)
+    ⊎ ((fault ≡ NumbersSpent) × ((must ≡ false) × (r.next ≡ last_number (ring_of g)))
+    ⊎ (fault ≡ AllLocked) × ((must ≡ false) × ((r.next ≢ last_number (ring_of g)) × (recycling_first (needs_recycling (ring_of g) r) (victim (ring_of g) r) ≡ None))))
+
+-- the answer to where frames go, for a recording
+abbrev pub AnswersPlace : {P : Type 0} → Geometry → Recording → Bool → Result P StoreFault → Type 0
+AnswersPlace g r must (Ok place) = (must ≡ false) × ((r.next ≢ last_number (ring_of g)) × (recycling_first (needs_recycling (ring_of g) r) (victim (ring_of g) r) ≢ None))
+AnswersPlace g r must (Err fault) = RefusesPlace g r must fault

@@ -29,7 +29,8 @@ Recovers (Err (StoreFault.Damaged damage)) P Q = Q (LayoutFault.Damaged damage)
 Recovers (Err StoreFault.MustReopen) P Q = ⊥
 Recovers (Err StoreFault.NotHeld) P Q = ⊥
 Recovers (Err StoreFault.BadGeometry) P Q = ⊥
-Recovers (Err StoreFault.SegmentFull) P Q = ⊥
+Recovers (Err StoreFault.NumbersSpent) P Q = ⊥
+Recovers (Err StoreFault.AllLocked) P Q = ⊥
 
 -- The refusal is that a call of the disk failed, which is counted, or none failed. No other refusal is made here.
 abbrev pub CountedRefusal : ℕ → ℕ → StoreFault → Type 0
@@ -40,7 +41,8 @@ CountedRefusal before now (StoreFault.Damaged damage) = now ≡ before
 CountedRefusal before now StoreFault.MustReopen = ⊥
 CountedRefusal before now StoreFault.NotHeld = ⊥
 CountedRefusal before now StoreFault.BadGeometry = ⊥
-CountedRefusal before now StoreFault.SegmentFull = ⊥
+CountedRefusal before now StoreFault.NumbersSpent = ⊥
+CountedRefusal before now StoreFault.AllLocked = ⊥
 
 -- A call of the disk failed, which is counted and answered, or none did.
 abbrev pub CountedRecovery : {T : Type 0} → ℕ → ℕ → Result T StoreFault → Type 0

@@ -2,16 +2,16 @@
 use Rattle.std.specs.Prelude.{◌≡◌, ◌≢◌, ◌⊎◌, ℕ, Bool, true, false, ◌||◌, Some, None, Result, Ok, Err, List, [], ◌∷◌, ◌++◌, length}
 use Rattle.loop_record.specs.declared.geometry.Geometry.{Geometry}
 use Rattle.loop_record.specs.Geometry.{frame_bytes}
-use Rattle.loop_record.specs.Recording.{Picture, Recording, Ring, Step, frame_under, head, holds, picture, plain, ring_of}
+use Rattle.loop_record.specs.Recording.{Picture, Recording, Ring, Step, frame_under, head, holds, last_number, picture, plain, ring_of, steps}
 use Rattle.loop_store.specs.declared.command.Command.{Command}
 use Rattle.loop_store.specs.declared.command.Command.TheVariants as command
 use Rattle.loop_store.specs.declared.command.ReadFrame.{ReadFrame}
 use Rattle.loop_store.specs.declared.command.Reply.{Reply}
 use Rattle.loop_store.specs.declared.command.Reply.TheVariants as reply
 use Rattle.loop_store.specs.declared.fault.StoreFault.{StoreFault}
-use Rattle.loop_store.specs.declared.fault.StoreFault.TheVariants.{NoMemory, MustReopen, NotHeld, SegmentFull}
+use Rattle.loop_store.specs.declared.fault.StoreFault.TheVariants.{AllLocked, NoMemory, MustReopen, NotHeld, NumbersSpent}
 use Rattle.loop_store.specs.Faults.{answers_disk, faults_after, is_disk}
-use Rattle.loop_store.specs.Seen.{steps_in_first, steps_or_none}
+use Rattle.loop_store.specs.Seen.{steps_or_none}
 
 -- a frame that is to be stored has the size of the geometry's
 abbrev pub IsOfSize : {A : Type 0} → Geometry → Command A → Type 0
@@ -20,17 +20,18 @@ IsOfSize g (command.Read number) = Unit {0}
 
 -- ---- one command
 
--- why a store of a frame is refused: whether the store has to be reopened comes first, then whether the append has any steps
-abbrev pub RefusesStore : Geometry → Recording → Bool → Picture → StoreFault → Type 0
-RefusesStore g r must p fault =
+-- why an append of a group is refused: whether the store has to be reopened comes first, then whether the numbers are spent, then whether a block would have to be recycled and none may go
+abbrev pub RefusesAppend : Geometry → Recording → Bool → List Picture → StoreFault → Type 0
+RefusesAppend g r must group fault =
     (fault ≡ MustReopen) × (must ≡ true)
-    ⊎ ((fault ≡ SegmentFull) × ((must ≡ false) × (steps_in_first (ring_of g) r (p ∷ []) ≡ None))
-    ⊎ (is_disk fault ≡ true) × ((must ≡ false) × (steps_in_first (ring_of g) r (p ∷ []) ≢ None)))
+    ⊎ ((fault ≡ NumbersSpent) × ((must ≡ false) × (r.next ≡ last_number (ring_of g)))
+    ⊎ ((fault ≡ AllLocked) × ((must ≡ false) × ((r.next ≢ last_number (ring_of g)) × (steps (ring_of g) r group ≡ None)))
+    ⊎ (is_disk fault ≡ true) × ((must ≡ false) × (steps (ring_of g) r group ≢ None))))
 
--- the answer to a store of a frame
-abbrev pub AnswersStore : Geometry → Recording → Bool → Picture → Result ℕ StoreFault → Type 0
-AnswersStore g r must p (Ok number) = (must ≡ false) × ((steps_in_first (ring_of g) r (p ∷ []) ≢ None) × (number ≡ r.next))
-AnswersStore g r must p (Err fault) = RefusesStore g r must p fault
+-- the answer to an append of a group
+abbrev pub AnswersAppend : Geometry → Recording → Bool → List Picture → Result ℕ StoreFault → Type 0
+AnswersAppend g r must group (Ok number) = (must ≡ false) × ((steps (ring_of g) r group ≢ None) × (number ≡ r.next))
+AnswersAppend g r must group (Err fault) = RefusesAppend g r must group fault
 
 -- why a read is refused: whether the store has to be reopened comes first, then whether the number is held
 abbrev pub RefusesRead : Recording → Bool → ℕ → StoreFault → Type 0
@@ -46,19 +47,19 @@ AnswersRead r must number (Err fault) = RefusesRead r must number fault
 
 -- the reply to a command is such an answer
 abbrev pub IsAnswer : {A : Type 0} → Geometry → Recording → Bool → Command A → Reply A → Type 0
-IsAnswer g r must (command.Store frame) (reply.Store result) = AnswersStore g r must (picture frame) result
+IsAnswer g r must (command.Store frame) (reply.Store result) = AnswersAppend g r must (picture frame ∷ []) result
 IsAnswer g r must (command.Store frame) (reply.Read result) = ⊥
 IsAnswer g r must (command.Read number) (reply.Store result) = ⊥
 IsAnswer g r must (command.Read number) (reply.Read result) = AnswersRead r must number result
 
 -- the steps of a store that was answered
 abbrev pub steps_if_stored : Ring → Recording → Picture → Result ℕ StoreFault → List Step
-steps_if_stored ring r p (Ok number) = steps_or_none (steps_in_first ring r (p ∷ []))
+steps_if_stored ring r p (Ok number) = steps_or_none (steps ring r (p ∷ []))
 steps_if_stored ring r p (Err fault) = []
 
 -- those of one during which the disk failed
 abbrev pub steps_if_failed : Ring → Recording → Picture → Bool → List Step
-steps_if_failed ring r p true = steps_or_none (steps_in_first ring r (p ∷ []))
+steps_if_failed ring r p true = steps_or_none (steps ring r (p ∷ []))
 steps_if_failed ring r p false = []
 
 -- the steps that a command has made, as its reply says

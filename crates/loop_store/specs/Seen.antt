@@ -1,39 +1,46 @@
 -- A store as its callers see it, and the recording that it stands for.
-use Rattle.std.specs.Prelude.{◌≡◌, ◌⊎◌, ℕ, Result, Ok, Err, ◌<◌, ◌≤◌, Bool, true, false, ◌==◌, Option, Some, None, if◌then◌else◌, List, [], map}
+use Rattle.std.specs.Prelude.{◌≡◌, ◌⊎◌, ℕ, Result, Ok, Err, ◌≤◌, Bool, true, false, Option, Some, None, List, [], All, length}
 use Rattle.loop_disk.specs.Medium.{Medium, IsSettled}
+use Rattle.loop_record.specs.declared.clip.Span.{Span}
 use Rattle.loop_record.specs.declared.damage.Damage.TheVariants.{SlotHead}
 use Rattle.loop_record.specs.declared.frame.FrameHead.{FrameHead}
 use Rattle.loop_record.specs.declared.geometry.Geometry.{Geometry}
+use Rattle.loop_record.specs.declared.segment.SegmentHead.{SegmentHead}
 use Rattle.loop_record.specs.Geometry.{disk_size}
-use Rattle.loop_record.specs.Recording.{Picture, Recording, Ring, Step, head, store}
-use Rattle.loop_record.specs.Layout.{Segment, segment_in, whole_frames}
+use Rattle.loop_record.specs.Recording.{Picture, Recording, Step, head, last_number, ring_of}
 use Rattle.loop_record.specs.Reading.{Holds}
-use Rattle.loop_ring.specs.Writes.{HasNoStray}
+use Rattle.loop_ring.specs.Heads.{heads_of}
 use Rattle.loop_store.specs.declared.fault.StoreFault.{StoreFault}
-use Rattle.loop_store.specs.declared.fault.StoreFault.TheVariants.{MustReopen, NotHeld, Damaged, SegmentFull}
+use Rattle.loop_store.specs.declared.fault.StoreFault.TheVariants.{AllLocked, MustReopen, NotHeld, NumbersSpent, Damaged}
 use Rattle.loop_store.specs.Faults.{is_disk}
-use Rattle.loop_store.specs.Held.{IsFreeFor}
+use Rattle.loop_store.specs.Held.{HasNoneStray}
+use Rattle.loop_store.specs.Recovered.{IsHeadIn, IsRecovered}
 
--- the disk, the geometry, the number that comes next, the numbers of the held frames, which rise, and whether a call that writes has failed
+-- the disk, the geometry, and in memory: the number that comes next, what the header of each segment says, the clip of each id, and whether a call that writes has failed
 pub record Seen (D : Type 0) : Type 0 where
   pub disk : D
   pub geometry : Geometry
   pub next : ℕ
-  pub numbers : List ℕ
+  pub heads : List (Option SegmentHead)
+  pub clips : List (Option Span)
   pub must_reopen : Bool
 
--- The store stands for a recording: its numbers are that recording's, and where it needn't be reopened, an honest disk holds it and a crash leaves nothing else.
-pub record StandsFor {D : Type 0} (medium : D → Medium) (honest : D → Type 0) (s : Seen D) (r : Recording) : Type 0 where
+-- What is in memory is what an image says that holds the recording: that of the disk, or after a failed call that of before it.
+pub record Remembers {D : Type 0} (s : Seen D) (r : Recording) : Type 0 where
+  pub image : List ℕ
+  pub held : Holds s.geometry r image
   pub next_is : s.next ≡ r.next
-  pub numbers_are : s.numbers ≡ map (λ f. f.0) r.frames
+  pub heads_are : s.heads ≡ heads_of s.geometry image
+  pub clips_are : s.clips ≡ r.clips
+
+-- The store stands for a recording, where its disk is honest: it remembers that recording, and where it needn't be reopened, the disk holds it, as it is remembered, and a crash leaves nothing else.
+pub record StandsFor {D : Type 0} (medium : D → Medium) (honest : D → Type 0) (s : Seen D) (r : Recording) : Type 0 where
+  pub remembered : honest s.disk → Remembers s r
   pub settled : s.must_reopen ≡ false → honest s.disk → IsSettled (medium s.disk)
   pub held : s.must_reopen ≡ false → honest s.disk → Holds s.geometry r (medium s.disk).bytes
+  pub agrees : s.must_reopen ≡ false → honest s.disk → s.heads ≡ heads_of s.geometry (medium s.disk).bytes
 
--- what an append of a group does while the first segment alone is filled: stores, or None where it has all its frames
-abbrev pub steps_in_first : Ring → Recording → List Picture → Option (List Step)
-steps_in_first ring r group = if r.next == ring.slots then None else Some (map store group)
-
--- those steps, or none
+-- the steps of an append, or none
 abbrev pub steps_or_none : Option (List Step) → List Step
 steps_or_none None = []
 steps_or_none (Some steps) = steps
@@ -42,7 +49,7 @@ steps_or_none (Some steps) = steps
 
 -- an append is refused as one of these
 abbrev pub IsRefusedAppend : StoreFault → Type 0
-IsRefusedAppend fault = (fault ≡ MustReopen) ⊎ ((fault ≡ SegmentFull) ⊎ (is_disk fault ≡ true))
+IsRefusedAppend fault = (fault ≡ MustReopen) ⊎ ((fault ≡ NumbersSpent) ⊎ ((fault ≡ AllLocked) ⊎ (is_disk fault ≡ true)))
 
 -- a read is refused as one of these
 abbrev pub IsRefusedRead : StoreFault → Type 0
@@ -58,14 +65,16 @@ AnswersFrame number (Some p) (Err fault) out = is_disk fault ≡ true
 pub record TellsTheSame {D : Type 0} (old new : Seen D) : Type 0 where
   pub geometry : new.geometry ≡ old.geometry
   pub next : new.next ≡ old.next
-  pub numbers : new.numbers ≡ old.numbers
+  pub heads : new.heads ≡ old.heads
+  pub clips : new.clips ≡ old.clips
   pub must_reopen : new.must_reopen ≡ old.must_reopen
 
 -- after a failed call of the disk the store has to be opened again, and tells what it told before
 pub record HasFailed {D : Type 0} (old new : Seen D) : Type 0 where
   pub geometry : new.geometry ≡ old.geometry
   pub next : new.next ≡ old.next
-  pub numbers : new.numbers ≡ old.numbers
+  pub heads : new.heads ≡ old.heads
+  pub clips : new.clips ≡ old.clips
   pub must_reopen : new.must_reopen ≡ true
 
 -- any other refusal changes nothing
@@ -80,22 +89,12 @@ Refused old new (Err fault) = Unless (is_disk fault) old new
 
 -- ---- what only the store's own code looks at
 
--- block 0 stands in segment 0, with the frames before the next number and no frame gate open behind them
-pub record IsFirst (g : Geometry) (next : ℕ) (image : List ℕ) : Type 0 where
-  pub segment : Segment
-  pub there : segment_in g image 0 ≡ Some segment
-  pub block_is : segment.block ≡ 0
-  pub whole : whole_frames g image 0 ≡ next
-  pub stray : HasNoStray g 0 image
-
--- that, or nothing has been stored
-pub record IsFilled (g : Geometry) (next : ℕ) (image : List ℕ) : Type 0 where
-  pub empty : next ≡ 0 → IsFreeFor g 0 0 image
-  pub first : 0 < next → IsFirst g next image
-
--- the disk's size is the geometry's, and where the store needn't be reopened, an honest disk is as the next number says
-pub record IsKept {D : Type 0} (extent : D → ℕ) (medium : D → Medium) (honest : D → Type 0) (g : Geometry) (disk : D) (next : ℕ) (must_reopen : Bool) : Type 0 where
+-- the disk's size is the geometry's, the memory is one of this geometry, and where the store needn't be reopened, an honest disk holds what is remembered, with no stray gate, and a crash leaves nothing else
+pub record IsKept {D : Type 0} (extent : D → ℕ) (medium : D → Medium) (honest : D → Type 0) (g : Geometry) (disk : D) (next : ℕ) (heads : List (Option SegmentHead)) (clips : List (Option Span)) (must_reopen : Bool) : Type 0 where
   pub size : extent disk ≡ disk_size g
-  pub few : next ≤ g.slots
+  pub few : next ≤ last_number (ring_of g)
+  pub count : length heads ≡ g.segments
+  pub within : All (IsHeadIn g) heads
+  pub unstray : must_reopen ≡ false → honest disk → HasNoneStray g (medium disk).bytes
   pub settled : must_reopen ≡ false → honest disk → IsSettled (medium disk)
-  pub filled : must_reopen ≡ false → honest disk → IsFilled g next (medium disk).bytes
+  pub recorded : must_reopen ≡ false → honest disk → IsRecovered g heads clips next (medium disk).bytes

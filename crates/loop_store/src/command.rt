@@ -1,15 +1,17 @@
 //! Lists of commands, and the replies.
 
-ghost use Rattle.std.specs.Prelude.{◌≡◌, ◌↔◌, ◌⊎◌, ◌||◌, ◌++◌, All, Err, IfErr, IfOk, IsTrue, length, false, true};
+ghost use Rattle.std.specs.Prelude.{◌≡◌, ◌↔◌, ◌⊎◌, ◌||◌, ◌∷◌, ◌++◌, [], All, Err, IfErr, IfOk, IsTrue, OnOk, length, false, true};
 ghost use Rattle.loop_disk.specs.Calls.{Stays};
 ghost use Rattle.loop_disk.specs.Medium.{LeavesOnly};
 ghost use Rattle.loop_record.specs.Geometry.{frame_bytes};
-ghost use Rattle.loop_record.specs.Recording.{Recording, picture, plain, ring_of};
+ghost use Rattle.loop_record.specs.Recording.{Recording, picture, plain, ring_of, steps};
 ghost use Rattle.loop_store.specs.Held.{EachNow, HoldsFrom, HoldsSome};
 ghost use Rattle.loop_store.specs.Faults.{answers_disk, faults_after};
-ghost use Rattle.loop_store.specs.Runs.{AnswersRead, AnswersStore, AreAnswers, IsAnswer, IsOfSize, begun_by, begun_in, faults_in, faults_of, has_failed, made_by, made_in, some_failed, steps_if_failed, steps_if_stored};
-ghost use Rattle.loop_store.specs.Seen.{StandsFor, TellsTheSame};
+ghost use Rattle.loop_store.specs.Runs.{AnswersAppend, AnswersRead, AreAnswers, IsAnswer, IsOfSize, begun_by, begun_in, faults_in, faults_of, has_failed, made_by, made_in, some_failed, steps_if_failed, steps_if_stored};
+ghost use Rattle.loop_store.specs.Seen.{Refused, StandsFor, TellsTheSame, steps_or_none};
 
+use crate::grow::append_one;
+use crate::store::note;
 use crate::{Store, StoreFault};
 use loop_disk::Disk;
 use loop_record::{Frame, FrameHead};
@@ -42,11 +44,44 @@ pub enum Reply<A: Allocator = Global> {
     Read(Result<ReadFrame<A>, StoreFault>),
 }
 
+impl<D: Disk + Drop, A: Allocator> Store<D, A> {
+    /// Stores one frame, as `append` a group of one.
+    pub(crate) fn append_frame(&mut self, frame: &Frame<A>) -> Result<u64, StoreFault>
+        requires size { length frame.now.bytes.items ≡ frame_bytes self.old.geometry }
+        ensures answers { (r : Recording) → StandsFor D.medium D.honest self.old r → D.honest self.old.disk → AnswersAppend self.old.geometry r self.old.must_reopen (picture frame.now ∷ []) result }
+        ensures must_reopen { (result ≡ Err StoreFault.MustReopen) ↔ IsTrue self.old.must_reopen }
+        ensures moments { (r : Recording) → StandsFor D.medium D.honest self.old r → self.old.must_reopen ≡ false → D.honest self.old.disk
+            → LeavesOnly (D.medium self.old.disk) (D.medium self.new.disk) (HoldsSome self.old.geometry r (steps_or_none (steps (ring_of self.old.geometry) r (picture frame.now ∷ [])))) }
+        ensures stored { (r : Recording) → StandsFor D.medium D.honest self.old r
+            → OnOk result (StandsFor D.medium D.honest self.new (plain (ring_of self.old.geometry) r (steps_or_none (steps (ring_of self.old.geometry) r (picture frame.now ∷ []))))) }
+        ensures refused { Refused self.old self.new result }
+        ensures counted { D.faults self.new.disk ≡ faults_after (answers_disk result) (D.faults self.old.disk) }
+        ensures honest { D.honest self.old.disk ↔ D.honest self.new.disk }
+        ensures failed { self.new.must_reopen ≡ (self.old.must_reopen || answers_disk result) }
+        ensures geometry { self.new.geometry ≡ self.old.geometry }
+    {
+        let place = self.place()?;
+        match append_one(&mut self.disk, &mut self.ring, place, self.next, frame) {
+            Ok(()) => {
+                let number = self.next;
+                let segment = place.segment();
+                note(&mut self.table, &self.ring.geometry, segment, number, 1);
+                self.next = number + 1;
+                Ok(number)
+            }
+            Err(fault) => {
+                self.must_reopen = true;
+                Err(StoreFault::Disk(fault))
+            }
+        }
+    }
+}
+
 impl<D: Disk + Drop, A: Allocator + Copy> Store<D, A> {
     /// Stores one frame, as a command of a list.
     fn store_frame(&mut self, frame: &Frame<A>) -> Result<u64, StoreFault>
         requires size { length frame.now.bytes.items ≡ frame_bytes self.old.geometry }
-        ensures answers { (r : Recording) → StandsFor D.medium D.honest self.old r → AnswersStore self.old.geometry r self.old.must_reopen (picture frame.now) result }
+        ensures answers { (r : Recording) → StandsFor D.medium D.honest self.old r → D.honest self.old.disk → AnswersAppend self.old.geometry r self.old.must_reopen (picture frame.now ∷ []) result }
         ensures moments { (r : Recording) → StandsFor D.medium D.honest self.old r → self.old.must_reopen ≡ false → D.honest self.old.disk
             → LeavesOnly (D.medium self.old.disk) (D.medium self.new.disk) (HoldsSome self.old.geometry r (steps_if_stored (ring_of self.old.geometry) r (picture frame.now) result ++ steps_if_failed (ring_of self.old.geometry) r (picture frame.now) (answers_disk result))) }
         ensures now { (r : Recording) → StandsFor D.medium D.honest self.old r → self.old.must_reopen ≡ false → D.honest self.old.disk

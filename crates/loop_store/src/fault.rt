@@ -27,8 +27,10 @@ pub enum StoreFault {
     NotHeld,
     /// A limit of the geometry is broken, or the disk's size isn't the geometry's.
     BadGeometry,
-    /// The first segment has all its frames.
-    SegmentFull,
+    /// The next number is the first of a block whose frames would reach 2^62.
+    NumbersSpent,
+    /// A block has to be recycled first, and there is none that may go: each is locked by a clip or is the newest.
+    AllLocked,
 }
 
 impl StoreFault {
@@ -42,9 +44,10 @@ impl StoreFault {
             StoreFault::MustReopen => 3,
             StoreFault::NotFormatted => 4,
             StoreFault::Damaged(_) => 5,
+            StoreFault::AllLocked => 6,
             StoreFault::NotHeld => 13,
+            StoreFault::NumbersSpent => 14,
             StoreFault::BadGeometry => 16,
-            StoreFault::SegmentFull => 20,
         }
     }
 
@@ -56,9 +59,10 @@ impl StoreFault {
             StoreFault::MustReopen => "MustReopen",
             StoreFault::NotFormatted => "NotFormatted",
             StoreFault::Damaged(_) => "Damaged",
+            StoreFault::AllLocked => "AllLocked",
             StoreFault::NotHeld => "NotHeld",
+            StoreFault::NumbersSpent => "NumbersSpent",
             StoreFault::BadGeometry => "BadGeometry",
-            StoreFault::SegmentFull => "SegmentFull",
         }
     }
 }

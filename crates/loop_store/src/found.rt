@@ -135,6 +135,7 @@ pub(crate) fn in_order<A: Allocator>(
 ) -> Result<Vec<Found, A>, AllocError>
     requires count { length heads.now ≡ geometry.now.segments }
     requires within { All (IsHeadIn geometry.now) heads.now }
+    ensures count { IfOk result (λ found. length found.items ≤ geometry.now.segments) }
     ensures within { IfOk result (λ found. AreIn geometry.now found.items) }
     ensures order { (image : List ℕ) → heads.now ≡ heads_of geometry.now image
         → IfOk result (λ found. segments_of geometry.now image found.items ≡ by_block (opened (parts_of geometry.now image).segments)) }

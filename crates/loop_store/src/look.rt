@@ -1,40 +1,97 @@
 //! What a read of a frame looks at.
 
-ghost use Rattle.std.specs.Prelude.{◌≡◌, ◌<◌, ◌≤◌, ◌↔◌, ◌⊎◌, IfErr, length, true};
+ghost use Rattle.std.specs.Prelude.{◌≡◌, ◌<◌, ◌≤◌, ◌+◌, ◌*◌, ◌++◌, ◌↔◌, ◌⊎◌, ℕ, List, IfErr, IfNone, IfOk, IfSome, IsTrue, None, false, length, slice_index_or, true, vec_capacity};
+ghost use Rattle.std.specs.List.{range_with_len};
 ghost use Rattle.loop_disk.specs.Calls.{Stays};
-ghost use Rattle.loop_record.specs.Geometry.{disk_size, frame_bytes};
+ghost use Rattle.loop_record.specs.Geometry.{disk_size, frame_bytes, is_good};
+ghost use Rattle.loop_record.specs.Layout.{is_too_high};
+ghost use Rattle.loop_record.specs.Plain.{AreIn};
 ghost use Rattle.loop_record.specs.Reading.{Holds};
-ghost use Rattle.loop_record.specs.Recording.{Recording, frame_under};
+ghost use Rattle.loop_record.specs.Recording.{Recording, frame_under, holds};
 ghost use Rattle.loop_record.specs.declared.damage.Damage.TheVariants.{SlotHead};
+ghost use Rattle.loop_ring.specs.Heads.{has_number, heads_of};
 ghost use Rattle.loop_store.specs.declared.fault.StoreFault.TheVariants.{Damaged};
 ghost use Rattle.loop_store.specs.Faults.{answers_disk, faults_after, is_disk};
-ghost use Rattle.loop_store.specs.Seen.{AnswersFrame, IsFilled};
+ghost use Rattle.loop_store.specs.Numbers.{numbers_in};
+ghost use Rattle.loop_store.specs.Seen.{AnswersFrame};
 
 use crate::StoreFault;
 use loop_disk::Disk;
-use loop_record::FrameHead;
-use loop_ring::Ring;
-use std::alloc::Allocator;
+use loop_record::{Found, FrameHead, Geometry};
+use loop_ring::{Ring, SegmentTable};
+use std::alloc::{AllocError, Allocator};
 
-/// Reads a frame of block 0.
-pub(crate) fn read_first<D: Disk, A: Allocator>(
+/// The segment that has the frame of a number, if one has it.
+pub(crate) fn segment_with<A: Allocator>(
+    geometry: &Geometry,
+    table: &SegmentTable<A>,
+    number: u64,
+) -> Option<u32>
+    requires good { IsTrue (is_good geometry.now) }
+    requires count { length table.now ≡ geometry.now.segments }
+    ensures within { IfSome result (λ segment. segment < geometry.now.segments) }
+    ensures there { IfSome result (λ segment. has_number geometry.now.slots number (slice_index_or table.now segment None) ≡ true) }
+    ensures missing { (r : Recording) (image : List ℕ) → Holds geometry.now r image → table.now ≡ heads_of geometry.now image → IfNone result (holds r number ≡ false) }
+{
+    let segment = table.find(number / u64::from(geometry.slots))?;
+    let head = table.get(segment)?;
+    if number % u64::from(geometry.slots) < u64::from(head.frames) {
+        Some(segment)
+    } else {
+        None
+    }
+}
+
+/// Reads the frame of a number, which its segment has.
+pub(crate) fn read_held<D: Disk, A: Allocator>(
     disk: &mut D,
     ring: &Ring<A>,
-    next: u64,
+    segment: u32,
     number: u64,
     out: &mut [u8],
 ) -> Result<FrameHead, StoreFault>
     requires extent { D.extent disk.old ≡ disk_size ring.now.geometry }
-    requires few { next ≤ ring.now.geometry.slots }
-    requires held { number < next }
+    requires segment { segment < ring.now.geometry.segments }
     requires size { length out.old ≡ frame_bytes ring.now.geometry }
-    requires filled { D.honest disk.old → IsFilled ring.now.geometry next (D.medium disk.old).bytes }
-    ensures frame { (r : Recording) → D.honest disk.old → Holds ring.now.geometry r (D.medium disk.old).bytes → AnswersFrame number (frame_under r.frames number) result out.new }
+    ensures frame { (r : Recording) → D.honest disk.old → Holds ring.now.geometry r (D.medium disk.old).bytes → has_number ring.now.geometry.slots number (slice_index_or (heads_of ring.now.geometry (D.medium disk.old).bytes) segment None) ≡ true → AnswersFrame number (frame_under r.frames number) result out.new }
     ensures refusals { IfErr result (λ fault. (fault ≡ Damaged SlotHead) ⊎ (is_disk fault ≡ true)) }
     ensures stays { D.honest disk.old → Stays (D.medium disk.old) (D.medium disk.new) }
     ensures counted { D.faults disk.new ≡ faults_after (answers_disk result) (D.faults disk.old) }
     ensures extent { D.extent disk.new ≡ D.extent disk.old }
     ensures honest { D.honest disk.old ↔ D.honest disk.new }
 {
-    Ok(ring.read_slot(disk, 0, number as u32, number, out)?)
+    let slot = (number % u64::from(ring.geometry.slots)) as u32;
+    Ok(ring.read_slot(disk, segment, slot, number, out)?)
+}
+
+/// Puts the numbers of a segment's frames behind others, in memory that was taken before.
+fn add_numbers<A: Allocator>(geometry: &Geometry, found: Found, numbers: &mut Vec<u64, A>)
+    requires few { found.frames ≤ geometry.now.slots }
+    requires low { is_too_high geometry.now found.block ≡ false }
+    requires room { length numbers.old.items + found.frames ≤ vec_capacity numbers.old }
+    ensures items { numbers.new.items ≡ numbers.old.items ++ range_with_len (found.block * geometry.now.slots) found.frames }
+    ensures room { vec_capacity numbers.new ≡ vec_capacity numbers.old }
+{
+    let first = found.block * u64::from(geometry.slots);
+    for slot in 0..found.frames {
+        numbers.push_reserved(first + u64::from(slot));
+    }
+}
+
+/// The numbers of the frames of found segments, one segment behind the other. Its memory is taken at once.
+pub(crate) fn numbers_of<A: Allocator>(
+    alloc: A,
+    geometry: &Geometry,
+    segments: &[Found],
+) -> Result<Vec<u64, A>, AllocError>
+    requires good { IsTrue (is_good geometry.now) }
+    requires count { length segments.now ≤ geometry.now.segments }
+    requires within { AreIn geometry.now segments.now }
+    ensures { IfOk result (λ numbers. numbers.items ≡ numbers_in geometry.now segments.now) }
+{
+    let mut numbers = Vec::with_capacity(alloc, segments.len() * geometry.slots as usize)?;
+    for found in segments {
+        add_numbers(geometry, *found, &mut numbers);
+    }
+    Ok(numbers)
 }

@@ -10,9 +10,10 @@ ghost use Rattle.loop_store.specs.Seen.{StandsFor};
 
 use crate::fresh::lay_out;
 use crate::{OpenRefused, Store, StoreFault};
+use loop_clips::ClipTable;
 use loop_disk::Disk;
 use loop_record::Geometry;
-use loop_ring::Ring;
+use loop_ring::{Ring, SegmentTable};
 use std::alloc::Allocator;
 
 /// Whether a geometry is good, and a disk has its size.
@@ -31,7 +32,7 @@ fn fits<D: Disk>(disk: &D, geometry: &Geometry) -> bool
 /// `Disk`. A refusal hands the disk back, and the first two haven't called it. A stop at any moment leaves an image that
 /// reads as before the call, or isn't formatted, or is the empty recording. One read, and a write and a sync more where the
 /// disk was formatted; then 4 calls and one a segment.
-pub fn format<D: Disk + Drop, A: Allocator>(
+pub fn format<D: Disk + Drop, A: Allocator + Copy>(
     alloc: A,
     disk: D,
     geometry: Geometry,
@@ -52,19 +53,24 @@ pub fn format<D: Disk + Drop, A: Allocator>(
             disk,
         });
     }
-    let ring = match Ring::new(alloc, geometry) {
-        Ok(ring) => ring,
-        Err(_) => {
-            return Err(OpenRefused {
-                fault: StoreFault::NoMemory,
-                disk,
-            });
-        }
+    let Ok(table) = SegmentTable::new(alloc, geometry.segments) else {
+        return Err(OpenRefused {
+            fault: StoreFault::NoMemory,
+            disk,
+        });
+    };
+    let Ok(ring) = Ring::new(alloc, geometry) else {
+        return Err(OpenRefused {
+            fault: StoreFault::NoMemory,
+            disk,
+        });
     };
     match lay_out(&mut disk, &geometry) {
         Ok(()) => Ok(Store {
             disk,
             ring,
+            table,
+            clips: ClipTable::empty(),
             next: 0,
             must_reopen: false,
         }),

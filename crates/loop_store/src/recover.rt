@@ -1,10 +1,11 @@
 //! What a disk's image reads as, found with few reads and without pixels.
 
-ghost use Rattle.std.specs.Prelude.{◌≡◌, ◌↔◌, Ok, Err, IsTrue};
+ghost use Rattle.std.specs.Prelude.{◌≡◌, ◌↔◌, Ok, Err, IfOk, IsTrue};
 ghost use Rattle.loop_disk.specs.Calls.{Stays};
 ghost use Rattle.loop_record.specs.Geometry.{disk_size, is_good};
 ghost use Rattle.loop_record.specs.Layout.{geometry_in};
 ghost use Rattle.loop_record.specs.Reading.{reading};
+ghost use Rattle.loop_store.specs.Opened.{IsFitting};
 ghost use Rattle.loop_store.specs.Recovered.{CountedRecovery, IsRecovered, Recovers};
 
 use crate::StoreFault;
@@ -35,6 +36,9 @@ fn recover_parts<D: Disk, A: Allocator + Copy>(
     requires good { IsTrue (is_good geometry) }
     requires size { D.extent disk.old ≡ disk_size geometry }
     requires geometry { D.honest disk.old → geometry_in (D.medium disk.old).bytes ≡ Ok geometry }
+    ensures good { IfOk result (λ found. IsTrue (is_good found.geometry)) }
+    ensures size { IfOk result (λ found. D.extent disk.old ≡ disk_size found.geometry) }
+    ensures fits { IfOk result (λ found. IsFitting found.geometry found.heads.items found.next) }
     ensures recovered { D.honest disk.old → Recovers result (λ found. IsRecovered found.geometry found.heads.items found.clips found.next (D.medium disk.old).bytes)
         (λ fault. reading (D.medium disk.old).bytes ≡ Err fault) }
     ensures disk { D.honest disk.old → Stays (D.medium disk.old) (D.medium disk.new) }
@@ -73,6 +77,9 @@ pub(crate) fn recover<D: Disk, A: Allocator + Copy>(
     alloc: A,
     disk: &mut D,
 ) -> Result<Recovered<A>, StoreFault>
+    ensures good { IfOk result (λ found. IsTrue (is_good found.geometry)) }
+    ensures size { IfOk result (λ found. D.extent disk.old ≡ disk_size found.geometry) }
+    ensures fits { IfOk result (λ found. IsFitting found.geometry found.heads.items found.next) }
     ensures recovered { D.honest disk.old → Recovers result (λ found. IsRecovered found.geometry found.heads.items found.clips found.next (D.medium disk.old).bytes)
         (λ fault. reading (D.medium disk.old).bytes ≡ Err fault) }
     ensures disk { D.honest disk.old → Stays (D.medium disk.old) (D.medium disk.new) }

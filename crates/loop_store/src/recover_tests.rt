@@ -1,53 +1,16 @@
 //! Recovery of the worked images, of damaged ones, and where a read or a growth is refused.
 
-use super::*;
 use crate::recover::{Recovered, recover};
+use crate::tests_common::{SMALL, fresh, put, put_clip, put_segment};
+use crate::*;
 use loop_budget::Budget;
 use loop_disk::{DiskFault, MemDisk, OnceDisk};
 use loop_record::{
-    Damage, Geometry, ImageFault, LayoutFault, OPEN, PixelFormat, PlainRecorder, SegmentHead, Span,
-    encode_super, read_image,
+    Damage, Geometry, ImageFault, LayoutFault, OPEN, PlainRecorder, SegmentHead, Span, read_image,
 };
 use std::alloc::{AllocError, Allocator, Global};
 use std::process::Abort;
 use std::test::Fail;
-
-// Three segments with two slots each, of frames of 12 bytes.
-const SMALL: Geometry = Geometry {
-    width: 4,
-    height: 2,
-    format: PixelFormat::Ym12,
-    rate_num: 25,
-    rate_den: 1,
-    segments: 3,
-    slots: 2,
-};
-
-// Puts bytes into an image from a place on.
-fn put(image: &mut [u8], at: usize, bytes: &[u8]) {
-    for (i, byte) in bytes.iter().enumerate() {
-        if let Some(place) = image.get_mut(at.wrapping_add(i)) {
-            *place = *byte;
-        }
-    }
-}
-
-// A freshly formatted image.
-fn fresh(rt: &impl Abort, alloc: Global, geometry: Geometry) -> Result<Vec<u8>, AllocError> {
-    assert!(rt; geometry.check().is_ok());
-    let mut image = vec![in alloc; 0u8; geometry.disk_size() as usize]?;
-    let mut superblock = [0; 512];
-    encode_super(&geometry, &mut superblock);
-    put(image.as_mut_slice(), 0, &superblock);
-    Ok(image)
-}
-
-// The header of the segment at a place: open, of this block, with these frame gates.
-fn open_segment(image: &mut [u8], at: usize, block: u64, gates: &[u8]) {
-    put(image, at, &[OPEN]);
-    put(image, at.wrapping_add(8), &block.to_le_bytes());
-    put(image, at.wrapping_add(256), gates);
-}
 
 // The slot at a place: of this number, with 12 bytes.
 fn slot(image: &mut [u8], at: usize, number: u64) {
@@ -55,21 +18,13 @@ fn slot(image: &mut [u8], at: usize, number: u64) {
     put(image, at.wrapping_add(24), &[12]);
 }
 
-// The open entry of a clip id.
-fn clip(image: &mut [u8], id: usize, from: u64, to: u64) {
-    let at = id.wrapping_mul(32).wrapping_add(512);
-    put(image, at, &[OPEN]);
-    put(image, at.wrapping_add(8), &from.to_le_bytes());
-    put(image, at.wrapping_add(16), &to.to_le_bytes());
-}
-
 // The image after frames 0 to 6, with frame 1's slot left over behind frame 6, and the clip 2 to 6 under id 63.
 fn seven(rt: &impl Abort, alloc: Global) -> Result<Vec<u8>, AllocError> {
     let mut image = fresh(rt, alloc, SMALL)?;
     let bytes = image.as_mut_slice();
-    open_segment(bytes, 2_560, 3, &[OPEN, 0]);
-    open_segment(bytes, 3_160, 1, &[OPEN, OPEN]);
-    open_segment(bytes, 3_760, 2, &[OPEN, OPEN]);
+    put_segment(bytes, 2_560, 3, &[OPEN, 0]);
+    put_segment(bytes, 3_160, 1, &[OPEN, OPEN]);
+    put_segment(bytes, 3_760, 2, &[OPEN, OPEN]);
     for (at, number) in [
         (3_072, 6),
         (3_116, 1),
@@ -80,7 +35,7 @@ fn seven(rt: &impl Abort, alloc: Global) -> Result<Vec<u8>, AllocError> {
     ] {
         slot(bytes, at, number);
     }
-    clip(bytes, 63, 2, 6);
+    put_clip(bytes, 63, 2, 6);
     Ok(image)
 }
 
@@ -162,7 +117,7 @@ fn worked_images_are_found_again(rt: HostRuntime) -> Result<(), Fail> {
     // A group of three frames of which the gates are torn: frame 0 alone is there.
     let wide = Geometry { slots: 4, ..SMALL };
     let mut stray = fresh(&rt, alloc, wide)?;
-    open_segment(stray.as_mut_slice(), 2_560, 0, &[OPEN, 7, OPEN, 0]);
+    put_segment(stray.as_mut_slice(), 2_560, 0, &[OPEN, 7, OPEN, 0]);
     slot(stray.as_mut_slice(), 3_072, 0);
     recovers(&rt, alloc, stray, (8, 1, 1, 0), "stray gates");
     Ok(())
@@ -173,7 +128,7 @@ fn what_is_found_is_the_heads_and_the_clips(rt: HostRuntime) -> Result<(), Fail>
     let alloc = rt.alloc();
     let mut image = seven(&rt, alloc)?;
     put(image.as_mut_slice(), 3_160, &[0]);
-    clip(image.as_mut_slice(), 63, 4, 6);
+    put_clip(image.as_mut_slice(), 63, 4, 6);
     let mut disk = MemDisk::of(alloc, image);
     let found = recover(alloc, &mut disk).ok().ok_or("it is whole")?;
     let head = |block, frames| Some(SegmentHead { block, frames });
@@ -227,7 +182,7 @@ fn a_clip_without_end_is_refused_at_once(rt: HostRuntime) -> Result<(), Fail> {
     let alloc = rt.alloc();
     for from in [0, 2] {
         let mut image = seven(&rt, alloc)?;
-        clip(image.as_mut_slice(), 0, from, u64::MAX);
+        put_clip(image.as_mut_slice(), 0, from, u64::MAX);
         recovers(&rt, alloc, image, (7, 0, 0, 0), "all numbers");
     }
     Ok(())

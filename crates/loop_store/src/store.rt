@@ -1,31 +1,37 @@
 //! A store: a disk that holds a recording, and what is known of it in memory.
 
-ghost use Rattle.std.specs.Prelude.{◌≡◌, ◌≢◌, ◌+◌, ◌-◌, ◌<◌, ◌≤◌, ◌↔◌, ◌⊎◌, ◌||◌, ◌∷◌, [], IsTrue, All, IfOk, IfErr, OnOk, Ok, Err, None, Some, Option, List, false, true, is_some, length, map};
-ghost use Rattle.std.specs.List.{range_with_len};
-ghost use Rattle.loop_disk.specs.Medium.{IsSettled, LeavesOnly};
+ghost use Rattle.std.specs.Prelude.{◌≡◌, ◌≢◌, ◌+◌, ◌-◌, ◌%◌, ◌/◌, ◌<◌, ◌≤◌, ◌↔◌, ◌⊎◌, ◌||◌, All, Err, IfErr, IfOk, IsTrue, OnOk, Some, List, length, map, slice_set, false, true};
 ghost use Rattle.loop_disk.specs.Calls.{Stays};
-ghost use Rattle.loop_record.specs.Geometry.{frame_bytes};
+ghost use Rattle.loop_disk.specs.Medium.{LeavesOnly};
+ghost use Rattle.loop_record.specs.declared.segment.SegmentHead.{SegmentHead};
+ghost use Rattle.loop_record.specs.Geometry.{frame_bytes, is_good};
 ghost use Rattle.loop_record.specs.Plain.{pictures};
-ghost use Rattle.loop_record.specs.Recording.{Picture, Recording, Step, frame_under, head, holds, picture, plain, ring_of};
-ghost use Rattle.loop_store.specs.Faults.{answers_disk, faults_after, is_disk};
+ghost use Rattle.loop_record.specs.Recording.{Recording, frame_under, holds, last_number, plain, ring_of, room, steps};
+ghost use Rattle.loop_store.specs.Faults.{answers_disk, faults_after};
 ghost use Rattle.loop_store.specs.Held.{HoldsSome};
-ghost use Rattle.loop_store.specs.Runs.{AnswersStore};
-ghost use Rattle.loop_store.specs.Seen.{AnswersFrame, IsKept, IsRefusedAppend, IsRefusedRead, Refused, Seen, TellsTheSame, StandsFor, steps_in_first, steps_or_none};
+ghost use Rattle.loop_store.specs.Places.{AnswersPlace, IsKnown, IsRefusedPlace, head_after, segment_of};
+ghost use Rattle.loop_store.specs.Runs.{AnswersAppend};
+ghost use Rattle.loop_store.specs.Seen.{AnswersFrame, IsKept, IsRefusedAppend, IsRefusedRead, Refused, Seen, StandsFor, TellsTheSame, steps_or_none};
 
 use crate::StoreFault;
-use crate::first::append_first;
-use crate::look::read_first;
+use crate::found::in_order;
+use crate::grow::append_group;
+use crate::look::{numbers_of, read_held, segment_with};
+use crate::place::{Place, place_of};
+use loop_clips::ClipTable;
 use loop_disk::Disk;
-use loop_record::{Frame, FrameHead, Geometry};
-use loop_ring::Ring;
+use loop_record::{Frame, FrameHead, Geometry, SegmentHead};
+use loop_ring::{Ring, SegmentTable};
 use std::alloc::{Allocator, Global};
 use std::marker::Model;
 
-/// A recording on a disk. It is made by `format`.
+/// A recording on a disk. It is made by `format`, and found again by `Store::open`.
 #[derive(Drop)]
 pub struct Store<D: Disk + Drop, A: Allocator = Global> {
     pub(crate) disk: D,
     pub(crate) ring: Ring<A>,
+    pub(crate) table: SegmentTable<A>,
+    pub(crate) clips: ClipTable,
     pub(crate) next: u64,
     pub(crate) must_reopen: bool,
 }
@@ -33,9 +39,44 @@ pub struct Store<D: Disk + Drop, A: Allocator = Global> {
 impl<D: Disk + Drop, A: Allocator> Model for Store<D, A> {
     ghost Value = { Seen D };
 
-    ghost view = { λ s. record { disk = s.disk; geometry = s.ring.geometry; next = s.next; numbers = range_with_len 0 s.next; must_reopen = s.must_reopen } };
+    ghost view = { λ s. record { disk = s.disk; geometry = s.ring.geometry; next = s.next; heads = s.table; clips = s.clips; must_reopen = s.must_reopen } };
 
-    ghost invariant = { λ s. IsKept D.extent D.medium D.honest s.ring.geometry s.disk s.next s.must_reopen };
+    ghost invariant = { λ s. IsKept D.extent D.medium D.honest s.ring.geometry s.disk s.next s.table s.clips s.must_reopen };
+}
+
+/// No frame has this number or one above it.
+const NUMBERS: u64 = 1 << 62;
+
+/// The number that no frame gets: the first of a block that would reach 2^62.
+fn last_number(geometry: &Geometry) -> u64
+    requires { IsTrue (is_good geometry.now) }
+    ensures { result ≡ last_number (ring_of geometry.now) }
+{
+    let slots = u64::from(geometry.slots);
+    slots * (NUMBERS / slots)
+}
+
+/// Notes that a segment has the block of the next number, the frames before it and so many from it on.
+pub(crate) fn note<A: Allocator>(
+    table: &mut SegmentTable<A>,
+    geometry: &Geometry,
+    segment: u32,
+    next: u64,
+    count: u32,
+)
+    requires good { IsTrue (is_good geometry.now) }
+    requires segment { segment < length table.old }
+    requires room { next % geometry.now.slots + count ≤ geometry.now.slots }
+    ensures { table.new ≡ slice_set table.old segment (Some (head_after geometry.now next count)) }
+{
+    let slots = u64::from(geometry.slots);
+    table.set(
+        segment,
+        Some(SegmentHead {
+            block: next / slots,
+            frames: (next % slots) as u32 + count,
+        }),
+    );
 }
 
 impl<D: Disk + Drop, A: Allocator> Store<D, A> {
@@ -53,18 +94,20 @@ impl<D: Disk + Drop, A: Allocator> Store<D, A> {
         self.next
     }
 
-    /// How many frames an append may still store.
+    /// How many frames an append may store at most: as many as the block of the next number still takes.
     pub fn room(&self) -> u32
-        ensures { result ≡ self.now.geometry.slots - self.now.next }
+        ensures room { result ≡ self.now.geometry.slots - self.now.next % self.now.geometry.slots }
+        ensures recording { (r : Recording) → StandsFor D.medium D.honest self.now r → D.honest self.now.disk → result ≡ room (ring_of self.now.geometry) r }
     {
-        self.ring.geometry.slots - self.next as u32
+        let slots = self.ring.geometry.slots;
+        slots - (self.next % u64::from(slots)) as u32
     }
 
     /// Whether a frame has this number.
     pub fn holds(&self, number: u64) -> bool
-        ensures { (r : Recording) → StandsFor D.medium D.honest self.now r → result ≡ holds r number }
+        ensures { (r : Recording) → StandsFor D.medium D.honest self.now r → D.honest self.now.disk → result ≡ holds r number }
     {
-        number < self.next
+        self.table.holds(self.ring.geometry.slots, number)
     }
 
     /// The disk, as the calls left it.
@@ -74,6 +117,8 @@ impl<D: Disk + Drop, A: Allocator> Store<D, A> {
         let Store {
             disk,
             ring: _,
+            table: _,
+            clips: _,
             next: _,
             must_reopen: _,
         } = self;
@@ -82,37 +127,73 @@ impl<D: Disk + Drop, A: Allocator> Store<D, A> {
 }
 
 impl<D: Disk + Drop, A: Allocator> Store<D, A> {
-    /// Stores one frame behind the others, and answers its number.
+    /// Where the next frames go. `MustReopen`, then `NumbersSpent`, then `AllLocked`.
+    pub(crate) fn place(&self) -> Result<Place, StoreFault>
+        ensures must_reopen { (result ≡ Err StoreFault.MustReopen) ↔ IsTrue self.now.must_reopen }
+        ensures refusals { IfErr result IsRefusedPlace }
+        ensures within { IfOk result (λ place. segment_of place < self.now.geometry.segments) }
+        ensures fine { IfOk result (λ _. self.now.must_reopen ≡ false) }
+        ensures unspent { IfOk result (λ _. self.now.next ≢ last_number (ring_of self.now.geometry)) }
+        ensures spent { self.now.must_reopen ≡ false → (result ≡ Err StoreFault.NumbersSpent) ↔ (self.now.next ≡ last_number (ring_of self.now.geometry)) }
+        ensures known { D.honest self.now.disk → IfOk result (λ place. IsKnown self.now.geometry self.now.next place (D.medium self.now.disk).bytes) }
+        ensures answers { (r : Recording) → StandsFor D.medium D.honest self.now r → D.honest self.now.disk → AnswersPlace self.now.geometry r self.now.must_reopen result }
+    {
+        if self.must_reopen {
+            return Err(StoreFault::MustReopen);
+        }
+        let geometry = &self.ring.geometry;
+        if self.next == last_number(geometry) {
+            return Err(StoreFault::NumbersSpent);
+        }
+        match place_of(geometry, &self.table, &self.clips, self.next) {
+            Some(place) => Ok(place),
+            None => Err(StoreFault::AllLocked),
+        }
+    }
+
+    /// Stores a group of 1 to 8 frames behind the others, all or none, and answers the number of the first. They fit into the
+    /// block of the next number, as `room` says. Where that block has to be begun and each segment holds one, the least
+    /// block that isn't locked by a clip and isn't the newest goes first.
     ///
-    /// `MustReopen` where a call that writes has failed; otherwise `SegmentFull` where the first segment has all its frames.
-    /// After `Disk` the store has to be opened again, and its numbers are those from before the call.
-    pub(crate) fn append_frame(&mut self, frame: &Frame<A>) -> Result<u64, StoreFault>
-        requires size { length frame.now.bytes.items ≡ frame_bytes self.old.geometry }
-        ensures answers { (r : Recording) → StandsFor D.medium D.honest self.old r → AnswersStore self.old.geometry r self.old.must_reopen (picture frame.now) result }
-        ensures number { IfOk result (λ number. number ≡ self.old.next) }
+    /// `MustReopen` where a call that writes has failed; otherwise `NumbersSpent` where no number is left; then `AllLocked`
+    /// where a block would have to go and none may. It takes no memory, and reads nothing. After `Disk` the store has to be
+    /// opened again, and its numbers are those from before the call.
+    ///
+    /// Four calls of the disk: the slots, a sync, the gates of the frames, a sync. Four more where a block is begun, and
+    /// two more where one goes first.
+    pub fn append(&mut self, frames: &[Frame<A>]) -> Result<u64, StoreFault>
+        requires some { 1 ≤ length frames.now }
+        requires few { length frames.now ≤ 8 }
+        requires room { self.old.next % self.old.geometry.slots + length frames.now ≤ self.old.geometry.slots }
+        requires sizes { All (λ frame. length frame.bytes.items ≡ frame_bytes self.old.geometry) frames.now }
+        ensures answers { (r : Recording) → StandsFor D.medium D.honest self.old r → D.honest self.old.disk → AnswersAppend self.old.geometry r self.old.must_reopen (pictures frames.now) result }
+        ensures number { IfOk result (λ number. (number ≡ self.old.next) × (self.new.next ≡ self.old.next + length frames.now)) }
         ensures must_reopen { (result ≡ Err StoreFault.MustReopen) ↔ IsTrue self.old.must_reopen }
-        ensures full { self.old.must_reopen ≡ false → (result ≡ Err StoreFault.SegmentFull) ↔ (self.old.next ≡ self.old.geometry.slots) }
+        ensures spent { self.old.must_reopen ≡ false → (result ≡ Err StoreFault.NumbersSpent) ↔ (self.old.next ≡ last_number (ring_of self.old.geometry)) }
         ensures refusals { IfErr result IsRefusedAppend }
         ensures moments { (r : Recording) → StandsFor D.medium D.honest self.old r → self.old.must_reopen ≡ false → D.honest self.old.disk
-            → LeavesOnly (D.medium self.old.disk) (D.medium self.new.disk) (HoldsSome self.old.geometry r (steps_or_none (steps_in_first (ring_of self.old.geometry) r (picture frame.now ∷ [])))) }
+            → LeavesOnly (D.medium self.old.disk) (D.medium self.new.disk) (HoldsSome self.old.geometry r (steps_or_none (steps (ring_of self.old.geometry) r (pictures frames.now)))) }
         ensures stored { (r : Recording) → StandsFor D.medium D.honest self.old r
-            → OnOk result (StandsFor D.medium D.honest self.new (plain (ring_of self.old.geometry) r (steps_or_none (steps_in_first (ring_of self.old.geometry) r (picture frame.now ∷ []))))) }
+            → OnOk result (StandsFor D.medium D.honest self.new (plain (ring_of self.old.geometry) r (steps_or_none (steps (ring_of self.old.geometry) r (pictures frames.now))))) }
         ensures refused { Refused self.old self.new result }
         ensures counted { D.faults self.new.disk ≡ faults_after (answers_disk result) (D.faults self.old.disk) }
         ensures honest { D.honest self.old.disk ↔ D.honest self.new.disk }
         ensures failed { self.new.must_reopen ≡ (self.old.must_reopen || answers_disk result) }
         ensures geometry { self.new.geometry ≡ self.old.geometry }
     {
-        if self.must_reopen {
-            return Err(StoreFault::MustReopen);
-        }
-        if self.next == u64::from(self.ring.geometry.slots) {
-            return Err(StoreFault::SegmentFull);
-        }
-        match append_first(&mut self.disk, &mut self.ring, self.next, frame) {
+        let place = self.place()?;
+        match append_group(&mut self.disk, &mut self.ring, place, self.next, frames) {
             Ok(()) => {
                 let number = self.next;
-                self.next = number + 1;
+                let segment = place.segment();
+                note(
+                    &mut self.table,
+                    &self.ring.geometry,
+                    segment,
+                    number,
+                    frames.len() as u32,
+                );
+                self.next = number + frames.len() as u64;
                 Ok(number)
             }
             Err(fault) => {
@@ -124,29 +205,6 @@ impl<D: Disk + Drop, A: Allocator> Store<D, A> {
 }
 
 impl<D: Disk + Drop, A: Allocator> Store<D, A> {
-    /// Stores a group of frames behind the others, all or none, and answers the number of the first. For now a group is one frame.
-    ///
-    /// `MustReopen` where a call that writes has failed; otherwise `SegmentFull` where the first segment has all its frames.
-    /// It takes no memory. After `Disk` the store has to be opened again, and its numbers are those from before the call.
-    pub fn append(&mut self, frames: &[Frame<A>]) -> Result<u64, StoreFault>
-        requires one { length frames.now ≡ 1 }
-        requires sizes { All (λ frame. length frame.bytes.items ≡ frame_bytes self.old.geometry) frames.now }
-        ensures number { IfOk result (λ number. number ≡ self.old.next) }
-        ensures must_reopen { (result ≡ Err StoreFault.MustReopen) ↔ IsTrue self.old.must_reopen }
-        ensures full { self.old.must_reopen ≡ false → (result ≡ Err StoreFault.SegmentFull) ↔ (self.old.next ≡ self.old.geometry.slots) }
-        ensures refusals { IfErr result IsRefusedAppend }
-        ensures moments { (r : Recording) → StandsFor D.medium D.honest self.old r → self.old.must_reopen ≡ false → D.honest self.old.disk
-            → LeavesOnly (D.medium self.old.disk) (D.medium self.new.disk) (HoldsSome self.old.geometry r (steps_or_none (steps_in_first (ring_of self.old.geometry) r (pictures frames.now)))) }
-        ensures stored { (r : Recording) → StandsFor D.medium D.honest self.old r
-            → OnOk result (StandsFor D.medium D.honest self.new (plain (ring_of self.old.geometry) r (steps_or_none (steps_in_first (ring_of self.old.geometry) r (pictures frames.now))))) }
-        ensures refused { Refused self.old self.new result }
-        ensures counted { D.faults self.new.disk ≡ faults_after (answers_disk result) (D.faults self.old.disk) }
-        ensures honest { D.honest self.old.disk ↔ D.honest self.new.disk }
-        ensures geometry { self.new.geometry ≡ self.old.geometry }
-    {
-        self.append_frame(&frames[0])
-    }
-
     /// Reads the frame of a number: its head, and its bytes into `out`, which has the size of a frame.
     ///
     /// `MustReopen` where a call that writes has failed; otherwise `NotHeld`; then `Disk`, or `Damaged` where the disk isn't honest.
@@ -154,7 +212,7 @@ impl<D: Disk + Drop, A: Allocator> Store<D, A> {
     pub fn read(&mut self, number: u64, out: &mut [u8]) -> Result<FrameHead, StoreFault>
         requires size { length out.old ≡ frame_bytes self.old.geometry }
         ensures must_reopen { (result ≡ Err StoreFault.MustReopen) ↔ IsTrue self.old.must_reopen }
-        ensures not_held { (r : Recording) → StandsFor D.medium D.honest self.old r → self.old.must_reopen ≡ false → (result ≡ Err StoreFault.NotHeld) ↔ (holds r number ≡ false) }
+        ensures not_held { (r : Recording) → StandsFor D.medium D.honest self.old r → self.old.must_reopen ≡ false → D.honest self.old.disk → (result ≡ Err StoreFault.NotHeld) ↔ (holds r number ≡ false) }
         ensures frame { (r : Recording) → StandsFor D.medium D.honest self.old r → self.old.must_reopen ≡ false → D.honest self.old.disk → AnswersFrame number (frame_under r.frames number) result out.new }
         ensures refusals { IfErr result IsRefusedRead }
         ensures stands { (r : Recording) → StandsFor D.medium D.honest self.old r → StandsFor D.medium D.honest self.new r }
@@ -166,25 +224,25 @@ impl<D: Disk + Drop, A: Allocator> Store<D, A> {
         if self.must_reopen {
             return Err(StoreFault::MustReopen);
         }
-        if number >= self.next {
-            return Err(StoreFault::NotHeld);
+        let geometry = self.ring.geometry;
+        match segment_with(&geometry, &self.table, number) {
+            Some(segment) => read_held(&mut self.disk, &self.ring, segment, number, out),
+            None => Err(StoreFault::NotHeld),
         }
-        read_first(&mut self.disk, &self.ring, self.next, number, out)
     }
 
     /// The numbers of the held frames, which rise. `MustReopen` where a call that writes has failed; otherwise `NoMemory`.
-    pub fn frames<B: Allocator>(&self, alloc: B) -> Result<Vec<u64, B>, StoreFault>
+    pub fn frames<B: Allocator + Copy>(&self, alloc: B) -> Result<Vec<u64, B>, StoreFault>
         ensures must_reopen { (result ≡ Err StoreFault.MustReopen) ↔ IsTrue self.now.must_reopen }
-        ensures numbers { IfOk result (λ numbers. numbers.items ≡ self.now.numbers) }
+        ensures numbers { (r : Recording) → StandsFor D.medium D.honest self.now r → D.honest self.now.disk → IfOk result (λ numbers. numbers.items ≡ map (λ f. f.0) r.frames) }
         ensures refusals { IfErr result (λ fault. (fault ≡ StoreFault.MustReopen) ⊎ (fault ≡ StoreFault.NoMemory)) }
     {
         if self.must_reopen {
             return Err(StoreFault::MustReopen);
         }
-        let mut numbers = Vec::with_capacity(alloc, self.next as usize)?;
-        for number in 0..self.next {
-            numbers.push_reserved(number);
-        }
+        let geometry = &self.ring.geometry;
+        let segments = in_order(alloc, geometry, self.table.as_slice())?;
+        let numbers = numbers_of(alloc, geometry, segments.as_slice())?;
         Ok(numbers)
     }
 }

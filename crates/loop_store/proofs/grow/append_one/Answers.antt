@@ -1,12 +1,13 @@
-use Rattle.std.proofs.Common.{◌++◌, ◌∷◌, [], Result, Ok, Err, OnOk, refl, sym, ◌∙◌, subst}
-use Rattle.loop_disk.proofs.Moments.{weaker, joined}
+use Rattle.std.proofs.Common.{◌∷◌, [], OnOk, refl, sym, ◌∙◌, subst}
+use Rattle.loop_disk.proofs.Moments.{weaker}
 use Rattle.loop_record.specs.Reading.{Holds}
 use Rattle.loop_record.specs.Recording.{Recording, picture, plain, ring_of, store}
 use Rattle.loop_record.proofs.Bounds.{limits}
 use Rattle.loop_record.proofs.Steps.{plain-append}
 use Rattle.loop_store.specs.Places.{steps_before}
-use Rattle.loop_store.proofs.Grown.{earlier-steps, from-none, later-steps}
+use Rattle.loop_store.proofs.Grown.{earlier-steps, steps-joined}
 use Rattle.loop_store.proofs.Room.{before-next, grown-place}
+use Rattle.loop_store.proofs.Answered.{both_ok}
 use Rattle.loop_store.proofs.grow.append_one.Goals as goal
 
 pub returns-in_err-make_room-clause-moments : goal.returns-in_err-make_room-clause-moments
@@ -15,12 +16,10 @@ returns-in_err-make_room-clause-moments g c = λ r is honest held.
 
 pub returns-clause-moments : goal.returns-clause-moments
 returns-clause-moments g c = λ r is honest held.
-    let now = c.make_room.ensures.honest.0 honest in
-    let before = steps_before c.args.ring.now.geometry r in
-    let mid = c.in_ok-make_room.ensures.held r is honest held in
-    joined _ _ _ _ (weaker _ _ _ _ (c.make_room.ensures.moments r is honest held) (λ image some. earlier-steps c.args.ring.now.geometry r before ((store (picture c.args.frame.now) ∷ [])) image some))
-    (weaker _ _ _ _ (c.store_one.ensures.moments (plain (ring_of c.args.ring.now.geometry) r before) (before-next c.args.ring.now.geometry r ∙ is) now mid)
-    (λ image some. from-none c.args.ring.now.geometry r _ (before ++ (store (picture c.args.frame.now) ∷ [])) image (later-steps c.args.ring.now.geometry r before ((store (picture c.args.frame.now) ∷ [])) 0 image some)))
+    let h = c.args.ring.now.geometry in
+    let before = steps_before h r in
+    steps-joined h r before (store (picture c.args.frame.now) ∷ []) _ _ _ (c.make_room.ensures.moments r is honest held)
+    (c.store_one.ensures.moments (plain (ring_of h) r before) (before-next h r ∙ is) (c.make_room.ensures.honest.0 honest) (c.in_ok-make_room.ensures.held r is honest held))
 
 pub returns-clause-stored : goal.returns-clause-stored
 returns-clause-stored g c = λ r is honest held.
@@ -29,10 +28,6 @@ returns-clause-stored g c = λ r is honest held.
     let mid = c.in_ok-make_room.ensures.held r is honest held in
     subst (λ (q : Recording). OnOk c.store_one.result (Holds c.args.ring.now.geometry q (g.D.Disk.medium c.store_one.new.disk).bytes)) (sym (plain-append (ring_of c.args.ring.now.geometry) r before ((store (picture c.args.frame.now) ∷ []))))
     (c.store_one.ensures.stored (plain (ring_of c.args.ring.now.geometry) r before) (before-next c.args.ring.now.geometry r ∙ is) now mid)
-
-both_ok : {T E : Type 0} {P Q R : Type 0} (r : Result T E) → (P → Q → R) → OnOk r P → OnOk r Q → OnOk r R
-both_ok (Ok x) f p q = f p q
-both_ok (Err e) f p q = tt
 
 pub returns-clause-grown : goal.returns-clause-grown
 returns-clause-grown g c = λ honest.

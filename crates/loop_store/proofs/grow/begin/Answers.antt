@@ -1,4 +1,4 @@
-use Rattle.std.proofs.Common.{◌≡◌, ℕ, ◌/◌, Some, List, subst, Result, Ok, Err, OnOk}
+use Rattle.std.proofs.Common.{◌≡◌, ℕ, ◌/◌, Some, List, subst}
 use Rattle.std.proofs.lemmas.Result.{on_ok_weaker}
 use Rattle.loop_disk.proofs.Moments.{weaker}
 use Rattle.loop_record.specs.declared.geometry.Geometry.{Geometry}
@@ -6,6 +6,7 @@ use Rattle.loop_record.specs.Change.{ShowsSegment}
 use Rattle.loop_record.specs.Reading.{begun}
 use Rattle.loop_ring.specs.Writes.{ShowsOrNot}
 use Rattle.loop_store.proofs.Grown.{begun-held, begun-held_or, begun-newest}
+use Rattle.loop_store.proofs.Answered.{both_ok}
 use Rattle.loop_store.proofs.grow.begin.Goals as goal
 
 shows_slots : (g : Geometry) (j next slots : ℕ) (old new : List ℕ) → slots ≡ g.slots → ShowsSegment g j (Some (begun (next / slots))) old new → ShowsSegment g j (Some (begun (next / g.slots))) old new
@@ -22,10 +23,6 @@ returns-clause-moments g c = λ r is honest held.
 pub returns-clause-held : goal.returns-clause-held
 returns-clause-held g c = λ r is honest held.
     on_ok_weaker c.begin_block.result (λ shows. begun-held c.args.ring.now.geometry r c.args.next c.args.segment _ _ held is c.requires.segment (c.requires.first honest) (c.requires.free honest) (shows_slots c.args.ring.now.geometry c.args.segment c.args.next c.from.result _ _ c.from.ensures shows)) (c.begin_block.ensures.begun honest)
-
-both_ok : {T E : Type 0} {P Q R : Type 0} (r : Result T E) → (P → Q → R) → OnOk r P → OnOk r Q → OnOk r R
-both_ok (Ok x) f p q = f p q
-both_ok (Err e) f p q = tt
 
 pub returns-clause-newest : goal.returns-clause-newest
 returns-clause-newest g c = λ honest.

@@ -1,4 +1,4 @@
-use Rattle.std.proofs.Common.{List, Result, Ok, Err, OnOk, sym, subst}
+use Rattle.std.proofs.Common.{List, OnOk, sym, subst}
 use Rattle.loop_disk.proofs.Moments.{weaker}
 use Rattle.loop_record.specs.Reading.{Holds}
 use Rattle.loop_record.specs.Recording.{Step, plain, ring_of}
@@ -6,6 +6,7 @@ use Rattle.loop_record.proofs.Bounds.{limits}
 use Rattle.loop_store.proofs.Grown.{held-some}
 use Rattle.loop_store.proofs.Room.{closed-at, known-closed, known-newest}
 use Rattle.loop_store.proofs.Stands.{unmoved-some}
+use Rattle.loop_store.proofs.Answered.{both_ok}
 use Rattle.loop_store.proofs.grow.make_room.Goals as goal
 
 pub returns-in-Newest-clause-moments : goal.returns-in-Newest-clause-moments
@@ -33,10 +34,6 @@ pub returns-in-Closed-clause-held : goal.returns-in-Closed-clause-held
 returns-in-Closed-clause-held g c = λ r is honest held.
     let at = known-closed c.args.ring.now.geometry r c.args.next c.in-Closed.segment c.args.place _ c.in-Closed.is (c.requires.known honest) held is in
     subst (λ (steps : List Step). OnOk c.begin.result (Holds c.args.ring.now.geometry (plain (ring_of c.args.ring.now.geometry) r steps) (g.D.Disk.medium c.begin.new.disk).bytes)) (sym at.steps) (c.begin.ensures.held r is honest held)
-
-both_ok : {T E : Type 0} {P Q R : Type 0} (r : Result T E) → (P → Q → R) → OnOk r P → OnOk r Q → OnOk r R
-both_ok (Ok x) f p q = f p q
-both_ok (Err e) f p q = tt
 
 pub returns-in-Closed-clause-begun : goal.returns-in-Closed-clause-begun
 returns-in-Closed-clause-begun g c = λ honest.

@@ -1,4 +1,4 @@
-use Rattle.std.proofs.Common.{ℕ, [], ◌∷◌, List, Result, Ok, Err, OnOk, sym, subst}
+use Rattle.std.proofs.Common.{ℕ, [], ◌∷◌, List, OnOk, sym, subst}
 use Rattle.loop_disk.specs.Medium.{LeavesOnly}
 use Rattle.loop_disk.proofs.Moments.{weaker, joined}
 use Rattle.loop_record.specs.Reading.{Holds}
@@ -7,6 +7,7 @@ use Rattle.loop_record.proofs.Bounds.{limits}
 use Rattle.loop_store.specs.Held.{HoldsSome, IsFreeFor}
 use Rattle.loop_store.proofs.Grown.{all-held}
 use Rattle.loop_store.proofs.Room.{first-of, goes, replaced-begun, retired-free}
+use Rattle.loop_store.proofs.Answered.{both_ok}
 use Rattle.loop_store.proofs.grow.replace.Goals as goal
 
 pub returns-in_err-recycle-clause-moments : goal.returns-in_err-recycle-clause-moments
@@ -44,10 +45,6 @@ returns-clause-held g c = λ r is honest held.
     let mid = c.in_ok-recycle.ensures.held r gone.block gone.chosen gone.is honest held in
     subst (λ (steps : List Step). OnOk c.begin.result (Holds c.args.ring.now.geometry (plain (ring_of c.args.ring.now.geometry) r steps) (g.D.Disk.medium c.begin.new.disk).bytes)) (sym gone.steps)
     (c.begin.ensures.held (after (ring_of c.args.ring.now.geometry) r (recycle gone.block)) is now mid)
-
-both_ok : {T E : Type 0} {P Q R : Type 0} (r : Result T E) → (P → Q → R) → OnOk r P → OnOk r Q → OnOk r R
-both_ok (Ok x) f p q = f p q
-both_ok (Err e) f p q = tt
 
 pub returns-clause-replaced : goal.returns-clause-replaced
 returns-clause-replaced g c = λ honest.

@@ -1,8 +1,12 @@
-use Rattle.std.proofs.Common.{◌∙◌}
+use Rattle.std.proofs.Common.{ℕ, ◌≤◌, [], sym, ◌∙◌, subst}
+use Rattle.loop_record.specs.Plain.{AreIn}
+use Rattle.loop_record.specs.Recording.{last_number, ring_of}
+use Rattle.loop_record.proofs.Bounds.{limits}
 use Rattle.loop_record.proofs.FoundSegments.{AreFull, IsFoundIn, read-lacks, read-repeats}
 use Rattle.loop_ring.proofs.SlotReads.{stays_on}
 use Rattle.loop_store.proofs.RecoveredParts.{recovers-on}
 use Rattle.loop_store.proofs.RecoveredWhole.{full, recovered, refused-clip, refused-head, refused-slot}
+use Rattle.loop_store.proofs.Reopened.{next-few}
 use Rattle.loop_store.proofs.recover.recover_parts.Goals as goal
 
 pub returns-in_err-heads-clause-recovered : goal.returns-in_err-heads-clause-recovered
@@ -111,3 +115,13 @@ pub returns-clause-disk : goal.returns-clause-disk
 returns-clause-disk g c = λ honest.
     let second = c.read_heads.ensures.honest.0 honest in
     stays_on _ _ _ (stays_on _ _ _ (c.in_ok-heads.ensures.disk honest) (c.in_ok-check_slots.ensures.disk second)) (c.in_ok-clips.ensures.disk (c.check_slots.ensures.honest.0 second))
+
+pub returns-clause-fits : goal.returns-clause-fits
+returns-clause-fits g c =
+    let h = c.args.geometry in
+    let xs = c.as_slice-open.result.now in
+    let within = subst (AreIn h) (sym c.as_slice-open.ensures.value) c.in_ok-segments.ensures.within in record {
+      count = c.in_ok-heads.ensures.count;
+      within = c.in_ok-heads.ensures.within;
+      few = subst (λ (n : ℕ). n ≤ last_number (ring_of h)) (sym (c.next_after-next.ensures [])) (next-few h [] xs (limits h c.requires.good).slots.0 within);
+    }

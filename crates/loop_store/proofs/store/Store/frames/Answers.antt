@@ -1,17 +1,16 @@
-use Rattle.std.proofs.Common.{◌≡◌, ◌+◌, ◌++◌, ◌∷◌, [], length, vec_len, ap, sym, ◌∙◌, arith}
-use Rattle.loop_record.proofs.Readings.{length-range}
-use Rattle.loop_store.proofs.Numbers.{numbers-more}
+use Rattle.std.proofs.Common.{◌≡◌, List, map, ap, ◌∙◌, subst}
+use Rattle.loop_record.specs.declared.image.Found.{Found}
+use Rattle.loop_record.specs.Recording.{Recording}
+use Rattle.loop_store.specs.Numbers.{numbers_in}
+use Rattle.loop_store.specs.Seen.{Seen, StandsFor}
+use Rattle.loop_store.proofs.Numbers.{held-numbers}
 use Rattle.loop_store.proofs.store.Store.frames.Goals as goal
 
-pub push_reserved-requires : goal.push_reserved-requires
-push_reserved-requires g c =
-    let count : vec_len c.loop-number.numbers ≡ c.loop-number.number = c.loop-number.numbers.ok.0 ∙ ap length c.loop-number.invariant.items ∙ length-range 0 c.loop-number.number in
-    omega (arith, count, c.loop-number.invariant.room, c.loop-number-test.true, ap (λ v. v.next) c.self.view_is)
-
-pub loop-number-preserved : goal.loop-number-preserved
-loop-number-preserved g c = record {
-  items =
-      let at : 0 + c.loop-number.number ≡ c.loop-number.number = omega arith in
-      c.push_reserved.ensures.items ∙ (λ i. c.loop-number.invariant.items i ++ (sym at i) ∷ []) ∙ sym (numbers-more 0 c.loop-number.number);
-  room = omega (arith, c.push_reserved.ensures.capacity, c.loop-number.invariant.room);
-}
+pub returns-clause-numbers : goal.returns-clause-numbers
+returns-clause-numbers g c =
+    subst (λ (v : Seen g.row.D.Denot). (r : Recording) → StandsFor g.D.Disk.medium g.D.Disk.honest v r → g.D.Disk.honest v.disk → c.in_ok-numbers.numbers.items ≡ map (λ f. f.0) r.frames) c.self.view_is
+    (λ r stands honest.
+    let h = c.self.inside.ring.geometry in
+    let m = stands.remembered honest in
+    c.in_ok-numbers.ensures ∙ ap (λ (fs : List Found). numbers_in h fs) c.as_slice-2.ensures.value
+    ∙ held-numbers h r m.image c.in_ok-segments.segments.items m.held (c.in_ok-segments.ensures.order m.image (c.as_slice.ensures ∙ m.heads_are)))

@@ -1,6 +1,10 @@
-use Rattle.std.proofs.Common.{ap, ◌∙◌}
-use Rattle.loop_store.proofs.Numbers.{below-held}
+use Rattle.std.proofs.Common.{◌≡◌, subst}
+use Rattle.loop_record.specs.Recording.{Recording, holds}
+use Rattle.loop_store.specs.Seen.{Seen, StandsFor}
+use Rattle.loop_store.proofs.Looks.{held-by}
 use Rattle.loop_store.proofs.store.Store.holds.Goals as goal
 
 pub returns : goal.returns
-returns g c = λ r stands. below-held c.self.inside.next c.args.number r.frames (ap (λ v. v.numbers) c.self.view_is ∙ stands.numbers_are)
+returns g c =
+    subst (λ (v : Seen g.row.D.Denot). (r : Recording) → StandsFor g.D.Disk.medium g.D.Disk.honest v r → g.D.Disk.honest v.disk → c.holds.result ≡ holds r c.args.number) c.self.view_is
+    (λ r stands honest. held-by _ r c.holds.result c.args.number (stands.remembered honest) c.holds.ensures)

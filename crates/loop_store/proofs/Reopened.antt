@@ -1,0 +1,212 @@
+-- What opening makes of a disk.
+use Rattle.std.proofs.Common.{◌≡◌, ◌≢◌, ◌⊎◌, inl, inr, ℕ, ◌+◌, ◌*◌, ◌/◌, ◌%◌, ◌^◌, ◌<◌, ◌≤◌, Bool, true, false, not, eqb, Option, Some, None, Ok, List, [], ◌∷◌, ◌++◌, length, set, get_or, map, refl, sym, ap, ◌∙◌, subst, arith}
+use Rattle.std.proofs.Math.Nat.{add-mul, div-eq_of_lt-le, mul-le-mul_right, mul_comm}
+use Rattle.std.proofs.lemmas.Nat.{le-div}
+use Rattle.std.proofs.lemmas.Bool.{cases_lt}
+use Rattle.std.proofs.lemmas.List.{length-map, set-get_or}
+use Rattle.std.proofs.lemmas.List.Folds.{list_any_at}
+use Rattle.std.specs.List.{list_any, position, range_with_len}
+use Rattle.loop_disk.specs.Calls.{Stays}
+use Rattle.loop_disk.specs.Medium.{Medium, IsSettled, IsSound, LeavesOnly}
+use Rattle.loop_disk.proofs.Moments.{goes_on, joined, started, weaker}
+use Rattle.loop_record.specs.declared.clip.Span.{Span}
+use Rattle.loop_record.specs.declared.geometry.Geometry.{Geometry}
+use Rattle.loop_record.specs.declared.image.Found.{Found}
+use Rattle.loop_record.specs.declared.segment.SegmentHead.{SegmentHead}
+use Rattle.loop_record.specs.Change.{ShowsSegment}
+use Rattle.loop_record.specs.Geometry.{frame_bytes, slot_at}
+use Rattle.loop_record.specs.Layout.{Segment, segment_in, slot_in, whole_frames}
+use Rattle.loop_record.specs.Plain.{AreIn, IsIn, segments_of}
+use Rattle.loop_record.specs.Reading.{Holds, by_block, checked, lacks_frame, next_after, opened, parts_of, reading}
+use Rattle.loop_record.specs.Recording.{Recording, last_number, ring_of}
+use Rattle.loop_record.proofs.Bounds.{limits}
+use Rattle.loop_record.proofs.Changes.{shown_of, is_overfull, next_after-behind}
+use Rattle.loop_record.proofs.Decided.{clash, differ, equal, equal_test, neither, not_below, not_false}
+use Rattle.loop_record.proofs.Parts.{reading-stages, geometry-good}
+use Rattle.loop_record.proofs.Readings.{length-range, overfull_none, reading-same, segments_length, segment_there, whole-length}
+use Rattle.loop_record.proofs.Segments.{placed_there}
+use Rattle.loop_ring.specs.Heads.{heads_of, is_of}
+use Rattle.loop_ring.specs.Writes.{HasNoStray}
+use Rattle.loop_ring.proofs.Heads.{head_of, head-there, heads-length, heads-shown, newest-found, one-entry, position-none}
+use Rattle.loop_store.specs.Held.{HasNoneStray}
+use Rattle.loop_store.specs.Opened.{IsReady, IsTold, ReadsAlike, WasOrReadsAlike}
+use Rattle.loop_store.specs.Recovered.{IsRecovered}
+use Rattle.loop_store.proofs.Placing.{found-of}
+
+-- ---- the next number
+
+last-of : (g : Geometry) (f : Found) → 1 ≤ g.slots → IsIn g f → f.block * g.slots + f.frames ≤ last_number (ring_of g)
+last-of g f some here =
+    let end : (f.block + 1) * g.slots ≤ 2 ^ 62 = not_below (2 ^ 62) ((f.block + 1) * g.slots) here.low in
+    let blocks : f.block + 1 ≤ 2 ^ 62 / g.slots = le-div (f.block + 1) (2 ^ 62) g.slots some end in
+    let most : (f.block + 1) * g.slots ≤ 2 ^ 62 / g.slots * g.slots = mul-le-mul_right g.slots blocks in
+    let turned : 2 ^ 62 / g.slots * g.slots ≡ g.slots * (2 ^ 62 / g.slots) = mul_comm (2 ^ 62 / g.slots) g.slots in
+    let split : (f.block + 1) * g.slots ≡ f.block * g.slots + 1 * g.slots = add-mul f.block 1 g.slots in
+    omega (arith, most, turned, split, here.few)
+
+-- no found segment has a number from the last on
+pub next-few : (g : Geometry) (image : List ℕ) (fs : List Found) → 1 ≤ g.slots → AreIn g fs → next_after g (segments_of g image fs) ≤ last_number (ring_of g)
+next-few g image [] some within = omega arith
+next-few g image (f ∷ []) some within =
+    let count : length (map (λ i. slot_in (frame_bytes g) image (slot_at g f.segment i)) (range_with_len 0 f.frames)) ≡ f.frames = length-map (range_with_len 0 f.frames) (λ i. slot_in (frame_bytes g) image (slot_at g f.segment i)) ∙ length-range 0 f.frames in
+    omega (arith, count, last-of g f some within.0)
+next-few g image (f ∷ h ∷ fs) some within = next-few g image (h ∷ fs) some within.1
+
+-- ---- segments that have all their frames
+
+-- a segment that lies before another has all its frames
+full-before : (g : Geometry) (lower higher : List Segment) (u h : Segment) → lacks_frame g (lower ++ u ∷ h ∷ higher) ≡ false → length u.slots ≡ g.slots
+full-before g [] higher u h e = equal (length u.slots) g.slots (not_false (eqb (length u.slots) g.slots) (neither (not (eqb (length u.slots) g.slots)) (lacks_frame g (h ∷ higher)) e).0)
+full-before g (s ∷ []) higher u h e = full-before g [] higher u h (neither (not (eqb (length s.slots) g.slots)) (lacks_frame g (u ∷ h ∷ higher)) e).1
+full-before g (s ∷ t ∷ lower) higher u h e = full-before g (t ∷ lower) higher u h (neither (not (eqb (length s.slots) g.slots)) (lacks_frame g (t ∷ lower ++ u ∷ h ∷ higher)) e).1
+
+-- so has the last one, if the next number isn't of its block
+full-last : (g : Geometry) (u : Segment) (next : ℕ) → next ≡ u.block * g.slots + length u.slots → length u.slots ≤ g.slots → u.block ≢ next / g.slots → length u.slots ≡ g.slots
+full-last g u next is most apart = go (cases_lt (length u.slots) g.slots)
+  where
+    split : (u.block + 1) * g.slots ≡ u.block * g.slots + g.slots
+    split = omega (arith, add-mul u.block 1 g.slots)
+
+    go : (length u.slots < g.slots) ⊎ (g.slots ≤ length u.slots) → length u.slots ≡ g.slots
+    go (inl l) = absurd (apart (sym (div-eq_of_lt-le g.slots (omega (arith, is)) (omega (arith, is, split, l)))))
+    go (inr l) = omega (arith, l, most)
+
+full_of : (g : Geometry) (clips : List (Option Span)) (r : Recording) (u : Segment) (lower higher : List Segment) → checked g (lower ++ u ∷ higher) clips ≡ Ok r → list_any (is_overfull g) (lower ++ u ∷ higher) ≡ false → u.block ≢ r.next / g.slots
+    → length u.slots ≡ g.slots
+full_of g clips r u lower (h ∷ hs) e fits apart = full-before g lower hs u h (shown_of g (lower ++ u ∷ h ∷ hs) clips r e).full
+full_of g clips r u lower [] e fits apart =
+    let next : r.next ≡ u.block * g.slots + length u.slots = sym (ap (λ (q : Recording). q.next) (shown_of g (lower ++ u ∷ []) clips r e).is) ∙ next_after-behind g lower u [] in
+    full-last g u r.next next (not_below g.slots (length u.slots) (last-fits lower fits)) apart
+  where
+    last-fits : (ss : List Segment) → list_any (is_overfull g) (ss ++ u ∷ []) ≡ false → is_overfull g u ≡ false
+    last-fits [] e = (neither (is_overfull g u) false e).0
+    last-fits (s ∷ ss) e = last-fits ss (neither (is_overfull g s) (list_any (is_overfull g) (ss ++ u ∷ [])) e).1
+
+-- an open segment that hasn't the block of the next number has all its frames
+pub full-other : (g : Geometry) (r : Recording) (image : List ℕ) (j : ℕ) (u : Segment) → Holds g r image → j < g.segments → segment_in g image j ≡ Some u → u.block ≢ r.next / g.slots → whole_frames g image j ≡ g.slots
+full-other g r image j u e l there apart =
+    let ps = (parts_of g image).segments in
+    let clips = (parts_of g image).clips in
+    let was = reading-stages g r image e in
+    let is : get_or ps j None ≡ Some u = segment_there g image j l ∙ there in
+    let single = (shown_of g (by_block (opened ps)) clips r was.recording).single in
+    let p = placed_there u j ps (omega (arith, l, segments_length g image)) is single in
+    let whole : set ps j (Some u) ≡ ps = sym (ap (λ (q : Option Segment). set ps j q) is) ∙ set-get_or ps j None in
+    let sorted : by_block (opened ps) ≡ p.lower ++ u ∷ p.higher = sym (ap (λ qs. by_block (opened qs)) whole) ∙ p.with_it u refl in
+    let before : checked g (p.lower ++ u ∷ p.higher) clips ≡ Ok r = sym (ap (λ ss. checked g ss clips) sorted) ∙ was.recording in
+    let fits : list_any (is_overfull g) (p.lower ++ u ∷ p.higher) ≡ false = sym (ap (list_any (is_overfull g)) sorted) ∙ overfull_none g image in
+    whole-length g image j u there ∙ full_of g clips r u p.lower p.higher before fits apart
+
+-- and no stray gate
+full-stray : (g : Geometry) (j : ℕ) (image : List ℕ) → whole_frames g image j ≡ g.slots → HasNoStray g j image
+full-stray g j image whole i low high = absurd (omega (arith, whole, low, high))
+
+-- ---- stray gates
+
+-- an open segment, by whether it has the block of the next number
+stray-by : (g : Geometry) (r : Recording) (image : List ℕ) (i : ℕ) → Holds g r image → i < g.segments → ((u : Segment) → segment_in g image i ≡ Some u → u.block ≡ r.next / g.slots → HasNoStray g i image) → segment_in g image i ≢ None → HasNoStray g i image
+stray-by g r image i e l newest is_there = go (segment_in g image i) refl
+  where
+    by : (u : Segment) → segment_in g image i ≡ Some u → (t : Bool) → eqb u.block (r.next / g.slots) ≡ t → HasNoStray g i image
+    by u there true is = newest u there (equal u.block (r.next / g.slots) is)
+    by u there false is = full-stray g i image (full-other g r image i u e l there (λ same. differ u.block (r.next / g.slots) is same))
+
+    go : (o : Option Segment) → segment_in g image i ≡ o → HasNoStray g i image
+    go None there = absurd (is_there there)
+    go (Some u) there = by u there (eqb u.block (r.next / g.slots)) refl
+
+-- where no segment has the block of the next number, there is none
+pub unstray-missing : (g : Geometry) (r : Recording) (image : List ℕ) → Holds g r image → position (is_of (r.next / g.slots)) (heads_of g image) ≡ None → HasNoneStray g image
+unstray-missing g r image e missing i l open_is = stray-by g r image i e l none open_is
+  where
+    none : (u : Segment) → segment_in g image i ≡ Some u → u.block ≡ r.next / g.slots → HasNoStray g i image
+    none u there same =
+        let b = r.next / g.slots in
+        let here : is_of b (get_or (heads_of g image) i None) ≡ true = ap (is_of b) (head-there g image i l ∙ ap head_of there) ∙ equal_test u.block b same in
+        absurd (clash (list_any (is_of b) (heads_of g image)) (list_any_at (is_of b) (heads_of g image) i None (omega (arith, l, heads-length g image)) here) (position-none (is_of b) (heads_of g image) missing))
+
+-- where the segment of that block has none, there is none
+pub unstray-found : (g : Geometry) (r : Recording) (image : List ℕ) (j : ℕ) → Holds g r image → position (is_of (r.next / g.slots)) (heads_of g image) ≡ Some j → HasNoStray g j image → HasNoneStray g image
+unstray-found g r image j e found clean i l open_is = stray-by g r image i e l same open_is
+  where
+    same : (u : Segment) → segment_in g image i ≡ Some u → u.block ≡ r.next / g.slots → HasNoStray g i image
+    same u there block =
+        let n = newest-found g r image j e found in
+        let head : get_or (heads_of g image) i None ≡ Some (record { block = u.block; frames = length u.slots }) = head-there g image i l ∙ ap head_of there in
+        let at : j ≡ i = one-entry g r image j i _ _ e n.head head (sym block) in
+        subst (λ (k : ℕ). HasNoStray g k image) at clean
+
+-- ---- a segment that shows the same
+
+-- the headers say the same
+pub heads-same : (g : Geometry) (r : Recording) (j : ℕ) (old new : List ℕ) → Holds g r old → j < g.segments → ShowsSegment g j (segment_in g old j) old new → heads_of g new ≡ heads_of g old
+heads-same g r j old new e l shows =
+    let few = (limits g (geometry-good g old (reading-stages g r old e).geometry)).slots.1 in
+    heads-shown g j (segment_in g old j) old new few l shows
+    ∙ ap (λ (h : Option SegmentHead). set (heads_of g old) j h) (sym (head-there g old j l))
+    ∙ set-get_or (heads_of g old) j None
+
+-- the image reads alike
+pub alike-same : (g : Geometry) (r : Recording) (j : ℕ) (old new : List ℕ) → Holds g r old → j < g.segments → ShowsSegment g j (segment_in g old j) old new → ReadsAlike old new
+alike-same g r j old new e l shows = reading-same g r old new j e l shows ∙ sym e
+
+-- ---- moments
+
+-- what a disk holds now was left at some moment
+pub left-now : (size : ℕ) (old new : Medium) (P : List ℕ → Type 0) → IsSound size new → LeavesOnly old new P → P new.bytes
+left-now size old new P sound run = run.each new.bytes (sound.counts_now old.moment new.bytes run.later sound.present)
+
+-- a run that left all as it was
+pub stays-moments : (size : ℕ) (old new : Medium) → IsSound size old → Stays old new → LeavesOnly old new (WasOrReadsAlike old)
+stays-moments size old new sound stays =
+    goes_on old old new (WasOrReadsAlike old) old.may_leave (started size old (WasOrReadsAlike old) sound (λ c left. inl left)) stays.time (λ c left. inl left)
+
+-- and then one that left only what reads alike
+pub moments-on : (size : ℕ) (old mid new : Medium) → IsSound size old → Stays old mid → LeavesOnly mid new (ReadsAlike mid.bytes) → LeavesOnly old new (WasOrReadsAlike old)
+moments-on size old mid new sound stays run =
+    joined old mid new (WasOrReadsAlike old) (stays-moments size old mid sound stays)
+    (weaker mid new (ReadsAlike mid.bytes) (WasOrReadsAlike old) run (λ c alike. inr (alike ∙ ap reading stays.bytes)))
+
+pub alike-on : (size : ℕ) (old mid new : Medium) → IsSound size new → Stays old mid → LeavesOnly mid new (ReadsAlike mid.bytes) → ReadsAlike old.bytes new.bytes
+alike-on size old mid new sound stays run = left-now size mid new (ReadsAlike mid.bytes) sound run ∙ ap reading stays.bytes
+
+-- ---- the segment of the next number
+
+-- where memory finds it, so does the image
+pub told-place : (g : Geometry) (heads : List (Option SegmentHead)) (next slots : ℕ) (image : List ℕ) (found result : Option ℕ) (told : IsTold g heads next image) → slots ≡ g.slots → found ≡ result → found ≡ position (is_of (next / slots)) heads
+    → position (is_of (told.recording.next / g.slots)) (heads_of g image) ≡ result
+told-place g heads next slots image found result told same answered said = found-of g told.recording image heads next slots found result told.heads_are (sym told.next_is) same answered said
+
+pub told-whole : (g : Geometry) (heads : List (Option SegmentHead)) (next slots j : ℕ) (image : List ℕ) (told : IsTold g heads next image) → slots ≡ g.slots → position (is_of (told.recording.next / g.slots)) (heads_of g image) ≡ Some j → whole_frames g image j ≡ next % slots
+told-whole g heads next slots j image told same found = (newest-found g told.recording image j told.held found).whole ∙ (λ i. sym told.next_is i % sym same i)
+
+pub told-alike : (g : Geometry) (heads : List (Option SegmentHead)) (next j : ℕ) (old new : List ℕ) (told : IsTold g heads next old) → position (is_of (told.recording.next / g.slots)) (heads_of g old) ≡ Some j → ShowsSegment g j (segment_in g old j) old new → ReadsAlike old new
+told-alike g heads next j old new told found shows = alike-same g told.recording j old new told.held (newest-found g told.recording old j told.held found).within shows
+
+pub told-heads : (g : Geometry) (heads : List (Option SegmentHead)) (next j : ℕ) (old new : List ℕ) (told : IsTold g heads next old) → position (is_of (told.recording.next / g.slots)) (heads_of g old) ≡ Some j → ShowsSegment g j (segment_in g old j) old new → heads ≡ heads_of g new
+told-heads g heads next j old new told found shows = told.heads_are ∙ sym (heads-same g told.recording j old new told.held (newest-found g told.recording old j told.held found).within shows)
+
+pub told-unstray : (g : Geometry) (heads : List (Option SegmentHead)) (next j : ℕ) (old new : List ℕ) (told : IsTold g heads next old) → position (is_of (told.recording.next / g.slots)) (heads_of g old) ≡ Some j → ShowsSegment g j (segment_in g old j) old new → HasNoStray g j new
+    → HasNoneStray g new
+told-unstray g heads next j old new told found shows clean =
+    let r = told.recording in
+    let within = (newest-found g r old j told.held found).within in
+    let held : Holds g r new = reading-same g r old new j told.held within shows in
+    unstray-found g r new j held (ap (λ (hs : List (Option SegmentHead)). position (is_of (r.next / g.slots)) hs) (heads-same g r j old new told.held within shows) ∙ found) clean
+
+-- ---- the whole
+
+pub ready-of : (g h : Geometry) (heads hs : List (Option SegmentHead)) (clips cs : List (Option Span)) (next n : ℕ) (before : List ℕ) (now : Medium) → g ≡ h → clips ≡ cs → next ≡ n → IsRecovered h hs cs n before → ReadsAlike before now.bytes
+    → heads ≡ heads_of g now.bytes → IsSettled now → HasNoneStray g now.bytes → IsReady g heads clips next before now
+ready-of g h heads hs clips cs next n before now gs clips_is next_is was alike heads_are settled unstray =
+    let held : Holds g was.recording before = subst (λ (x : Geometry). Holds x was.recording before) (sym gs) was.held in
+    record {
+      recording = was.recording;
+      was = held;
+      held = alike ∙ held;
+      next_is = next_is ∙ was.next_is;
+      clips_are = clips_is ∙ was.clips_are;
+      heads_are = heads_are;
+      settled = settled;
+      unstray = unstray;
+    }

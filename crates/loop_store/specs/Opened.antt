@@ -1,0 +1,68 @@
+-- What opening finds on a disk, and what it leaves of it.
+use Rattle.std.specs.Prelude.{◌≡◌, ◌⊎◌, ℕ, ◌≤◌, Option, Err, List, All, length}
+use Rattle.loop_disk.specs.Medium.{Medium, IsSettled}
+use Rattle.loop_record.specs.declared.clip.Span.{Span}
+use Rattle.loop_record.specs.declared.damage.LayoutFault.{LayoutFault}
+use Rattle.loop_record.specs.declared.geometry.Geometry.{Geometry}
+use Rattle.loop_record.specs.declared.segment.SegmentHead.{SegmentHead}
+use Rattle.loop_record.specs.Reading.{Holds, reading}
+use Rattle.loop_record.specs.Recording.{Recording, last_number, ring_of}
+use Rattle.loop_ring.specs.Heads.{heads_of}
+use Rattle.loop_store.specs.declared.fault.StoreFault.{StoreFault}
+use Rattle.loop_store.specs.Held.{HasNoneStray}
+use Rattle.loop_store.specs.Recovered.{IsHeadIn}
+use Rattle.loop_store.specs.Seen.{Seen, StandsFor}
+
+-- ---- the call
+
+-- the second image reads as the first does
+abbrev pub ReadsAlike : List ℕ → List ℕ → Type 0
+ReadsAlike old new = reading new ≡ reading old
+
+-- an image that a crash might have left before, or one that reads as the present bytes do
+abbrev pub WasOrReadsAlike : Medium → List ℕ → Type 0
+WasOrReadsAlike m c = m.may_leave c ⊎ ReadsAlike m.bytes c
+
+-- the image reads as a recording of the store's geometry, for which the store stands
+pub record IsOpened {D : Type 0} (medium : D → Medium) (honest : D → Type 0) (image : List ℕ) (store : Seen D) : Type 0 where
+  pub recording : Recording
+  pub held : Holds store.geometry recording image
+  pub stands : StandsFor medium honest store recording
+
+-- the refusal is what the image reads as, or memory was refused, or a call of the disk failed
+abbrev pub IsRefusedOpen : List ℕ → StoreFault → Type 0
+IsRefusedOpen image StoreFault.NoMemory = Unit {0}
+IsRefusedOpen image (StoreFault.Disk fault) = Unit {0}
+IsRefusedOpen image StoreFault.NotFormatted = reading image ≡ Err LayoutFault.NotFormatted
+IsRefusedOpen image (StoreFault.Damaged damage) = reading image ≡ Err (LayoutFault.Damaged damage)
+IsRefusedOpen image StoreFault.MustReopen = ⊥
+IsRefusedOpen image StoreFault.NotHeld = ⊥
+IsRefusedOpen image StoreFault.BadGeometry = ⊥
+IsRefusedOpen image StoreFault.NumbersSpent = ⊥
+IsRefusedOpen image StoreFault.AllLocked = ⊥
+
+-- ---- what only the store's own code looks at
+
+-- there is a header for each segment, each may stand there, and no block of the numbers below next is too high
+pub record IsFitting (g : Geometry) (heads : List (Option SegmentHead)) (next : ℕ) : Type 0 where
+  pub count : length heads ≡ g.segments
+  pub within : All (IsHeadIn g) heads
+  pub few : next ≤ last_number (ring_of g)
+
+-- the image holds a recording with this next number, and its segments have these heads
+pub record IsTold (g : Geometry) (heads : List (Option SegmentHead)) (next : ℕ) (image : List ℕ) : Type 0 where
+  pub recording : Recording
+  pub held : Holds g recording image
+  pub next_is : next ≡ recording.next
+  pub heads_are : heads ≡ heads_of g image
+
+-- The image before held a recording with these clips and this next number. The disk holds it now, settled and with no stray gate, and its segments have these heads.
+pub record IsReady (g : Geometry) (heads : List (Option SegmentHead)) (clips : List (Option Span)) (next : ℕ) (before : List ℕ) (now : Medium) : Type 0 where
+  pub recording : Recording
+  pub was : Holds g recording before
+  pub held : Holds g recording now.bytes
+  pub next_is : next ≡ recording.next
+  pub clips_are : clips ≡ recording.clips
+  pub heads_are : heads ≡ heads_of g now.bytes
+  pub settled : IsSettled now
+  pub unstray : HasNoneStray g now.bytes

@@ -1,0 +1,148 @@
+//! Finds the recording on a disk again.
+
+ghost use Rattle.std.specs.Prelude.{◌≡◌, ◌↔◌, Err, IfErr, IfOk, IsTrue, OnOk, false, length};
+ghost use Rattle.loop_disk.specs.Calls.{CountedAny, Stays};
+ghost use Rattle.loop_disk.specs.Medium.{IsSettled, LeavesOnly};
+ghost use Rattle.loop_record.specs.Geometry.{disk_size, is_good};
+ghost use Rattle.loop_record.specs.Reading.{reading};
+ghost use Rattle.loop_ring.specs.Heads.{heads_of};
+ghost use Rattle.loop_store.specs.Faults.{faults_after, is_disk};
+ghost use Rattle.loop_store.specs.Held.{HasNoneStray};
+ghost use Rattle.loop_store.specs.Formatted.{disk_after, is_refused_disk};
+ghost use Rattle.loop_store.specs.Opened.{IsFitting, IsOpened, IsReady, IsRefusedOpen, IsTold, ReadsAlike, WasOrReadsAlike};
+ghost use Rattle.loop_store.specs.Recovered.{CountedRecovery, IsRecovered, Recovers};
+
+use crate::recover::{Recovered, recover};
+use crate::{OpenRefused, Store, StoreFault};
+use loop_clips::ClipTable;
+use loop_disk::{Disk, DiskFault};
+use loop_ring::{Ring, SegmentTable};
+use std::alloc::{AllocError, Allocator};
+
+/// What a store remembers of the recording on its disk.
+#[derive(Drop)]
+struct Known<A: Allocator> {
+    ring: Ring<A>,
+    table: SegmentTable<A>,
+    clips: ClipTable,
+    next: u64,
+}
+
+/// Syncs, so that a stop leaves what a read gives, and finds what the disk's image reads as.
+fn reread<D: Disk, A: Allocator + Copy>(alloc: A, disk: &mut D) -> Result<Recovered<A>, StoreFault>
+    ensures good { IfOk result (λ found. IsTrue (is_good found.geometry)) }
+    ensures size { IfOk result (λ found. D.extent disk.old ≡ disk_size found.geometry) }
+    ensures fits { IfOk result (λ found. IsFitting found.geometry found.heads.items found.next) }
+    ensures recovered { D.honest disk.old → Recovers result (λ found. IsRecovered found.geometry found.heads.items found.clips found.next (D.medium disk.old).bytes)
+        (λ fault. reading (D.medium disk.old).bytes ≡ Err fault) }
+    ensures disk { D.honest disk.old → Stays (D.medium disk.old) (D.medium disk.new) }
+    ensures settled { D.honest disk.old → IfOk result (λ _. IsSettled (D.medium disk.new)) }
+    ensures counted { CountedRecovery (D.faults disk.old) (D.faults disk.new) result }
+    ensures extent { D.extent disk.new ≡ D.extent disk.old }
+    ensures honest { D.honest disk.old ↔ D.honest disk.new }
+{
+    disk.sync()?;
+    recover(alloc, disk)
+}
+
+/// What a store remembers of what was found. It takes the memory of the ring's buffer, and no other.
+fn remember<A: Allocator>(alloc: A, found: Recovered<A>) -> Result<Known<A>, AllocError>
+    requires good { IsTrue (is_good found.geometry) }
+    requires fits { IsFitting found.geometry found.heads.items found.next }
+    ensures geometry { IfOk result (λ known. known.ring.geometry ≡ found.geometry) }
+    ensures heads { IfOk result (λ known. known.table ≡ found.heads.items) }
+    ensures clips { IfOk result (λ known. known.clips ≡ found.clips) }
+    ensures next { IfOk result (λ known. known.next ≡ found.next) }
+{
+    let ring = Ring::new(alloc, found.geometry)?;
+    Ok(Known {
+        ring,
+        table: SegmentTable::of(found.heads),
+        clips: ClipTable::of(found.clips),
+        next: found.next,
+    })
+}
+
+/// Clears the stray gates that a stop may have left in the block of the next number. The other segments have all their
+/// frames, so that no gate of theirs can be stray.
+fn clear_newest<D: Disk, A: Allocator>(
+    disk: &mut D,
+    ring: &Ring<A>,
+    table: &SegmentTable<A>,
+    next: u64,
+) -> Result<(), DiskFault>
+    requires extent { D.extent disk.old ≡ disk_size ring.now.geometry }
+    requires count { length table.now ≡ ring.now.geometry.segments }
+    requires settled { D.honest disk.old → IsSettled (D.medium disk.old) }
+    requires told { D.honest disk.old → IsTold ring.now.geometry table.now next (D.medium disk.old).bytes }
+    ensures moments { D.honest disk.old → LeavesOnly (D.medium disk.old) (D.medium disk.new) (ReadsAlike (D.medium disk.old).bytes) }
+    ensures heads { D.honest disk.old → OnOk result (table.now ≡ heads_of ring.now.geometry (D.medium disk.new).bytes) }
+    ensures stray { D.honest disk.old → OnOk result (HasNoneStray ring.now.geometry (D.medium disk.new).bytes) }
+    ensures settled { D.honest disk.old → OnOk result (IsSettled (D.medium disk.new)) }
+    ensures counted { CountedAny (D.faults disk.old) (D.faults disk.new) result }
+    ensures extent { D.extent disk.new ≡ D.extent disk.old }
+    ensures honest { D.honest disk.old ↔ D.honest disk.new }
+{
+    let slots = u64::from(ring.geometry.slots);
+    match table.find(next / slots) {
+        Some(segment) => ring.clear_stray(disk, segment, (next % slots) as u32),
+        None => Ok(()),
+    }
+}
+
+/// Finds the recording on a disk again, and makes the disk ready for a store.
+fn reopen<D: Disk, A: Allocator + Copy>(alloc: A, disk: &mut D) -> Result<Known<A>, StoreFault>
+    ensures size { IfOk result (λ known. D.extent disk.old ≡ disk_size known.ring.geometry) }
+    ensures fits { IfOk result (λ known. IsFitting known.ring.geometry known.table known.next) }
+    ensures ready { D.honest disk.old → Recovers result (λ known. IsReady known.ring.geometry known.table known.clips known.next (D.medium disk.old).bytes (D.medium disk.new))
+        (λ fault. reading (D.medium disk.old).bytes ≡ Err fault) }
+    ensures moments { D.honest disk.old → LeavesOnly (D.medium disk.old) (D.medium disk.new) (WasOrReadsAlike (D.medium disk.old)) }
+    ensures alike { D.honest disk.old → ReadsAlike (D.medium disk.old).bytes (D.medium disk.new).bytes }
+    ensures stays { D.honest disk.old → IfErr result (λ fault. is_disk fault ≡ false → Stays (D.medium disk.old) (D.medium disk.new)) }
+    ensures counted { CountedRecovery (D.faults disk.old) (D.faults disk.new) result }
+    ensures extent { D.extent disk.new ≡ D.extent disk.old }
+    ensures honest { D.honest disk.old ↔ D.honest disk.new }
+{
+    let found = reread(alloc, disk)?;
+    let known = remember(alloc, found)?;
+    clear_newest(disk, &known.ring, &known.table, known.next)?;
+    Ok(known)
+}
+
+impl<D: Disk + Drop, A: Allocator + Copy> Store<D, A> {
+    /// Finds the recording on a disk again, and hands out its store.
+    ///
+    /// First it syncs, so that a stop leaves what a read gives. Then it reads the superblock, each header, the first
+    /// `HEAD_SIZE` bytes of each slot before the first closed gate of an open segment, and the clip table. Then it takes the
+    /// memory of the ring's buffer; lists of the headers and of the open segments are taken before. Last it closes the frame
+    /// gates that a stop left open behind the first closed one of the newest segment: one read where there is a gate behind
+    /// it, and where one is open a write and a sync.
+    ///
+    /// `NotFormatted` where the disk has no open superblock; `Damaged` with the first damage in the layout's order; `NoMemory`,
+    /// before the first write; `Disk` where a call failed. Each hands the disk back, and its image reads as before. So does
+    /// each image that a stop within the call leaves, unless a stop before the call could have left it.
+    pub fn open(alloc: A, disk: D) -> Result<Store<D, A>, OpenRefused<D>>
+        ensures opened { D.honest disk → IfOk result (λ store. IsOpened D.medium D.honest (D.medium disk).bytes store) }
+        ensures fine { IfOk result (λ store. store.must_reopen ≡ false) }
+        ensures refused { D.honest disk → IfErr result (λ refused. IsRefusedOpen (D.medium disk).bytes refused.fault) }
+        ensures alike { D.honest disk → ReadsAlike (D.medium disk).bytes (D.medium (disk_after result)).bytes }
+        ensures stays { D.honest disk → IfErr result (λ refused. is_disk refused.fault ≡ false → Stays (D.medium disk) (D.medium refused.disk)) }
+        ensures moments { D.honest disk → LeavesOnly (D.medium disk) (D.medium (disk_after result)) (WasOrReadsAlike (D.medium disk)) }
+        ensures counted { D.faults (disk_after result) ≡ faults_after (is_refused_disk result) (D.faults disk) }
+        ensures extent { D.extent (disk_after result) ≡ D.extent disk }
+        ensures honest { D.honest disk ↔ D.honest (disk_after result) }
+    {
+        let mut disk = disk;
+        match reopen(alloc, &mut disk) {
+            Ok(known) => Ok(Store {
+                disk,
+                ring: known.ring,
+                table: known.table,
+                clips: known.clips,
+                next: known.next,
+                must_reopen: false,
+            }),
+            Err(fault) => Err(OpenRefused { fault, disk }),
+        }
+    }
+}
