@@ -7,7 +7,7 @@ use Rattle.std.specs.Str.{bytes_eq}
 use Rattle.std.specs.Str.Parse.{digits_value}
 use denote.Ref.{Bor}
 use Rattle.loop_cli.specs.declared.command.Command.{Command}
-use Rattle.loop_cli.specs.declared.command.Command.TheVariants.{Format, Store, Read, List as ListAll}
+use Rattle.loop_cli.specs.declared.command.Command.TheVariants.{Format, Store, Read, List as ListAll, Reopen}
 use Rattle.loop_record.specs.declared.geometry.Geometry.{Geometry}
 use Rattle.loop_record.specs.declared.geometry.PixelFormat.{PixelFormat}
 use Rattle.loop_record.specs.declared.geometry.PixelFormat.TheVariants.{Grey, Ym12, Ym16, Ym24}
@@ -69,10 +69,16 @@ counted_said name argument =
     if bytes_eq name (codes "store") then option_map Store (number argument)
     else if bytes_eq name (codes "read") then option_map Read (number argument) else None
 
+-- what a name alone asks for
+abbrev pub named_said : List ℕ → Option Command
+named_said name =
+    if bytes_eq name (codes "list") then Some ListAll
+    else if bytes_eq name (codes "reopen") then Some Reopen else None
+
 -- what the words of a line ask for, if they can be read
 abbrev pub said : List (List ℕ) → Option Command
 said [] = None
-said (name ∷ []) = if bytes_eq name (codes "list") then Some ListAll else None
+said (name ∷ []) = named_said name
 said (name ∷ argument ∷ []) =
     if bytes_eq name (codes "format") then None else counted_said name argument
 said (name ∷ argument ∷ second ∷ more) =

@@ -16,6 +16,8 @@ pub enum Command {
     Read(u64),
     /// `list`: the next number, and the held ones.
     List,
+    /// `reopen`: the store's disk is taken out, and the store found on it again.
+    Reopen,
 }
 
 /// What a line, without its 0x0A, asks for; `None` where it can't be read.
@@ -25,6 +27,7 @@ pub fn read_command(line: &str) -> Option<Command>
     let (name, rest) = first_word(line);
     match rest {
         None if name == "list" => Some(Command::List),
+        None if name == "reopen" => Some(Command::Reopen),
         None => None,
         Some(rest) if name == "format" => Some(Command::Format(geometry(rest)?)),
         Some(rest) => {

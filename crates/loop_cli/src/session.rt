@@ -61,6 +61,35 @@ impl<A: Allocator + Copy> Session<A> {
         Ok(number)
     }
 
+    /// Takes the disk out of the store and finds the store on it again; the frames that were accepted stay so. It answers
+    /// NoMemory or Disk, and then leaves nothing behind. So does a disk that holds no store of this geometry, which is
+    /// refused as NotFormatted, Damaged or BadGeometry.
+    pub fn reopen(self, alloc: A) -> Result<Self, StoreFault> {
+        let Session {
+            geometry,
+            store,
+            group,
+            pixels,
+            accepted,
+        } = self;
+        match Store::open(alloc, store.into_disk()) {
+            Err(OpenRefused { fault, disk: _ }) => Err(fault),
+            Ok(store) => {
+                // The buffers are those of this geometry's frames.
+                if store.geometry() != geometry {
+                    return Err(StoreFault::BadGeometry);
+                }
+                Ok(Session {
+                    geometry,
+                    store,
+                    group,
+                    pixels,
+                    accepted,
+                })
+            }
+        }
+    }
+
     /// Reads a stored frame; its bytes are then in `pixels`. After a refusal these may be any.
     pub fn read(&mut self, number: u64) -> Result<FrameHead, StoreFault> {
         self.store.read(number, &mut self.pixels)

@@ -91,7 +91,7 @@ fn run_script<A: Allocator + Copy, R: BufRead, W: Write>(
     }
 }
 
-// The store of a script, from its first accepted `format` on.
+// The store of a script, from its first accepted `format` on, until a `reopen` is refused.
 #[derive(Drop)]
 struct Simulation<A: Allocator + Copy> {
     alloc: A,
@@ -110,6 +110,7 @@ impl<A: Allocator + Copy> Simulation<A> {
     fn run<W: Write>(&mut self, command: Command, out: &mut W) -> io::Result<()> {
         match (command, &mut self.session) {
             (Command::Format(geometry), _) => self.format(geometry, out),
+            (Command::Reopen, _) => self.reopen(out),
             (_, None) => print_refusal(out, StoreFault::NotFormatted),
             (Command::Store(count), Some(session)) => store(session, count, out),
             (Command::Read(number), Some(session)) => read(session, number, out),
@@ -125,6 +126,20 @@ impl<A: Allocator + Copy> Simulation<A> {
                 self.session = Some(session);
                 writeln!(out, "formatted")
             }
+        }
+    }
+
+    // Opens the store's disk again; refused, it leaves no store.
+    fn reopen<W: Write>(&mut self, out: &mut W) -> io::Result<()> {
+        match self.session.take() {
+            None => print_refusal(out, StoreFault::NotFormatted),
+            Some(session) => match session.reopen(self.alloc) {
+                Err(fault) => print_refusal(out, fault),
+                Ok(session) => {
+                    self.session = Some(session);
+                    writeln!(out, "opened")
+                }
+            },
         }
     }
 }

@@ -1,7 +1,10 @@
 use crate::lines::{BadLine, next_line};
 use crate::program::run_words;
+use crate::session::Session;
 use crate::simulate::simulate;
 use loop_budget::Budget;
+use loop_record::{Geometry, PixelFormat};
+use loop_store::StoreFault;
 use std::alloc::{AllocError, Allocator, Global};
 use std::io;
 use std::io::{Error, ErrorKind, Read, Write};
@@ -11,7 +14,7 @@ use std::test::Fail;
 type Row = (&'static [u8], &'static str, &'static str, u8);
 
 // Scripts that are read to their end.
-static RUNS: [Row; 14] = [
+static RUNS: [Row; 18] = [
     (b"", "", "", 0),
     (
         b"format 4 2 YM12 25:1 3 2\nstore 2\nlist\n",
@@ -19,9 +22,36 @@ static RUNS: [Row; 14] = [
         "",
         0,
     ),
+    // The oldest block goes where there is no room.
     (
-        b"format 4 2 YM12 25:1 3 2\nstore 3\nread 1\n",
-        "formatted\nstored 0..1\nrefused 20 SegmentFull\nframe 1 sequence 1 time 40000 bytes 0102030405060708\n",
+        b"format 4 2 YM12 25:1 3 2\nstore 7\nlist\nread 3\nread 1\n",
+        "formatted\nstored 0..6\nnext 7\nframes 2..6\nframe 3 sequence 3 time 120000 bytes 030405060708090a\nrefused 13 NotHeld\n",
+        "",
+        0,
+    ),
+    (
+        b"format 4 2 YM12 25:1 3 2\nstore 6\nlist\nstore 1\nlist\nstore 2\nlist\n",
+        "formatted\nstored 0..5\nnext 6\nframes 0..5\nstored 6..6\nnext 7\nframes 2..6\nstored 7..8\nnext 9\nframes 4..8\n",
+        "",
+        0,
+    ),
+    // A store that is opened again goes on where it was.
+    (
+        b"format 4 2 YM12 25:1 3 2\nreopen\nstore 1\nreopen\nstore 1\nreopen\nstore 1\nreopen\nstore 1\nreopen\nstore 1\nreopen\nstore 1\nreopen\nstore 1\nlist\nread 3\nread 1\n",
+        "formatted\nopened\nstored 0..0\nopened\nstored 1..1\nopened\nstored 2..2\nopened\nstored 3..3\nopened\nstored 4..4\nopened\nstored 5..5\nopened\nstored 6..6\nnext 7\nframes 2..6\nframe 3 sequence 3 time 120000 bytes 030405060708090a\nrefused 13 NotHeld\n",
+        "",
+        0,
+    ),
+    (
+        b"format 4 2 YM12 25:1 3 2\nstore 7\nreopen\nreopen\nlist\nread 6\n",
+        "formatted\nstored 0..6\nopened\nopened\nnext 7\nframes 2..6\nframe 6 sequence 6 time 240000 bytes 060708090a0b0c0d\n",
+        "",
+        0,
+    ),
+    // There is nothing to open before the first accepted format.
+    (
+        b"reopen\nformat 4 2 YM12 25:1 1 2\nreopen\nlist\n",
+        "refused 4 NotFormatted\nrefused 16 BadGeometry\nrefused 4 NotFormatted\nrefused 4 NotFormatted\n",
         "",
         0,
     ),
@@ -52,10 +82,10 @@ static RUNS: [Row; 14] = [
         "",
         0,
     ),
-    // A refused frame isn't accepted.
+    // The smallest ring: each block has one frame.
     (
-        b"format 4 2 YM12 25:1 3 2\nstore 9\nstore 1\nlist\n",
-        "formatted\nstored 0..1\nrefused 20 SegmentFull\nrefused 20 SegmentFull\nnext 2\nframes 0..1\n",
+        b"format 1 1 GREY 1:1 2 1\nstore 300\nlist\nread 299\nread 297\nreopen\nread 298\n",
+        "formatted\nstored 0..299\nnext 300\nframes 298..299\nframe 299 sequence 299 time 299000000 bytes 2b\nrefused 13 NotHeld\nopened\nframe 298 sequence 298 time 298000000 bytes 2a\n",
         "",
         0,
     ),
@@ -101,7 +131,7 @@ static RUNS: [Row; 14] = [
 ];
 
 // Lines that can't be read, each alone.
-static BAD_LINES: [&[u8]; 33] = [
+static BAD_LINES: [&[u8]; 34] = [
     b"\n",
     b"list\r\n",
     b"list \n",
@@ -123,7 +153,8 @@ static BAD_LINES: [&[u8]; 33] = [
     b"read\n",
     b"read x\n",
     b"read 1 2",
-    b"reopen\n",
+    b"reopen 1\n",
+    b"reopen \n",
     b"flush\n",
     b"submit 1\n",
     b"lock 0 0\n",
@@ -294,14 +325,14 @@ fn a_line_of_4096_bytes_is_read_and_a_longer_one_is_not(rt: HostRuntime) -> Resu
     Ok(())
 }
 
-// The script of the README over an allocator, and what it prints.
+// A script over an allocator, and what it prints.
 fn printed<A: Allocator + Copy>(
     alloc: A,
     home: Global,
 ) -> Result<(u8, Vec<u8>, Vec<u8>), AllocError> {
     let mut out = Vec::new(home);
     let mut err = Vec::new(home);
-    let script = b"format 4 2 YM12 25:1 3 2\nstore 2\nlist\n".as_slice();
+    let script = b"format 4 2 YM12 25:1 3 2\nstore 2\nreopen\nlist\n".as_slice();
     let status = simulate(alloc, script, &mut out, &mut err);
     Ok((status, out, err))
 }
@@ -309,7 +340,7 @@ fn printed<A: Allocator + Copy>(
 #[test]
 fn want_of_memory_is_a_refusal_of_its_line(rt: HostRuntime) -> Result<(), Fail> {
     let budget = Budget::new(rt.alloc());
-    let (mut buffers, mut formats) = (0u32, 0u32);
+    let (mut buffers, mut formats, mut reopens) = (0u32, 0u32, 0u32);
     for blocks in 0..100u64 {
         budget.allow(blocks);
         let (status, out, err) = printed(&budget, rt.alloc())?;
@@ -326,20 +357,67 @@ fn want_of_memory_is_a_refusal_of_its_line(rt: HostRuntime) -> Result<(), Fail> 
             formats = formats.saturating_add(1);
             assert_eq!(rt; status, 0, "{blocks}");
             // A disk in memory fails where its record can't grow.
-            let memory = b"refused 1 NoMemory\nrefused 4 NotFormatted\nrefused 4 NotFormatted\n";
-            let disk = b"refused 2 Disk\nrefused 4 NotFormatted\nrefused 4 NotFormatted\n";
-            let is_memory = out.as_slice() == memory.as_slice();
-            assert!(rt; is_memory || out.as_slice() == disk.as_slice(), "{blocks}");
+            let memory = b"refused 1 NoMemory\n".as_slice();
+            let disk = b"refused 2 Disk\n".as_slice();
+            assert!(rt;
+                out.starts_with(memory) || out.starts_with(disk),
+                "{blocks}"
+            );
+            let none = b"refused 4 NotFormatted\nrefused 4 NotFormatted\nrefused 4 NotFormatted\n";
+            assert!(rt; out.ends_with(none), "{blocks}");
         } else {
             assert_eq!(rt; status, 0, "{blocks}");
+            // A refused reopen leaves no store.
+            if out.ends_with(b"refused 1 NoMemory\nrefused 4 NotFormatted\n") {
+                reopens = reopens.saturating_add(1);
+            }
         }
     }
     assert_eq!(rt; buffers, 3);
     assert!(rt; formats >= 4, "{formats}");
+    assert!(rt; reopens >= 3, "{reopens}");
     budget.allow(1000);
     let (status, out, _) = printed(&budget, rt.alloc())?;
     assert_eq!(rt; status, 0);
-    let all = b"formatted\nstored 0..1\nnext 2\nframes 0..1\n";
+    let all = b"formatted\nstored 0..1\nopened\nnext 2\nframes 0..1\n";
     assert_eq!(rt; out.as_slice(), all.as_slice());
+    Ok(())
+}
+
+#[test]
+fn a_store_that_failed_is_opened_again(rt: HostRuntime) -> Result<(), Fail> {
+    let budget = Budget::new(rt.alloc());
+    budget.allow(1000);
+    let geometry = Geometry {
+        width: 4,
+        height: 2,
+        format: PixelFormat::Ym12,
+        rate_num: 25,
+        rate_den: 1,
+        segments: 3,
+        slots: 2,
+    };
+    let mut session = Session::format(&budget, geometry)?;
+    budget.allow(0);
+    let mut stored = 0;
+    let mut refused = None;
+    for _ in 0..1000 {
+        match session.store_next() {
+            Ok(_) => stored = session.next(),
+            Err(fault) => {
+                refused = Some(fault.number());
+                break;
+            }
+        }
+    }
+    assert_eq!(rt; refused, Some(2));
+    assert_eq!(rt; session.store_next(), Err(StoreFault::MustReopen));
+    budget.allow(1000);
+    let mut session = session.reopen(&budget)?;
+    assert!(rt; session.next() == stored);
+    // The refused frame wasn't accepted, so it is made again.
+    assert_eq!(rt; session.store_next(), Ok(stored));
+    let head = session.read(stored)?;
+    assert_eq!(rt; u64::from(head.sequence), stored);
     Ok(())
 }
