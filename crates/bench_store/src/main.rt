@@ -1,0 +1,151 @@
+//! What `bench/run` times: appends to a ring in memory, and opening a store in a file. It prints only what was done.
+//!
+//!     append WIDTH HEIGHT SEGMENTS SLOTS GROUP GROUPS ROUNDS
+//!
+//! formats a disk in memory for GREY frames, as many rounds, and appends so many groups of GROUP frames each time;
+//!
+//!     open PATH ROUNDS
+//!
+//! opens the store in a file, as many times. Without a word it does nothing.
+#![tactic(auto)]
+
+ghost use Rattle.std.specs.Prelude.{◌≡◌, All, IfOk, IsTrue, length};
+ghost use Rattle.loop_record.specs.Geometry.{frame_bytes, is_good};
+
+use anyhow::{Context, Error, Result, anyhow};
+use loop_disk::{FileDisk, MemDisk};
+use loop_record::{Frame, Geometry, PixelFormat};
+use loop_store::{OpenRefused, Store, StoreFault, format};
+use std::alloc::{AllocError, Global};
+use std::env;
+use std::env::Args;
+use std::fs::File;
+use std::rt::Files;
+
+/// The most frames of a group.
+const MAX_GROUP: usize = 8;
+
+// The refusal of a store, as an error.
+fn refused(fault: StoreFault) -> Error {
+    let name = fault.name();
+    anyhow!("refused {name}")
+}
+
+// The next word, which is a number.
+fn number(words: &mut Args) -> Result<u32> {
+    let word = words.next().context("a number is missing")?;
+    let number = word.parse().context("not a number")?;
+    Ok(number)
+}
+
+// The geometry that the next words name, of one frame a second.
+fn geometry(words: &mut Args) -> Result<Geometry>
+    ensures { IfOk result (λ geometry. IsTrue (is_good geometry)) }
+{
+    let geometry = Geometry {
+        width: number(words)?,
+        height: number(words)?,
+        format: PixelFormat::Grey,
+        rate_num: 1,
+        rate_den: 1,
+        segments: number(words)?,
+        slots: number(words)?,
+    };
+    match geometry.check() {
+        Ok(()) => Ok(geometry),
+        Err(_) => Err(anyhow!("the geometry isn't good")),
+    }
+}
+
+// A group of so many frames, whose bytes are zero.
+fn group_of(alloc: Global, geometry: &Geometry, count: u32) -> Result<Vec<Frame>, AllocError>
+    requires { IsTrue (is_good geometry.now) }
+    ensures { IfOk result (λ group. All (λ frame. length frame.bytes.items ≡ frame_bytes geometry.now) group.items) }
+{
+    let mut group = Vec::new(alloc);
+    for _ in 0..count {
+        group.push(Frame {
+            sequence: 0,
+            flags: 0x2000,
+            timestamp: 0,
+            bytes: vec![in alloc; 0; geometry.frame_bytes() as usize]?,
+        })?;
+    }
+    Ok(group)
+}
+
+// Appends a group so many times.
+fn append_groups(store: &mut Store<MemDisk>, group: &[Frame], groups: u32) -> Result<()>
+    requires { All (λ frame. length frame.bytes.items ≡ frame_bytes store.old.geometry) group.now }
+{
+    for _ in 0..groups {
+        if group.is_empty() || group.len() > MAX_GROUP || group.len() > store.room() as usize {
+            return Err(anyhow!("the group doesn't fit"));
+        }
+        store.append(group).map_err(refused)?;
+    }
+    Ok(())
+}
+
+// Formats a disk in memory and appends a group so many times.
+fn append(alloc: Global, geometry: Geometry, group: &[Frame], groups: u32) -> Result<()>
+    requires good { IsTrue (is_good geometry) }
+    requires sizes { All (λ frame. length frame.bytes.items ≡ frame_bytes geometry) group.now }
+{
+    let disk = MemDisk::new(alloc, geometry.disk_size())?;
+    match format(alloc, disk, geometry) {
+        Err(OpenRefused { fault, disk: _ }) => Err(refused(fault)),
+        Ok(mut store) => append_groups(&mut store, group, groups),
+    }
+}
+
+// Appends as the next words say, and answers how many frames.
+fn run_append(alloc: Global, words: &mut Args) -> Result<u64> {
+    let geometry = geometry(words)?;
+    let group = group_of(alloc, &geometry, number(words)?)?;
+    let groups = number(words)?;
+    let rounds = number(words)?;
+    for _ in 0..rounds {
+        append(alloc, geometry, &group, groups)?;
+    }
+    let frames = u64::from(groups).saturating_mul(group.len() as u64);
+    Ok(frames.saturating_mul(u64::from(rounds)))
+}
+
+// Opens the store in a file, and answers the number that its next frame gets.
+fn open_file(rt: &impl Files<File = File>, alloc: Global, path: &str) -> Result<u64> {
+    let disk = FileDisk::open(rt, path)?;
+    match Store::open(alloc, disk) {
+        Err(OpenRefused { fault, disk: _ }) => Err(refused(fault)),
+        Ok(store) => Ok(store.next()),
+    }
+}
+
+// Opens as the next words say, and answers the number of the next frame.
+fn run_open(rt: &impl Files<File = File>, alloc: Global, words: &mut Args) -> Result<u64> {
+    let path = words.next().context("a path is missing")?;
+    let mut next = 0;
+    for _ in 0..number(words)? {
+        next = open_file(rt, alloc, &path)?;
+    }
+    Ok(next)
+}
+
+fn main(rt: HostRuntime) -> Result<()> {
+    let mut words = env::args(&rt)?;
+    let _program = words.next();
+    match words.next() {
+        None => Ok(()),
+        Some(word) if word.as_str() == "append" => {
+            let frames = run_append(rt.alloc(), &mut words)?;
+            println!(&rt; "appended {frames}")?;
+            Ok(())
+        }
+        Some(word) if word.as_str() == "open" => {
+            let next = run_open(&rt, rt.alloc(), &mut words)?;
+            println!(&rt; "opened, next {next}")?;
+            Ok(())
+        }
+        Some(_) => Err(anyhow!("append or open")),
+    }
+}
