@@ -92,3 +92,14 @@ fn clips_are_listed_by_rising_id(rt: HostRuntime) -> Result<(), Fail> {
     assert!(rt; ClipTable::empty().list(alloc)?.is_empty());
     Ok(())
 }
+
+#[test]
+fn a_table_has_the_clips_that_were_read(rt: HostRuntime) -> Result<(), Fail> {
+    let mut clips = [None; CLIPS];
+    clips[2] = Some(Span { from: 4, to: 9 });
+    let table = ClipTable::of(clips);
+    assert_eq!(rt; table.as_slice(), clips.as_slice());
+    assert_eq!(rt; table.get(2), Some(Span { from: 4, to: 9 }));
+    assert!(rt; table.meets(&SMALL, 4) && !table.meets(&SMALL, 5));
+    Ok(())
+}

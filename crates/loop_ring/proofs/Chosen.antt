@@ -16,13 +16,9 @@ use Rattle.loop_record.proofs.Rising.{Among}
 use Rattle.loop_record.proofs.Victim.{RiseFrom, blocks-rise, RiseFrom-front, FirstOf, find-first, find-none, front-below, below-front}
 use Rattle.loop_ring.specs.Heads.{IsPlaceOf, going_block, held_block, heads_of, is_going, is_of}
 use Rattle.loop_ring.proofs.Heads.{any-index, position-none}
-use Rattle.loop_ring.proofs.Held.{sorted, is_held, held-any, any-held_block}
+use Rattle.loop_ring.proofs.Held.{or_true, sorted, is_held, held-any, any-held_block}
 
 -- ---- the blocks of the headers
-
-or_true : (a c : Bool) → c ≡ true → (a || c) ≡ true
-or_true true c e = refl
-or_true false c e = e
 
 among-headers : (b : ℕ) (hs : List (Option SegmentHead)) → Among b (filter_map held_block hs) → list_any (is_held b) hs ≡ true
 among-headers b [] e = elim e [ ]

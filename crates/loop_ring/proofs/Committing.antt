@@ -1,5 +1,5 @@
 -- What a commit makes of its segment.
-use Rattle.std.proofs.Common.{◌≡◌, ◌⊎◌, inl, inr, ℕ, zero, suc, ◌+◌, ◌-◌, ◌*◌, ◌<◌, ◌≤◌, Bool, true, false, cond, eqb, Option, Some, None, Result, OnOk, List, [], ◌∷◌, ◌++◌, length, take, min, get_or, map, refl, sym, ap, ◌∙◌, subst, arith}
+use Rattle.std.proofs.Common.{◌≡◌, ◌⊎◌, inl, inr, ℕ, zero, suc, ◌+◌, ◌-◌, ◌*◌, ◌<◌, ◌≤◌, Bool, true, false, cond, eqb, Option, Some, None, Result, OnOk, List, [], ◌∷◌, ◌++◌, length, take, get_or, map, refl, sym, ap, ◌∙◌, subst, arith}
 use Rattle.std.proofs.Math.Nat.{mul-le-mul_right, add-mul}
 use Rattle.std.proofs.lemmas.Bool.{cases_lt}
 use Rattle.std.proofs.lemmas.List.{append-nil}
@@ -234,12 +234,6 @@ is_group g number n count frames buffer now n_is count_is same fits slots = reco
       let front : slots_in n (take (count * (32 + n)) now) count ≡ slots_of n number frames = slots_in-take n count now fits ∙ ap (λ (b : List ℕ). slots_in n b count) same ∙ slots in
       subst (λ (k : ℕ). slots_in k (take (count * (32 + n)) now) count ≡ slots_of k number frames) n_is front;
 }
-
--- a buffer with room for 8 slots, or for all of a segment, has room for a group
-pub group_fits : (g : Geometry) (n count room : ℕ) → n ≡ frame_bytes g → count ≤ 8 → count ≤ g.slots → room ≡ min 8 g.slots * slot_size g → count * (32 + n) ≤ room
-group_fits g n count room n_is few most is =
-    let le : count * slot_size g ≤ min 8 g.slots * slot_size g = mul-le-mul_right (slot_size g) (omega (arith, few, most)) in
-    subst (λ (k : ℕ). count * (32 + k) ≤ room) (sym n_is) (omega (arith, le, is))
 
 -- what is written where, and what is known of the disk before
 pub record IsReady (g : Geometry) (j first number : ℕ) (frames : List Picture) (at gate : ℕ) (bytes gates old : List ℕ) : Type 0 where

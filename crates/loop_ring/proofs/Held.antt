@@ -159,7 +159,7 @@ abbrev pub is_held : ℕ → Option SegmentHead → Bool
 is_held b None = false
 is_held b (Some h) = eqb h.block b && ltb 0 h.frames
 
-or_true : (a c : Bool) → c ≡ true → (a || c) ≡ true
+pub or_true : (a c : Bool) → c ≡ true → (a || c) ≡ true
 or_true true c e = refl
 or_true false c e = e
 
@@ -290,7 +290,7 @@ held-number g r image n e =
 
 -- ---- where none is closed
 
-length-in_place : (s : Segment) (ss : List Segment) → length (in_place s ss) ≡ suc (length ss)
+pub length-in_place : (s : Segment) (ss : List Segment) → length (in_place s ss) ≡ suc (length ss)
 length-in_place s [] = refl
 length-in_place s (t ∷ ts) = go (leb s.block t.block) (length-in_place s ts)
   where

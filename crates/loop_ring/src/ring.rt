@@ -1,5 +1,5 @@
 // The ring of a store: its segments, written and read one at a time.
-ghost use Rattle.std.specs.Prelude.{◌≡◌, ◌≢◌, ◌+◌, ◌*◌, ◌<◌, ◌≤◌, ◌^◌, ◌↔◌, ◌∷◌, [], ℕ, IsTrue, All, Err, IfOk, List, None, OnOk, Some, length, min, vec_len};
+ghost use Rattle.std.specs.Prelude.{◌≡◌, ◌≢◌, ◌+◌, ◌*◌, ◌<◌, ◌≤◌, ◌^◌, ◌↔◌, ◌∷◌, [], ℕ, IsTrue, All, Err, IfOk, List, None, OnOk, Some, length, min, vec_capacity};
 ghost use Rattle.loop_disk.specs.Calls.{CountedAny, Stays};
 ghost use Rattle.loop_disk.specs.Medium.{IsSettled, LeavesOnly};
 ghost use Rattle.loop_record.specs.Change.{ShowsSegment};
@@ -26,21 +26,21 @@ pub const MAX_GROUP: usize = 8;
 pub struct Ring<A: Allocator = Global> {
     /// The store's geometry.
     pub geometry: Geometry,
-    // Room for a group's slots, before they are written.
+    // A group's slots, before they are written: it has the memory from the start, and the bytes once they are needed.
     staged: Vec<u8, A>,
     pub ghost good: { IsTrue (is_good geometry) },
-    ghost room: { vec_len staged ≡ min 8 geometry.slots * slot_size geometry },
+    ghost room: { min 8 geometry.slots * slot_size geometry ≤ vec_capacity staged },
 }
 
 impl<A: Allocator> Ring<A> {
     /// A ring of this geometry. It takes the memory of a group's slots, as many as a segment has and at most `MAX_GROUP`,
-    /// and keeps it; no later call takes any.
+    /// and keeps it; no later call takes any. Nothing is written into that memory before the first commit.
     pub fn new(alloc: A, geometry: Geometry) -> Result<Self, AllocError>
         requires good { IsTrue (is_good geometry) }
         ensures { IfOk result (λ ring. ring.geometry ≡ geometry) }
     {
         let slot_size = HEAD_SIZE + geometry.frame_bytes() as usize;
-        let staged = vec![in alloc; 0; MAX_GROUP.min(geometry.slots as usize) * slot_size]?;
+        let staged = Vec::with_capacity(alloc, MAX_GROUP.min(geometry.slots as usize) * slot_size)?;
         Ok(Ring { geometry, staged })
     }
 

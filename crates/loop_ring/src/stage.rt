@@ -1,5 +1,5 @@
 // The slots of a group, put together before they are written.
-ghost use Rattle.std.specs.Prelude.{◌≡◌, ◌+◌, ◌*◌, ◌<◌, ◌≤◌, ◌^◌, ◌∷◌, [], All, length, vec_len};
+ghost use Rattle.std.specs.Prelude.{◌≡◌, ◌+◌, ◌*◌, ◌<◌, ◌≤◌, ◌^◌, ◌∷◌, [], All, length, vec_capacity, vec_len};
 ghost use Rattle.loop_record.specs.Plain.{pictures};
 ghost use Rattle.loop_record.specs.Recording.{picture};
 ghost use Rattle.loop_ring.specs.Writes.{slots_in, slots_of};
@@ -7,9 +7,41 @@ ghost use Rattle.loop_ring.specs.Writes.{slots_in, slots_of};
 use loop_record::{Frame, HEAD_SIZE, encode_slot};
 use std::alloc::Allocator;
 
-/// Puts the slots of frames one behind the other at the front of a buffer, and leaves the rest of it. Their numbers follow
-/// the first one. This is the one copy of the pixels.
+/// Puts the slots of frames one behind the other at the front of a buffer that has the memory for them, and leaves the rest of
+/// it. Their numbers follow the first one. This is the one copy of the pixels.
 pub(crate) fn stage<A: Allocator>(
+    buffer: &mut Vec<u8, A>,
+    frame_bytes: usize,
+    first_number: u64,
+    frames: &[Frame<A>],
+)
+    requires fits { frame_bytes < 2 ^ 32 }
+    requires sizes { All (λ frame. length frame.bytes.items ≡ frame_bytes) frames.now }
+    requires room { length frames.now * (32 + frame_bytes) ≤ vec_capacity buffer.old }
+    requires numbers { first_number + length frames.now ≤ 2 ^ 64 }
+    ensures slots { slots_in frame_bytes buffer.new.items (length frames.now) ≡ slots_of frame_bytes first_number (pictures frames.now) }
+    ensures size { length frames.now * (32 + frame_bytes) ≤ vec_len buffer.new }
+    ensures capacity { vec_capacity buffer.old ≤ vec_capacity buffer.new }
+{
+    lengthen(buffer, frames.len() * (HEAD_SIZE + frame_bytes));
+    stage_slots(buffer, frame_bytes, first_number, frames);
+}
+
+// Sees to it that a buffer has so many bytes, for which it has the memory. Once it has them, nothing is written.
+fn lengthen<A: Allocator>(buffer: &mut Vec<u8, A>, size: usize)
+    requires { size ≤ vec_capacity buffer.old }
+    ensures size { size ≤ vec_len buffer.new }
+    ensures capacity { vec_capacity buffer.old ≤ vec_capacity buffer.new }
+{
+    if buffer.len() < size {
+        match buffer.resize(size, 0) {
+            Ok(()) | Err(_) => (),
+        }
+    }
+}
+
+// Puts the slots of frames one behind the other at the front of a buffer that has the bytes for them.
+fn stage_slots<A: Allocator>(
     buffer: &mut Vec<u8, A>,
     frame_bytes: usize,
     first_number: u64,
@@ -21,6 +53,7 @@ pub(crate) fn stage<A: Allocator>(
     requires numbers { first_number + length frames.now ≤ 2 ^ 64 }
     ensures slots { slots_in frame_bytes buffer.new.items (length frames.now) ≡ slots_of frame_bytes first_number (pictures frames.now) }
     ensures size { vec_len buffer.new ≡ vec_len buffer.old }
+    ensures capacity { vec_capacity buffer.new ≡ vec_capacity buffer.old }
 {
     let slot_size = HEAD_SIZE + frame_bytes;
     for (i, frame) in frames.iter().enumerate() {
@@ -33,7 +66,7 @@ pub(crate) fn stage<A: Allocator>(
     }
 }
 
-/// Puts the slot of one frame at the front of a buffer, and leaves the rest of it.
+/// Puts the slot of one frame at the front of a buffer that has the memory for it, and leaves the rest of it.
 pub(crate) fn stage_one<A: Allocator>(
     buffer: &mut Vec<u8, A>,
     frame_bytes: usize,
@@ -42,10 +75,12 @@ pub(crate) fn stage_one<A: Allocator>(
 )
     requires fits { frame_bytes < 2 ^ 32 }
     requires size { length frame.now.bytes.items ≡ frame_bytes }
-    requires room { 32 + frame_bytes ≤ vec_len buffer.old }
+    requires room { 32 + frame_bytes ≤ vec_capacity buffer.old }
     ensures slots { slots_in frame_bytes buffer.new.items 1 ≡ slots_of frame_bytes number (picture frame.now ∷ []) }
-    ensures size { vec_len buffer.new ≡ vec_len buffer.old }
+    ensures size { 32 + frame_bytes ≤ vec_len buffer.new }
+    ensures capacity { vec_capacity buffer.old ≤ vec_capacity buffer.new }
 {
+    lengthen(buffer, HEAD_SIZE + frame_bytes);
     stage_slot(&mut buffer[0..HEAD_SIZE + frame_bytes], number, frame);
 }
 

@@ -29,7 +29,7 @@ impl<A: Allocator> SegmentTable<A> {
         ensures { IfOk result (λ table. table ≡ replicate segments None) }
     {
         let heads = vec![in alloc; None; segments as usize]?;
-        Ok(SegmentTable { heads })
+        Ok(SegmentTable::of(heads))
     }
 
     /// Segments whose headers were read before, one entry each. It takes no memory.

@@ -391,6 +391,16 @@ fn segments_are_found_by_what_they_hold(rt: HostRuntime) -> Result<(), Fail> {
     Ok(())
 }
 
+#[test]
+fn a_table_has_the_headers_that_were_read(rt: HostRuntime) -> Result<(), Fail> {
+    let heads = [open(3, 1), None, open(2, 2)];
+    let table = SegmentTable::of(Vec::from_slice(rt.alloc(), &heads)?);
+    assert_eq!(rt; table.as_slice(), heads.as_slice());
+    assert_eq!(rt; table.find(2), Some(2));
+    assert!(rt; SegmentTable::of(Vec::new(rt.alloc())).as_slice().is_empty());
+    Ok(())
+}
+
 // The block that goes where the headers of three segments of two slots say this, and its segment.
 fn goes(
     alloc: Global,

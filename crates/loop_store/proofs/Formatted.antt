@@ -1,5 +1,5 @@
 -- What formatting leaves of a disk, read.
-use Rattle.std.proofs.Common.{◌≡◌, ◌⊎◌, inl, inr, ⊎_elim, ℕ, ◌+◌, ◌-◌, ◌<◌, ◌≤◌, Bool, true, false, cond, eqb, leb, Result, OnOk, Err, List, [], ◌∷◌, length, take, drop, get_or, refl, sym, ap, ◌∙◌, subst, arith}
+use Rattle.std.proofs.Common.{◌≡◌, ◌⊎◌, inl, inr, ℕ, ◌+◌, ◌-◌, ◌<◌, ◌≤◌, Bool, true, false, cond, eqb, leb, Result, OnOk, Err, List, [], ◌∷◌, length, take, drop, get_or, refl, sym, ap, ◌∙◌, subst, arith}
 use Rattle.std.proofs.lemmas.Bool.{cases_lt}
 use Rattle.std.proofs.lemmas.List.{ext_get_or, get_or-take, get_or-drop, length-take}
 use Rattle.std.proofs.lemmas.Result.{on_ok_weaker}
@@ -9,7 +9,7 @@ use Rattle.loop_disk.specs.Calls.{Stays}
 use Rattle.loop_disk.specs.Medium.{Medium, IsSound, IsSettled, LeavesOnly, SameOutside, written}
 use Rattle.loop_disk.specs.Steps.{Stores}
 use Rattle.loop_disk.proofs.Images.{get_or-written_there, written_outside}
-use Rattle.loop_disk.proofs.Moments.{started, goes_on, weaker, stored}
+use Rattle.loop_disk.proofs.Moments.{started, goes_on, stored}
 use Rattle.loop_record.specs.declared.damage.LayoutFault.TheVariants.{NotFormatted}
 use Rattle.loop_record.specs.declared.geometry.Geometry.{Geometry}
 use Rattle.loop_record.specs.declared.geometry.PixelFormat.{PixelFormat}
@@ -19,7 +19,7 @@ use Rattle.loop_record.specs.Layout.{checked_geometry, format_at, has_bytes, is_
 use Rattle.loop_record.specs.Reading.{IsFresh, contents, reading}
 use Rattle.loop_record.proofs.Decided.{equal}
 use Rattle.loop_record.proofs.Fresh.{reading-fresh}
-use Rattle.loop_store.specs.Formatted.{AreClosed, IsClosed, IsLaid, NoneOrEmpty, WasOrClosed, WasOrEmpty}
+use Rattle.loop_store.specs.Formatted.{AreClosed, IsClosed, IsLaid, NoneOrEmpty}
 
 -- behind a closed gate nothing is formatted
 pub closed-none : (image : List ℕ) → IsClosed image → reading image ≡ Err NotFormatted
@@ -83,15 +83,6 @@ opening-fresh g old new r laid stores =
     on_ok_weaker r (λ (done : new.bytes ≡ written 0 (165 ∷ []) old.bytes). subst (λ (image : List ℕ). IsFresh g image) (sym done) (opened-fresh g old.bytes (written 0 (165 ∷ []) old.bytes) laid (written_outside 0 (165 ∷ []) old.bytes fits) (ap (λ (b : ℕ). eqb b 165) gate))) stores.done
 
 -- ---- the whole
-
-pub was-weaker : (g : Geometry) (old new : Medium) → LeavesOnly old new (WasOrClosed old) → LeavesOnly old new (WasOrEmpty g old)
-was-weaker g old new run = weaker old new _ _ run (λ c either. ⊎_elim (λ (was : old.may_leave c). inl was) (λ (closed : IsClosed c). inr (inl (closed-none c closed))) either)
-
-pub closed-weaker : (g : Geometry) (start old new : Medium) → LeavesOnly old new IsClosed → LeavesOnly old new (WasOrEmpty g start)
-closed-weaker g start old new run = weaker old new _ _ run (λ c closed. inr (inl (closed-none c closed)))
-
-pub none-weaker : (g : Geometry) (start old new : Medium) → LeavesOnly old new (NoneOrEmpty g) → LeavesOnly old new (WasOrEmpty g start)
-none-weaker g start old new run = weaker old new _ _ run (λ c either. inr either)
 
 -- a sync behind a closed gate
 pub sync-none : (size : ℕ) (g : Geometry) (old new : Medium) → IsSound size old → AreClosed old → Stays old new → LeavesOnly old new (NoneOrEmpty g)

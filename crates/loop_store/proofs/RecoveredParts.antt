@@ -1,6 +1,5 @@
 -- What a read of each part of a disk says of its image.
-use Rattle.std.proofs.Common.{◌≡◌, ℕ, ◌+◌, ◌-◌, ◌*◌, ◌<◌, ◌≤◌, Bool, true, false, cond, leb, IsTrue, IsErrAnd, Option, Some, None, Result, Ok, Err, List, [], ◌∷◌, ◌++◌, length, take, drop, get_or, map, refl, sym, ap, ◌∙◌, subst, arith}
-use Rattle.std.specs.Prelude.{◌||◌}
+use Rattle.std.proofs.Common.{◌≡◌, ℕ, ◌+◌, ◌-◌, ◌*◌, ◌<◌, ◌≤◌, Bool, true, false, cond, IsTrue, IsErrAnd, Option, Some, None, Result, Ok, Err, List, [], ◌∷◌, ◌++◌, length, take, drop, get_or, map, refl, sym, ap, ◌∙◌, subst, arith}
 use Rattle.std.specs.List.{list_any, range_with_len}
 use Rattle.loop_disk.specs.Medium.{piece}
 use Rattle.loop_record.specs.declared.clip.Span.{Span}
@@ -12,8 +11,8 @@ use Rattle.loop_record.specs.declared.image.Found.{Found}
 use Rattle.loop_record.specs.declared.segment.SegmentHead.{SegmentHead}
 use Rattle.loop_record.specs.Geometry.{frame_bytes, is_good, segment_at, slot_at}
 use Rattle.loop_record.specs.Layout.{Segment, Slot, open_gates, checked_header, geometry_in, header_at, is_open, is_slot_of, is_too_high, segment_in, slot_head, slot_in, whole_frames}
-use Rattle.loop_record.specs.Plain.{AreIn, IsIn, IsSomeHigh, found_of, lacks_number, segment_of, segments_of, table_clips, with_segment}
-use Rattle.loop_record.specs.Reading.{by_block, hold_from, in_place, is_bad_slot, is_high, opened, parts_of, reading}
+use Rattle.loop_record.specs.Plain.{AreIn, IsSomeHigh, found_of, lacks_number, segment_of, segments_of, table_clips, with_segment}
+use Rattle.loop_record.specs.Reading.{by_block, hold_from, is_bad_slot, is_high, opened, parts_of, reading}
 use Rattle.std.proofs.lemmas.List.{length-map, map-append}
 use Rattle.loop_record.proofs.Gates.{range_append}
 use Rattle.loop_record.proofs.Bounds.{limits}
@@ -24,6 +23,7 @@ use Rattle.loop_record.proofs.HeldNumbers.{bad-lacks, clips-table}
 use Rattle.loop_record.proofs.Readings.{get_or-map_range}
 use Rattle.loop_record.specs.Recording.{head}
 use Rattle.byteorder.specs.Endian.{little_from}
+use Rattle.loop_ring.proofs.Held.{length-in_place}
 use Rattle.loop_ring.proofs.SlotReads.{head_read}
 use Rattle.loop_store.specs.declared.fault.StoreFault.{StoreFault}
 use Rattle.loop_ring.specs.Heads.{heads_of}
@@ -177,21 +177,13 @@ order-more g image heads done head d old new are l is placed so_far =
     let there : segment_said g image j head ≡ segment_in g image j = ap (segment_said g image j) said ∙ sym (segment-said g image j) in
     placed ∙ (λ i. with_segment (there i) (so_far i)) ∙ sym (opened-more g image done l)
 
-at_most_more : (s : Segment) (ss : List Segment) → length (in_place s ss) ≤ length ss + 1
-at_most_more s [] = omega arith
-at_most_more s (t ∷ ts) = go (leb s.block t.block) (at_most_more s ts)
-  where
-    go : (c : Bool) → length (in_place s ts) ≤ length ts + 1 → length (cond c (s ∷ t ∷ ts) (t ∷ in_place s ts)) ≤ length (t ∷ ts) + 1
-    go true l = omega arith
-    go false l = omega (arith, l)
-
 -- at most one more than before
 pub order-count : (g : Geometry) (image : List ℕ) (o : Option Segment) (old new : List Found) (done : ℕ) → segments_of g image new ≡ with_segment o (segments_of g image old) → length old ≤ done → length new ≤ done + 1
 order-count g image o old new done placed few = omega (arith, length-map new (segment_of g image), length-map old (segment_of g image), ap (λ (ss : List Segment). length ss) placed, go o, few)
   where
     go : (o : Option Segment) → length (with_segment o (segments_of g image old)) ≤ length (segments_of g image old) + 1
     go None = omega arith
-    go (Some s) = at_most_more s (segments_of g image old)
+    go (Some s) = omega (arith, length-in_place s (segments_of g image old))
 
 -- a slot that was refused, in an image that is as it was
 pub slots-wrong : (g : Geometry) (image mid : List ℕ) (f : Found) (i number : ℕ) → mid ≡ image → number ≡ f.block * g.slots + i → i < f.frames → is_slot_of (frame_bytes g) number (slot_in (frame_bytes g) mid (slot_at g f.segment i)) ≡ false
@@ -212,15 +204,3 @@ table-bad g image table fs t good within read e = bad-lacks g image fs t (limits
 
 pub table-read : (image table : List ℕ) (clips : List (Option Span)) → table ≡ piece 512 2048 image → clips ≡ table_clips table → clips ≡ clips_of image
 table-read image table clips read are = are ∙ ap table_clips read ∙ clips-table image
-
--- ---- a segment and the others
-
-pub AreIn-first : (g : Geometry) (all xs : List Found) (x : Found) → all ≡ x ∷ xs → AreIn g all → IsIn g x × AreIn g xs
-AreIn-first g all xs x is h = subst (AreIn g) is h
-
-pub bad-first : (g : Geometry) (image : List ℕ) (all xs : List Found) (x : Found) → all ≡ x ∷ xs → is_bad_slot g (segment_of g image x) ≡ true → list_any (is_bad_slot g) (segments_of g image all) ≡ true
-bad-first g image all xs x is e = ap (λ (ys : List Found). list_any (is_bad_slot g) (segments_of g image ys)) is ∙ (λ i. e i || list_any (is_bad_slot g) (segments_of g image xs))
-
-pub bad-others : (g : Geometry) (image mid : List ℕ) (all xs : List Found) (x : Found) (t : Bool) → all ≡ x ∷ xs → mid ≡ image → is_bad_slot g (segment_of g image x) ≡ false → list_any (is_bad_slot g) (segments_of g mid xs) ≡ t → list_any (is_bad_slot g) (segments_of g image all) ≡ t
-bad-others g image mid all xs x t is same e rest =
-    ap (λ (ys : List Found). list_any (is_bad_slot g) (segments_of g image ys)) is ∙ (λ i. e i || list_any (is_bad_slot g) (segments_of g (sym same i) xs)) ∙ rest

@@ -129,12 +129,6 @@ pub retired-held_or : (g : Geometry) (r : Recording) (b j : ℕ) (old c : List �
 retired-held_or g r b j old c held l chosen is (inl same) = record { count = 0; enough = omega arith; few = omega arith; held = reading-same g r old c j held l same }
 retired-held_or g r b j old c held l chosen is (inr shows) = record { count = 1; enough = omega arith; few = omega arith; held = retired-held g r b j old c held l chosen is shows }
 
-pub old-there : (g : Geometry) (next b j : ℕ) (image : List ℕ) → IsOldFor g next b j image → segment_in g image j ≢ None
-old-there g next b j image is none = clash (sym is.there ∙ none)
-  where
-    clash : Some is.segment ≡ None → ⊥
-    clash e = absurd cc
-
 set_again : {X : Type 0} (xs : List X) (j : ℕ) (x y : X) → set (set xs j x) j y ≡ set xs j y
 set_again [] j x y = refl
 set_again (z ∷ xs) zero x y = refl

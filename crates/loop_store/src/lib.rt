@@ -7,6 +7,7 @@
 //! - `reopen`: finds the recording on a disk again; `recover` and `found`: what a disk's image reads as;
 //! - `store`: the store and its calls; `place`: where an append goes; `grow`: what it writes there; `look`: what is read;
 //! - `command`: lists of commands, and the replies;
+//! - `laws`: what calls leave, one after the other;
 //! - `fault`: the refusals, with their numbers and names.
 #![tactic(auto)]
 
@@ -15,6 +16,7 @@ mod fault;
 mod found;
 mod fresh;
 mod grow;
+pub mod laws;
 mod look;
 mod make;
 mod place;
