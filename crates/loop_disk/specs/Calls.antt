@@ -1,5 +1,5 @@
 -- What the calls of an honest disk do, and what is counted on every disk.
-use Rattle.std.specs.Prelude.{◌≡◌, ℕ, ◌+◌, ◌-◌, ◌^◌, min, max, List, length, Result, MatchResult, OnOk}
+use Rattle.std.specs.Prelude.{◌≡◌, ℕ, ◌+◌, ◌-◌, ◌^◌, min, max, List, length, Option, Some, Result, Ok, Err, MatchResult, OnOk}
 use Rattle.loop_disk.specs.declared.fault.DiskFault.{DiskFault}
 use Rattle.loop_disk.specs.Medium.{Medium, written, SameOutside, TornAt, Only, Elapses}
 
@@ -14,6 +14,11 @@ Counted fault before now result = MatchResult result (λ _. now ≡ before) (λ 
 -- One of a function's calls failed, which is counted, or none did.
 abbrev pub CountedAny : {T : Type 0} → ℕ → ℕ → Result T DiskFault → Type 0
 CountedAny before now result = MatchResult result (λ _. now ≡ before) (λ _. now ≡ one_more before)
+
+-- the kind of the newest failed call, after a call or a run of calls with this answer
+abbrev pub newest_after : {T : Type 0} → Option DiskFault → Result T DiskFault → Option DiskFault
+newest_after before (Ok x) = before
+newest_after before (Err fault) = Some fault
 
 -- the disk is as it was, though time went on
 pub record Stays (old new : Medium) : Type 0 where

@@ -1,8 +1,9 @@
 // A disk of fixed size: what its calls do, and what a crash may leave.
-ghost use Rattle.std.specs.Prelude.{◌≡◌, ◌+◌, ◌≤◌, ◌↔◌, ℕ, List, length, OnOk};
+ghost use Rattle.std.specs.Prelude.{◌≡◌, ◌+◌, ◌≤◌, ◌↔◌, ℕ, List, Option, length, OnOk};
 ghost use Rattle.loop_disk.specs.declared.fault.DiskFault.TheVariants.{Read, Write, Sync};
+ghost use Rattle.loop_disk.specs.declared.fault.DiskFault.{DiskFault};
 ghost use Rattle.loop_disk.specs.Medium.{Medium, piece, IsSound};
-ghost use Rattle.loop_disk.specs.Calls.{Counted, Stays, Writes, Syncs};
+ghost use Rattle.loop_disk.specs.Calls.{Counted, Stays, Writes, Syncs, newest_after};
 
 use crate::DiskFault;
 
@@ -11,8 +12,8 @@ use crate::DiskFault;
 /// What is written may be lost in part until a sync has answered Ok: a crash leaves any bytes in each range written since
 /// the last such sync, and the present bytes elsewhere. A crash may come before, within or after a call.
 ///
-/// What `read`, `write_at` and `sync` say of bytes and images holds of an honest disk. The count of failed calls, the size,
-/// and that honesty is neither gained nor lost, hold of every disk.
+/// What `read`, `write_at` and `sync` say of bytes and images holds of an honest disk. The count of failed calls, the kind
+/// of the newest of them, the size, and that honesty is neither gained nor lost, hold of every disk.
 pub trait Disk {
     /// How many bytes it has.
     ghost extent: { Self → ℕ };
@@ -26,6 +27,9 @@ pub trait Disk {
     /// How many calls have failed; the count stops at 2^64 - 1.
     ghost faults: { Self → ℕ };
 
+    /// The kind of the newest call that failed, if one has.
+    ghost newest_fault: { Self → Option DiskFault };
+
     /// How many bytes it has. This isn't counted as a call, and can't fail.
     fn size(&self) -> u64
         ensures { result ≡ extent self.now };
@@ -36,6 +40,7 @@ pub trait Disk {
         ensures read { honest self.old → OnOk result (buf.new ≡ piece at (length buf.old) (medium self.old).bytes) }
         ensures disk { honest self.old → Stays (medium self.old) (medium self.new) }
         ensures counted { Counted Read (faults self.old) (faults self.new) result }
+        ensures newest { newest_fault self.new ≡ newest_after (newest_fault self.old) result }
         ensures extent { extent self.new ≡ extent self.old }
         ensures honest { honest self.old ↔ honest self.new };
 
@@ -45,6 +50,7 @@ pub trait Disk {
         requires { at + length bytes.now ≤ extent self.old }
         ensures disk { honest self.old → Writes at bytes.now (medium self.old) (medium self.new) result }
         ensures counted { Counted Write (faults self.old) (faults self.new) result }
+        ensures newest { newest_fault self.new ≡ newest_after (newest_fault self.old) result }
         ensures extent { extent self.new ≡ extent self.old }
         ensures honest { honest self.old ↔ honest self.new };
 
@@ -52,6 +58,7 @@ pub trait Disk {
     fn sync(&mut self) -> Result<(), DiskFault>
         ensures disk { honest self.old → Syncs (medium self.old) (medium self.new) result }
         ensures counted { Counted Sync (faults self.old) (faults self.new) result }
+        ensures newest { newest_fault self.new ≡ newest_after (newest_fault self.old) result }
         ensures extent { extent self.new ≡ extent self.old }
         ensures honest { honest self.old ↔ honest self.new };
 

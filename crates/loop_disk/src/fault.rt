@@ -1,3 +1,6 @@
+ghost use Rattle.std.specs.Prelude.{◌≡◌};
+ghost use Rattle.loop_disk.specs.Calls.{newest_after};
+
 use thiserror::Error;
 
 /// The call of a disk that failed.
@@ -9,4 +12,18 @@ pub enum DiskFault {
     Write,
     #[error("a sync failed")]
     Sync,
+}
+
+/// Hands on the answer of a call, and notes its kind if it failed.
+pub(crate) fn note(
+    newest: &mut Option<DiskFault>,
+    outcome: Result<(), DiskFault>,
+) -> Result<(), DiskFault>
+    ensures same { result ≡ outcome }
+    ensures newest { newest.new ≡ newest_after newest.old outcome }
+{
+    if let Err(fault) = outcome {
+        *newest = Some(fault);
+    }
+    outcome
 }

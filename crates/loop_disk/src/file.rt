@@ -1,6 +1,6 @@
 // A disk over a file. No contract says what the file holds: its disk is never called honest.
 ghost use Rattle.std.specs.Prelude.{◌≡◌, IfOk};
-ghost use Rattle.loop_disk.specs.Calls.{Counted};
+ghost use Rattle.loop_disk.specs.Calls.{Counted, newest_after};
 ghost use Rattle.loop_disk.specs.History.{unknown};
 
 use crate::{Disk, DiskFault};
@@ -55,6 +55,7 @@ pub struct FileDisk<F = File> {
     file: F,
     size: u64,
     failed: u64,
+    newest_fault: Option<DiskFault>,
 }
 
 impl FileDisk {
@@ -79,6 +80,7 @@ impl FileDisk {
             file,
             size,
             failed: 0,
+            newest_fault: None,
         })
     }
 
@@ -128,18 +130,21 @@ impl<F: OpenFile + FileExt + Drop> FileDisk<F> {
             file,
             size,
             failed: 0,
+            newest_fault: None,
         })
     }
 
     // Counts a call that failed.
     fn count(&mut self, outcome: io::Result<()>, fault: DiskFault) -> Result<(), DiskFault>
         ensures counted { Counted fault self.old.failed self.new.failed result }
+        ensures newest { self.new.newest_fault ≡ newest_after self.old.newest_fault result }
         ensures size { self.new.size ≡ self.old.size }
     {
         match outcome {
             Ok(()) => Ok(()),
             Err(_) => {
                 self.failed = self.failed.saturating_add(1);
+                self.newest_fault = Some(fault);
                 Err(fault)
             }
         }
@@ -154,6 +159,8 @@ impl<F: OpenFile + FileExt + Drop> Disk for FileDisk<F> {
     ghost honest = { λ disk. ⊥ };
 
     ghost faults = { λ disk. disk.failed };
+
+    ghost newest_fault = { λ disk. disk.newest_fault };
 
     ghost sound = { λ disk honest. absurd honest };
 

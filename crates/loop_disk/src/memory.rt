@@ -3,7 +3,7 @@ ghost use Rattle.std.specs.Prelude.{◌≡◌, ◌≤◌, ◌+◌, ◌++◌, [],
 ghost use Rattle.loop_disk.specs.declared.entry.Entry.TheVariants.{Wrote, Synced};
 ghost use Rattle.loop_disk.specs.declared.fault.DiskFault.TheVariants.{Read, Write, Sync};
 ghost use Rattle.loop_disk.specs.Medium.{written, piece, IsFresh, IsSame, LeavesEachTorn};
-ghost use Rattle.loop_disk.specs.Calls.{Counted, Stays, Writes, Syncs};
+ghost use Rattle.loop_disk.specs.Calls.{Counted, Stays, Writes, Syncs, newest_after};
 ghost use Rattle.loop_disk.specs.History.{is_loose, medium_of};
 ghost use Rattle.loop_disk.specs.Sound.{sound_of};
 
@@ -22,6 +22,7 @@ pub struct MemDisk<A: Allocator = Global> {
     entries: Vec<Entry, A>,
     kept: Vec<u8, A>,
     failed: u64,
+    newest_fault: Option<DiskFault>,
 }
 
 impl<A: Allocator + Copy> MemDisk<A> {
@@ -47,6 +48,7 @@ impl<A: Allocator + Copy> MemDisk<A> {
             entries: Vec::new(alloc),
             kept: Vec::new(alloc),
             failed: 0,
+            newest_fault: None,
         }
     }
 
@@ -76,6 +78,8 @@ impl<A: Allocator + Copy> Disk for MemDisk<A> {
 
     ghost faults = { λ disk. disk.failed };
 
+    ghost newest_fault = { λ disk. disk.newest_fault };
+
     ghost sound = { λ disk honest. sound_of (reverse disk.entries.items) disk.kept.items disk.bytes.items };
 
     fn size(&self) -> u64 {
@@ -90,6 +94,7 @@ impl<A: Allocator + Copy> Disk for MemDisk<A> {
         ensures disk { ⟦<MemDisk<A> as Disk>⟧.honest self.old → Stays (⟦<MemDisk<A> as Disk>⟧.medium self.old) (⟦<MemDisk<A> as Disk>⟧.medium self.new) }
         ensures same { IsSame (⟦<MemDisk<A> as Disk>⟧.medium self.old) (⟦<MemDisk<A> as Disk>⟧.medium self.new) }
         ensures counted { Counted Read (⟦<MemDisk<A> as Disk>⟧.faults self.old) (⟦<MemDisk<A> as Disk>⟧.faults self.new) result }
+        ensures newest { ⟦<MemDisk<A> as Disk>⟧.newest_fault self.new ≡ newest_after (⟦<MemDisk<A> as Disk>⟧.newest_fault self.old) result }
         ensures extent { ⟦<MemDisk<A> as Disk>⟧.extent self.new ≡ ⟦<MemDisk<A> as Disk>⟧.extent self.old }
         ensures honest { ⟦<MemDisk<A> as Disk>⟧.honest self.old ↔ ⟦<MemDisk<A> as Disk>⟧.honest self.new }
     {
@@ -106,6 +111,7 @@ impl<A: Allocator + Copy> Disk for MemDisk<A> {
         ensures torn { OnOk result (LeavesEachTorn at (length bytes.now) (⟦<MemDisk<A> as Disk>⟧.medium self.old) (⟦<MemDisk<A> as Disk>⟧.medium self.new)) }
         ensures failed { OnErr result (IsSame (⟦<MemDisk<A> as Disk>⟧.medium self.old) (⟦<MemDisk<A> as Disk>⟧.medium self.new)) }
         ensures counted { Counted Write (⟦<MemDisk<A> as Disk>⟧.faults self.old) (⟦<MemDisk<A> as Disk>⟧.faults self.new) result }
+        ensures newest { ⟦<MemDisk<A> as Disk>⟧.newest_fault self.new ≡ newest_after (⟦<MemDisk<A> as Disk>⟧.newest_fault self.old) result }
         ensures extent { ⟦<MemDisk<A> as Disk>⟧.extent self.new ≡ ⟦<MemDisk<A> as Disk>⟧.extent self.old }
         ensures honest { ⟦<MemDisk<A> as Disk>⟧.honest self.old ↔ ⟦<MemDisk<A> as Disk>⟧.honest self.new }
     {
@@ -119,6 +125,7 @@ impl<A: Allocator + Copy> Disk for MemDisk<A> {
             Ok(()) => Ok(()),
             Err(_) => {
                 self.failed = self.failed.saturating_add(1);
+                self.newest_fault = Some(DiskFault::Write);
                 Err(DiskFault::Write)
             }
         }
@@ -129,6 +136,7 @@ impl<A: Allocator + Copy> Disk for MemDisk<A> {
         ensures disk { ⟦<MemDisk<A> as Disk>⟧.honest self.old → Syncs (⟦<MemDisk<A> as Disk>⟧.medium self.old) (⟦<MemDisk<A> as Disk>⟧.medium self.new) result }
         ensures failed { OnErr result (IsSame (⟦<MemDisk<A> as Disk>⟧.medium self.old) (⟦<MemDisk<A> as Disk>⟧.medium self.new)) }
         ensures counted { Counted Sync (⟦<MemDisk<A> as Disk>⟧.faults self.old) (⟦<MemDisk<A> as Disk>⟧.faults self.new) result }
+        ensures newest { ⟦<MemDisk<A> as Disk>⟧.newest_fault self.new ≡ newest_after (⟦<MemDisk<A> as Disk>⟧.newest_fault self.old) result }
         ensures extent { ⟦<MemDisk<A> as Disk>⟧.extent self.new ≡ ⟦<MemDisk<A> as Disk>⟧.extent self.old }
         ensures honest { ⟦<MemDisk<A> as Disk>⟧.honest self.old ↔ ⟦<MemDisk<A> as Disk>⟧.honest self.new }
     {
@@ -136,6 +144,7 @@ impl<A: Allocator + Copy> Disk for MemDisk<A> {
             Ok(()) => Ok(()),
             Err(_) => {
                 self.failed = self.failed.saturating_add(1);
+                self.newest_fault = Some(DiskFault::Sync);
                 Err(DiskFault::Sync)
             }
         }

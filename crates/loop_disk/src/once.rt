@@ -2,9 +2,10 @@
 ghost use Rattle.std.specs.Prelude.{◌≡◌, ◌+◌, ◌-◌, ◌^◌, ◌≤◌, ◌↔◌, ℕ, min, length, take, true, false, OnOk, IsErr, Some, None};
 ghost use Rattle.loop_disk.specs.declared.fault.DiskFault.TheVariants.{Read, Write, Sync};
 ghost use Rattle.loop_disk.specs.Medium.{piece, written};
-ghost use Rattle.loop_disk.specs.Calls.{Counted, CountedAny, Stays, Writes, Syncs};
+ghost use Rattle.loop_disk.specs.Calls.{Counted, CountedAny, Stays, Writes, Syncs, newest_after};
 ghost use Rattle.loop_disk.specs.Failing.{FailsOrPasses, IsTorn, Tears, is_due, left_after};
 
+use crate::fault::note;
 use crate::{Disk, DiskFault};
 
 /// Fails one call in the place of the disk beneath it, and passes all others. `size` isn't counted as a call.
@@ -18,6 +19,8 @@ pub struct OnceDisk<D> {
     pub torn: Option<usize>,
     /// How many calls it has failed itself; the count stops at 2^64 - 1.
     pub failed: u64,
+    /// The kind of the newest call that failed, here or in the disk beneath.
+    pub newest_fault: Option<DiskFault>,
 }
 
 impl<D> OnceDisk<D> {
@@ -27,12 +30,14 @@ impl<D> OnceDisk<D> {
         ensures left { result.left ≡ Some call }
         ensures torn { result.torn ≡ None }
         ensures failed { result.failed ≡ 0 }
+        ensures newest { result.newest_fault ≡ None }
     {
         OnceDisk {
             inner,
             left: Some(call),
             torn: None,
             failed: 0,
+            newest_fault: None,
         }
     }
 
@@ -43,12 +48,14 @@ impl<D> OnceDisk<D> {
         ensures left { result.left ≡ Some call }
         ensures torn { result.torn ≡ Some keep }
         ensures failed { result.failed ≡ 0 }
+        ensures newest { result.newest_fault ≡ None }
     {
         OnceDisk {
             inner,
             left: Some(call),
             torn: Some(keep),
             failed: 0,
+            newest_fault: None,
         }
     }
 
@@ -61,6 +68,7 @@ impl<D> OnceDisk<D> {
             left: _,
             torn: _,
             failed: _,
+            newest_fault: _,
         } = self;
         inner
     }
@@ -72,6 +80,7 @@ impl<D> OnceDisk<D> {
         ensures inner { self.new.inner ≡ self.old.inner }
         ensures torn { self.new.torn ≡ self.old.torn }
         ensures failed { self.new.failed ≡ self.old.failed }
+        ensures newest { self.new.newest_fault ≡ self.old.newest_fault }
     {
         let due = self.left == Some(0);
         self.left = match self.left {
@@ -85,9 +94,10 @@ impl<D> OnceDisk<D> {
     fn fail(&mut self, fault: DiskFault) -> Result<(), DiskFault>
         ensures counted { Counted fault self.old.failed self.new.failed result }
         ensures failed { IsErr result }
-        ensures rest { self.new ≡ record self.old { failed = self.new.failed } }
+        ensures rest { self.new ≡ record self.old { failed = self.new.failed; newest_fault = Some fault } }
     {
         self.failed = self.failed.saturating_add(1);
+        self.newest_fault = Some(fault);
         Err(fault)
     }
 }
@@ -101,6 +111,8 @@ impl<D: Disk> Disk for OnceDisk<D> {
 
     ghost faults = { λ once. min (once.failed + D.faults once.inner) (2 ^ 64 - 1) };
 
+    ghost newest_fault = { λ once. once.newest_fault };
+
     ghost sound = { λ once honest. D.sound once.inner honest };
 
     fn size(&self) -> u64 {
@@ -112,6 +124,7 @@ impl<D: Disk> Disk for OnceDisk<D> {
         ensures read { D.honest self.old.inner → OnOk result (buf.new ≡ piece at (length buf.old) (D.medium self.old.inner).bytes) }
         ensures disk { D.honest self.old.inner → Stays (D.medium self.old.inner) (D.medium self.new.inner) }
         ensures counted { Counted Read (⟦<OnceDisk<D> as Disk>⟧.faults self.old) (⟦<OnceDisk<D> as Disk>⟧.faults self.new) result }
+        ensures newest { ⟦<OnceDisk<D> as Disk>⟧.newest_fault self.new ≡ newest_after (⟦<OnceDisk<D> as Disk>⟧.newest_fault self.old) result }
         ensures which { FailsOrPasses D.faults Read (is_due self.old.left) self.old.inner self.new.inner result }
         ensures left { self.new.left ≡ left_after self.old.left }
         ensures torn { self.new.torn ≡ self.old.torn }
@@ -121,13 +134,15 @@ impl<D: Disk> Disk for OnceDisk<D> {
         if self.counts_down() {
             return self.fail(DiskFault::Read);
         }
-        self.inner.read(at, buf)
+        let outcome = self.inner.read(at, buf);
+        note(&mut self.newest_fault, outcome)
     }
 
     fn write_at(&mut self, at: u64, bytes: &[u8]) -> Result<(), DiskFault>
         requires { at + length bytes.now ≤ D.extent self.old.inner }
         ensures disk { D.honest self.old.inner → Writes at bytes.now (D.medium self.old.inner) (D.medium self.new.inner) result }
         ensures counted { Counted Write (⟦<OnceDisk<D> as Disk>⟧.faults self.old) (⟦<OnceDisk<D> as Disk>⟧.faults self.new) result }
+        ensures newest { ⟦<OnceDisk<D> as Disk>⟧.newest_fault self.new ≡ newest_after (⟦<OnceDisk<D> as Disk>⟧.newest_fault self.old) result }
         ensures passes { is_due self.old.left ≡ false → Counted Write (D.faults self.old.inner) (D.faults self.new.inner) result }
         ensures untouched { is_due self.old.left ≡ true → self.old.torn ≡ None → self.new.inner ≡ self.old.inner }
         ensures fails { is_due self.old.left ≡ true → IsErr result }
@@ -138,8 +153,11 @@ impl<D: Disk> Disk for OnceDisk<D> {
         ensures honest { D.honest self.old.inner ↔ D.honest self.new.inner }
     {
         if !self.counts_down() {
-            return self.inner.write_at(at, bytes);
+            let outcome = self.inner.write_at(at, bytes);
+            return note(&mut self.newest_fault, outcome);
         }
+        // It fails as a write, torn or not.
+        self.newest_fault = Some(DiskFault::Write);
         if let Some(keep) = self.torn {
             tear(&mut self.inner, at, bytes, keep)?;
         }
@@ -149,6 +167,7 @@ impl<D: Disk> Disk for OnceDisk<D> {
     fn sync(&mut self) -> Result<(), DiskFault>
         ensures disk { D.honest self.old.inner → Syncs (D.medium self.old.inner) (D.medium self.new.inner) result }
         ensures counted { Counted Sync (⟦<OnceDisk<D> as Disk>⟧.faults self.old) (⟦<OnceDisk<D> as Disk>⟧.faults self.new) result }
+        ensures newest { ⟦<OnceDisk<D> as Disk>⟧.newest_fault self.new ≡ newest_after (⟦<OnceDisk<D> as Disk>⟧.newest_fault self.old) result }
         ensures which { FailsOrPasses D.faults Sync (is_due self.old.left) self.old.inner self.new.inner result }
         ensures left { self.new.left ≡ left_after self.old.left }
         ensures torn { self.new.torn ≡ self.old.torn }
@@ -158,7 +177,8 @@ impl<D: Disk> Disk for OnceDisk<D> {
         if self.counts_down() {
             return self.fail(DiskFault::Sync);
         }
-        self.inner.sync()
+        let outcome = self.inner.sync();
+        note(&mut self.newest_fault, outcome)
     }
 }
 

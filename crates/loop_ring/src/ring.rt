@@ -1,6 +1,6 @@
 // The ring of a store: its segments, written and read one at a time.
 ghost use Rattle.std.specs.Prelude.{◌≡◌, ◌≢◌, ◌+◌, ◌*◌, ◌<◌, ◌≤◌, ◌^◌, ◌↔◌, ◌∷◌, [], ℕ, IsTrue, All, Err, IfOk, List, None, OnOk, Some, length, min, vec_capacity};
-ghost use Rattle.loop_disk.specs.Calls.{CountedAny, Stays};
+ghost use Rattle.loop_disk.specs.Calls.{CountedAny, Stays, newest_after};
 ghost use Rattle.loop_disk.specs.Medium.{IsSettled, LeavesOnly};
 ghost use Rattle.loop_record.specs.Change.{ShowsSegment};
 ghost use Rattle.loop_record.specs.declared.damage.Damage.{Damage};
@@ -54,6 +54,7 @@ impl<A: Allocator> Ring<A> {
         ensures retired { D.honest disk.old → OnOk result (ShowsSegment self.now.geometry segment None (D.medium disk.old).bytes (D.medium disk.new).bytes) }
         ensures settled { D.honest disk.old → OnOk result (IsSettled (D.medium disk.new)) }
         ensures counted { CountedAny (D.faults disk.old) (D.faults disk.new) result }
+        ensures newest { D.newest_fault disk.new ≡ newest_after (D.newest_fault disk.old) result }
         ensures extent { D.extent disk.new ≡ D.extent disk.old }
         ensures honest { D.honest disk.old ↔ D.honest disk.new }
     {
@@ -76,6 +77,7 @@ impl<A: Allocator> Ring<A> {
         ensures stray { D.honest disk.old → OnOk result (HasNoStray self.now.geometry segment (D.medium disk.new).bytes) }
         ensures settled { D.honest disk.old → OnOk result (IsSettled (D.medium disk.new)) }
         ensures counted { CountedAny (D.faults disk.old) (D.faults disk.new) result }
+        ensures newest { D.newest_fault disk.new ≡ newest_after (D.newest_fault disk.old) result }
         ensures extent { D.extent disk.new ≡ D.extent disk.old }
         ensures honest { D.honest disk.old ↔ D.honest disk.new }
     {
@@ -111,6 +113,7 @@ impl<A: Allocator> Ring<A> {
         ensures stray { D.honest disk.old → OnOk result (HasNoStray self.old.geometry segment (D.medium disk.new).bytes) }
         ensures settled { D.honest disk.old → OnOk result (IsSettled (D.medium disk.new)) }
         ensures counted { CountedAny (D.faults disk.old) (D.faults disk.new) result }
+        ensures newest { D.newest_fault disk.new ≡ newest_after (D.newest_fault disk.old) result }
         ensures extent { D.extent disk.new ≡ D.extent disk.old }
         ensures honest { D.honest disk.old ↔ D.honest disk.new }
         ensures geometry { self.new.geometry ≡ self.old.geometry }
@@ -149,6 +152,7 @@ impl<A: Allocator> Ring<A> {
         ensures stray { D.honest disk.old → OnOk result (HasNoStray self.old.geometry segment (D.medium disk.new).bytes) }
         ensures settled { D.honest disk.old → OnOk result (IsSettled (D.medium disk.new)) }
         ensures counted { CountedAny (D.faults disk.old) (D.faults disk.new) result }
+        ensures newest { D.newest_fault disk.new ≡ newest_after (D.newest_fault disk.old) result }
         ensures extent { D.extent disk.new ≡ D.extent disk.old }
         ensures honest { D.honest disk.old ↔ D.honest disk.new }
         ensures geometry { self.new.geometry ≡ self.old.geometry }
@@ -214,6 +218,7 @@ fn write_group<D: Disk>(
     ensures stray { D.honest disk.old → OnOk result (HasNoStray geometry.now segment (D.medium disk.new).bytes) }
     ensures settled { D.honest disk.old → OnOk result (IsSettled (D.medium disk.new)) }
     ensures counted { CountedAny (D.faults disk.old) (D.faults disk.new) result }
+    ensures newest { D.newest_fault disk.new ≡ newest_after (D.newest_fault disk.old) result }
     ensures extent { D.extent disk.new ≡ D.extent disk.old }
     ensures honest { D.honest disk.old ↔ D.honest disk.new }
 {

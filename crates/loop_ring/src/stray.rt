@@ -1,7 +1,7 @@
 // The frame gates that a stop left open behind a closed one.
 ghost use Rattle.std.specs.Prelude.{◌≡◌, ◌+◌, ◌<◌, ◌≤◌, ◌↔◌, ◌==◌, OnOk, length};
 ghost use Rattle.std.specs.List.{list_any};
-ghost use Rattle.loop_disk.specs.Calls.{CountedAny, Stays};
+ghost use Rattle.loop_disk.specs.Calls.{CountedAny, Stays, newest_after};
 ghost use Rattle.loop_disk.specs.Medium.{IsSettled, LeavesOnly, SameOutside};
 ghost use Rattle.loop_record.specs.Change.{ShowsSegment};
 ghost use Rattle.loop_record.specs.Geometry.{disk_size};
@@ -38,6 +38,7 @@ impl<A: Allocator> Ring<A> {
         ensures quiet { D.honest disk.old → HasNoStray self.now.geometry segment (D.medium disk.old).bytes → Stays (D.medium disk.old) (D.medium disk.new) }
         ensures settled { D.honest disk.old → OnOk result (IsSettled (D.medium disk.new)) }
         ensures counted { CountedAny (D.faults disk.old) (D.faults disk.new) result }
+        ensures newest { D.newest_fault disk.new ≡ newest_after (D.newest_fault disk.old) result }
         ensures extent { D.extent disk.new ≡ D.extent disk.old }
         ensures honest { D.honest disk.old ↔ D.honest disk.new }
     {
@@ -62,6 +63,7 @@ fn close_gates<D: Disk>(disk: &mut D, at: u64, count: usize) -> Result<(), DiskF
     ensures quiet { D.honest disk.old → AreClosed at count (D.medium disk.old).bytes → Stays (D.medium disk.old) (D.medium disk.new) }
     ensures settled { D.honest disk.old → OnOk result (IsSettled (D.medium disk.new)) }
     ensures counted { CountedAny (D.faults disk.old) (D.faults disk.new) result }
+    ensures newest { D.newest_fault disk.new ≡ newest_after (D.newest_fault disk.old) result }
     ensures extent { D.extent disk.new ≡ D.extent disk.old }
     ensures honest { D.honest disk.old ↔ D.honest disk.new }
 {

@@ -53,6 +53,8 @@ impl<D: Disk> Disk for Bare<D> {
 
     ghost faults = { λ disk. D.faults disk.0 };
 
+    ghost newest_fault = { λ disk. D.newest_fault disk.0 };
+
     ghost sound = { λ disk honest. absurd honest };
 
     fn size(&self) -> u64 {
