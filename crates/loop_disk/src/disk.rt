@@ -40,7 +40,7 @@ pub trait Disk {
         ensures read { honest self.old → OnOk result (buf.new ≡ piece at (length buf.old) (medium self.old).bytes) }
         ensures disk { honest self.old → Stays (medium self.old) (medium self.new) }
         ensures counted { Counted Read (faults self.old) (faults self.new) result }
-        ensures newest { newest_fault self.new ≡ newest_after (newest_fault self.old) result }
+        ensures kind { newest_fault self.new ≡ newest_after (newest_fault self.old) result }
         ensures extent { extent self.new ≡ extent self.old }
         ensures honest { honest self.old ↔ honest self.new };
 
@@ -50,7 +50,7 @@ pub trait Disk {
         requires { at + length bytes.now ≤ extent self.old }
         ensures disk { honest self.old → Writes at bytes.now (medium self.old) (medium self.new) result }
         ensures counted { Counted Write (faults self.old) (faults self.new) result }
-        ensures newest { newest_fault self.new ≡ newest_after (newest_fault self.old) result }
+        ensures kind { newest_fault self.new ≡ newest_after (newest_fault self.old) result }
         ensures extent { extent self.new ≡ extent self.old }
         ensures honest { honest self.old ↔ honest self.new };
 
@@ -58,7 +58,7 @@ pub trait Disk {
     fn sync(&mut self) -> Result<(), DiskFault>
         ensures disk { honest self.old → Syncs (medium self.old) (medium self.new) result }
         ensures counted { Counted Sync (faults self.old) (faults self.new) result }
-        ensures newest { newest_fault self.new ≡ newest_after (newest_fault self.old) result }
+        ensures kind { newest_fault self.new ≡ newest_after (newest_fault self.old) result }
         ensures extent { extent self.new ≡ extent self.old }
         ensures honest { honest self.old ↔ honest self.new };
 

@@ -20,7 +20,7 @@ pub(crate) fn note(
     outcome: Result<(), DiskFault>,
 ) -> Result<(), DiskFault>
     ensures same { result ≡ outcome }
-    ensures newest { newest.new ≡ newest_after newest.old outcome }
+    ensures kind { newest.new ≡ newest_after newest.old outcome }
 {
     if let Err(fault) = outcome {
         *newest = Some(fault);

@@ -137,7 +137,7 @@ impl<F: OpenFile + FileExt + Drop> FileDisk<F> {
     // Counts a call that failed.
     fn count(&mut self, outcome: io::Result<()>, fault: DiskFault) -> Result<(), DiskFault>
         ensures counted { Counted fault self.old.failed self.new.failed result }
-        ensures newest { self.new.newest_fault ≡ newest_after self.old.newest_fault result }
+        ensures kind { self.new.newest_fault ≡ newest_after self.old.newest_fault result }
         ensures size { self.new.size ≡ self.old.size }
     {
         match outcome {

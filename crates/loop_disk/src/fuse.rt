@@ -27,7 +27,7 @@ impl<D> FuseDisk<D> {
         ensures inner { result.inner ≡ inner }
         ensures left { result.left ≡ calls }
         ensures failed { result.failed ≡ 0 }
-        ensures newest { result.newest_fault ≡ None }
+        ensures kind { result.newest_fault ≡ None }
     {
         FuseDisk {
             inner,
@@ -53,7 +53,7 @@ impl<D> FuseDisk<D> {
     // Lets a call pass, or fails it.
     fn admit(&mut self, fault: DiskFault) -> Result<(), DiskFault>
         ensures counted { Counted fault self.old.failed self.new.failed result }
-        ensures newest { self.new.newest_fault ≡ newest_after self.old.newest_fault result }
+        ensures kind { self.new.newest_fault ≡ newest_after self.old.newest_fault result }
         ensures inner { self.new.inner ≡ self.old.inner }
         ensures spent { IsErr result ↔ (self.old.left ≡ 0) }
         ensures left { self.new.left ≡ self.old.left - 1 }
@@ -90,7 +90,7 @@ impl<D: Disk> Disk for FuseDisk<D> {
         ensures read { D.honest self.old.inner → OnOk result (buf.new ≡ piece at (length buf.old) (D.medium self.old.inner).bytes) }
         ensures disk { D.honest self.old.inner → Stays (D.medium self.old.inner) (D.medium self.new.inner) }
         ensures counted { Counted Read (⟦<FuseDisk<D> as Disk>⟧.faults self.old) (⟦<FuseDisk<D> as Disk>⟧.faults self.new) result }
-        ensures newest { ⟦<FuseDisk<D> as Disk>⟧.newest_fault self.new ≡ newest_after (⟦<FuseDisk<D> as Disk>⟧.newest_fault self.old) result }
+        ensures kind { ⟦<FuseDisk<D> as Disk>⟧.newest_fault self.new ≡ newest_after (⟦<FuseDisk<D> as Disk>⟧.newest_fault self.old) result }
         ensures which { FailsOrPasses D.faults Read (self.old.left == 0) self.old.inner self.new.inner result }
         ensures left { self.new.left ≡ self.old.left - 1 }
         ensures extent { D.extent self.new.inner ≡ D.extent self.old.inner }
@@ -105,7 +105,7 @@ impl<D: Disk> Disk for FuseDisk<D> {
         requires { at + length bytes.now ≤ D.extent self.old.inner }
         ensures disk { D.honest self.old.inner → Writes at bytes.now (D.medium self.old.inner) (D.medium self.new.inner) result }
         ensures counted { Counted Write (⟦<FuseDisk<D> as Disk>⟧.faults self.old) (⟦<FuseDisk<D> as Disk>⟧.faults self.new) result }
-        ensures newest { ⟦<FuseDisk<D> as Disk>⟧.newest_fault self.new ≡ newest_after (⟦<FuseDisk<D> as Disk>⟧.newest_fault self.old) result }
+        ensures kind { ⟦<FuseDisk<D> as Disk>⟧.newest_fault self.new ≡ newest_after (⟦<FuseDisk<D> as Disk>⟧.newest_fault self.old) result }
         ensures which { FailsOrPasses D.faults Write (self.old.left == 0) self.old.inner self.new.inner result }
         ensures left { self.new.left ≡ self.old.left - 1 }
         ensures extent { D.extent self.new.inner ≡ D.extent self.old.inner }
@@ -119,7 +119,7 @@ impl<D: Disk> Disk for FuseDisk<D> {
     fn sync(&mut self) -> Result<(), DiskFault>
         ensures disk { D.honest self.old.inner → Syncs (D.medium self.old.inner) (D.medium self.new.inner) result }
         ensures counted { Counted Sync (⟦<FuseDisk<D> as Disk>⟧.faults self.old) (⟦<FuseDisk<D> as Disk>⟧.faults self.new) result }
-        ensures newest { ⟦<FuseDisk<D> as Disk>⟧.newest_fault self.new ≡ newest_after (⟦<FuseDisk<D> as Disk>⟧.newest_fault self.old) result }
+        ensures kind { ⟦<FuseDisk<D> as Disk>⟧.newest_fault self.new ≡ newest_after (⟦<FuseDisk<D> as Disk>⟧.newest_fault self.old) result }
         ensures which { FailsOrPasses D.faults Sync (self.old.left == 0) self.old.inner self.new.inner result }
         ensures left { self.new.left ≡ self.old.left - 1 }
         ensures extent { D.extent self.new.inner ≡ D.extent self.old.inner }

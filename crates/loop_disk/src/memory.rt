@@ -94,7 +94,7 @@ impl<A: Allocator + Copy> Disk for MemDisk<A> {
         ensures disk { ⟦<MemDisk<A> as Disk>⟧.honest self.old → Stays (⟦<MemDisk<A> as Disk>⟧.medium self.old) (⟦<MemDisk<A> as Disk>⟧.medium self.new) }
         ensures same { IsSame (⟦<MemDisk<A> as Disk>⟧.medium self.old) (⟦<MemDisk<A> as Disk>⟧.medium self.new) }
         ensures counted { Counted Read (⟦<MemDisk<A> as Disk>⟧.faults self.old) (⟦<MemDisk<A> as Disk>⟧.faults self.new) result }
-        ensures newest { ⟦<MemDisk<A> as Disk>⟧.newest_fault self.new ≡ newest_after (⟦<MemDisk<A> as Disk>⟧.newest_fault self.old) result }
+        ensures kind { ⟦<MemDisk<A> as Disk>⟧.newest_fault self.new ≡ newest_after (⟦<MemDisk<A> as Disk>⟧.newest_fault self.old) result }
         ensures extent { ⟦<MemDisk<A> as Disk>⟧.extent self.new ≡ ⟦<MemDisk<A> as Disk>⟧.extent self.old }
         ensures honest { ⟦<MemDisk<A> as Disk>⟧.honest self.old ↔ ⟦<MemDisk<A> as Disk>⟧.honest self.new }
     {
@@ -111,7 +111,7 @@ impl<A: Allocator + Copy> Disk for MemDisk<A> {
         ensures torn { OnOk result (LeavesEachTorn at (length bytes.now) (⟦<MemDisk<A> as Disk>⟧.medium self.old) (⟦<MemDisk<A> as Disk>⟧.medium self.new)) }
         ensures failed { OnErr result (IsSame (⟦<MemDisk<A> as Disk>⟧.medium self.old) (⟦<MemDisk<A> as Disk>⟧.medium self.new)) }
         ensures counted { Counted Write (⟦<MemDisk<A> as Disk>⟧.faults self.old) (⟦<MemDisk<A> as Disk>⟧.faults self.new) result }
-        ensures newest { ⟦<MemDisk<A> as Disk>⟧.newest_fault self.new ≡ newest_after (⟦<MemDisk<A> as Disk>⟧.newest_fault self.old) result }
+        ensures kind { ⟦<MemDisk<A> as Disk>⟧.newest_fault self.new ≡ newest_after (⟦<MemDisk<A> as Disk>⟧.newest_fault self.old) result }
         ensures extent { ⟦<MemDisk<A> as Disk>⟧.extent self.new ≡ ⟦<MemDisk<A> as Disk>⟧.extent self.old }
         ensures honest { ⟦<MemDisk<A> as Disk>⟧.honest self.old ↔ ⟦<MemDisk<A> as Disk>⟧.honest self.new }
     {
@@ -136,7 +136,7 @@ impl<A: Allocator + Copy> Disk for MemDisk<A> {
         ensures disk { ⟦<MemDisk<A> as Disk>⟧.honest self.old → Syncs (⟦<MemDisk<A> as Disk>⟧.medium self.old) (⟦<MemDisk<A> as Disk>⟧.medium self.new) result }
         ensures failed { OnErr result (IsSame (⟦<MemDisk<A> as Disk>⟧.medium self.old) (⟦<MemDisk<A> as Disk>⟧.medium self.new)) }
         ensures counted { Counted Sync (⟦<MemDisk<A> as Disk>⟧.faults self.old) (⟦<MemDisk<A> as Disk>⟧.faults self.new) result }
-        ensures newest { ⟦<MemDisk<A> as Disk>⟧.newest_fault self.new ≡ newest_after (⟦<MemDisk<A> as Disk>⟧.newest_fault self.old) result }
+        ensures kind { ⟦<MemDisk<A> as Disk>⟧.newest_fault self.new ≡ newest_after (⟦<MemDisk<A> as Disk>⟧.newest_fault self.old) result }
         ensures extent { ⟦<MemDisk<A> as Disk>⟧.extent self.new ≡ ⟦<MemDisk<A> as Disk>⟧.extent self.old }
         ensures honest { ⟦<MemDisk<A> as Disk>⟧.honest self.old ↔ ⟦<MemDisk<A> as Disk>⟧.honest self.new }
     {

@@ -30,7 +30,7 @@ impl<D> OnceDisk<D> {
         ensures left { result.left ≡ Some call }
         ensures torn { result.torn ≡ None }
         ensures failed { result.failed ≡ 0 }
-        ensures newest { result.newest_fault ≡ None }
+        ensures kind { result.newest_fault ≡ None }
     {
         OnceDisk {
             inner,
@@ -48,7 +48,7 @@ impl<D> OnceDisk<D> {
         ensures left { result.left ≡ Some call }
         ensures torn { result.torn ≡ Some keep }
         ensures failed { result.failed ≡ 0 }
-        ensures newest { result.newest_fault ≡ None }
+        ensures kind { result.newest_fault ≡ None }
     {
         OnceDisk {
             inner,
@@ -80,7 +80,7 @@ impl<D> OnceDisk<D> {
         ensures inner { self.new.inner ≡ self.old.inner }
         ensures torn { self.new.torn ≡ self.old.torn }
         ensures failed { self.new.failed ≡ self.old.failed }
-        ensures newest { self.new.newest_fault ≡ self.old.newest_fault }
+        ensures kind { self.new.newest_fault ≡ self.old.newest_fault }
     {
         let due = self.left == Some(0);
         self.left = match self.left {
@@ -124,7 +124,7 @@ impl<D: Disk> Disk for OnceDisk<D> {
         ensures read { D.honest self.old.inner → OnOk result (buf.new ≡ piece at (length buf.old) (D.medium self.old.inner).bytes) }
         ensures disk { D.honest self.old.inner → Stays (D.medium self.old.inner) (D.medium self.new.inner) }
         ensures counted { Counted Read (⟦<OnceDisk<D> as Disk>⟧.faults self.old) (⟦<OnceDisk<D> as Disk>⟧.faults self.new) result }
-        ensures newest { ⟦<OnceDisk<D> as Disk>⟧.newest_fault self.new ≡ newest_after (⟦<OnceDisk<D> as Disk>⟧.newest_fault self.old) result }
+        ensures kind { ⟦<OnceDisk<D> as Disk>⟧.newest_fault self.new ≡ newest_after (⟦<OnceDisk<D> as Disk>⟧.newest_fault self.old) result }
         ensures which { FailsOrPasses D.faults Read (is_due self.old.left) self.old.inner self.new.inner result }
         ensures left { self.new.left ≡ left_after self.old.left }
         ensures torn { self.new.torn ≡ self.old.torn }
@@ -142,7 +142,7 @@ impl<D: Disk> Disk for OnceDisk<D> {
         requires { at + length bytes.now ≤ D.extent self.old.inner }
         ensures disk { D.honest self.old.inner → Writes at bytes.now (D.medium self.old.inner) (D.medium self.new.inner) result }
         ensures counted { Counted Write (⟦<OnceDisk<D> as Disk>⟧.faults self.old) (⟦<OnceDisk<D> as Disk>⟧.faults self.new) result }
-        ensures newest { ⟦<OnceDisk<D> as Disk>⟧.newest_fault self.new ≡ newest_after (⟦<OnceDisk<D> as Disk>⟧.newest_fault self.old) result }
+        ensures kind { ⟦<OnceDisk<D> as Disk>⟧.newest_fault self.new ≡ newest_after (⟦<OnceDisk<D> as Disk>⟧.newest_fault self.old) result }
         ensures passes { is_due self.old.left ≡ false → Counted Write (D.faults self.old.inner) (D.faults self.new.inner) result }
         ensures untouched { is_due self.old.left ≡ true → self.old.torn ≡ None → self.new.inner ≡ self.old.inner }
         ensures fails { is_due self.old.left ≡ true → IsErr result }
@@ -167,7 +167,7 @@ impl<D: Disk> Disk for OnceDisk<D> {
     fn sync(&mut self) -> Result<(), DiskFault>
         ensures disk { D.honest self.old.inner → Syncs (D.medium self.old.inner) (D.medium self.new.inner) result }
         ensures counted { Counted Sync (⟦<OnceDisk<D> as Disk>⟧.faults self.old) (⟦<OnceDisk<D> as Disk>⟧.faults self.new) result }
-        ensures newest { ⟦<OnceDisk<D> as Disk>⟧.newest_fault self.new ≡ newest_after (⟦<OnceDisk<D> as Disk>⟧.newest_fault self.old) result }
+        ensures kind { ⟦<OnceDisk<D> as Disk>⟧.newest_fault self.new ≡ newest_after (⟦<OnceDisk<D> as Disk>⟧.newest_fault self.old) result }
         ensures which { FailsOrPasses D.faults Sync (is_due self.old.left) self.old.inner self.new.inner result }
         ensures left { self.new.left ≡ left_after self.old.left }
         ensures torn { self.new.torn ≡ self.old.torn }

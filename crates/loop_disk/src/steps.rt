@@ -12,7 +12,7 @@ pub fn store<D: Disk>(disk: &mut D, at: u64, bytes: &[u8]) -> Result<(), DiskFau
     requires { at + length bytes.now ≤ D.extent disk.old }
     ensures disk { D.honest disk.old → Stores at bytes.now (D.medium disk.old) (D.medium disk.new) result }
     ensures counted { CountedAny (D.faults disk.old) (D.faults disk.new) result }
-    ensures newest { D.newest_fault disk.new ≡ newest_after (D.newest_fault disk.old) result }
+    ensures kind { D.newest_fault disk.new ≡ newest_after (D.newest_fault disk.old) result }
     ensures extent { D.extent disk.new ≡ D.extent disk.old }
     ensures honest { D.honest disk.old ↔ D.honest disk.new }
 {
@@ -35,7 +35,7 @@ pub fn store_in_turn<D: Disk>(
     requires settled { D.honest disk.old → IsSettled (D.medium disk.old) }
     ensures disk { D.honest disk.old → StoresInTurn at bytes.now gate gates.now (D.medium disk.old) (D.medium disk.new) result }
     ensures counted { CountedAny (D.faults disk.old) (D.faults disk.new) result }
-    ensures newest { D.newest_fault disk.new ≡ newest_after (D.newest_fault disk.old) result }
+    ensures kind { D.newest_fault disk.new ≡ newest_after (D.newest_fault disk.old) result }
     ensures extent { D.extent disk.new ≡ D.extent disk.old }
     ensures honest { D.honest disk.old ↔ D.honest disk.new }
 {

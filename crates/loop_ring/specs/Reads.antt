@@ -1,5 +1,6 @@
 -- What a read of a slot answers.
-use Rattle.std.specs.Prelude.{◌≡◌, ℕ, List, Result, Ok, Err}
+use Rattle.std.specs.Prelude.{◌≡◌, ℕ, List, Option, Some, Result, Ok, Err}
+use Rattle.loop_disk.specs.declared.fault.DiskFault.{DiskFault}
 use Rattle.loop_disk.specs.Calls.{one_more}
 use Rattle.loop_record.specs.declared.damage.Damage.{Damage}
 use Rattle.loop_record.specs.declared.frame.FrameHead.{FrameHead}
@@ -24,3 +25,9 @@ abbrev pub CountedRead : ℕ → ℕ → Result FrameHead SlotFault → Type 0
 CountedRead before now (Ok head) = now ≡ before
 CountedRead before now (Err (Damaged damage)) = now ≡ before
 CountedRead before now (Err (Disk fault)) = now ≡ one_more before
+
+-- the kind of the newest failed call of the disk after such an answer
+abbrev pub newest_read : Option DiskFault → Result FrameHead SlotFault → Option DiskFault
+newest_read before (Ok head) = before
+newest_read before (Err (Damaged damage)) = before
+newest_read before (Err (Disk fault)) = Some fault

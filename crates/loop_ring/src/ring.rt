@@ -9,7 +9,7 @@ ghost use Rattle.loop_record.specs.Layout.{segment_in, slot_head, whole_frames};
 ghost use Rattle.loop_record.specs.Plain.{pictures};
 ghost use Rattle.loop_record.specs.Reading.{begun};
 ghost use Rattle.loop_record.specs.Recording.{Picture, picture};
-ghost use Rattle.loop_ring.specs.Reads.{AnswersHead, CountedRead, slot_of};
+ghost use Rattle.loop_ring.specs.Reads.{AnswersHead, CountedRead, newest_read, slot_of};
 ghost use Rattle.loop_ring.specs.Writes.{HasNoStray, IsGroup, ShowsBeginning, ShowsFrames, ShowsOrNot};
 
 use crate::SlotFault;
@@ -54,7 +54,7 @@ impl<A: Allocator> Ring<A> {
         ensures retired { D.honest disk.old → OnOk result (ShowsSegment self.now.geometry segment None (D.medium disk.old).bytes (D.medium disk.new).bytes) }
         ensures settled { D.honest disk.old → OnOk result (IsSettled (D.medium disk.new)) }
         ensures counted { CountedAny (D.faults disk.old) (D.faults disk.new) result }
-        ensures newest { D.newest_fault disk.new ≡ newest_after (D.newest_fault disk.old) result }
+        ensures kind { D.newest_fault disk.new ≡ newest_after (D.newest_fault disk.old) result }
         ensures extent { D.extent disk.new ≡ D.extent disk.old }
         ensures honest { D.honest disk.old ↔ D.honest disk.new }
     {
@@ -77,7 +77,7 @@ impl<A: Allocator> Ring<A> {
         ensures stray { D.honest disk.old → OnOk result (HasNoStray self.now.geometry segment (D.medium disk.new).bytes) }
         ensures settled { D.honest disk.old → OnOk result (IsSettled (D.medium disk.new)) }
         ensures counted { CountedAny (D.faults disk.old) (D.faults disk.new) result }
-        ensures newest { D.newest_fault disk.new ≡ newest_after (D.newest_fault disk.old) result }
+        ensures kind { D.newest_fault disk.new ≡ newest_after (D.newest_fault disk.old) result }
         ensures extent { D.extent disk.new ≡ D.extent disk.old }
         ensures honest { D.honest disk.old ↔ D.honest disk.new }
     {
@@ -113,7 +113,7 @@ impl<A: Allocator> Ring<A> {
         ensures stray { D.honest disk.old → OnOk result (HasNoStray self.old.geometry segment (D.medium disk.new).bytes) }
         ensures settled { D.honest disk.old → OnOk result (IsSettled (D.medium disk.new)) }
         ensures counted { CountedAny (D.faults disk.old) (D.faults disk.new) result }
-        ensures newest { D.newest_fault disk.new ≡ newest_after (D.newest_fault disk.old) result }
+        ensures kind { D.newest_fault disk.new ≡ newest_after (D.newest_fault disk.old) result }
         ensures extent { D.extent disk.new ≡ D.extent disk.old }
         ensures honest { D.honest disk.old ↔ D.honest disk.new }
         ensures geometry { self.new.geometry ≡ self.old.geometry }
@@ -152,7 +152,7 @@ impl<A: Allocator> Ring<A> {
         ensures stray { D.honest disk.old → OnOk result (HasNoStray self.old.geometry segment (D.medium disk.new).bytes) }
         ensures settled { D.honest disk.old → OnOk result (IsSettled (D.medium disk.new)) }
         ensures counted { CountedAny (D.faults disk.old) (D.faults disk.new) result }
-        ensures newest { D.newest_fault disk.new ≡ newest_after (D.newest_fault disk.old) result }
+        ensures kind { D.newest_fault disk.new ≡ newest_after (D.newest_fault disk.old) result }
         ensures extent { D.extent disk.new ≡ D.extent disk.old }
         ensures honest { D.honest disk.old ↔ D.honest disk.new }
         ensures geometry { self.new.geometry ≡ self.old.geometry }
@@ -182,6 +182,7 @@ impl<A: Allocator> Ring<A> {
         ensures damage { (damage : Damage) → result ≡ Err (SlotFault.Damaged damage) → damage ≡ Damage.SlotHead }
         ensures disk { D.honest disk.old → Stays (D.medium disk.old) (D.medium disk.new) }
         ensures counted { CountedRead (D.faults disk.old) (D.faults disk.new) result }
+        ensures kind { D.newest_fault disk.new ≡ newest_read (D.newest_fault disk.old) result }
         ensures extent { D.extent disk.new ≡ D.extent disk.old }
         ensures honest { D.honest disk.old ↔ D.honest disk.new }
     {
@@ -218,7 +219,7 @@ fn write_group<D: Disk>(
     ensures stray { D.honest disk.old → OnOk result (HasNoStray geometry.now segment (D.medium disk.new).bytes) }
     ensures settled { D.honest disk.old → OnOk result (IsSettled (D.medium disk.new)) }
     ensures counted { CountedAny (D.faults disk.old) (D.faults disk.new) result }
-    ensures newest { D.newest_fault disk.new ≡ newest_after (D.newest_fault disk.old) result }
+    ensures kind { D.newest_fault disk.new ≡ newest_after (D.newest_fault disk.old) result }
     ensures extent { D.extent disk.new ≡ D.extent disk.old }
     ensures honest { D.honest disk.old ↔ D.honest disk.new }
 {

@@ -38,7 +38,7 @@ impl<A: Allocator> Ring<A> {
         ensures quiet { D.honest disk.old → HasNoStray self.now.geometry segment (D.medium disk.old).bytes → Stays (D.medium disk.old) (D.medium disk.new) }
         ensures settled { D.honest disk.old → OnOk result (IsSettled (D.medium disk.new)) }
         ensures counted { CountedAny (D.faults disk.old) (D.faults disk.new) result }
-        ensures newest { D.newest_fault disk.new ≡ newest_after (D.newest_fault disk.old) result }
+        ensures kind { D.newest_fault disk.new ≡ newest_after (D.newest_fault disk.old) result }
         ensures extent { D.extent disk.new ≡ D.extent disk.old }
         ensures honest { D.honest disk.old ↔ D.honest disk.new }
     {
@@ -63,7 +63,7 @@ fn close_gates<D: Disk>(disk: &mut D, at: u64, count: usize) -> Result<(), DiskF
     ensures quiet { D.honest disk.old → AreClosed at count (D.medium disk.old).bytes → Stays (D.medium disk.old) (D.medium disk.new) }
     ensures settled { D.honest disk.old → OnOk result (IsSettled (D.medium disk.new)) }
     ensures counted { CountedAny (D.faults disk.old) (D.faults disk.new) result }
-    ensures newest { D.newest_fault disk.new ≡ newest_after (D.newest_fault disk.old) result }
+    ensures kind { D.newest_fault disk.new ≡ newest_after (D.newest_fault disk.old) result }
     ensures extent { D.extent disk.new ≡ D.extent disk.old }
     ensures honest { D.honest disk.old ↔ D.honest disk.new }
 {

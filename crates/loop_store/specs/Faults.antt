@@ -1,5 +1,6 @@
 -- Refusals: their numbers, and what each says of the disk.
-use Rattle.std.specs.Prelude.{ℕ, Bool, true, false, Result, Ok, Err}
+use Rattle.std.specs.Prelude.{ℕ, Bool, true, false, Option, Some, Result, Ok, Err}
+use Rattle.loop_disk.specs.declared.fault.DiskFault.{DiskFault}
 use Rattle.loop_disk.specs.Calls.{one_more}
 use Rattle.loop_ring.specs.declared.fault.SlotFault.{SlotFault}
 use Rattle.loop_ring.specs.declared.fault.SlotFault.TheVariants as slot
@@ -39,6 +40,23 @@ answers_disk (Err fault) = is_disk fault
 abbrev pub faults_after : Bool → ℕ → ℕ
 faults_after true before = one_more before
 faults_after false before = before
+
+-- the kind of the newest failed call of the disk after a refusal
+abbrev pub newest_refused : Option DiskFault → StoreFault → Option DiskFault
+newest_refused before NoMemory = before
+newest_refused before (Disk fault) = Some fault
+newest_refused before MustReopen = before
+newest_refused before NotFormatted = before
+newest_refused before (Damaged damage) = before
+newest_refused before NotHeld = before
+newest_refused before BadGeometry = before
+newest_refused before NumbersSpent = before
+newest_refused before AllLocked = before
+
+-- and after an answer
+abbrev pub newest_told : {T : Type 0} → Option DiskFault → Result T StoreFault → Option DiskFault
+newest_told before (Ok x) = before
+newest_told before (Err fault) = newest_refused before fault
 
 -- the refusal of a slot as a store's
 abbrev pub slot_refusal : SlotFault → StoreFault

@@ -6,7 +6,7 @@ ghost use Rattle.loop_disk.specs.Medium.{LeavesOnly};
 ghost use Rattle.loop_record.specs.Geometry.{frame_bytes};
 ghost use Rattle.loop_record.specs.Recording.{Recording, picture, plain, ring_of, steps};
 ghost use Rattle.loop_store.specs.Held.{EachNow, HoldsFrom, HoldsSome};
-ghost use Rattle.loop_store.specs.Faults.{answers_disk, faults_after};
+ghost use Rattle.loop_store.specs.Faults.{answers_disk, faults_after, newest_told};
 ghost use Rattle.loop_store.specs.Runs.{AnswersAppend, AnswersRead, AreAnswers, IsAnswer, IsOfSize, begun_by, begun_in, faults_in, faults_of, has_failed, made_by, made_in, some_failed, steps_if_failed, steps_if_stored};
 ghost use Rattle.loop_store.specs.Seen.{Refused, StandsFor, TellsTheSame, steps_or_none};
 
@@ -56,6 +56,7 @@ impl<D: Disk + Drop, A: Allocator> Store<D, A> {
             → OnOk result (StandsFor D.medium D.honest self.new (plain (ring_of self.old.geometry) r (steps_or_none (steps (ring_of self.old.geometry) r (picture frame.now ∷ []))))) }
         ensures refused { Refused self.old self.new result }
         ensures counted { D.faults self.new.disk ≡ faults_after (answers_disk result) (D.faults self.old.disk) }
+        ensures kind { D.newest_fault self.new.disk ≡ newest_told (D.newest_fault self.old.disk) result }
         ensures honest { D.honest self.old.disk ↔ D.honest self.new.disk }
         ensures failed { self.new.must_reopen ≡ (self.old.must_reopen || answers_disk result) }
         ensures geometry { self.new.geometry ≡ self.old.geometry }
@@ -91,6 +92,7 @@ impl<D: Disk + Drop, A: Allocator + Copy> Store<D, A> {
         ensures failed { self.new.must_reopen ≡ (self.old.must_reopen || answers_disk result) }
         ensures unmoved { self.old.must_reopen ≡ true → self.new ≡ self.old }
         ensures counted { D.faults self.new.disk ≡ faults_after (answers_disk result) (D.faults self.old.disk) }
+        ensures kind { D.newest_fault self.new.disk ≡ newest_told (D.newest_fault self.old.disk) result }
         ensures honest { D.honest self.old.disk ↔ D.honest self.new.disk }
         ensures geometry { self.new.geometry ≡ self.old.geometry }
     {
@@ -104,6 +106,7 @@ impl<D: Disk + Drop, A: Allocator + Copy> Store<D, A> {
         ensures stays { D.honest self.old.disk → Stays (D.medium self.old.disk) (D.medium self.new.disk) }
         ensures unmoved { self.old.must_reopen ≡ true → self.new ≡ self.old }
         ensures counted { D.faults self.new.disk ≡ faults_after (answers_disk result) (D.faults self.old.disk) }
+        ensures kind { D.newest_fault self.new.disk ≡ newest_told (D.newest_fault self.old.disk) result }
         ensures honest { D.honest self.old.disk ↔ D.honest self.new.disk }
         ensures same { TellsTheSame self.old self.new }
     {

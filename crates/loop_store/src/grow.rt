@@ -1,7 +1,7 @@
 //! What an append writes: the block that it begins, and the frames.
 
 ghost use Rattle.std.specs.Prelude.{◌≡◌, ◌≢◌, ◌+◌, ◌<◌, ◌≤◌, ◌/◌, ◌%◌, ◌^◌, ◌↔◌, ◌∷◌, ◌++◌, [], ℕ, All, None, OnOk, Some, length, map};
-ghost use Rattle.loop_disk.specs.Calls.{CountedAny};
+ghost use Rattle.loop_disk.specs.Calls.{CountedAny, newest_after};
 ghost use Rattle.loop_disk.specs.Medium.{IsSettled, LeavesOnly};
 ghost use Rattle.loop_record.specs.Geometry.{disk_size, frame_bytes};
 ghost use Rattle.loop_record.specs.Plain.{pictures};
@@ -38,6 +38,7 @@ pub(crate) fn begin<D: Disk, A: Allocator>(
     ensures begun { D.honest disk.old → OnOk result (ShowsSegment ring.now.geometry segment (Some (begun (next / ring.now.geometry.slots))) (D.medium disk.old).bytes (D.medium disk.new).bytes) }
     ensures settled { D.honest disk.old → OnOk result (IsSettled (D.medium disk.new)) }
     ensures counted { CountedAny (D.faults disk.old) (D.faults disk.new) result }
+    ensures kind { D.newest_fault disk.new ≡ newest_after (D.newest_fault disk.old) result }
     ensures extent { D.extent disk.new ≡ D.extent disk.old }
     ensures honest { D.honest disk.old ↔ D.honest disk.new }
 {
@@ -63,6 +64,7 @@ pub(crate) fn store_one<D: Disk, A: Allocator>(
     ensures stray { D.honest disk.old → OnOk result (HasNoStray ring.old.geometry segment (D.medium disk.new).bytes) }
     ensures settled { D.honest disk.old → OnOk result (IsSettled (D.medium disk.new)) }
     ensures counted { CountedAny (D.faults disk.old) (D.faults disk.new) result }
+    ensures kind { D.newest_fault disk.new ≡ newest_after (D.newest_fault disk.old) result }
     ensures extent { D.extent disk.new ≡ D.extent disk.old }
     ensures honest { D.honest disk.old ↔ D.honest disk.new }
     ensures geometry { ring.new.geometry ≡ ring.old.geometry }
@@ -94,6 +96,7 @@ pub(crate) fn store_group<D: Disk, A: Allocator>(
     ensures stray { D.honest disk.old → OnOk result (HasNoStray ring.old.geometry segment (D.medium disk.new).bytes) }
     ensures settled { D.honest disk.old → OnOk result (IsSettled (D.medium disk.new)) }
     ensures counted { CountedAny (D.faults disk.old) (D.faults disk.new) result }
+    ensures kind { D.newest_fault disk.new ≡ newest_after (D.newest_fault disk.old) result }
     ensures extent { D.extent disk.new ≡ D.extent disk.old }
     ensures honest { D.honest disk.old ↔ D.honest disk.new }
     ensures geometry { ring.new.geometry ≡ ring.old.geometry }
@@ -117,6 +120,7 @@ fn recycle<D: Disk, A: Allocator>(
     ensures retired { D.honest disk.old → OnOk result (ShowsSegment ring.now.geometry segment None (D.medium disk.old).bytes (D.medium disk.new).bytes) }
     ensures settled { D.honest disk.old → OnOk result (IsSettled (D.medium disk.new)) }
     ensures counted { CountedAny (D.faults disk.old) (D.faults disk.new) result }
+    ensures kind { D.newest_fault disk.new ≡ newest_after (D.newest_fault disk.old) result }
     ensures extent { D.extent disk.new ≡ D.extent disk.old }
     ensures honest { D.honest disk.old ↔ D.honest disk.new }
 {
@@ -140,6 +144,7 @@ fn replace<D: Disk, A: Allocator>(
     ensures replaced { D.honest disk.old → OnOk result (IsBegunAt ring.now.geometry next segment (D.medium disk.old).bytes (D.medium disk.new).bytes) }
     ensures settled { D.honest disk.old → OnOk result (IsSettled (D.medium disk.new)) }
     ensures counted { CountedAny (D.faults disk.old) (D.faults disk.new) result }
+    ensures kind { D.newest_fault disk.new ≡ newest_after (D.newest_fault disk.old) result }
     ensures extent { D.extent disk.new ≡ D.extent disk.old }
     ensures honest { D.honest disk.old ↔ D.honest disk.new }
 {
@@ -164,6 +169,7 @@ fn make_room<D: Disk, A: Allocator>(
     ensures begun { D.honest disk.old → OnOk result (IsBegunAt ring.now.geometry next (segment_of place) (D.medium disk.old).bytes (D.medium disk.new).bytes) }
     ensures settled { D.honest disk.old → OnOk result (IsSettled (D.medium disk.new)) }
     ensures counted { CountedAny (D.faults disk.old) (D.faults disk.new) result }
+    ensures kind { D.newest_fault disk.new ≡ newest_after (D.newest_fault disk.old) result }
     ensures extent { D.extent disk.new ≡ D.extent disk.old }
     ensures honest { D.honest disk.old ↔ D.honest disk.new }
 {
@@ -196,6 +202,7 @@ pub(crate) fn append_group<D: Disk, A: Allocator>(
     ensures grown { D.honest disk.old → OnOk result (IsGrownAt ring.old.geometry next (length frames.now) (segment_of place) (D.medium disk.old).bytes (D.medium disk.new).bytes) }
     ensures settled { D.honest disk.old → OnOk result (IsSettled (D.medium disk.new)) }
     ensures counted { CountedAny (D.faults disk.old) (D.faults disk.new) result }
+    ensures kind { D.newest_fault disk.new ≡ newest_after (D.newest_fault disk.old) result }
     ensures extent { D.extent disk.new ≡ D.extent disk.old }
     ensures honest { D.honest disk.old ↔ D.honest disk.new }
     ensures geometry { ring.new.geometry ≡ ring.old.geometry }
@@ -222,6 +229,7 @@ pub(crate) fn append_one<D: Disk, A: Allocator>(
     ensures grown { D.honest disk.old → OnOk result (IsGrownAt ring.old.geometry next 1 (segment_of place) (D.medium disk.old).bytes (D.medium disk.new).bytes) }
     ensures settled { D.honest disk.old → OnOk result (IsSettled (D.medium disk.new)) }
     ensures counted { CountedAny (D.faults disk.old) (D.faults disk.new) result }
+    ensures kind { D.newest_fault disk.new ≡ newest_after (D.newest_fault disk.old) result }
     ensures extent { D.extent disk.new ≡ D.extent disk.old }
     ensures honest { D.honest disk.old ↔ D.honest disk.new }
     ensures geometry { ring.new.geometry ≡ ring.old.geometry }

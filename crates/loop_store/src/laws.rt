@@ -16,5 +16,4 @@ pub fn calls_join<D: Disk>(before: &D, between: &D, after: &D)
         → LeavesOnly (D.medium before.now) (D.medium after.now) (HoldsSome g r (first ++ second)) }
     ensures now { (g : Geometry) (r : Recording) (first second : List Step) (least : ℕ) → EachNow (D.medium after.now) (HoldsFrom g (plain (ring_of g) r first) least second) → EachNow (D.medium after.now) (HoldsFrom g r (length first + least) (first ++ second)) }
     ensures recording { (g : Geometry) (r : Recording) (first second : List Step) → plain (ring_of g) r (first ++ second) ≡ plain (ring_of g) (plain (ring_of g) r first) second }
-{
-}
+{}

@@ -11,7 +11,7 @@ ghost use Rattle.loop_record.specs.Recording.{Recording, frame_under, holds};
 ghost use Rattle.loop_record.specs.declared.damage.Damage.TheVariants.{SlotHead};
 ghost use Rattle.loop_ring.specs.Heads.{has_number, heads_of};
 ghost use Rattle.loop_store.specs.declared.fault.StoreFault.TheVariants.{Damaged};
-ghost use Rattle.loop_store.specs.Faults.{answers_disk, faults_after, is_disk};
+ghost use Rattle.loop_store.specs.Faults.{answers_disk, faults_after, newest_told, is_disk};
 ghost use Rattle.loop_store.specs.Numbers.{numbers_in};
 ghost use Rattle.loop_store.specs.Seen.{AnswersFrame};
 
@@ -57,6 +57,7 @@ pub(crate) fn read_held<D: Disk, A: Allocator>(
     ensures refusals { IfErr result (λ fault. (fault ≡ Damaged SlotHead) ⊎ (is_disk fault ≡ true)) }
     ensures stays { D.honest disk.old → Stays (D.medium disk.old) (D.medium disk.new) }
     ensures counted { D.faults disk.new ≡ faults_after (answers_disk result) (D.faults disk.old) }
+    ensures kind { D.newest_fault disk.new ≡ newest_told (D.newest_fault disk.old) result }
     ensures extent { D.extent disk.new ≡ D.extent disk.old }
     ensures honest { D.honest disk.old ↔ D.honest disk.new }
 {

@@ -7,7 +7,7 @@ ghost use Rattle.loop_record.specs.declared.segment.SegmentHead.{SegmentHead};
 ghost use Rattle.loop_record.specs.Geometry.{frame_bytes, is_good};
 ghost use Rattle.loop_record.specs.Plain.{pictures};
 ghost use Rattle.loop_record.specs.Recording.{Recording, frame_under, holds, last_number, plain, ring_of, room, steps};
-ghost use Rattle.loop_store.specs.Faults.{answers_disk, faults_after};
+ghost use Rattle.loop_store.specs.Faults.{answers_disk, faults_after, newest_told};
 ghost use Rattle.loop_store.specs.Held.{HoldsSome};
 ghost use Rattle.loop_store.specs.Places.{AnswersPlace, IsKnown, IsRefusedPlace, head_after, segment_of};
 ghost use Rattle.loop_store.specs.Runs.{AnswersAppend};
@@ -177,6 +177,7 @@ impl<D: Disk + Drop, A: Allocator> Store<D, A> {
             → OnOk result (StandsFor D.medium D.honest self.new (plain (ring_of self.old.geometry) r (steps_or_none (steps (ring_of self.old.geometry) r (pictures frames.now))))) }
         ensures refused { Refused self.old self.new result }
         ensures counted { D.faults self.new.disk ≡ faults_after (answers_disk result) (D.faults self.old.disk) }
+        ensures kind { D.newest_fault self.new.disk ≡ newest_told (D.newest_fault self.old.disk) result }
         ensures honest { D.honest self.old.disk ↔ D.honest self.new.disk }
         ensures failed { self.new.must_reopen ≡ (self.old.must_reopen || answers_disk result) }
         ensures geometry { self.new.geometry ≡ self.old.geometry }
@@ -218,6 +219,7 @@ impl<D: Disk + Drop, A: Allocator> Store<D, A> {
         ensures stands { (r : Recording) → StandsFor D.medium D.honest self.old r → StandsFor D.medium D.honest self.new r }
         ensures stays { D.honest self.old.disk → Stays (D.medium self.old.disk) (D.medium self.new.disk) }
         ensures counted { D.faults self.new.disk ≡ faults_after (answers_disk result) (D.faults self.old.disk) }
+        ensures kind { D.newest_fault self.new.disk ≡ newest_told (D.newest_fault self.old.disk) result }
         ensures honest { D.honest self.old.disk ↔ D.honest self.new.disk }
         ensures same { TellsTheSame self.old self.new }
     {
