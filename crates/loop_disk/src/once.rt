@@ -156,10 +156,9 @@ impl<D: Disk> Disk for OnceDisk<D> {
             let outcome = self.inner.write_at(at, bytes);
             return note(&mut self.newest_fault, outcome);
         }
-        // It fails as a write, torn or not.
-        self.newest_fault = Some(DiskFault::Write);
         if let Some(keep) = self.torn {
-            tear(&mut self.inner, at, bytes, keep)?;
+            let outcome = tear(&mut self.inner, at, bytes, keep);
+            note(&mut self.newest_fault, outcome)?;
         }
         self.fail(DiskFault::Write)
     }

@@ -1,6 +1,6 @@
 ghost use Rattle.std.specs.Prelude.{◌≡◌, ◌+◌, ◌<◌, ◌≤◌, ◌^◌, ◌↔◌, [], ◌∷◌, ◌⊎◌, length, OnOk};
 ghost use Rattle.loop_disk.specs.Medium.{IsSettled, LeavesOnly, written};
-ghost use Rattle.loop_disk.specs.Calls.{CountedAny};
+ghost use Rattle.loop_disk.specs.Calls.{CountedAny, newest_after};
 ghost use Rattle.loop_disk.specs.InTurn.{TornOfThree};
 
 use super::*;
@@ -21,6 +21,7 @@ fn store_three<D: Disk>(disk: &mut D, at: u64, x: u8, y: u8, z: u8) -> Result<()
     ensures stored { D.honest disk.old → OnOk result ((D.medium disk.new).bytes ≡ written (at + 2) (z ∷ []) (written (at + 1) (y ∷ []) (written at (x ∷ []) (D.medium disk.old).bytes))) }
     ensures settled { D.honest disk.old → OnOk result (IsSettled (D.medium disk.new)) }
     ensures counted { CountedAny (D.faults disk.old) (D.faults disk.new) result }
+    ensures kind { D.newest_fault disk.new ≡ newest_after (D.newest_fault disk.old) result }
     ensures extent { D.extent disk.new ≡ D.extent disk.old }
     ensures honest { D.honest disk.old ↔ D.honest disk.new }
 {
@@ -117,6 +118,9 @@ fn a_fuse_fails_every_call_from_its_last_on(rt: HostRuntime) -> Result<(), Fail>
             let want = if call < k { Ok(()) } else { Err(FAULTS[call]) };
             assert_eq!(rt; answer, want, "call {call} of {k}");
         }
+        // The last call is a read, and fails wherever one does.
+        let want = if k < 10 { Some(DiskFault::Read) } else { None };
+        assert_eq!(rt; fuse.newest_fault, want, "after {k}");
         assert_eq!(rt; fuse.into_inner().bytes(), after_calls(k).as_slice());
     }
     Ok(())
@@ -130,6 +134,7 @@ fn one_call_fails_alone(rt: HostRuntime) -> Result<(), Fail> {
             let want = if call == k { Err(FAULTS[call]) } else { Ok(()) };
             assert_eq!(rt; answer, want, "call {call}, where {k} fails");
         }
+        assert_eq!(rt; once.newest_fault, Some(FAULTS[k]));
         let want = match k {
             0 => [0, 2, 5, 4],
             3 => [1, 0, 5, 4],
@@ -147,6 +152,22 @@ fn one_call_fails_alone(rt: HostRuntime) -> Result<(), Fail> {
 }
 
 #[test]
+fn a_fuse_names_a_failure_beneath_it(rt: HostRuntime) -> Result<(), Fail> {
+    let once = OnceDisk::new(MemDisk::new(rt.alloc(), 4)?, 1);
+    let mut fuse = FuseDisk::new(once, 3);
+    assert_eq!(rt; fuse.write_at(0, &[1]), Ok(()));
+    assert_eq!(rt; fuse.newest_fault, None);
+    assert_eq!(rt; fuse.sync(), Err(DiskFault::Sync));
+    assert_eq!(rt; fuse.newest_fault, Some(DiskFault::Sync));
+    // A call that succeeds leaves it.
+    assert_eq!(rt; fuse.sync(), Ok(()));
+    assert_eq!(rt; fuse.newest_fault, Some(DiskFault::Sync));
+    assert_eq!(rt; fuse.write_at(0, &[1]), Err(DiskFault::Write));
+    assert_eq!(rt; fuse.newest_fault, Some(DiskFault::Write));
+    Ok(())
+}
+
+#[test]
 fn a_torn_write_keeps_its_first_bytes(rt: HostRuntime) -> Result<(), Fail> {
     for (keep, want) in [
         (0, *b"old..old"),
@@ -158,6 +179,7 @@ fn a_torn_write_keeps_its_first_bytes(rt: HostRuntime) -> Result<(), Fail> {
         let mut torn = OnceDisk::torn(MemDisk::of(rt.alloc(), image), 1, keep);
         assert_eq!(rt; torn.sync(), Ok(()));
         assert_eq!(rt; torn.write_at(2, b"NEWS"), Err(DiskFault::Write));
+        assert_eq!(rt; torn.newest_fault, Some(DiskFault::Write));
         let mut disk = torn.into_inner();
         assert_eq!(rt; disk.bytes(), want.as_slice(), "keep {keep}");
         for at in 0..8u64 {
