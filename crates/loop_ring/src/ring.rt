@@ -13,7 +13,7 @@ ghost use Rattle.loop_ring.specs.Reads.{AnswersHead, CountedRead, newest_read, s
 ghost use Rattle.loop_ring.specs.Writes.{HasNoStray, IsGroup, ShowsBeginning, ShowsFrames, ShowsOrNot};
 
 use crate::SlotFault;
-use crate::stage::{stage, stage_one};
+use crate::stage::{lengthen, stage, stage_one};
 use loop_disk::{Disk, DiskFault, store, store_in_turn};
 use loop_record::{Damage, Frame, FrameHead, Geometry, HEAD_SIZE, OPEN, decode_head, put_u64};
 use std::alloc::{AllocError, Allocator, Global};
@@ -119,8 +119,9 @@ impl<A: Allocator> Ring<A> {
         ensures geometry { self.new.geometry ≡ self.old.geometry }
     {
         let frame_bytes = self.geometry.frame_bytes() as usize;
-        stage(&mut self.staged, frame_bytes, first_number, frames);
         let size = frames.len() * (HEAD_SIZE + frame_bytes);
+        lengthen(&mut self.staged, size);
+        stage(&mut self.staged, frame_bytes, first_number, frames);
         write_group(
             disk,
             &self.geometry,
@@ -158,8 +159,10 @@ impl<A: Allocator> Ring<A> {
         ensures geometry { self.new.geometry ≡ self.old.geometry }
     {
         let frame_bytes = self.geometry.frame_bytes() as usize;
+        let size = HEAD_SIZE + frame_bytes;
+        lengthen(&mut self.staged, size);
         stage_one(&mut self.staged, frame_bytes, number, frame);
-        let slots = &self.staged[..HEAD_SIZE + frame_bytes];
+        let slots = &self.staged[..size];
         write_group(disk, &self.geometry, segment, slot, 1, slots)
     }
 

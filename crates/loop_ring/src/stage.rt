@@ -7,28 +7,8 @@ ghost use Rattle.loop_ring.specs.Writes.{slots_in, slots_of};
 use loop_record::{Frame, HEAD_SIZE, encode_slot};
 use std::alloc::Allocator;
 
-/// Puts the slots of frames one behind the other at the front of a buffer that has the memory for them, and leaves the rest of
-/// it. Their numbers follow the first one. This is the one copy of the pixels.
-pub(crate) fn stage<A: Allocator>(
-    buffer: &mut Vec<u8, A>,
-    frame_bytes: usize,
-    first_number: u64,
-    frames: &[Frame<A>],
-)
-    requires fits { frame_bytes < 2 ^ 32 }
-    requires sizes { All (λ frame. length frame.bytes.items ≡ frame_bytes) frames.now }
-    requires room { length frames.now * (32 + frame_bytes) ≤ vec_capacity buffer.old }
-    requires numbers { first_number + length frames.now ≤ 2 ^ 64 }
-    ensures slots { slots_in frame_bytes buffer.new.items (length frames.now) ≡ slots_of frame_bytes first_number (pictures frames.now) }
-    ensures size { length frames.now * (32 + frame_bytes) ≤ vec_len buffer.new }
-    ensures capacity { vec_capacity buffer.old ≤ vec_capacity buffer.new }
-{
-    lengthen(buffer, frames.len() * (HEAD_SIZE + frame_bytes));
-    stage_slots(buffer, frame_bytes, first_number, frames);
-}
-
-// Sees to it that a buffer has so many bytes, for which it has the memory. Once it has them, nothing is written.
-fn lengthen<A: Allocator>(buffer: &mut Vec<u8, A>, size: usize)
+/// Sees to it that a buffer has so many bytes, for which it has the memory. Once it has them, nothing is written.
+pub(crate) fn lengthen<A: Allocator>(buffer: &mut Vec<u8, A>, size: usize)
     requires { size ≤ vec_capacity buffer.old }
     ensures size { size ≤ vec_len buffer.new }
     ensures capacity { vec_capacity buffer.old ≤ vec_capacity buffer.new }
@@ -40,8 +20,9 @@ fn lengthen<A: Allocator>(buffer: &mut Vec<u8, A>, size: usize)
     }
 }
 
-// Puts the slots of frames one behind the other at the front of a buffer that has the bytes for them.
-fn stage_slots<A: Allocator>(
+/// Puts the slots of frames one behind the other at the front of a buffer, and leaves the rest of it. Their numbers follow
+/// the first one. This is the one copy of the pixels.
+pub(crate) fn stage<A: Allocator>(
     buffer: &mut Vec<u8, A>,
     frame_bytes: usize,
     first_number: u64,
@@ -66,7 +47,7 @@ fn stage_slots<A: Allocator>(
     }
 }
 
-/// Puts the slot of one frame at the front of a buffer that has the memory for it, and leaves the rest of it.
+/// Puts the slot of one frame at the front of a buffer, and leaves the rest of it.
 pub(crate) fn stage_one<A: Allocator>(
     buffer: &mut Vec<u8, A>,
     frame_bytes: usize,
@@ -75,12 +56,11 @@ pub(crate) fn stage_one<A: Allocator>(
 )
     requires fits { frame_bytes < 2 ^ 32 }
     requires size { length frame.now.bytes.items ≡ frame_bytes }
-    requires room { 32 + frame_bytes ≤ vec_capacity buffer.old }
+    requires room { 32 + frame_bytes ≤ vec_len buffer.old }
     ensures slots { slots_in frame_bytes buffer.new.items 1 ≡ slots_of frame_bytes number (picture frame.now ∷ []) }
-    ensures size { 32 + frame_bytes ≤ vec_len buffer.new }
-    ensures capacity { vec_capacity buffer.old ≤ vec_capacity buffer.new }
+    ensures size { vec_len buffer.new ≡ vec_len buffer.old }
+    ensures capacity { vec_capacity buffer.new ≡ vec_capacity buffer.old }
 {
-    lengthen(buffer, HEAD_SIZE + frame_bytes);
     stage_slot(&mut buffer[0..HEAD_SIZE + frame_bytes], number, frame);
 }
 

@@ -152,6 +152,40 @@ fn a_block_and_its_frames_lie_as_the_layout_says(rt: HostRuntime) -> Result<(), 
     Ok(())
 }
 
+// Begins block 1 in segment 1, and stores frames 2 and 3 there, one by one.
+fn begin_commit_singly<D: Disk, A: Allocator>(
+    ring: &mut Ring<A>,
+    disk: &mut Bare<D>,
+    first: &Frame<A>,
+    second: &Frame<A>,
+) -> Result<(), DiskFault>
+    requires ring { ring.old.geometry ≡ SMALL }
+    requires extent { D.extent disk.old.0 ≡ 4360 }
+    requires first { length first.now.bytes.items ≡ 12 }
+    requires second { length second.now.bytes.items ≡ 12 }
+{
+    ring.begin_block(disk, 1, 1)?;
+    ring.commit_one(disk, 1, 0, 2, first)?;
+    ring.commit_one(disk, 1, 1, 3, second)
+}
+
+#[test]
+fn single_frames_lie_as_those_of_a_group(rt: HostRuntime) -> Result<(), Fail> {
+    let alloc = rt.alloc();
+    let mut ring = Ring::new(alloc, SMALL)?;
+    let first = frame(alloc, 2)?;
+    let second = frame(alloc, 3)?;
+    let image = vec![in alloc; 0x5A; 4360]?;
+    let mut disk = Bare(FuseDisk::new(MemDisk::of(alloc, image), 12));
+    assert_eq!(rt;
+        begin_commit_singly(&mut ring, &mut disk, &first, &second),
+        Ok(())
+    );
+    assert_eq!(rt; disk.0.left, 0);
+    assert_eq!(rt; disk.0.inner.bytes(), laid_out(alloc, OPEN)?.as_slice());
+    Ok(())
+}
+
 // The number of the call that fails, how many bytes of it are written if it is a write, its fault, and what stands at the
 // segment's gate and at its two frame gates then. The disk held 0x5A everywhere.
 const STOPS: [(u64, usize, DiskFault, [u8; 3]); 12] = [

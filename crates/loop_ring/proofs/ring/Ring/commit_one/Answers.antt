@@ -13,12 +13,12 @@ one_group g number n p buffer now n_is same fits slots =
 
 pub returns-clause-moments : goal.returns-clause-moments
 returns-clause-moments g c = λ honest.
-    let fits : 1 * (32 + c.frame_bytes-frame_bytes.result) ≤ length c.deref.result.now = omega (arith, c.deref.ensures.len, c.stage_one.ensures.size) in
+    let fits : 1 * (32 + c.frame_bytes-frame_bytes.result) ≤ length c.deref.result.now = omega (arith, c.deref.ensures.len, c.stage_one.ensures.size, c.lengthen.ensures.size) in
     c.write_group.ensures.moments honest c.args.number (picture c.args.frame.now ∷ [])
     (one_group c.args.self.now.geometry c.args.number c.frame_bytes-frame_bytes.result (picture c.args.frame.now) _ c.deref.result.now c.frame_bytes-frame_bytes.ensures c.deref.ensures.value fits c.stage_one.ensures.slots)
 
 pub returns-clause-committed : goal.returns-clause-committed
 returns-clause-committed g c = λ honest.
-    let fits : 1 * (32 + c.frame_bytes-frame_bytes.result) ≤ length c.deref.result.now = omega (arith, c.deref.ensures.len, c.stage_one.ensures.size) in
+    let fits : 1 * (32 + c.frame_bytes-frame_bytes.result) ≤ length c.deref.result.now = omega (arith, c.deref.ensures.len, c.stage_one.ensures.size, c.lengthen.ensures.size) in
     c.write_group.ensures.committed honest c.args.number (picture c.args.frame.now ∷ [])
     (one_group c.args.self.now.geometry c.args.number c.frame_bytes-frame_bytes.result (picture c.args.frame.now) _ c.deref.result.now c.frame_bytes-frame_bytes.ensures c.deref.ensures.value fits c.stage_one.ensures.slots)

@@ -1,7 +1,7 @@
 use Rattle.std.proofs.Common.{◌≡◌, ◌+◌, ◌++◌, drop, vec_capacity, vec_len}
 use Rattle.loop_record.specs.Plain.{pictures}
 use Rattle.loop_ring.specs.Writes.{slots_in, slots_of}
-use Rattle.loop_ring.proofs.stage.stage_slots.Given as goal
+use Rattle.loop_ring.proofs.stage.stage.Given as goal
 
 -- the slots so far, and then those of the frames that are left, are those of all frames
 abbrev pub invariant-loop-i : goal.invariant-loop-i

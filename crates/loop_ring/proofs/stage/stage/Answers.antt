@@ -1,6 +1,6 @@
 use Rattle.std.proofs.Common.{sym, arith}
 use Rattle.loop_ring.proofs.Staging.{turn_kept}
-use Rattle.loop_ring.proofs.stage.stage_slots.Goals as goal
+use Rattle.loop_ring.proofs.stage.stage.Goals as goal
 
 pub loop-i-preserved : goal.loop-i-preserved
 loop-i-preserved g c = record {
