@@ -1,7 +1,8 @@
 -- The steps of commands, one by one and in lists.
-use Rattle.std.proofs.Common.{◌≡◌, inl, inr, ℕ, Bool, true, false, Result, Ok, Err, OnOk, List, [], ◌∷◌, ◌++◌, length, refl, sym, ap, ◌∙◌, subst, append_assoc, arith}
+use Rattle.std.proofs.Common.{◌≡◌, inl, inr, ℕ, Bool, true, false, Option, Result, Ok, Err, OnOk, List, [], ◌∷◌, ◌++◌, length, refl, sym, ap, ◌∙◌, subst, append_assoc, arith}
 use Rattle.std.proofs.lemmas.List.{append-nil, length-append, take_at}
 use Rattle.std.specs.Prelude.{◌||◌}
+use Rattle.loop_disk.specs.declared.fault.DiskFault.{DiskFault}
 use Rattle.loop_disk.specs.Calls.{Stays}
 use Rattle.loop_disk.specs.Medium.{Medium, IsSettled, IsSound, LeavesOnly}
 use Rattle.loop_disk.proofs.Moments.{started, goes_on}
@@ -17,7 +18,7 @@ use Rattle.loop_store.specs.Held.{EachNow, HoldsFrom, HoldsSome}
 use Rattle.loop_store.specs.declared.command.Command.{Command}
 use Rattle.loop_store.specs.declared.command.Command.TheVariants as command
 use Rattle.loop_store.specs.declared.command.Reply.{Reply}
-use Rattle.loop_store.specs.Runs.{AnswersAppend, AreAnswers, IsAnswer, RefusesAppend, begun_by, begun_in, faults_in, faults_of, has_failed, made_by, made_in, some_failed, steps_if_failed, steps_if_stored}
+use Rattle.loop_store.specs.Runs.{AnswersAppend, AreAnswers, IsAnswer, RefusesAppend, begun_by, begun_in, faults_in, faults_of, has_failed, made_by, made_in, newest_in, newest_of, some_failed, steps_if_failed, steps_if_stored}
 use Rattle.loop_store.proofs.Appended.{steps-spent}
 use Rattle.loop_store.proofs.Grown.{held-some}
 use Rattle.loop_store.specs.Seen.{Refused, Seen, StandsFor, Unless, steps_or_none}
@@ -149,6 +150,10 @@ failed-more (q ∷ ps) p = ap (λ (b : Bool). has_failed q || b) (failed-more ps
 pub faults-more : {A : Type 0} (ps : List (Reply A)) (p : Reply A) (before : ℕ) → faults_in (ps ++ p ∷ []) before ≡ faults_of p (faults_in ps before)
 faults-more [] p before = refl
 faults-more (q ∷ ps) p before = faults-more ps p (faults_of q before)
+
+pub newest-more : {A : Type 0} (ps : List (Reply A)) (p : Reply A) (before : Option DiskFault) → newest_in (ps ++ p ∷ []) before ≡ newest_of p (newest_in ps before)
+newest-more [] p before = refl
+newest-more (q ∷ ps) p before = newest-more ps p (newest_of q before)
 
 pub answers-more : {A : Type 0} (g : Geometry) (r : Recording) (must : Bool) (cs : List (Command A)) (ps : List (Reply A)) (c : Command A) (p : Reply A) → AreAnswers g r must cs ps
     → IsAnswer g (plain (ring_of g) r (made_in (ring_of g) r cs ps)) (must || some_failed ps) c p → AreAnswers g r must (cs ++ c ∷ []) (ps ++ p ∷ [])

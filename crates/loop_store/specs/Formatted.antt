@@ -1,5 +1,6 @@
 -- What formatting leaves of a disk.
-use Rattle.std.specs.Prelude.{◌≡◌, ◌⊎◌, ℕ, ◌<◌, Bool, true, false, None, replicate, Result, Ok, Err, List, length, drop, slice_range}
+use Rattle.std.specs.Prelude.{◌≡◌, ◌⊎◌, ℕ, ◌<◌, Bool, true, false, Option, None, replicate, Result, Ok, Err, List, length, drop, slice_range}
+use Rattle.loop_disk.specs.declared.fault.DiskFault.{DiskFault}
 use Rattle.loop_disk.specs.Medium.{Medium}
 use Rattle.loop_record.specs.declared.damage.LayoutFault.TheVariants.{NotFormatted}
 use Rattle.loop_record.specs.declared.geometry.Geometry.{Geometry}
@@ -9,7 +10,7 @@ use Rattle.loop_record.specs.Reading.{Holds, reading}
 use Rattle.loop_record.specs.Recording.{empty}
 use Rattle.loop_store.specs.declared.fault.OpenRefused.{OpenRefused}
 use Rattle.loop_store.specs.declared.fault.StoreFault.TheVariants.{BadGeometry, NoMemory}
-use Rattle.loop_store.specs.Faults.{is_disk}
+use Rattle.loop_store.specs.Faults.{is_disk, newest_refused}
 use Rattle.loop_store.specs.Seen.{Seen}
 
 -- the superblock's gate is closed
@@ -67,3 +68,8 @@ disk_after (Err refused) = refused.disk
 abbrev pub is_refused_disk : {D : Type 0} → Result (Seen D) (OpenRefused D) → Bool
 is_refused_disk (Ok store) = false
 is_refused_disk (Err refused) = is_disk refused.fault
+
+-- the kind of the newest failed call of the disk after such an answer
+abbrev pub newest_opened : {D : Type 0} → Option DiskFault → Result (Seen D) (OpenRefused D) → Option DiskFault
+newest_opened before (Ok store) = before
+newest_opened before (Err refused) = newest_refused before refused.fault

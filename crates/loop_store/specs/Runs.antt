@@ -1,5 +1,6 @@
 -- What lists of commands make of a recording, and which replies they get.
-use Rattle.std.specs.Prelude.{◌≡◌, ◌≢◌, ◌⊎◌, ℕ, Bool, true, false, ◌||◌, Some, None, Result, Ok, Err, List, [], ◌∷◌, ◌++◌, length}
+use Rattle.std.specs.Prelude.{◌≡◌, ◌≢◌, ◌⊎◌, ℕ, Bool, true, false, ◌||◌, Option, Some, None, Result, Ok, Err, List, [], ◌∷◌, ◌++◌, length}
+use Rattle.loop_disk.specs.declared.fault.DiskFault.{DiskFault}
 use Rattle.loop_record.specs.declared.geometry.Geometry.{Geometry}
 use Rattle.loop_record.specs.Geometry.{frame_bytes}
 use Rattle.loop_record.specs.Recording.{Picture, Recording, Ring, Step, frame_under, head, holds, last_number, picture, plain, ring_of, steps}
@@ -10,7 +11,7 @@ use Rattle.loop_store.specs.declared.command.Reply.{Reply}
 use Rattle.loop_store.specs.declared.command.Reply.TheVariants as reply
 use Rattle.loop_store.specs.declared.fault.StoreFault.{StoreFault}
 use Rattle.loop_store.specs.declared.fault.StoreFault.TheVariants.{AllLocked, NoMemory, MustReopen, NotHeld, NumbersSpent}
-use Rattle.loop_store.specs.Faults.{answers_disk, faults_after, is_disk}
+use Rattle.loop_store.specs.Faults.{answers_disk, faults_after, is_disk, newest_told}
 use Rattle.loop_store.specs.Seen.{steps_or_none}
 
 -- a frame that is to be stored has the size of the geometry's
@@ -84,6 +85,11 @@ abbrev pub faults_of : {A : Type 0} → Reply A → ℕ → ℕ
 faults_of (reply.Store result) before = faults_after (answers_disk result) before
 faults_of (reply.Read result) before = faults_after (answers_disk result) before
 
+-- the kind of the newest of them
+abbrev pub newest_of : {A : Type 0} → Reply A → Option DiskFault → Option DiskFault
+newest_of (reply.Store result) before = newest_told before result
+newest_of (reply.Read result) before = newest_told before result
+
 -- ---- lists of commands
 
 -- each reply is the answer at its point
@@ -114,3 +120,8 @@ some_failed (p ∷ ps) = has_failed p || some_failed ps
 abbrev pub faults_in : {A : Type 0} → List (Reply A) → ℕ → ℕ
 faults_in [] before = before
 faults_in (p ∷ ps) before = faults_in ps (faults_of p before)
+
+-- the kind of the newest of them
+abbrev pub newest_in : {A : Type 0} → List (Reply A) → Option DiskFault → Option DiskFault
+newest_in [] before = before
+newest_in (p ∷ ps) before = newest_in ps (newest_of p before)

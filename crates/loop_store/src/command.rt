@@ -7,7 +7,7 @@ ghost use Rattle.loop_record.specs.Geometry.{frame_bytes};
 ghost use Rattle.loop_record.specs.Recording.{Recording, picture, plain, ring_of, steps};
 ghost use Rattle.loop_store.specs.Held.{EachNow, HoldsFrom, HoldsSome};
 ghost use Rattle.loop_store.specs.Faults.{answers_disk, faults_after, newest_told};
-ghost use Rattle.loop_store.specs.Runs.{AnswersAppend, AnswersRead, AreAnswers, IsAnswer, IsOfSize, begun_by, begun_in, faults_in, faults_of, has_failed, made_by, made_in, some_failed, steps_if_failed, steps_if_stored};
+ghost use Rattle.loop_store.specs.Runs.{AnswersAppend, AnswersRead, AreAnswers, IsAnswer, IsOfSize, begun_by, begun_in, faults_in, faults_of, has_failed, made_by, made_in, newest_in, newest_of, some_failed, steps_if_failed, steps_if_stored};
 ghost use Rattle.loop_store.specs.Seen.{Refused, StandsFor, TellsTheSame, steps_or_none};
 
 use crate::grow::append_one;
@@ -57,6 +57,7 @@ impl<D: Disk + Drop, A: Allocator> Store<D, A> {
         ensures refused { Refused self.old self.new result }
         ensures counted { D.faults self.new.disk ≡ faults_after (answers_disk result) (D.faults self.old.disk) }
         ensures kind { D.newest_fault self.new.disk ≡ newest_told (D.newest_fault self.old.disk) result }
+        ensures extent { D.extent self.new.disk ≡ D.extent self.old.disk }
         ensures honest { D.honest self.old.disk ↔ D.honest self.new.disk }
         ensures failed { self.new.must_reopen ≡ (self.old.must_reopen || answers_disk result) }
         ensures geometry { self.new.geometry ≡ self.old.geometry }
@@ -93,6 +94,7 @@ impl<D: Disk + Drop, A: Allocator + Copy> Store<D, A> {
         ensures unmoved { self.old.must_reopen ≡ true → self.new ≡ self.old }
         ensures counted { D.faults self.new.disk ≡ faults_after (answers_disk result) (D.faults self.old.disk) }
         ensures kind { D.newest_fault self.new.disk ≡ newest_told (D.newest_fault self.old.disk) result }
+        ensures extent { D.extent self.new.disk ≡ D.extent self.old.disk }
         ensures honest { D.honest self.old.disk ↔ D.honest self.new.disk }
         ensures geometry { self.new.geometry ≡ self.old.geometry }
     {
@@ -107,6 +109,7 @@ impl<D: Disk + Drop, A: Allocator + Copy> Store<D, A> {
         ensures unmoved { self.old.must_reopen ≡ true → self.new ≡ self.old }
         ensures counted { D.faults self.new.disk ≡ faults_after (answers_disk result) (D.faults self.old.disk) }
         ensures kind { D.newest_fault self.new.disk ≡ newest_told (D.newest_fault self.old.disk) result }
+        ensures extent { D.extent self.new.disk ≡ D.extent self.old.disk }
         ensures honest { D.honest self.old.disk ↔ D.honest self.new.disk }
         ensures same { TellsTheSame self.old self.new }
     {
@@ -137,6 +140,8 @@ impl<D: Disk + Drop, A: Allocator + Copy> Store<D, A> {
         ensures failed { self.new.must_reopen ≡ (self.old.must_reopen || has_failed result) }
         ensures unmoved { self.old.must_reopen ≡ true → self.new ≡ self.old }
         ensures counted { D.faults self.new.disk ≡ faults_of result (D.faults self.old.disk) }
+        ensures kind { D.newest_fault self.new.disk ≡ newest_of result (D.newest_fault self.old.disk) }
+        ensures extent { D.extent self.new.disk ≡ D.extent self.old.disk }
         ensures honest { D.honest self.old.disk ↔ D.honest self.new.disk }
         ensures geometry { self.new.geometry ≡ self.old.geometry }
     {
@@ -166,6 +171,8 @@ impl<D: Disk + Drop, A: Allocator + Copy> Store<D, A> {
         ensures stands { (r : Recording) → StandsFor D.medium D.honest self.old r → IfOk result (λ replies. StandsFor D.medium D.honest self.new (plain (ring_of self.old.geometry) r (made_in (ring_of self.old.geometry) r commands.now replies.items))) }
         ensures failed { IfOk result (λ replies. self.new.must_reopen ≡ some_failed replies.items) }
         ensures counted { IfOk result (λ replies. D.faults self.new.disk ≡ faults_in replies.items (D.faults self.old.disk)) }
+        ensures kind { IfOk result (λ replies. D.newest_fault self.new.disk ≡ newest_in replies.items (D.newest_fault self.old.disk)) }
+        ensures extent { D.extent self.new.disk ≡ D.extent self.old.disk }
         ensures honest { D.honest self.old.disk ↔ D.honest self.new.disk }
         ensures geometry { self.new.geometry ≡ self.old.geometry }
     {

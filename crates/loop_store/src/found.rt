@@ -13,6 +13,7 @@ ghost use Rattle.loop_record.specs.Layout.{checked_header, geometry_in, header_a
 ghost use Rattle.loop_record.specs.Plain.{AreIn, IsSomeHigh, segment_of, segments_of, with_segment};
 ghost use Rattle.loop_record.specs.Reading.{by_block, is_bad_slot, is_high, opened, parts_of, reading};
 ghost use Rattle.loop_ring.specs.Heads.{heads_of};
+ghost use Rattle.loop_store.specs.Faults.{newest_told};
 ghost use Rattle.loop_store.specs.Recovered.{CountedRecovery, IsHeadIn, Recovers, clips_of, refusal, segment_said, some_bad_clip};
 
 use crate::StoreFault;
@@ -41,6 +42,7 @@ pub(crate) fn read_geometry<D: Disk>(disk: &mut D) -> Result<Geometry, StoreFaul
     ensures geometry { D.honest disk.old → Recovers result (λ geometry. geometry_in (D.medium disk.old).bytes ≡ Ok geometry) (λ fault. reading (D.medium disk.old).bytes ≡ Err fault) }
     ensures disk { D.honest disk.old → Stays (D.medium disk.old) (D.medium disk.new) }
     ensures counted { CountedRecovery (D.faults disk.old) (D.faults disk.new) result }
+    ensures kind { D.newest_fault disk.new ≡ newest_told (D.newest_fault disk.old) result }
     ensures extent { D.extent disk.new ≡ D.extent disk.old }
     ensures honest { D.honest disk.old ↔ D.honest disk.new }
 {
@@ -71,6 +73,7 @@ fn read_head<D: Disk>(
         (λ fault. (fault ≡ LayoutFault.Damaged Damage.BlockTooHigh) × IsSomeHigh geometry.now (segment_in geometry.now (D.medium disk.old).bytes segment)) }
     ensures disk { D.honest disk.old → Stays (D.medium disk.old) (D.medium disk.new) }
     ensures counted { CountedRecovery (D.faults disk.old) (D.faults disk.new) result }
+    ensures kind { D.newest_fault disk.new ≡ newest_told (D.newest_fault disk.old) result }
     ensures extent { D.extent disk.new ≡ D.extent disk.old }
     ensures honest { D.honest disk.old ↔ D.honest disk.new }
 {
@@ -94,6 +97,7 @@ pub(crate) fn read_heads<D: Disk, A: Allocator>(
         (λ fault. (fault ≡ LayoutFault.Damaged Damage.BlockTooHigh) × (list_any (is_high geometry.now) (by_block (opened (parts_of geometry.now (D.medium disk.old).bytes).segments)) ≡ true)) }
     ensures disk { D.honest disk.old → Stays (D.medium disk.old) (D.medium disk.new) }
     ensures counted { CountedRecovery (D.faults disk.old) (D.faults disk.new) result }
+    ensures kind { D.newest_fault disk.new ≡ newest_told (D.newest_fault disk.old) result }
     ensures extent { D.extent disk.new ≡ D.extent disk.old }
     ensures honest { D.honest disk.old ↔ D.honest disk.new }
 {
@@ -164,6 +168,7 @@ fn check_slot<D: Disk>(
         D.honest disk.old → Recovers result (λ _. said ≡ true) (λ fault. (fault ≡ LayoutFault.Damaged Damage.SlotHead) × (said ≡ false)) }
     ensures disk { D.honest disk.old → Stays (D.medium disk.old) (D.medium disk.new) }
     ensures counted { CountedRecovery (D.faults disk.old) (D.faults disk.new) result }
+    ensures kind { D.newest_fault disk.new ≡ newest_told (D.newest_fault disk.old) result }
     ensures extent { D.extent disk.new ≡ D.extent disk.old }
     ensures honest { D.honest disk.old ↔ D.honest disk.new }
 {
@@ -184,6 +189,7 @@ fn check_segment<D: Disk>(disk: &mut D, geometry: &Geometry, found: Found) -> Re
         D.honest disk.old → Recovers result (λ _. bad ≡ false) (λ fault. (fault ≡ LayoutFault.Damaged Damage.SlotHead) × (bad ≡ true)) }
     ensures disk { D.honest disk.old → Stays (D.medium disk.old) (D.medium disk.new) }
     ensures counted { CountedRecovery (D.faults disk.old) (D.faults disk.new) result }
+    ensures kind { D.newest_fault disk.new ≡ newest_told (D.newest_fault disk.old) result }
     ensures extent { D.extent disk.new ≡ D.extent disk.old }
     ensures honest { D.honest disk.old ↔ D.honest disk.new }
 {
@@ -207,6 +213,7 @@ pub(crate) fn check_slots<D: Disk>(
         D.honest disk.old → Recovers result (λ _. bad ≡ false) (λ fault. (fault ≡ LayoutFault.Damaged Damage.SlotHead) × (bad ≡ true)) }
     ensures disk { D.honest disk.old → Stays (D.medium disk.old) (D.medium disk.new) }
     ensures counted { CountedRecovery (D.faults disk.old) (D.faults disk.new) result }
+    ensures kind { D.newest_fault disk.new ≡ newest_told (D.newest_fault disk.old) result }
     ensures extent { D.extent disk.new ≡ D.extent disk.old }
     ensures honest { D.honest disk.old ↔ D.honest disk.new }
 {
@@ -230,6 +237,7 @@ pub(crate) fn read_table<D: Disk>(
         D.honest disk.old → Recovers result (λ clips. (clips ≡ clips_of (D.medium disk.old).bytes) × (bad ≡ false)) (λ fault. (fault ≡ LayoutFault.Damaged Damage.ClipRange) × (bad ≡ true)) }
     ensures disk { D.honest disk.old → Stays (D.medium disk.old) (D.medium disk.new) }
     ensures counted { CountedRecovery (D.faults disk.old) (D.faults disk.new) result }
+    ensures kind { D.newest_fault disk.new ≡ newest_told (D.newest_fault disk.old) result }
     ensures extent { D.extent disk.new ≡ D.extent disk.old }
     ensures honest { D.honest disk.old ↔ D.honest disk.new }
 {

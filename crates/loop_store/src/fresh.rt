@@ -1,7 +1,7 @@
 //! What formatting writes, in its order: the superblock's gate is closed first and opened last.
 
 ghost use Rattle.std.specs.Prelude.{◌≡◌, ◌+◌, ◌<◌, ◌≤◌, ◌↔◌, IsTrue, OnOk, ◌++◌, drop, false, length};
-ghost use Rattle.loop_disk.specs.Calls.{CountedAny};
+ghost use Rattle.loop_disk.specs.Calls.{CountedAny, newest_after};
 ghost use Rattle.loop_disk.specs.Medium.{IsSettled, LeavesOnly};
 ghost use Rattle.loop_record.specs.Geometry.{disk_size, is_good};
 ghost use Rattle.loop_record.specs.Layout.{is_open, super_bytes};
@@ -22,6 +22,7 @@ fn close_gate<D: Disk>(disk: &mut D) -> Result<(), DiskFault>
     ensures closed { D.honest disk.old → OnOk result (is_open (D.medium disk.new).bytes 0 ≡ false) }
     ensures settled { D.honest disk.old → OnOk result (IsSettled (D.medium disk.new)) }
     ensures counted { CountedAny (D.faults disk.old) (D.faults disk.new) result }
+    ensures kind { D.newest_fault disk.new ≡ newest_after (D.newest_fault disk.old) result }
     ensures extent { D.extent disk.new ≡ D.extent disk.old }
     ensures honest { D.honest disk.old ↔ D.honest disk.new }
 {
@@ -40,6 +41,7 @@ fn unformat<D: Disk>(disk: &mut D) -> Result<(), DiskFault>
     ensures moments { D.honest disk.old → LeavesOnly (D.medium disk.old) (D.medium disk.new) (WasOrClosed (D.medium disk.old)) }
     ensures closed { D.honest disk.old → OnOk result (AreClosed (D.medium disk.new)) }
     ensures counted { CountedAny (D.faults disk.old) (D.faults disk.new) result }
+    ensures kind { D.newest_fault disk.new ≡ newest_after (D.newest_fault disk.old) result }
     ensures extent { D.extent disk.new ≡ D.extent disk.old }
     ensures honest { D.honest disk.old ↔ D.honest disk.new }
 {
@@ -73,6 +75,7 @@ fn write_front<D: Disk>(disk: &mut D, geometry: &Geometry) -> Result<(), DiskFau
     ensures closed { D.honest disk.old → OnOk result (AreClosed (D.medium disk.new)) }
     ensures laid { D.honest disk.old → OnOk result (IsLaid geometry.now 0 (D.medium disk.new).bytes) }
     ensures counted { CountedAny (D.faults disk.old) (D.faults disk.new) result }
+    ensures kind { D.newest_fault disk.new ≡ newest_after (D.newest_fault disk.old) result }
     ensures extent { D.extent disk.new ≡ D.extent disk.old }
     ensures honest { D.honest disk.old ↔ D.honest disk.new }
 {
@@ -92,6 +95,7 @@ fn write_header<D: Disk>(disk: &mut D, geometry: &Geometry, segment: u32) -> Res
     ensures closed { D.honest disk.old → AreClosed (D.medium disk.new) }
     ensures laid { D.honest disk.old → OnOk result (IsLaid geometry.now (segment + 1) (D.medium disk.new).bytes) }
     ensures counted { CountedAny (D.faults disk.old) (D.faults disk.new) result }
+    ensures kind { D.newest_fault disk.new ≡ newest_after (D.newest_fault disk.old) result }
     ensures extent { D.extent disk.new ≡ D.extent disk.old }
     ensures honest { D.honest disk.old ↔ D.honest disk.new }
 {
@@ -108,6 +112,7 @@ fn write_headers<D: Disk>(disk: &mut D, geometry: &Geometry) -> Result<(), DiskF
     ensures closed { D.honest disk.old → AreClosed (D.medium disk.new) }
     ensures laid { D.honest disk.old → OnOk result (IsLaid geometry.now geometry.now.segments (D.medium disk.new).bytes) }
     ensures counted { CountedAny (D.faults disk.old) (D.faults disk.new) result }
+    ensures kind { D.newest_fault disk.new ≡ newest_after (D.newest_fault disk.old) result }
     ensures extent { D.extent disk.new ≡ D.extent disk.old }
     ensures honest { D.honest disk.old ↔ D.honest disk.new }
 {
@@ -127,6 +132,7 @@ fn open_gate<D: Disk>(disk: &mut D, geometry: &Geometry) -> Result<(), DiskFault
     ensures fresh { D.honest disk.old → OnOk result (IsFresh geometry.now (D.medium disk.new).bytes) }
     ensures settled { D.honest disk.old → OnOk result (IsSettled (D.medium disk.new)) }
     ensures counted { CountedAny (D.faults disk.old) (D.faults disk.new) result }
+    ensures kind { D.newest_fault disk.new ≡ newest_after (D.newest_fault disk.old) result }
     ensures extent { D.extent disk.new ≡ D.extent disk.old }
     ensures honest { D.honest disk.old ↔ D.honest disk.new }
 {
@@ -143,6 +149,7 @@ fn finish<D: Disk>(disk: &mut D, geometry: &Geometry) -> Result<(), DiskFault>
     ensures fresh { D.honest disk.old → OnOk result (IsFresh geometry.now (D.medium disk.new).bytes) }
     ensures settled { D.honest disk.old → OnOk result (IsSettled (D.medium disk.new)) }
     ensures counted { CountedAny (D.faults disk.old) (D.faults disk.new) result }
+    ensures kind { D.newest_fault disk.new ≡ newest_after (D.newest_fault disk.old) result }
     ensures extent { D.extent disk.new ≡ D.extent disk.old }
     ensures honest { D.honest disk.old ↔ D.honest disk.new }
 {
@@ -158,6 +165,7 @@ pub(crate) fn lay_out<D: Disk>(disk: &mut D, geometry: &Geometry) -> Result<(), 
     ensures fresh { D.honest disk.old → OnOk result (IsFresh geometry.now (D.medium disk.new).bytes) }
     ensures settled { D.honest disk.old → OnOk result (IsSettled (D.medium disk.new)) }
     ensures counted { CountedAny (D.faults disk.old) (D.faults disk.new) result }
+    ensures kind { D.newest_fault disk.new ≡ newest_after (D.newest_fault disk.old) result }
     ensures extent { D.extent disk.new ≡ D.extent disk.old }
     ensures honest { D.honest disk.old ↔ D.honest disk.new }
 {

@@ -5,7 +5,7 @@ ghost use Rattle.loop_disk.specs.Medium.{LeavesOnly};
 ghost use Rattle.loop_record.specs.Geometry.{disk_size, is_good};
 ghost use Rattle.loop_record.specs.Recording.{empty};
 ghost use Rattle.loop_store.specs.Faults.{faults_after, is_disk};
-ghost use Rattle.loop_store.specs.Formatted.{IsBadGeometry, IsFormatted, IsRefusedFormat, WasOrEmpty, disk_after, is_refused_disk};
+ghost use Rattle.loop_store.specs.Formatted.{IsBadGeometry, IsFormatted, IsRefusedFormat, WasOrEmpty, disk_after, is_refused_disk, newest_opened};
 ghost use Rattle.loop_store.specs.Seen.{StandsFor};
 
 use crate::fresh::lay_out;
@@ -44,6 +44,8 @@ pub fn format<D: Disk + Drop, A: Allocator + Copy>(
     ensures stands { IfOk result (λ store. StandsFor D.medium D.honest store empty) }
     ensures moments { D.honest disk → LeavesOnly (D.medium disk) (D.medium (disk_after result)) (WasOrEmpty geometry (D.medium disk)) }
     ensures counted { D.faults (disk_after result) ≡ faults_after (is_refused_disk result) (D.faults disk) }
+    ensures kind { D.newest_fault (disk_after result) ≡ newest_opened (D.newest_fault disk) result }
+    ensures extent { D.extent (disk_after result) ≡ D.extent disk }
     ensures honest { D.honest disk ↔ D.honest (disk_after result) }
 {
     let mut disk = disk;

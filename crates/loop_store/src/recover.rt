@@ -5,6 +5,7 @@ ghost use Rattle.loop_disk.specs.Calls.{Stays};
 ghost use Rattle.loop_record.specs.Geometry.{disk_size, is_good};
 ghost use Rattle.loop_record.specs.Layout.{geometry_in};
 ghost use Rattle.loop_record.specs.Reading.{reading};
+ghost use Rattle.loop_store.specs.Faults.{newest_told};
 ghost use Rattle.loop_store.specs.Opened.{IsFitting};
 ghost use Rattle.loop_store.specs.Recovered.{CountedRecovery, IsRecovered, Recovers};
 
@@ -43,6 +44,7 @@ fn recover_parts<D: Disk, A: Allocator + Copy>(
         (λ fault. reading (D.medium disk.old).bytes ≡ Err fault) }
     ensures disk { D.honest disk.old → Stays (D.medium disk.old) (D.medium disk.new) }
     ensures counted { CountedRecovery (D.faults disk.old) (D.faults disk.new) result }
+    ensures kind { D.newest_fault disk.new ≡ newest_told (D.newest_fault disk.old) result }
     ensures extent { D.extent disk.new ≡ D.extent disk.old }
     ensures honest { D.honest disk.old ↔ D.honest disk.new }
 {
@@ -84,6 +86,7 @@ pub(crate) fn recover<D: Disk, A: Allocator + Copy>(
         (λ fault. reading (D.medium disk.old).bytes ≡ Err fault) }
     ensures disk { D.honest disk.old → Stays (D.medium disk.old) (D.medium disk.new) }
     ensures counted { CountedRecovery (D.faults disk.old) (D.faults disk.new) result }
+    ensures kind { D.newest_fault disk.new ≡ newest_told (D.newest_fault disk.old) result }
     ensures extent { D.extent disk.new ≡ D.extent disk.old }
     ensures honest { D.honest disk.old ↔ D.honest disk.new }
 {

@@ -1,14 +1,14 @@
 //! Finds the recording on a disk again.
 
 ghost use Rattle.std.specs.Prelude.{◌≡◌, ◌↔◌, Err, IfErr, IfOk, IsTrue, OnOk, false, length};
-ghost use Rattle.loop_disk.specs.Calls.{CountedAny, Stays};
+ghost use Rattle.loop_disk.specs.Calls.{CountedAny, Stays, newest_after};
 ghost use Rattle.loop_disk.specs.Medium.{IsSettled, LeavesOnly};
 ghost use Rattle.loop_record.specs.Geometry.{disk_size, is_good};
 ghost use Rattle.loop_record.specs.Reading.{reading};
 ghost use Rattle.loop_ring.specs.Heads.{heads_of};
-ghost use Rattle.loop_store.specs.Faults.{faults_after, is_disk};
+ghost use Rattle.loop_store.specs.Faults.{faults_after, is_disk, newest_told};
 ghost use Rattle.loop_store.specs.Held.{HasNoneStray};
-ghost use Rattle.loop_store.specs.Formatted.{disk_after, is_refused_disk};
+ghost use Rattle.loop_store.specs.Formatted.{disk_after, is_refused_disk, newest_opened};
 ghost use Rattle.loop_store.specs.Opened.{IsFitting, IsOpened, IsReady, IsRefusedOpen, IsTold, ReadsAlike, WasOrReadsAlike};
 ghost use Rattle.loop_store.specs.Recovered.{CountedRecovery, IsRecovered, Recovers};
 
@@ -38,6 +38,7 @@ fn reread<D: Disk, A: Allocator + Copy>(alloc: A, disk: &mut D) -> Result<Recove
     ensures disk { D.honest disk.old → Stays (D.medium disk.old) (D.medium disk.new) }
     ensures settled { D.honest disk.old → IfOk result (λ _. IsSettled (D.medium disk.new)) }
     ensures counted { CountedRecovery (D.faults disk.old) (D.faults disk.new) result }
+    ensures kind { D.newest_fault disk.new ≡ newest_told (D.newest_fault disk.old) result }
     ensures extent { D.extent disk.new ≡ D.extent disk.old }
     ensures honest { D.honest disk.old ↔ D.honest disk.new }
 {
@@ -80,6 +81,7 @@ fn clear_newest<D: Disk, A: Allocator>(
     ensures stray { D.honest disk.old → OnOk result (HasNoneStray ring.now.geometry (D.medium disk.new).bytes) }
     ensures settled { D.honest disk.old → OnOk result (IsSettled (D.medium disk.new)) }
     ensures counted { CountedAny (D.faults disk.old) (D.faults disk.new) result }
+    ensures kind { D.newest_fault disk.new ≡ newest_after (D.newest_fault disk.old) result }
     ensures extent { D.extent disk.new ≡ D.extent disk.old }
     ensures honest { D.honest disk.old ↔ D.honest disk.new }
 {
@@ -100,6 +102,7 @@ fn reopen<D: Disk, A: Allocator + Copy>(alloc: A, disk: &mut D) -> Result<Known<
     ensures alike { D.honest disk.old → ReadsAlike (D.medium disk.old).bytes (D.medium disk.new).bytes }
     ensures stays { D.honest disk.old → IfErr result (λ fault. is_disk fault ≡ false → Stays (D.medium disk.old) (D.medium disk.new)) }
     ensures counted { CountedRecovery (D.faults disk.old) (D.faults disk.new) result }
+    ensures kind { D.newest_fault disk.new ≡ newest_told (D.newest_fault disk.old) result }
     ensures extent { D.extent disk.new ≡ D.extent disk.old }
     ensures honest { D.honest disk.old ↔ D.honest disk.new }
 {
@@ -129,6 +132,7 @@ impl<D: Disk + Drop, A: Allocator + Copy> Store<D, A> {
         ensures stays { D.honest disk → IfErr result (λ refused. is_disk refused.fault ≡ false → Stays (D.medium disk) (D.medium refused.disk)) }
         ensures moments { D.honest disk → LeavesOnly (D.medium disk) (D.medium (disk_after result)) (WasOrReadsAlike (D.medium disk)) }
         ensures counted { D.faults (disk_after result) ≡ faults_after (is_refused_disk result) (D.faults disk) }
+        ensures kind { D.newest_fault (disk_after result) ≡ newest_opened (D.newest_fault disk) result }
         ensures extent { D.extent (disk_after result) ≡ D.extent disk }
         ensures honest { D.honest disk ↔ D.honest (disk_after result) }
     {

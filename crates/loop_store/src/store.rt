@@ -178,6 +178,7 @@ impl<D: Disk + Drop, A: Allocator> Store<D, A> {
         ensures refused { Refused self.old self.new result }
         ensures counted { D.faults self.new.disk ≡ faults_after (answers_disk result) (D.faults self.old.disk) }
         ensures kind { D.newest_fault self.new.disk ≡ newest_told (D.newest_fault self.old.disk) result }
+        ensures extent { D.extent self.new.disk ≡ D.extent self.old.disk }
         ensures honest { D.honest self.old.disk ↔ D.honest self.new.disk }
         ensures failed { self.new.must_reopen ≡ (self.old.must_reopen || answers_disk result) }
         ensures geometry { self.new.geometry ≡ self.old.geometry }
@@ -220,6 +221,7 @@ impl<D: Disk + Drop, A: Allocator> Store<D, A> {
         ensures stays { D.honest self.old.disk → Stays (D.medium self.old.disk) (D.medium self.new.disk) }
         ensures counted { D.faults self.new.disk ≡ faults_after (answers_disk result) (D.faults self.old.disk) }
         ensures kind { D.newest_fault self.new.disk ≡ newest_told (D.newest_fault self.old.disk) result }
+        ensures extent { D.extent self.new.disk ≡ D.extent self.old.disk }
         ensures honest { D.honest self.old.disk ↔ D.honest self.new.disk }
         ensures same { TellsTheSame self.old self.new }
     {

@@ -19,6 +19,7 @@ loop-slot-preserved g c =
     let first = ap (λ (k : ℕ). c.args.found.block * k) c.from.ensures in record {
       extent = c.check_slot.ensures.extent ∙ here.extent;
       counted = c.in_ok-check_slot.ensures.counted ∙ here.counted;
+      kind = c.in_ok-check_slot.ensures.kind ∙ here.kind;
       honest = (λ honest. c.check_slot.ensures.honest.0 (here.honest.0 honest), λ honest. here.honest.1 (c.check_slot.ensures.honest.1 honest));
       stays = λ honest. stays_on _ _ _ (here.stays honest) (c.in_ok-check_slot.ensures.disk (here.honest.0 honest));
       hold = λ honest. slots-right h (g.D.Disk.medium c.args.disk.now).bytes (g.D.Disk.medium c.loop-slot.disk).bytes c.args.found.segment c.loop-slot.slot (c.args.found.block * h.slots) (c.args.found.block * c.from.result + c.from-in-loop-slot.result)

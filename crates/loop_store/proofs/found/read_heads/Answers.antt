@@ -23,6 +23,7 @@ loop-segment-preserved g c =
       within = subst (All (IsHeadIn h)) (sym c.push_reserved.ensures.items) (All-push (IsHeadIn h) c.loop-segment.heads.items c.in_ok-head.head here.within c.in_ok-head.ensures.within);
       extent = c.read_head.ensures.extent ∙ here.extent;
       counted = c.in_ok-head.ensures.counted ∙ here.counted;
+      kind = c.in_ok-head.ensures.kind ∙ here.kind;
       honest = (λ honest. c.read_head.ensures.honest.0 (here.honest.0 honest), λ honest. here.honest.1 (c.read_head.ensures.honest.1 honest));
       stays = λ honest. stays_on _ _ _ (here.stays honest) (c.in_ok-head.ensures.disk (here.honest.0 honest));
       heads = λ honest. heads-more h (g.D.Disk.medium c.args.disk.now).bytes (g.D.Disk.medium c.loop-segment.disk).bytes c.loop-segment.segment c.in_ok-head.head c.loop-segment.heads.items c.push_reserved.new.self.items

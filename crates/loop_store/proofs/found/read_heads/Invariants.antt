@@ -14,6 +14,7 @@ invariant-loop-segment g l = record {
   within : All (IsHeadIn l.geometry) l.heads.items;
   extent : g.D.Disk.extent l.disk ≡ g.D.Disk.extent l.fn.disk;
   counted : g.D.Disk.faults l.disk ≡ g.D.Disk.faults l.fn.disk;
+  kind : g.D.Disk.newest_fault l.disk ≡ g.D.Disk.newest_fault l.fn.disk;
   honest : g.D.Disk.honest l.fn.disk ↔ g.D.Disk.honest l.disk;
   stays : g.D.Disk.honest l.fn.disk → Stays (g.D.Disk.medium l.fn.disk) (g.D.Disk.medium l.disk);
   heads : g.D.Disk.honest l.fn.disk → l.heads.items ≡ map (λ j. header_at l.geometry (g.D.Disk.medium l.fn.disk).bytes (segment_at l.geometry j)) (range_with_len 0 l.segment);

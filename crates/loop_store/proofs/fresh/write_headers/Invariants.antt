@@ -10,6 +10,7 @@ invariant-loop-segment g l = record {
   closed : g.D.Disk.honest l.fn.disk → AreClosed (g.D.Disk.medium l.disk);
   laid : g.D.Disk.honest l.fn.disk → IsLaid l.geometry l.segment (g.D.Disk.medium l.disk).bytes;
   counted : g.D.Disk.faults l.disk ≡ g.D.Disk.faults l.fn.disk;
+  kind : g.D.Disk.newest_fault l.disk ≡ g.D.Disk.newest_fault l.fn.disk;
   extent : g.D.Disk.extent l.disk ≡ g.D.Disk.extent l.fn.disk;
   honest : g.D.Disk.honest l.fn.disk ↔ g.D.Disk.honest l.disk;
 }

@@ -1,8 +1,8 @@
 use Rattle.std.proofs.Common.{◌≡◌, false, get_or, refl, sym, ap, ◌∙◌, subst, arith}
 use Rattle.loop_record.specs.declared.geometry.Geometry.{Geometry}
 use Rattle.loop_store.specs.declared.command.Command.{Command}
-use Rattle.loop_store.specs.Runs.{IsOfSize, faults_in, faults_of}
-use Rattle.loop_store.proofs.Asked.{faults-more}
+use Rattle.loop_store.specs.Runs.{IsOfSize, faults_in, faults_of, newest_in, newest_of}
+use Rattle.loop_store.proofs.Asked.{faults-more, newest-more}
 use Rattle.loop_store.proofs.Ran.{ran-none_yet, ran-turn, ran-all}
 use Rattle.loop_store.proofs.store.Store.run.Goals as goal
 
@@ -12,6 +12,8 @@ loop-command-init g c =
     record {
       ran = ran-none_yet _ g.D.Disk.medium g.D.Disk.honest c.args.self.now c.in_ok-replies.replies.items c.in_ok-replies.ensures.items fine (λ honest. g.met.D.Disk.sound c.args.self.now.disk honest);
       counted = ap (λ ps. faults_in ps (g.D.Disk.faults c.args.self.now.disk)) (sym c.in_ok-replies.ensures.items);
+      kind = ap (λ ps. newest_in ps (g.D.Disk.newest_fault c.args.self.now.disk)) (sym c.in_ok-replies.ensures.items);
+      extent = refl;
       honest = (λ h. h, λ h. h);
       geometry = refl;
       room = omega (arith, c.in_ok-replies.ensures.capacity);
@@ -42,6 +44,10 @@ loop-command-preserved g c = record {
   counted =
       c.answer.ensures.counted ∙ ap (λ n. faults_of c.answer.result n) c.loop-command.invariant.counted ∙ sym (faults-more c.loop-command.replies.items c.answer.result (g.D.Disk.faults c.args.self.now.disk))
       ∙ ap (λ ps. faults_in ps (g.D.Disk.faults c.args.self.now.disk)) (sym c.push_reserved.ensures.items);
+  kind =
+      c.answer.ensures.kind ∙ ap (λ k. newest_of c.answer.result k) c.loop-command.invariant.kind ∙ sym (newest-more c.loop-command.replies.items c.answer.result (g.D.Disk.newest_fault c.args.self.now.disk))
+      ∙ ap (λ ps. newest_in ps (g.D.Disk.newest_fault c.args.self.now.disk)) (sym c.push_reserved.ensures.items);
+  extent = c.answer.ensures.extent ∙ c.loop-command.invariant.extent;
   honest = (λ h. c.answer.ensures.honest.0 (c.loop-command.invariant.honest.0 h), λ h. c.loop-command.invariant.honest.1 (c.answer.ensures.honest.1 h));
   geometry = c.answer.ensures.geometry ∙ c.loop-command.invariant.geometry;
   room = omega (arith, c.push_reserved.ensures.capacity, c.loop-command.invariant.room);
