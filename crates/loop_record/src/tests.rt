@@ -416,3 +416,97 @@ fn a_header_and_a_clip_entry_are_decoded(rt: HostRuntime) {
     encode_super(&SMALL, &mut superblock);
     assert_eq!(rt; decode_super(&superblock), Ok(SMALL));
 }
+
+#[test]
+fn found_segments_stand_in_the_order_of_their_blocks(rt: HostRuntime) -> Result<(), Fail> {
+    let mut open = Vec::new(rt.alloc());
+    for (segment, block, frames) in [(0, 5, 2), (1, 3, 2)] {
+        put_in_place(
+            &mut open,
+            Found {
+                segment,
+                block,
+                frames,
+            },
+        )?;
+    }
+    assert!(rt; !repeats(&open) && !lacks_frame(&SMALL, &open));
+    // The newest may lack a frame, and no other.
+    put_in_place(
+        &mut open,
+        Found {
+            segment: 2,
+            block: 5,
+            frames: 1,
+        },
+    )?;
+    for (place, segment) in [1, 2, 0].into_iter().enumerate() {
+        assert_eq!(rt; open.get(place).map(|found| found.segment), Some(segment));
+    }
+    assert!(rt; repeats(&open) && lacks_frame(&SMALL, &open));
+    Ok(())
+}
+
+#[test]
+fn the_next_number_and_the_clips_are_found(rt: HostRuntime) {
+    assert!(rt; SMALL.check().is_ok());
+    // Frames 6, 7 and 8.
+    let open = [
+        Found {
+            segment: 1,
+            block: 3,
+            frames: 2,
+        },
+        Found {
+            segment: 0,
+            block: 4,
+            frames: 1,
+        },
+    ];
+    assert_eq!(rt; next_after(&SMALL, &[]), 0);
+    assert_eq!(rt; next_after(&SMALL, &open), 9);
+
+    let mut table = [0u8; TABLE_SIZE];
+    table[63 * CLIP_SIZE] = OPEN;
+    put_u64(&mut table, 63 * CLIP_SIZE + 8, 7);
+    put_u64(&mut table, 63 * CLIP_SIZE + 16, 8);
+    let mut clips = [None; 64];
+    clips[63] = Some(Span { from: 7, to: 8 });
+    assert_eq!(rt; read_clips(&SMALL, &table, &open), Ok(clips));
+    put_u64(&mut table, 63 * CLIP_SIZE + 16, 9);
+    assert_eq!(rt; read_clips(&SMALL, &table, &open), Err(Damage::ClipRange));
+}
+
+#[test]
+fn a_locked_block_and_the_newest_stay(rt: HostRuntime) {
+    assert!(rt; SMALL.check().is_ok());
+    // The clip has the second frame of block 2 and the first of block 3.
+    let clips = [None, Some(Span { from: 5, to: 6 })];
+    for (block, locked) in [(1, false), (2, true), (3, true), (4, false), (5, false)] {
+        assert_eq!(rt; is_locked(&SMALL, block, &clips), locked, "block {block}");
+        assert_eq!(rt;
+            may_go(&SMALL, &clips, 5, block),
+            !locked && block != 5,
+            "block {block}"
+        );
+    }
+}
+
+#[test]
+fn a_slots_head_names_its_number_and_size(rt: HostRuntime) {
+    let mut head = [0u8; HEAD_SIZE];
+    put_u64(&mut head, 0, 7);
+    put_u32(&mut head, 8, 6);
+    put_u32(&mut head, 12, 0x2000);
+    put_u64(&mut head, 16, 240_000);
+    put_u32(&mut head, 24, 12);
+    let said = FrameHead {
+        number: 7,
+        sequence: 6,
+        flags: 0x2000,
+        timestamp: 240_000,
+    };
+    assert_eq!(rt; decode_head(&head, 7, 12), Ok(said));
+    assert_eq!(rt; decode_head(&head, 8, 12), Err(Damage::SlotHead));
+    assert_eq!(rt; decode_head(&head, 7, 13), Err(Damage::SlotHead));
+}
