@@ -2,7 +2,7 @@
 ghost use Rattle.std.specs.Prelude.{◌≡◌, ◌+◌, ◌*◌, ◌≤◌, ◌↔◌, IfOk, IsTrue, List, None, OnOk, Option, length, map, replicate, slice_index_or};
 ghost use Rattle.std.specs.List.{list_any, range_with_len};
 ghost use Rattle.loop_clips.specs.Table.{listed};
-ghost use Rattle.loop_disk.specs.Calls.{Counted, Stays, newest_after};
+ghost use Rattle.loop_disk.specs.Calls.{Called, Stays, failed_call};
 ghost use Rattle.loop_disk.specs.declared.fault.DiskFault.TheVariants.{Read};
 ghost use Rattle.loop_record.specs.declared.clip.Span.{Span};
 ghost use Rattle.loop_record.specs.Geometry.{is_good};
@@ -52,13 +52,10 @@ impl ClipTable {
     /// The clips whose entries are open on a disk of at least 2,560 bytes, as they stand there, sound or not: one read, and no
     /// memory. Its only refusal is that the read fails.
     pub fn read<D: Disk>(disk: &mut D) -> Result<ClipTable, DiskFault>
-        requires extent { 2560 ≤ D.extent disk.old }
-        ensures clips { D.honest disk.old → IfOk result (λ table. table ≡ map (clip_in (D.medium disk.old).bytes) (range_with_len 0 64)) }
-        ensures disk { D.honest disk.old → Stays (D.medium disk.old) (D.medium disk.new) }
-        ensures counted { Counted Read (D.faults disk.old) (D.faults disk.new) result }
-        ensures kind { D.newest_fault disk.new ≡ newest_after (D.newest_fault disk.old) result }
-        ensures extent { D.extent disk.new ≡ D.extent disk.old }
-        ensures honest { D.honest disk.old ↔ D.honest disk.new }
+        requires extent { 2560 ≤ (D.medium disk.old).size }
+        ensures clips { (D.medium disk.old).honest → IfOk result (λ table. table ≡ map (clip_in (D.medium disk.old).bytes) (range_with_len 0 64)) }
+        ensures disk { (D.medium disk.old).honest → Stays (D.medium disk.old) (D.medium disk.new) }
+        ensures called { Called (D.medium disk.old) (D.medium disk.new) (failed_call result) }
     {
         let mut entries = [0; CLIPS * CLIP_SIZE];
         disk.read(SUPER_SIZE as u64, &mut entries)?;

@@ -6,6 +6,7 @@ use Rattle.std.proofs.lemmas.List.{ext_get_or, reverse-append}
 use Rattle.std.proofs.Math.Seq.{drop-append_seam, take-append_seam}
 use Rattle.std.specs.Prelude.{reverse}
 use Rattle.loop_disk.specs.declared.entry.Entry.{Entry}
+use Rattle.loop_disk.specs.declared.fault.Failures.{Failures}
 use Rattle.loop_disk.specs.declared.entry.Entry.TheVariants.{Wrote, Synced}
 use Rattle.loop_disk.specs.Medium.{Medium, piece, written, SameOutside, TornAt, LeavesEachTorn, Elapses}
 use Rattle.loop_disk.specs.Calls.{Writes, Syncs}
@@ -62,9 +63,9 @@ kept_outside at bytes image i fits (inl below) = get_or-written_before at bytes 
 kept_outside at bytes image i fits (inr above) = get_or-written_behind at bytes image i (omega (arith, fits)) above
 
 -- What a crash may leave after a write, it might have left before but for the range.
-write_images : (entries : List Entry) (kept bytes v c : List ℕ) (at : ℕ) → at + length v ≤ length bytes
-    → IsLeft (Wrote at (length v) ∷ entries) (written at v bytes) c → TornAt at (length v) (medium_of entries kept bytes) c
-write_images entries kept bytes v c at fits left =
+write_images : (f : Failures) (entries : List Entry) (kept bytes v c : List ℕ) (at : ℕ) → at + length v ≤ length bytes
+    → IsLeft (Wrote at (length v) ∷ entries) (written at v bytes) c → TornAt at (length v) (medium_of f entries kept bytes) c
+write_images f entries kept bytes v c at fits left =
     let n = length v in
     let held = piece at n bytes in
     let long : length held ≡ n = length-piece_fits at n bytes fits in
@@ -88,9 +89,9 @@ write_images entries kept bytes v c at fits left =
     (d, record { size = outside.size ∙ size; kept = same }, record { size = sym outside.size; before = λ i b. sym (outside.before i b); behind = λ i b. sym (outside.behind i b) })
 
 -- What a crash might have left before a write, it may leave after it with any bytes in the range.
-write_torn : (entries : List Entry) (kept bytes v c : List ℕ) (at : ℕ) → at + length v ≤ length bytes
-    → TornAt at (length v) (medium_of entries kept bytes) c → IsLeft (Wrote at (length v) ∷ entries) (written at v bytes) c
-write_torn entries kept bytes v c at fits torn =
+write_torn : (f : Failures) (entries : List Entry) (kept bytes v c : List ℕ) (at : ℕ) → at + length v ≤ length bytes
+    → TornAt at (length v) (medium_of f entries kept bytes) c → IsLeft (Wrote at (length v) ∷ entries) (written at v bytes) c
+write_torn f entries kept bytes v c at fits torn =
     let n = length v in record {
       size = torn.2.size ∙ torn.1.size ∙ sym (length-written at v bytes fits);
       kept = λ i fixed.
@@ -117,13 +118,13 @@ before_write entries kept bytes v at t c fits =
     let back : written at (drop (length more - n) more) (written at v bytes) ≡ bytes = ap (λ (l : List ℕ). written at l (written at v bytes)) newest ∙ put_back at v bytes fits in
     λ i. IsLeftSince entries (others i) (back i) t c
 
-write_time : (entries : List Entry) (kept bytes v : List ℕ) (at : ℕ) → at + length v ≤ length bytes
-    → Elapses (medium_of entries kept bytes) (medium_of (Wrote at (length v) ∷ entries) (kept ++ piece at (length v) bytes) (written at v bytes)) (TornAt at (length v) (medium_of entries kept bytes))
-write_time entries kept bytes v at fits = record {
+write_time : (f : Failures) (entries : List Entry) (kept bytes v : List ℕ) (at : ℕ) → at + length v ≤ length bytes
+    → Elapses (medium_of f entries kept bytes) (medium_of f (Wrote at (length v) ∷ entries) (kept ++ piece at (length v) bytes) (written at v bytes)) (TornAt at (length v) (medium_of f entries kept bytes))
+write_time f entries kept bytes v at fits = record {
   later = omega arith;
   nothing_else = λ t c le left.
       ⊎_elim
-      (λ (now : (t ≤ length entries + 1) × IsLeft (Wrote at (length v) ∷ entries) (written at v bytes) c). inr (write_images entries kept bytes v c at fits now.1))
+      (λ (now : (t ≤ length entries + 1) × IsLeft (Wrote at (length v) ∷ entries) (written at v bytes) c). inr (write_images f entries kept bytes v c at fits now.1))
       (λ (earlier : IsLeftSince entries (kept_before (Wrote at (length v)) (kept ++ piece at (length v) bytes)) (bytes_before (Wrote at (length v)) (kept ++ piece at (length v) bytes) (written at v bytes)) t c).
       inl (subst (λ (S : Type 0). S) (before_write entries kept bytes v at t c fits) earlier))
       left;
@@ -131,17 +132,17 @@ write_time entries kept bytes v at fits = record {
 }
 
 -- a write of a memory disk
-pub writes : (entries : List Entry) (kept bytes v : List ℕ) (at : ℕ) → at + length v ≤ length bytes
-    → Writes {T = Unit {0}} at v (medium_of entries kept bytes) (medium_of (Wrote at (length v) ∷ entries) (kept ++ piece at (length v) bytes) (written at v bytes)) (Ok tt)
-writes entries kept bytes v at fits = record {
+pub writes : (f : Failures) (entries : List Entry) (kept bytes v : List ℕ) (at : ℕ) → at + length v ≤ length bytes
+    → Writes {T = Unit {0}} at v (medium_of f entries kept bytes) (medium_of f (Wrote at (length v) ∷ entries) (kept ++ piece at (length v) bytes) (written at v bytes)) (Ok tt)
+writes f entries kept bytes v at fits = record {
   done = refl;
   elsewhere = written_outside at v bytes fits;
-  images = λ c left. write_images entries kept bytes v c at fits left;
-  time = write_time entries kept bytes v at fits;
+  images = λ c left. write_images f entries kept bytes v c at fits left;
+  time = write_time f entries kept bytes v at fits;
 }
 
-sync_time : (entries : List Entry) (kept bytes : List ℕ) → Elapses (medium_of entries kept bytes) (medium_of (Synced ∷ entries) kept bytes) (IsLeft entries bytes)
-sync_time entries kept bytes = record {
+sync_time : (f : Failures) (entries : List Entry) (kept bytes : List ℕ) → Elapses (medium_of f entries kept bytes) (medium_of f (Synced ∷ entries) kept bytes) (IsLeft entries bytes)
+sync_time f entries kept bytes = record {
   later = omega arith;
   nothing_else = λ t c le left.
       ⊎_elim
@@ -152,45 +153,45 @@ sync_time entries kept bytes = record {
 }
 
 -- a sync of a memory disk
-pub syncs : (entries : List Entry) (kept bytes : List ℕ) → Syncs {T = Unit {0}} (medium_of entries kept bytes) (medium_of (Synced ∷ entries) kept bytes) (Ok tt)
-syncs entries kept bytes = record {
+pub syncs : (f : Failures) (entries : List Entry) (kept bytes : List ℕ) → Syncs {T = Unit {0}} (medium_of f entries kept bytes) (medium_of f (Synced ∷ entries) kept bytes) (Ok tt)
+syncs f entries kept bytes = record {
   stays = record {
     bytes = refl;
     images = λ c left. record { size = left.size; kept = λ i fixed. left.kept i refl };
-    time = sync_time entries kept bytes;
+    time = sync_time f entries kept bytes;
   };
   settled = λ c left. ext_get_or 0 c bytes left.size (λ i within. left.kept i refl);
 }
 
 -- a write as the code has it, in lists that stand the other way round
-noted_medium : (at : ℕ) (v : List ℕ) (entries later : List Entry) (kept kept' bytes bytes' : List ℕ)
+noted_medium : (f : Failures) (at : ℕ) (v : List ℕ) (entries later : List Entry) (kept kept' bytes bytes' : List ℕ)
     → later ≡ entries ++ Wrote at (length v) ∷ [] → kept' ≡ kept ++ piece at (length v) bytes → bytes' ≡ written at v bytes
-    → medium_of (Wrote at (length v) ∷ reverse entries) (kept ++ piece at (length v) bytes) (written at v bytes) ≡ medium_of (reverse later) kept' bytes'
-noted_medium at v entries later kept kept' bytes bytes' entry more image =
+    → medium_of f (Wrote at (length v) ∷ reverse entries) (kept ++ piece at (length v) bytes) (written at v bytes) ≡ medium_of f (reverse later) kept' bytes'
+noted_medium f at v entries later kept kept' bytes bytes' entry more image =
     let all : reverse later ≡ Wrote at (length v) ∷ reverse entries = ap (λ (l : List Entry). reverse l) entry ∙ reverse_push entries (Wrote at (length v)) in
-    λ i. medium_of (sym all i) (sym more i) (sym image i)
+    λ i. medium_of f (sym all i) (sym more i) (sym image i)
 
-pub write_noted : (at : ℕ) (v : List ℕ) (entries later : List Entry) (kept kept' bytes bytes' : List ℕ) → at + length v ≤ length bytes
+pub write_noted : (f : Failures) (at : ℕ) (v : List ℕ) (entries later : List Entry) (kept kept' bytes bytes' : List ℕ) → at + length v ≤ length bytes
     → later ≡ entries ++ Wrote at (length v) ∷ [] → kept' ≡ kept ++ piece at (length v) bytes → bytes' ≡ written at v bytes
-    → Writes {T = Unit {0}} at v (medium_of (reverse entries) kept bytes) (medium_of (reverse later) kept' bytes') (Ok tt)
-write_noted at v entries later kept kept' bytes bytes' fits entry more image =
-    subst (λ (m : Medium). Writes {T = Unit {0}} at v (medium_of (reverse entries) kept bytes) m (Ok tt))
-    (noted_medium at v entries later kept kept' bytes bytes' entry more image)
-    (writes (reverse entries) kept bytes v at fits)
+    → Writes {T = Unit {0}} at v (medium_of f (reverse entries) kept bytes) (medium_of f (reverse later) kept' bytes') (Ok tt)
+write_noted f at v entries later kept kept' bytes bytes' fits entry more image =
+    subst (λ (m : Medium). Writes {T = Unit {0}} at v (medium_of f (reverse entries) kept bytes) m (Ok tt))
+    (noted_medium f at v entries later kept kept' bytes bytes' entry more image)
+    (writes f (reverse entries) kept bytes v at fits)
 
-pub torn_noted : (at : ℕ) (v : List ℕ) (entries later : List Entry) (kept kept' bytes bytes' : List ℕ) → at + length v ≤ length bytes
+pub torn_noted : (f : Failures) (at : ℕ) (v : List ℕ) (entries later : List Entry) (kept kept' bytes bytes' : List ℕ) → at + length v ≤ length bytes
     → later ≡ entries ++ Wrote at (length v) ∷ [] → kept' ≡ kept ++ piece at (length v) bytes → bytes' ≡ written at v bytes
-    → LeavesEachTorn at (length v) (medium_of (reverse entries) kept bytes) (medium_of (reverse later) kept' bytes')
-torn_noted at v entries later kept kept' bytes bytes' fits entry more image =
-    subst (λ (m : Medium). LeavesEachTorn at (length v) (medium_of (reverse entries) kept bytes) m)
-    (noted_medium at v entries later kept kept' bytes bytes' entry more image)
-    (λ c torn. write_torn (reverse entries) kept bytes v c at fits torn)
+    → LeavesEachTorn at (length v) (medium_of f (reverse entries) kept bytes) (medium_of f (reverse later) kept' bytes')
+torn_noted f at v entries later kept kept' bytes bytes' fits entry more image =
+    subst (λ (m : Medium). LeavesEachTorn at (length v) (medium_of f (reverse entries) kept bytes) m)
+    (noted_medium f at v entries later kept kept' bytes bytes' entry more image)
+    (λ c torn. write_torn f (reverse entries) kept bytes v c at fits torn)
 
-pub sync_noted : (entries later : List Entry) (kept bytes : List ℕ) → later ≡ entries ++ Synced ∷ []
-    → Syncs {T = Unit {0}} (medium_of (reverse entries) kept bytes) (medium_of (reverse later) kept bytes) (Ok tt)
-sync_noted entries later kept bytes noted =
+pub sync_noted : (f : Failures) (entries later : List Entry) (kept bytes : List ℕ) → later ≡ entries ++ Synced ∷ []
+    → Syncs {T = Unit {0}} (medium_of f (reverse entries) kept bytes) (medium_of f (reverse later) kept bytes) (Ok tt)
+sync_noted f entries later kept bytes noted =
     let all : reverse later ≡ Synced ∷ reverse entries = ap (λ (l : List Entry). reverse l) noted ∙ reverse_push entries Synced in
-    subst (λ (l : List Entry). Syncs {T = Unit {0}} (medium_of (reverse entries) kept bytes) (medium_of l kept bytes) (Ok tt)) (sym all) (syncs (reverse entries) kept bytes)
+    subst (λ (l : List Entry). Syncs {T = Unit {0}} (medium_of f (reverse entries) kept bytes) (medium_of f l kept bytes) (Ok tt)) (sym all) (syncs f (reverse entries) kept bytes)
 
 -- a slice of the image, as a piece of it
 pub range_piece : (at n : ℕ) (seen image : List ℕ) → seen ≡ image → take (at + n - at) (drop at seen) ≡ piece at n image

@@ -1,7 +1,9 @@
 -- How runs of disk calls join.
-use Rattle.std.proofs.Common.{inl, inr, ⊎_elim, ℕ, List, length, Result, subst, arith}
+use Rattle.std.proofs.Common.{inl, inr, ⊎_elim, ℕ, List, length, Option, None, Result, ◌∙◌, ap, subst, arith}
 use Rattle.loop_disk.specs.declared.fault.DiskFault.{DiskFault}
+use Rattle.loop_disk.specs.declared.fault.Failures.{Failures}
 use Rattle.loop_disk.specs.Medium.{Medium, SameOutside, TornAt, IsSettled, Elapses, LeavesOnly, IsSound}
+use Rattle.loop_disk.specs.Calls.{Called, with_failed}
 use Rattle.loop_disk.specs.Steps.{Stores}
 
 -- a call, or a run of calls, after another
@@ -20,9 +22,17 @@ elapses_weaker old new P Q time weaken = record {
   keeps = time.keeps;
 }
 
+-- what a call keeps, and another after it
+pub called_on : (old mid new : Medium) (failed : Option DiskFault) → Called old mid None → Called mid new failed → Called old new failed
+called_on old mid new failed first second = record {
+  size = second.size ∙ first.size;
+  honest = (λ honest. second.honest.0 (first.honest.0 honest), λ honest. first.honest.1 (second.honest.1 honest));
+  failures = second.failures ∙ ap (λ (f : Failures). with_failed failed f) first.failures;
+}
+
 -- before the first call
-pub started : (size : ℕ) (m : Medium) (P : List ℕ → Type 0) → IsSound size m → ((c : List ℕ) → m.may_leave c → P c) → LeavesOnly m m P
-started size m P sound here = record { later = omega arith; each = λ c left. here c (sound.only_now c left); earlier = λ t c le left. inl left }
+pub started : (m : Medium) (P : List ℕ → Type 0) → IsSound m → ((c : List ℕ) → m.may_leave c → P c) → LeavesOnly m m P
+started m P sound here = record { later = omega arith; each = λ c left. here c (sound.only_now c left); earlier = λ t c le left. inl left }
 
 -- one call more, during which a crash leaves what has P
 pub goes_on : (old mid new : Medium) (P during : List ℕ → Type 0) → LeavesOnly old mid P → Elapses mid new during → ((c : List ℕ) → during c → P c) → LeavesOnly old new P

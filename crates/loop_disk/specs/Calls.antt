@@ -1,24 +1,35 @@
--- What the calls of an honest disk do, and what is counted on every disk.
-use Rattle.std.specs.Prelude.{◌≡◌, ℕ, ◌+◌, ◌-◌, ◌^◌, min, max, List, length, Option, Some, Result, Ok, Err, MatchResult, OnOk}
+-- What the calls of an honest disk do, and what each call keeps of every disk.
+use Rattle.std.specs.Prelude.{◌≡◌, ◌↔◌, ℕ, ◌+◌, ◌-◌, ◌^◌, min, max, List, length, Option, Some, None, Result, Ok, Err, OnOk}
+use Rattle.loop_disk.specs.declared.fault.Failures.{Failures}
 use Rattle.loop_disk.specs.declared.fault.DiskFault.{DiskFault}
+use Rattle.loop_disk.specs.declared.fault.DiskFault.TheVariants.{Read, Write, Sync}
 use Rattle.loop_disk.specs.Medium.{Medium, written, SameOutside, TornAt, Only, Elapses}
 
--- the count of failed calls after one more; it stops at the greatest u64
+-- a count after one more; it stops at the greatest u64
 abbrev pub one_more : ℕ → ℕ
 one_more count = max count (min (count + 1) (2 ^ 64 - 1))
 
--- A failed call answers this fault and is counted. No other call changes the count.
-abbrev pub Counted : {T : Type 0} → DiskFault → ℕ → ℕ → Result T DiskFault → Type 0
-Counted fault before now result = MatchResult result (λ _. now ≡ before) (λ e. (e ≡ fault) × (now ≡ one_more before))
+-- no call has failed
+abbrev pub no_failures : Failures
+no_failures = record { reads = 0; writes = 0; syncs = 0 }
 
--- One of a function's calls failed, which is counted, or none did.
-abbrev pub CountedAny : {T : Type 0} → ℕ → ℕ → Result T DiskFault → Type 0
-CountedAny before now result = MatchResult result (λ _. now ≡ before) (λ _. now ≡ one_more before)
+-- the failures with this one, if there is one
+abbrev pub with_failed : Option DiskFault → Failures → Failures
+with_failed None failures = failures
+with_failed (Some Read) failures = record failures { reads = one_more failures.reads }
+with_failed (Some Write) failures = record failures { writes = one_more failures.writes }
+with_failed (Some Sync) failures = record failures { syncs = one_more failures.syncs }
 
--- the kind of the newest failed call, after a call or a run of calls with this answer
-abbrev pub newest_after : {T : Type 0} → Option DiskFault → Result T DiskFault → Option DiskFault
-newest_after before (Ok x) = before
-newest_after before (Err fault) = Some fault
+-- the call of the disk that failed, if the answer is that one did
+abbrev pub failed_call : {T : Type 0} → Result T DiskFault → Option DiskFault
+failed_call (Ok x) = None
+failed_call (Err fault) = Some fault
+
+-- What each call keeps, and each run of calls in which this one failed, or none did. It holds of every disk, honest or not.
+pub record Called (old new : Medium) (failed : Option DiskFault) : Type 0 where
+  pub size : new.size ≡ old.size
+  pub honest : old.honest ↔ new.honest
+  pub failures : new.failures ≡ with_failed failed old.failures
 
 -- the disk is as it was, though time went on
 pub record Stays (old new : Medium) : Type 0 where

@@ -1,14 +1,15 @@
 -- Disks that fail calls on purpose, over another disk.
 use Rattle.std.specs.Prelude.{◌≡◌, ℕ, ◌-◌, ◌^◌, ◌<◌, Bool, true, false, ◌==◌, if◌then◌else◌, List, take, Option, Some, None, Result, IsErr, OnOk}
+use Rattle.loop_disk.specs.declared.fault.Failures.{Failures}
 use Rattle.loop_disk.specs.declared.fault.DiskFault.{DiskFault}
 use Rattle.loop_disk.specs.Medium.{Medium, written, SameOutside, TornAt, Elapses}
-use Rattle.loop_disk.specs.Calls.{Counted}
+use Rattle.loop_disk.specs.Calls.{Called, failed_call}
 
 -- A call that is due to fail fails and doesn't reach the inner disk. Any other is the inner disk's own, and fails where that one does.
-pub record FailsOrPasses {T D : Type 0} (faults : D → ℕ) (fault : DiskFault) (due : Bool) (old new : D) (result : Result T DiskFault) : Type 0 where
+pub record FailsOrPasses {T D : Type 0} (medium : D → Medium) (due : Bool) (old new : D) (result : Result T DiskFault) : Type 0 where
   pub fails : due ≡ true → IsErr result
   pub untouched : due ≡ true → new ≡ old
-  pub passes : due ≡ false → Counted fault (faults old) (faults new) result
+  pub passes : due ≡ false → Called (medium old) (medium new) (failed_call result)
 
 -- whether the call that is to fail is the next one, where so many calls come before it
 abbrev pub is_due : Option ℕ → Bool
@@ -27,7 +28,13 @@ pub record Tears {T : Type 0} (at n : ℕ) (bytes : List ℕ) (old new : Medium)
   pub images : (c : List ℕ) → new.may_leave c → TornAt at n old c
   pub time : Elapses old new (TornAt at n old)
 
+-- one failure more changes the counts
+pub record IsCounting (failures : Failures) : Type 0 where
+  pub reads : failures.reads < 2 ^ 64 - 1
+  pub writes : failures.writes < 2 ^ 64 - 1
+  pub syncs : failures.syncs < 2 ^ 64 - 1
+
 -- A torn write: it fails, and unless the inner disk failed too, the first bytes are there and those behind them are as they were.
-pub record IsTorn {T D : Type 0} (faults : D → ℕ) (medium : D → Medium) (at : ℕ) (bytes : List ℕ) (keep : ℕ) (old new : D) (result : Result T DiskFault) : Type 0 where
+pub record IsTorn {T : Type 0} (at : ℕ) (bytes : List ℕ) (keep : ℕ) (old new : Medium) (result : Result T DiskFault) : Type 0 where
   pub fails : IsErr result
-  pub kept : faults old < 2 ^ 64 - 1 → faults new ≡ faults old → (medium new).bytes ≡ written at (take keep bytes) (medium old).bytes
+  pub kept : IsCounting old.failures → new.failures ≡ old.failures → new.bytes ≡ written at (take keep bytes) old.bytes

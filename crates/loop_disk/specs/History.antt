@@ -2,6 +2,7 @@
 -- and `kept` is what each write went over, that of the newest last.
 use Rattle.std.specs.Prelude.{◌≡◌, ◌⊎◌, ℕ, ◌+◌, ◌-◌, ◌≤◌, Bool, false, ◌&&◌, ◌||◌, nat_le, nat_lt, List, [], ◌∷◌, length, take, drop, get_or}
 use Rattle.loop_disk.specs.declared.entry.Entry.{Entry}
+use Rattle.loop_disk.specs.declared.fault.Failures.{Failures}
 use Rattle.loop_disk.specs.declared.entry.Entry.TheVariants.{Wrote, Synced}
 use Rattle.loop_disk.specs.Medium.{Medium, written}
 
@@ -37,15 +38,18 @@ IsLeftSince (e ∷ entries) kept bytes t image =
     ((t ≤ length entries + 1) × IsLeft (e ∷ entries) bytes image)
     ⊎ IsLeftSince entries (kept_before e kept) (bytes_before e kept bytes) t image
 
--- the medium of a disk with these entries and bytes
-abbrev pub medium_of : List Entry → List ℕ → List ℕ → Medium
-medium_of entries kept bytes = record {
+-- the medium of an honest disk with these failures, entries and bytes
+abbrev pub medium_of : Failures → List Entry → List ℕ → List ℕ → Medium
+medium_of failures entries kept bytes = record {
+  size = length bytes;
+  honest = Unit {0};
+  failures = failures;
   bytes = bytes;
   may_leave = IsLeft entries bytes;
   moment = length entries;
   left_since = IsLeftSince entries kept bytes;
 }
 
--- what is said of a disk of which nothing is known
-abbrev pub unknown : Medium
-unknown = medium_of [] [] []
+-- what is said of a disk of which nothing is known but its size and failures
+abbrev pub unknown : ℕ → Failures → Medium
+unknown size failures = record (medium_of failures [] [] []) { size = size; honest = ⊥ }

@@ -1,7 +1,14 @@
 -- What stands on a disk, and what a crash may leave of it. An image is all the bytes of a disk.
 use Rattle.std.specs.Prelude.{◌≡◌, ◌⊎◌, ℕ, ◌+◌, ◌<◌, ◌≤◌, List, ◌++◌, length, take, drop, get_or}
+use Rattle.loop_disk.specs.declared.fault.Failures.{Failures}
 
 pub record Medium : Type 1 where
+  -- how many bytes it has
+  pub size : ℕ
+  -- its calls do to bytes and images what their clauses say
+  pub honest : Type 0
+  -- how many of its calls have failed
+  pub failures : Failures
   -- what a read gives
   pub bytes : List ℕ
   -- the images that a crash now may leave
@@ -48,10 +55,10 @@ pub record Elapses (old new : Medium) (during : List ℕ → Type 0) : Type 0 wh
   pub nothing_else : (t : ℕ) (c : List ℕ) → t ≤ old.moment → new.left_since t c → old.left_since t c ⊎ during c
   pub keeps : (t : ℕ) (c : List ℕ) → t ≤ old.moment → old.left_since t c → new.left_since t c
 
--- what holds of every honest disk of this size
-pub record IsSound (size : ℕ) (m : Medium) : Type 0 where
-  pub length_is : length m.bytes ≡ size
-  pub images_length : (c : List ℕ) → m.may_leave c → length c ≡ size
+-- what holds of every honest disk
+pub record IsSound (m : Medium) : Type 0 where
+  pub length_is : length m.bytes ≡ m.size
+  pub images_length : (c : List ℕ) → m.may_leave c → length c ≡ m.size
   pub present : m.may_leave m.bytes
   -- this moment is one of those since an earlier one
   pub counts_now : (t : ℕ) (c : List ℕ) → t ≤ m.moment → m.may_leave c → m.left_since t c

@@ -1,7 +1,8 @@
 -- A memory disk is sound.
 use Rattle.std.proofs.Common.{inl, ⊎_elim, ℕ, ◌+◌, ◌≤◌, List, [], ◌∷◌, length, refl, arith}
 use Rattle.loop_disk.specs.declared.entry.Entry.{Entry}
-use Rattle.loop_disk.specs.Medium.{IsSound}
+use Rattle.loop_disk.specs.declared.fault.Failures.{Failures}
+use Rattle.loop_disk.specs.Medium.{Medium, IsSound}
 use Rattle.loop_disk.specs.History.{IsLeft, IsLeftSince, bytes_before, kept_before, medium_of}
 
 -- no moment is later than the present one
@@ -25,11 +26,21 @@ left_last (e ∷ entries) kept bytes c left = ⊎_elim
     absurd (omega (arith, past)))
     left
 
-pub sound_of : (entries : List Entry) (kept bytes : List ℕ) → IsSound (length bytes) (medium_of entries kept bytes)
-sound_of entries kept bytes = record {
+pub sound_of : (failures : Failures) (entries : List Entry) (kept bytes : List ℕ) → IsSound (medium_of failures entries kept bytes)
+sound_of failures entries kept bytes = record {
   length_is = refl;
   images_length = λ c left. left.size;
   present = record { size = refl; kept = λ i fixed. refl };
   counts_now = λ t c le left. left_now entries kept bytes t c le left;
   only_now = λ c left. left_last entries kept bytes c left;
+}
+
+-- so is a disk over a sound one, whatever calls have failed
+pub sound_recounted : (m : Medium) (failures : Failures) → IsSound m → IsSound (record m { failures = failures })
+sound_recounted m failures sound = record {
+  length_is = sound.length_is;
+  images_length = sound.images_length;
+  present = sound.present;
+  counts_now = sound.counts_now;
+  only_now = sound.only_now;
 }

@@ -1,5 +1,5 @@
-ghost use Rattle.std.specs.Prelude.{◌≡◌};
-ghost use Rattle.loop_disk.specs.Calls.{newest_after};
+ghost use Rattle.std.specs.Prelude.{◌≡◌, Some};
+ghost use Rattle.loop_disk.specs.Calls.{failed_call, no_failures, with_failed};
 
 use thiserror::Error;
 
@@ -14,16 +14,45 @@ pub enum DiskFault {
     Sync,
 }
 
-/// Hands on the answer of a call, and notes its kind if it failed.
-pub(crate) fn note(
-    newest: &mut Option<DiskFault>,
-    outcome: Result<(), DiskFault>,
-) -> Result<(), DiskFault>
-    ensures same { result ≡ outcome }
-    ensures kind { newest.new ≡ newest_after newest.old outcome }
-{
-    if let Err(fault) = outcome {
-        *newest = Some(fault);
+/// How many calls of each kind have failed; each count stops at 2^64 - 1.
+#[derive(Clone, Copy, Debug, PartialEq, Eq)]
+pub struct Failures {
+    pub reads: u64,
+    pub writes: u64,
+    pub syncs: u64,
+}
+
+impl Failures {
+    /// None has failed.
+    pub fn none() -> Failures
+        ensures { result ≡ no_failures }
+    {
+        Failures {
+            reads: 0,
+            writes: 0,
+            syncs: 0,
+        }
     }
-    outcome
+
+    /// Counts a failed call.
+    pub(crate) fn count(&mut self, fault: DiskFault)
+        ensures { self.new ≡ with_failed (Some fault) self.old }
+    {
+        match fault {
+            DiskFault::Read => self.reads = self.reads.saturating_add(1),
+            DiskFault::Write => self.writes = self.writes.saturating_add(1),
+            DiskFault::Sync => self.syncs = self.syncs.saturating_add(1),
+        }
+    }
+
+    /// Hands on the answer of a call, and counts it if it failed.
+    pub(crate) fn note(&mut self, outcome: Result<(), DiskFault>) -> Result<(), DiskFault>
+        ensures same { result ≡ outcome }
+        ensures counted { self.new ≡ with_failed (failed_call outcome) self.old }
+    {
+        if let Err(fault) = outcome {
+            self.count(fault);
+        }
+        outcome
+    }
 }

@@ -1,9 +1,9 @@
 // A disk over a file. No contract says what the file holds: its disk is never called honest.
-ghost use Rattle.std.specs.Prelude.{◌≡◌, IfOk};
-ghost use Rattle.loop_disk.specs.Calls.{Counted, newest_after};
+ghost use Rattle.std.specs.Prelude.{◌≡◌, IfOk, IfErr};
+ghost use Rattle.loop_disk.specs.Calls.{failed_call, no_failures, with_failed};
 ghost use Rattle.loop_disk.specs.History.{unknown};
 
-use crate::{Disk, DiskFault};
+use crate::{Disk, DiskFault, Failures};
 use std::fs::{File, OpenFile, OpenOptions, TryLockError};
 use std::io;
 use std::io::ErrorKind;
@@ -54,16 +54,15 @@ impl From<io::Error> for FileFault {
 pub struct FileDisk<F = File> {
     file: F,
     size: u64,
-    failed: u64,
-    newest_fault: Option<DiskFault>,
+    failures: Failures,
 }
 
 impl FileDisk {
     /// Makes the file anew, with so many bytes of zero, or makes an old one so. Its name is on the disk when this answers Ok.
     /// A file that another program holds keeps its bytes, and so does one that can't have that size.
     pub fn create<R: Files<File = File>>(rt: &R, path: &str, size: u64) -> Result<Self, FileFault>
-        ensures size { IfOk result (λ disk. ⟦<FileDisk<File> as Disk>⟧.extent disk ≡ size) }
-        ensures counted { IfOk result (λ disk. ⟦<FileDisk<File> as Disk>⟧.faults disk ≡ 0) }
+        ensures size { IfOk result (λ disk. (⟦<FileDisk<File> as Disk>⟧.medium disk).size ≡ size) }
+        ensures counted { IfOk result (λ disk. (⟦<FileDisk<File> as Disk>⟧.medium disk).failures ≡ no_failures) }
     {
         let file = OpenOptions::new()
             .read(true)
@@ -79,14 +78,13 @@ impl FileDisk {
         Ok(FileDisk {
             file,
             size,
-            failed: 0,
-            newest_fault: None,
+            failures: Failures::none(),
         })
     }
 
     /// Opens a file that is there, for reading and writing. Its length is the disk's size.
     pub fn open<R: Files<File = File>>(rt: &R, path: &str) -> Result<Self, FileFault>
-        ensures { IfOk result (λ disk. ⟦<FileDisk<File> as Disk>⟧.faults disk ≡ 0) }
+        ensures { IfOk result (λ disk. (⟦<FileDisk<File> as Disk>⟧.medium disk).failures ≡ no_failures) }
     {
         let file = OpenOptions::new().read(true).write(true).open(rt, path)?;
         take(&file)?;
@@ -123,28 +121,26 @@ fn sync_folder<R: Files<File = File>>(rt: &R, path: &str) -> io::Result<()> {
 impl<F: OpenFile + FileExt + Drop> FileDisk<F> {
     /// A disk over an open file, which nobody else may use. It takes no lock.
     pub fn over(file: F) -> io::Result<Self>
-        ensures { IfOk result (λ disk. ⟦<FileDisk<F> as Disk>⟧.faults disk ≡ 0) }
+        ensures { IfOk result (λ disk. (⟦<FileDisk<F> as Disk>⟧.medium disk).failures ≡ no_failures) }
     {
         let size = file.metadata()?.len();
         Ok(FileDisk {
             file,
             size,
-            failed: 0,
-            newest_fault: None,
+            failures: Failures::none(),
         })
     }
 
     // Counts a call that failed.
     fn count(&mut self, outcome: io::Result<()>, fault: DiskFault) -> Result<(), DiskFault>
-        ensures counted { Counted fault self.old.failed self.new.failed result }
-        ensures kind { self.new.newest_fault ≡ newest_after self.old.newest_fault result }
+        ensures answer { IfErr result (λ e. e ≡ fault) }
+        ensures counted { self.new.failures ≡ with_failed (failed_call result) self.old.failures }
         ensures size { self.new.size ≡ self.old.size }
     {
         match outcome {
             Ok(()) => Ok(()),
             Err(_) => {
-                self.failed = self.failed.saturating_add(1);
-                self.newest_fault = Some(fault);
+                self.failures.count(fault);
                 Err(fault)
             }
         }
@@ -152,15 +148,7 @@ impl<F: OpenFile + FileExt + Drop> FileDisk<F> {
 }
 
 impl<F: OpenFile + FileExt + Drop> Disk for FileDisk<F> {
-    ghost extent = { λ disk. disk.size };
-
-    ghost medium = { λ disk. unknown };
-
-    ghost honest = { λ disk. ⊥ };
-
-    ghost faults = { λ disk. disk.failed };
-
-    ghost newest_fault = { λ disk. disk.newest_fault };
+    ghost medium = { λ disk. unknown disk.size disk.failures };
 
     ghost sound = { λ disk honest. absurd honest };
 

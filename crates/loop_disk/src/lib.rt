@@ -18,7 +18,7 @@ mod once;
 mod steps;
 
 pub use disk::Disk;
-pub use fault::DiskFault;
+pub use fault::{DiskFault, Failures};
 pub use file::{FileDisk, FileFault};
 pub use fuse::FuseDisk;
 pub use memory::MemDisk;

@@ -1,14 +1,14 @@
 // A disk in memory. A crash may leave any bytes in each range that was written since the last sync.
-ghost use Rattle.std.specs.Prelude.{◌≡◌, ◌≤◌, ◌+◌, ◌++◌, [], ◌∷◌, ◌↔◌, ℕ, List, length, IfOk, OnOk, OnErr, IsOk, IsTrue, replicate, reverse, false, get_or, slice_set};
+ghost use Rattle.std.specs.Prelude.{◌≡◌, ◌≤◌, ◌+◌, ◌++◌, [], ◌∷◌, ℕ, List, length, IfOk, OnOk, OnErr, IsOk, IsTrue, replicate, reverse, false, get_or, slice_set, IfErr};
 ghost use Rattle.loop_disk.specs.declared.entry.Entry.TheVariants.{Wrote, Synced};
 ghost use Rattle.loop_disk.specs.declared.fault.DiskFault.TheVariants.{Read, Write, Sync};
 ghost use Rattle.loop_disk.specs.Medium.{written, piece, IsFresh, IsSame, LeavesEachTorn};
-ghost use Rattle.loop_disk.specs.Calls.{Counted, Stays, Writes, Syncs, newest_after};
+ghost use Rattle.loop_disk.specs.Calls.{Called, Stays, Writes, Syncs, failed_call, no_failures};
 ghost use Rattle.loop_disk.specs.History.{is_loose, medium_of};
 ghost use Rattle.loop_disk.specs.Sound.{sound_of};
 
 use crate::entry::Entry;
-use crate::{Disk, DiskFault};
+use crate::{Disk, DiskFault, Failures};
 use std::alloc::{AllocError, Allocator, Global};
 
 /// A disk in memory, honest, whose crashes are as bad as the model allows.
@@ -21,17 +21,16 @@ pub struct MemDisk<A: Allocator = Global> {
     // Its writes and syncs, the newest last, and what the writes went over, that of the newest last.
     entries: Vec<Entry, A>,
     kept: Vec<u8, A>,
-    failed: u64,
-    newest_fault: Option<DiskFault>,
+    failures: Failures,
 }
 
 impl<A: Allocator + Copy> MemDisk<A> {
     /// A disk of so many bytes of zero. Its only error is want of memory, for a size that memory can't hold too.
     pub fn new(alloc: A, size: u64) -> Result<Self, AllocError>
         ensures fresh { IfOk result (λ disk. IsFresh (replicate size 0) (⟦<MemDisk<A> as Disk>⟧.medium disk)) }
-        ensures size { IfOk result (λ disk. ⟦<MemDisk<A> as Disk>⟧.extent disk ≡ size) }
-        ensures honest { IfOk result (λ disk. ⟦<MemDisk<A> as Disk>⟧.honest disk) }
-        ensures counted { IfOk result (λ disk. ⟦<MemDisk<A> as Disk>⟧.faults disk ≡ 0) }
+        ensures size { IfOk result (λ disk. (⟦<MemDisk<A> as Disk>⟧.medium disk).size ≡ size) }
+        ensures honest { IfOk result (λ disk. (⟦<MemDisk<A> as Disk>⟧.medium disk).honest) }
+        ensures counted { IfOk result (λ disk. (⟦<MemDisk<A> as Disk>⟧.medium disk).failures ≡ no_failures) }
     {
         Ok(MemDisk::of(alloc, vec![in alloc; 0; size as usize]?))
     }
@@ -39,16 +38,15 @@ impl<A: Allocator + Copy> MemDisk<A> {
     /// A disk that holds an image, all of it on the disk. It takes no memory; the record of later calls is taken from `alloc`.
     pub fn of(alloc: A, bytes: Vec<u8, A>) -> Self
         ensures fresh { IsFresh bytes.items (⟦<MemDisk<A> as Disk>⟧.medium result) }
-        ensures size { ⟦<MemDisk<A> as Disk>⟧.extent result ≡ length bytes.items }
-        ensures honest { ⟦<MemDisk<A> as Disk>⟧.honest result }
-        ensures counted { ⟦<MemDisk<A> as Disk>⟧.faults result ≡ 0 }
+        ensures size { (⟦<MemDisk<A> as Disk>⟧.medium result).size ≡ length bytes.items }
+        ensures honest { (⟦<MemDisk<A> as Disk>⟧.medium result).honest }
+        ensures counted { (⟦<MemDisk<A> as Disk>⟧.medium result).failures ≡ no_failures }
     {
         MemDisk {
             bytes,
             entries: Vec::new(alloc),
             kept: Vec::new(alloc),
-            failed: 0,
-            newest_fault: None,
+            failures: Failures::none(),
         }
     }
 
@@ -70,17 +68,9 @@ impl<A: Allocator + Copy> MemDisk<A> {
 }
 
 impl<A: Allocator + Copy> Disk for MemDisk<A> {
-    ghost extent = { λ disk. length disk.bytes.items };
+    ghost medium = { λ disk. medium_of disk.failures (reverse disk.entries.items) disk.kept.items disk.bytes.items };
 
-    ghost medium = { λ disk. medium_of (reverse disk.entries.items) disk.kept.items disk.bytes.items };
-
-    ghost honest = { λ disk. Unit {0} };
-
-    ghost faults = { λ disk. disk.failed };
-
-    ghost newest_fault = { λ disk. disk.newest_fault };
-
-    ghost sound = { λ disk honest. sound_of (reverse disk.entries.items) disk.kept.items disk.bytes.items };
+    ghost sound = { λ disk honest. sound_of disk.failures (reverse disk.entries.items) disk.kept.items disk.bytes.items };
 
     fn size(&self) -> u64 {
         self.bytes.len() as u64
@@ -88,15 +78,13 @@ impl<A: Allocator + Copy> Disk for MemDisk<A> {
 
     /// It never fails.
     fn read(&mut self, at: u64, buf: &mut [u8]) -> Result<(), DiskFault>
-        requires { at + length buf.old ≤ ⟦<MemDisk<A> as Disk>⟧.extent self.old }
+        requires { at + length buf.old ≤ (⟦<MemDisk<A> as Disk>⟧.medium self.old).size }
         ensures always { IsOk result }
-        ensures read { ⟦<MemDisk<A> as Disk>⟧.honest self.old → OnOk result (buf.new ≡ piece at (length buf.old) (⟦<MemDisk<A> as Disk>⟧.medium self.old).bytes) }
-        ensures disk { ⟦<MemDisk<A> as Disk>⟧.honest self.old → Stays (⟦<MemDisk<A> as Disk>⟧.medium self.old) (⟦<MemDisk<A> as Disk>⟧.medium self.new) }
+        ensures read { (⟦<MemDisk<A> as Disk>⟧.medium self.old).honest → OnOk result (buf.new ≡ piece at (length buf.old) (⟦<MemDisk<A> as Disk>⟧.medium self.old).bytes) }
+        ensures disk { (⟦<MemDisk<A> as Disk>⟧.medium self.old).honest → Stays (⟦<MemDisk<A> as Disk>⟧.medium self.old) (⟦<MemDisk<A> as Disk>⟧.medium self.new) }
         ensures same { IsSame (⟦<MemDisk<A> as Disk>⟧.medium self.old) (⟦<MemDisk<A> as Disk>⟧.medium self.new) }
-        ensures counted { Counted Read (⟦<MemDisk<A> as Disk>⟧.faults self.old) (⟦<MemDisk<A> as Disk>⟧.faults self.new) result }
-        ensures kind { ⟦<MemDisk<A> as Disk>⟧.newest_fault self.new ≡ newest_after (⟦<MemDisk<A> as Disk>⟧.newest_fault self.old) result }
-        ensures extent { ⟦<MemDisk<A> as Disk>⟧.extent self.new ≡ ⟦<MemDisk<A> as Disk>⟧.extent self.old }
-        ensures honest { ⟦<MemDisk<A> as Disk>⟧.honest self.old ↔ ⟦<MemDisk<A> as Disk>⟧.honest self.new }
+        ensures fault { IfErr result (λ fault. fault ≡ Read) }
+        ensures called { Called (⟦<MemDisk<A> as Disk>⟧.medium self.old) (⟦<MemDisk<A> as Disk>⟧.medium self.new) (failed_call result) }
     {
         let at = at as usize;
         let end = at + buf.len();
@@ -106,14 +94,12 @@ impl<A: Allocator + Copy> Disk for MemDisk<A> {
 
     /// It fails where the record can't grow, and then changes nothing. At Ok a crash may leave any bytes in the range.
     fn write_at(&mut self, at: u64, bytes: &[u8]) -> Result<(), DiskFault>
-        requires { at + length bytes.now ≤ ⟦<MemDisk<A> as Disk>⟧.extent self.old }
-        ensures disk { ⟦<MemDisk<A> as Disk>⟧.honest self.old → Writes at bytes.now (⟦<MemDisk<A> as Disk>⟧.medium self.old) (⟦<MemDisk<A> as Disk>⟧.medium self.new) result }
+        requires { at + length bytes.now ≤ (⟦<MemDisk<A> as Disk>⟧.medium self.old).size }
+        ensures disk { (⟦<MemDisk<A> as Disk>⟧.medium self.old).honest → Writes at bytes.now (⟦<MemDisk<A> as Disk>⟧.medium self.old) (⟦<MemDisk<A> as Disk>⟧.medium self.new) result }
         ensures torn { OnOk result (LeavesEachTorn at (length bytes.now) (⟦<MemDisk<A> as Disk>⟧.medium self.old) (⟦<MemDisk<A> as Disk>⟧.medium self.new)) }
         ensures failed { OnErr result (IsSame (⟦<MemDisk<A> as Disk>⟧.medium self.old) (⟦<MemDisk<A> as Disk>⟧.medium self.new)) }
-        ensures counted { Counted Write (⟦<MemDisk<A> as Disk>⟧.faults self.old) (⟦<MemDisk<A> as Disk>⟧.faults self.new) result }
-        ensures kind { ⟦<MemDisk<A> as Disk>⟧.newest_fault self.new ≡ newest_after (⟦<MemDisk<A> as Disk>⟧.newest_fault self.old) result }
-        ensures extent { ⟦<MemDisk<A> as Disk>⟧.extent self.new ≡ ⟦<MemDisk<A> as Disk>⟧.extent self.old }
-        ensures honest { ⟦<MemDisk<A> as Disk>⟧.honest self.old ↔ ⟦<MemDisk<A> as Disk>⟧.honest self.new }
+        ensures fault { IfErr result (λ fault. fault ≡ Write) }
+        ensures called { Called (⟦<MemDisk<A> as Disk>⟧.medium self.old) (⟦<MemDisk<A> as Disk>⟧.medium self.new) (failed_call result) }
     {
         match write_noted(
             &mut self.entries,
@@ -124,8 +110,7 @@ impl<A: Allocator + Copy> Disk for MemDisk<A> {
         ) {
             Ok(()) => Ok(()),
             Err(_) => {
-                self.failed = self.failed.saturating_add(1);
-                self.newest_fault = Some(DiskFault::Write);
+                self.failures.count(DiskFault::Write);
                 Err(DiskFault::Write)
             }
         }
@@ -133,18 +118,15 @@ impl<A: Allocator + Copy> Disk for MemDisk<A> {
 
     /// It fails where the record can't grow, and then changes nothing.
     fn sync(&mut self) -> Result<(), DiskFault>
-        ensures disk { ⟦<MemDisk<A> as Disk>⟧.honest self.old → Syncs (⟦<MemDisk<A> as Disk>⟧.medium self.old) (⟦<MemDisk<A> as Disk>⟧.medium self.new) result }
+        ensures disk { (⟦<MemDisk<A> as Disk>⟧.medium self.old).honest → Syncs (⟦<MemDisk<A> as Disk>⟧.medium self.old) (⟦<MemDisk<A> as Disk>⟧.medium self.new) result }
         ensures failed { OnErr result (IsSame (⟦<MemDisk<A> as Disk>⟧.medium self.old) (⟦<MemDisk<A> as Disk>⟧.medium self.new)) }
-        ensures counted { Counted Sync (⟦<MemDisk<A> as Disk>⟧.faults self.old) (⟦<MemDisk<A> as Disk>⟧.faults self.new) result }
-        ensures kind { ⟦<MemDisk<A> as Disk>⟧.newest_fault self.new ≡ newest_after (⟦<MemDisk<A> as Disk>⟧.newest_fault self.old) result }
-        ensures extent { ⟦<MemDisk<A> as Disk>⟧.extent self.new ≡ ⟦<MemDisk<A> as Disk>⟧.extent self.old }
-        ensures honest { ⟦<MemDisk<A> as Disk>⟧.honest self.old ↔ ⟦<MemDisk<A> as Disk>⟧.honest self.new }
+        ensures fault { IfErr result (λ fault. fault ≡ Sync) }
+        ensures called { Called (⟦<MemDisk<A> as Disk>⟧.medium self.old) (⟦<MemDisk<A> as Disk>⟧.medium self.new) (failed_call result) }
     {
         match self.entries.push(Entry::Synced) {
             Ok(()) => Ok(()),
             Err(_) => {
-                self.failed = self.failed.saturating_add(1);
-                self.newest_fault = Some(DiskFault::Sync);
+                self.failures.count(DiskFault::Sync);
                 Err(DiskFault::Sync)
             }
         }

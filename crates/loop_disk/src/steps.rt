@@ -1,7 +1,7 @@
 // Writes that are on the disk when they answer Ok.
-ghost use Rattle.std.specs.Prelude.{◌+◌, ◌≤◌, ◌↔◌, ◌≡◌, length};
+ghost use Rattle.std.specs.Prelude.{◌+◌, ◌≤◌, length};
 ghost use Rattle.loop_disk.specs.Medium.{IsSettled};
-ghost use Rattle.loop_disk.specs.Calls.{CountedAny, newest_after};
+ghost use Rattle.loop_disk.specs.Calls.{Called, failed_call};
 ghost use Rattle.loop_disk.specs.Steps.{Stores, StoresInTurn};
 
 use crate::{Disk, DiskFault};
@@ -9,12 +9,9 @@ use crate::{Disk, DiskFault};
 /// Writes the bytes from `at` on, and syncs: two device calls. At Ok the bytes are on the disk.
 /// After a failure, as at each moment before, their place may hold any bytes, and everything else is as it was.
 pub fn store<D: Disk>(disk: &mut D, at: u64, bytes: &[u8]) -> Result<(), DiskFault>
-    requires { at + length bytes.now ≤ D.extent disk.old }
-    ensures disk { D.honest disk.old → Stores at bytes.now (D.medium disk.old) (D.medium disk.new) result }
-    ensures counted { CountedAny (D.faults disk.old) (D.faults disk.new) result }
-    ensures kind { D.newest_fault disk.new ≡ newest_after (D.newest_fault disk.old) result }
-    ensures extent { D.extent disk.new ≡ D.extent disk.old }
-    ensures honest { D.honest disk.old ↔ D.honest disk.new }
+    requires { at + length bytes.now ≤ (D.medium disk.old).size }
+    ensures disk { (D.medium disk.old).honest → Stores at bytes.now (D.medium disk.old) (D.medium disk.new) result }
+    ensures called { Called (D.medium disk.old) (D.medium disk.new) (failed_call result) }
 {
     disk.write_at(at, bytes)?;
     disk.sync()
@@ -30,14 +27,11 @@ pub fn store_in_turn<D: Disk>(
     gate: u64,
     gates: &[u8],
 ) -> Result<(), DiskFault>
-    requires inside { at + length bytes.now ≤ D.extent disk.old }
-    requires gate { gate + length gates.now ≤ D.extent disk.old }
-    requires settled { D.honest disk.old → IsSettled (D.medium disk.old) }
-    ensures disk { D.honest disk.old → StoresInTurn at bytes.now gate gates.now (D.medium disk.old) (D.medium disk.new) result }
-    ensures counted { CountedAny (D.faults disk.old) (D.faults disk.new) result }
-    ensures kind { D.newest_fault disk.new ≡ newest_after (D.newest_fault disk.old) result }
-    ensures extent { D.extent disk.new ≡ D.extent disk.old }
-    ensures honest { D.honest disk.old ↔ D.honest disk.new }
+    requires inside { at + length bytes.now ≤ (D.medium disk.old).size }
+    requires gate { gate + length gates.now ≤ (D.medium disk.old).size }
+    requires settled { (D.medium disk.old).honest → IsSettled (D.medium disk.old) }
+    ensures disk { (D.medium disk.old).honest → StoresInTurn at bytes.now gate gates.now (D.medium disk.old) (D.medium disk.new) result }
+    ensures called { Called (D.medium disk.old) (D.medium disk.new) (failed_call result) }
 {
     store(disk, at, bytes)?;
     store(disk, gate, gates)

@@ -1,7 +1,6 @@
 -- What a read of a slot answers.
-use Rattle.std.specs.Prelude.{◌≡◌, ℕ, List, Option, Some, Result, Ok, Err}
+use Rattle.std.specs.Prelude.{◌≡◌, ℕ, List, Option, None, Some, Result, Ok, Err}
 use Rattle.loop_disk.specs.declared.fault.DiskFault.{DiskFault}
-use Rattle.loop_disk.specs.Calls.{one_more}
 use Rattle.loop_record.specs.declared.damage.Damage.{Damage}
 use Rattle.loop_record.specs.declared.frame.FrameHead.{FrameHead}
 use Rattle.loop_record.specs.declared.geometry.Geometry.{Geometry}
@@ -20,14 +19,8 @@ AnswersHead said (Ok head) = said ≡ Ok head
 AnswersHead said (Err (Damaged damage)) = said ≡ Err damage
 AnswersHead said (Err (Disk fault)) = Unit {0}
 
--- A call of the disk failed, which is counted, or none did.
-abbrev pub CountedRead : ℕ → ℕ → Result FrameHead SlotFault → Type 0
-CountedRead before now (Ok head) = now ≡ before
-CountedRead before now (Err (Damaged damage)) = now ≡ before
-CountedRead before now (Err (Disk fault)) = now ≡ one_more before
-
--- the kind of the newest failed call of the disk after such an answer
-abbrev pub newest_read : Option DiskFault → Result FrameHead SlotFault → Option DiskFault
-newest_read before (Ok head) = before
-newest_read before (Err (Damaged damage)) = before
-newest_read before (Err (Disk fault)) = Some fault
+-- the call of the disk that failed, if the answer is that one did
+abbrev pub failed_read : {T : Type 0} → Result T SlotFault → Option DiskFault
+failed_read (Ok x) = None
+failed_read (Err (Damaged damage)) = None
+failed_read (Err (Disk fault)) = Some fault

@@ -1,6 +1,6 @@
 // The ring of a store: its segments, written and read one at a time.
-ghost use Rattle.std.specs.Prelude.{◌≡◌, ◌≢◌, ◌+◌, ◌*◌, ◌<◌, ◌≤◌, ◌^◌, ◌↔◌, ◌∷◌, [], ℕ, IsTrue, All, Err, IfOk, List, None, OnOk, Some, length, min, vec_capacity};
-ghost use Rattle.loop_disk.specs.Calls.{CountedAny, Stays, newest_after};
+ghost use Rattle.std.specs.Prelude.{◌≡◌, ◌≢◌, ◌+◌, ◌*◌, ◌<◌, ◌≤◌, ◌^◌, ◌∷◌, [], ℕ, IsTrue, All, Err, IfOk, List, None, OnOk, Some, length, min, vec_capacity};
+ghost use Rattle.loop_disk.specs.Calls.{Called, Stays, failed_call};
 ghost use Rattle.loop_disk.specs.Medium.{IsSettled, LeavesOnly};
 ghost use Rattle.loop_record.specs.Change.{ShowsSegment};
 ghost use Rattle.loop_record.specs.declared.damage.Damage.{Damage};
@@ -9,7 +9,7 @@ ghost use Rattle.loop_record.specs.Layout.{segment_in, slot_head, whole_frames};
 ghost use Rattle.loop_record.specs.Plain.{pictures};
 ghost use Rattle.loop_record.specs.Reading.{begun};
 ghost use Rattle.loop_record.specs.Recording.{Picture, picture};
-ghost use Rattle.loop_ring.specs.Reads.{AnswersHead, CountedRead, newest_read, slot_of};
+ghost use Rattle.loop_ring.specs.Reads.{AnswersHead, failed_read, slot_of};
 ghost use Rattle.loop_ring.specs.Writes.{HasNoStray, IsGroup, ShowsBeginning, ShowsFrames, ShowsOrNot};
 
 use crate::SlotFault;
@@ -46,17 +46,14 @@ impl<A: Allocator> Ring<A> {
 
     /// Closes an open segment: one write and one sync. Its frames are gone with it.
     pub fn retire<D: Disk>(&self, disk: &mut D, segment: u32) -> Result<(), DiskFault>
-        requires extent { D.extent disk.old ≡ disk_size self.now.geometry }
+        requires extent { (D.medium disk.old).size ≡ disk_size self.now.geometry }
         requires segment { segment < self.now.geometry.segments }
-        requires settled { D.honest disk.old → IsSettled (D.medium disk.old) }
-        requires there { D.honest disk.old → segment_in self.now.geometry (D.medium disk.old).bytes segment ≢ None }
-        ensures moments { D.honest disk.old → LeavesOnly (D.medium disk.old) (D.medium disk.new) (ShowsOrNot self.now.geometry segment None (D.medium disk.old).bytes) }
-        ensures retired { D.honest disk.old → OnOk result (ShowsSegment self.now.geometry segment None (D.medium disk.old).bytes (D.medium disk.new).bytes) }
-        ensures settled { D.honest disk.old → OnOk result (IsSettled (D.medium disk.new)) }
-        ensures counted { CountedAny (D.faults disk.old) (D.faults disk.new) result }
-        ensures kind { D.newest_fault disk.new ≡ newest_after (D.newest_fault disk.old) result }
-        ensures extent { D.extent disk.new ≡ D.extent disk.old }
-        ensures honest { D.honest disk.old ↔ D.honest disk.new }
+        requires settled { (D.medium disk.old).honest → IsSettled (D.medium disk.old) }
+        requires there { (D.medium disk.old).honest → segment_in self.now.geometry (D.medium disk.old).bytes segment ≢ None }
+        ensures moments { (D.medium disk.old).honest → LeavesOnly (D.medium disk.old) (D.medium disk.new) (ShowsOrNot self.now.geometry segment None (D.medium disk.old).bytes) }
+        ensures retired { (D.medium disk.old).honest → OnOk result (ShowsSegment self.now.geometry segment None (D.medium disk.old).bytes (D.medium disk.new).bytes) }
+        ensures settled { (D.medium disk.old).honest → OnOk result (IsSettled (D.medium disk.new)) }
+        ensures called { Called (D.medium disk.old) (D.medium disk.new) (failed_call result) }
     {
         store(disk, self.geometry.segment_at(segment), &[0])
     }
@@ -68,18 +65,15 @@ impl<A: Allocator> Ring<A> {
         segment: u32,
         block: u64,
     ) -> Result<(), DiskFault>
-        requires extent { D.extent disk.old ≡ disk_size self.now.geometry }
+        requires extent { (D.medium disk.old).size ≡ disk_size self.now.geometry }
         requires segment { segment < self.now.geometry.segments }
-        requires settled { D.honest disk.old → IsSettled (D.medium disk.old) }
-        requires closed { D.honest disk.old → segment_in self.now.geometry (D.medium disk.old).bytes segment ≡ None }
-        ensures moments { D.honest disk.old → LeavesOnly (D.medium disk.old) (D.medium disk.new) (ShowsOrNot self.now.geometry segment (Some (begun block)) (D.medium disk.old).bytes) }
-        ensures begun { D.honest disk.old → OnOk result (ShowsSegment self.now.geometry segment (Some (begun block)) (D.medium disk.old).bytes (D.medium disk.new).bytes) }
-        ensures stray { D.honest disk.old → OnOk result (HasNoStray self.now.geometry segment (D.medium disk.new).bytes) }
-        ensures settled { D.honest disk.old → OnOk result (IsSettled (D.medium disk.new)) }
-        ensures counted { CountedAny (D.faults disk.old) (D.faults disk.new) result }
-        ensures kind { D.newest_fault disk.new ≡ newest_after (D.newest_fault disk.old) result }
-        ensures extent { D.extent disk.new ≡ D.extent disk.old }
-        ensures honest { D.honest disk.old ↔ D.honest disk.new }
+        requires settled { (D.medium disk.old).honest → IsSettled (D.medium disk.old) }
+        requires closed { (D.medium disk.old).honest → segment_in self.now.geometry (D.medium disk.old).bytes segment ≡ None }
+        ensures moments { (D.medium disk.old).honest → LeavesOnly (D.medium disk.old) (D.medium disk.new) (ShowsOrNot self.now.geometry segment (Some (begun block)) (D.medium disk.old).bytes) }
+        ensures begun { (D.medium disk.old).honest → OnOk result (ShowsSegment self.now.geometry segment (Some (begun block)) (D.medium disk.old).bytes (D.medium disk.new).bytes) }
+        ensures stray { (D.medium disk.old).honest → OnOk result (HasNoStray self.now.geometry segment (D.medium disk.new).bytes) }
+        ensures settled { (D.medium disk.old).honest → OnOk result (IsSettled (D.medium disk.new)) }
+        ensures called { Called (D.medium disk.old) (D.medium disk.new) (failed_call result) }
     {
         // Everything behind the gate: zeros, so that no frame gate stays open from an earlier block, and the block's number.
         let mut header = [0; 511];
@@ -98,24 +92,21 @@ impl<A: Allocator> Ring<A> {
         first_number: u64,
         frames: &[Frame<A>],
     ) -> Result<(), DiskFault>
-        requires extent { D.extent disk.old ≡ disk_size self.old.geometry }
+        requires extent { (D.medium disk.old).size ≡ disk_size self.old.geometry }
         requires segment { segment < self.old.geometry.segments }
         requires some { 1 ≤ length frames.now }
         requires few { length frames.now ≤ 8 }
         requires room { first_slot + length frames.now ≤ self.old.geometry.slots }
         requires sizes { All (λ frame. length frame.bytes.items ≡ frame_bytes self.old.geometry) frames.now }
         requires numbers { first_number + length frames.now ≤ 2 ^ 64 }
-        requires settled { D.honest disk.old → IsSettled (D.medium disk.old) }
-        requires whole { D.honest disk.old → whole_frames self.old.geometry (D.medium disk.old).bytes segment ≡ first_slot }
-        requires stray { D.honest disk.old → HasNoStray self.old.geometry segment (D.medium disk.old).bytes }
-        ensures moments { D.honest disk.old → LeavesOnly (D.medium disk.old) (D.medium disk.new) (ShowsBeginning self.old.geometry segment first_number (pictures frames.now) (D.medium disk.old).bytes) }
-        ensures committed { D.honest disk.old → OnOk result (ShowsFrames self.old.geometry segment first_number (pictures frames.now) (D.medium disk.old).bytes (D.medium disk.new).bytes) }
-        ensures stray { D.honest disk.old → OnOk result (HasNoStray self.old.geometry segment (D.medium disk.new).bytes) }
-        ensures settled { D.honest disk.old → OnOk result (IsSettled (D.medium disk.new)) }
-        ensures counted { CountedAny (D.faults disk.old) (D.faults disk.new) result }
-        ensures kind { D.newest_fault disk.new ≡ newest_after (D.newest_fault disk.old) result }
-        ensures extent { D.extent disk.new ≡ D.extent disk.old }
-        ensures honest { D.honest disk.old ↔ D.honest disk.new }
+        requires settled { (D.medium disk.old).honest → IsSettled (D.medium disk.old) }
+        requires whole { (D.medium disk.old).honest → whole_frames self.old.geometry (D.medium disk.old).bytes segment ≡ first_slot }
+        requires stray { (D.medium disk.old).honest → HasNoStray self.old.geometry segment (D.medium disk.old).bytes }
+        ensures moments { (D.medium disk.old).honest → LeavesOnly (D.medium disk.old) (D.medium disk.new) (ShowsBeginning self.old.geometry segment first_number (pictures frames.now) (D.medium disk.old).bytes) }
+        ensures committed { (D.medium disk.old).honest → OnOk result (ShowsFrames self.old.geometry segment first_number (pictures frames.now) (D.medium disk.old).bytes (D.medium disk.new).bytes) }
+        ensures stray { (D.medium disk.old).honest → OnOk result (HasNoStray self.old.geometry segment (D.medium disk.new).bytes) }
+        ensures settled { (D.medium disk.old).honest → OnOk result (IsSettled (D.medium disk.new)) }
+        ensures called { Called (D.medium disk.old) (D.medium disk.new) (failed_call result) }
         ensures geometry { self.new.geometry ≡ self.old.geometry }
     {
         let frame_bytes = self.geometry.frame_bytes() as usize;
@@ -141,21 +132,18 @@ impl<A: Allocator> Ring<A> {
         number: u64,
         frame: &Frame<A>,
     ) -> Result<(), DiskFault>
-        requires extent { D.extent disk.old ≡ disk_size self.old.geometry }
+        requires extent { (D.medium disk.old).size ≡ disk_size self.old.geometry }
         requires segment { segment < self.old.geometry.segments }
         requires room { slot < self.old.geometry.slots }
         requires size { length frame.now.bytes.items ≡ frame_bytes self.old.geometry }
-        requires settled { D.honest disk.old → IsSettled (D.medium disk.old) }
-        requires whole { D.honest disk.old → whole_frames self.old.geometry (D.medium disk.old).bytes segment ≡ slot }
-        requires stray { D.honest disk.old → HasNoStray self.old.geometry segment (D.medium disk.old).bytes }
-        ensures moments { D.honest disk.old → LeavesOnly (D.medium disk.old) (D.medium disk.new) (ShowsBeginning self.old.geometry segment number (picture frame.now ∷ []) (D.medium disk.old).bytes) }
-        ensures committed { D.honest disk.old → OnOk result (ShowsFrames self.old.geometry segment number (picture frame.now ∷ []) (D.medium disk.old).bytes (D.medium disk.new).bytes) }
-        ensures stray { D.honest disk.old → OnOk result (HasNoStray self.old.geometry segment (D.medium disk.new).bytes) }
-        ensures settled { D.honest disk.old → OnOk result (IsSettled (D.medium disk.new)) }
-        ensures counted { CountedAny (D.faults disk.old) (D.faults disk.new) result }
-        ensures kind { D.newest_fault disk.new ≡ newest_after (D.newest_fault disk.old) result }
-        ensures extent { D.extent disk.new ≡ D.extent disk.old }
-        ensures honest { D.honest disk.old ↔ D.honest disk.new }
+        requires settled { (D.medium disk.old).honest → IsSettled (D.medium disk.old) }
+        requires whole { (D.medium disk.old).honest → whole_frames self.old.geometry (D.medium disk.old).bytes segment ≡ slot }
+        requires stray { (D.medium disk.old).honest → HasNoStray self.old.geometry segment (D.medium disk.old).bytes }
+        ensures moments { (D.medium disk.old).honest → LeavesOnly (D.medium disk.old) (D.medium disk.new) (ShowsBeginning self.old.geometry segment number (picture frame.now ∷ []) (D.medium disk.old).bytes) }
+        ensures committed { (D.medium disk.old).honest → OnOk result (ShowsFrames self.old.geometry segment number (picture frame.now ∷ []) (D.medium disk.old).bytes (D.medium disk.new).bytes) }
+        ensures stray { (D.medium disk.old).honest → OnOk result (HasNoStray self.old.geometry segment (D.medium disk.new).bytes) }
+        ensures settled { (D.medium disk.old).honest → OnOk result (IsSettled (D.medium disk.new)) }
+        ensures called { Called (D.medium disk.old) (D.medium disk.new) (failed_call result) }
         ensures geometry { self.new.geometry ≡ self.old.geometry }
     {
         let frame_bytes = self.geometry.frame_bytes() as usize;
@@ -176,18 +164,15 @@ impl<A: Allocator> Ring<A> {
         number: u64,
         out: &mut [u8],
     ) -> Result<FrameHead, SlotFault>
-        requires extent { D.extent disk.old ≡ disk_size self.now.geometry }
+        requires extent { (D.medium disk.old).size ≡ disk_size self.now.geometry }
         requires segment { segment < self.now.geometry.segments }
         requires slot { slot < self.now.geometry.slots }
         requires size { length out.old ≡ frame_bytes self.now.geometry }
-        ensures head { D.honest disk.old → AnswersHead (slot_head (frame_bytes self.now.geometry) number (slot_of self.now.geometry (D.medium disk.old).bytes segment slot)) result }
-        ensures pixels { D.honest disk.old → OnOk result (out.new ≡ (slot_of self.now.geometry (D.medium disk.old).bytes segment slot).picture.bytes) }
+        ensures head { (D.medium disk.old).honest → AnswersHead (slot_head (frame_bytes self.now.geometry) number (slot_of self.now.geometry (D.medium disk.old).bytes segment slot)) result }
+        ensures pixels { (D.medium disk.old).honest → OnOk result (out.new ≡ (slot_of self.now.geometry (D.medium disk.old).bytes segment slot).picture.bytes) }
         ensures damage { (damage : Damage) → result ≡ Err (SlotFault.Damaged damage) → damage ≡ Damage.SlotHead }
-        ensures disk { D.honest disk.old → Stays (D.medium disk.old) (D.medium disk.new) }
-        ensures counted { CountedRead (D.faults disk.old) (D.faults disk.new) result }
-        ensures kind { D.newest_fault disk.new ≡ newest_read (D.newest_fault disk.old) result }
-        ensures extent { D.extent disk.new ≡ D.extent disk.old }
-        ensures honest { D.honest disk.old ↔ D.honest disk.new }
+        ensures disk { (D.medium disk.old).honest → Stays (D.medium disk.old) (D.medium disk.new) }
+        ensures called { Called (D.medium disk.old) (D.medium disk.new) (failed_read result) }
     {
         let at = self.geometry.slot_at(segment, slot);
         let mut bytes = [0; HEAD_SIZE];
@@ -208,23 +193,20 @@ fn write_group<D: Disk>(
     slots: &[u8],
 ) -> Result<(), DiskFault>
     requires good { IsTrue (is_good geometry.now) }
-    requires extent { D.extent disk.old ≡ disk_size geometry.now }
+    requires extent { (D.medium disk.old).size ≡ disk_size geometry.now }
     requires segment { segment < geometry.now.segments }
     requires some { 1 ≤ count }
     requires few { count ≤ 8 }
     requires room { first_slot + count ≤ geometry.now.slots }
     requires size { length slots.now ≡ count * slot_size geometry.now }
-    requires settled { D.honest disk.old → IsSettled (D.medium disk.old) }
-    requires whole { D.honest disk.old → whole_frames geometry.now (D.medium disk.old).bytes segment ≡ first_slot }
-    requires stray { D.honest disk.old → HasNoStray geometry.now segment (D.medium disk.old).bytes }
-    ensures moments { D.honest disk.old → (number : ℕ) (frames : List Picture) → IsGroup geometry.now number frames slots.now count → LeavesOnly (D.medium disk.old) (D.medium disk.new) (ShowsBeginning geometry.now segment number frames (D.medium disk.old).bytes) }
-    ensures committed { D.honest disk.old → (number : ℕ) (frames : List Picture) → IsGroup geometry.now number frames slots.now count → OnOk result (ShowsFrames geometry.now segment number frames (D.medium disk.old).bytes (D.medium disk.new).bytes) }
-    ensures stray { D.honest disk.old → OnOk result (HasNoStray geometry.now segment (D.medium disk.new).bytes) }
-    ensures settled { D.honest disk.old → OnOk result (IsSettled (D.medium disk.new)) }
-    ensures counted { CountedAny (D.faults disk.old) (D.faults disk.new) result }
-    ensures kind { D.newest_fault disk.new ≡ newest_after (D.newest_fault disk.old) result }
-    ensures extent { D.extent disk.new ≡ D.extent disk.old }
-    ensures honest { D.honest disk.old ↔ D.honest disk.new }
+    requires settled { (D.medium disk.old).honest → IsSettled (D.medium disk.old) }
+    requires whole { (D.medium disk.old).honest → whole_frames geometry.now (D.medium disk.old).bytes segment ≡ first_slot }
+    requires stray { (D.medium disk.old).honest → HasNoStray geometry.now segment (D.medium disk.old).bytes }
+    ensures moments { (D.medium disk.old).honest → (number : ℕ) (frames : List Picture) → IsGroup geometry.now number frames slots.now count → LeavesOnly (D.medium disk.old) (D.medium disk.new) (ShowsBeginning geometry.now segment number frames (D.medium disk.old).bytes) }
+    ensures committed { (D.medium disk.old).honest → (number : ℕ) (frames : List Picture) → IsGroup geometry.now number frames slots.now count → OnOk result (ShowsFrames geometry.now segment number frames (D.medium disk.old).bytes (D.medium disk.new).bytes) }
+    ensures stray { (D.medium disk.old).honest → OnOk result (HasNoStray geometry.now segment (D.medium disk.new).bytes) }
+    ensures settled { (D.medium disk.old).honest → OnOk result (IsSettled (D.medium disk.new)) }
+    ensures called { Called (D.medium disk.old) (D.medium disk.new) (failed_call result) }
 {
     let at = geometry.slot_at(segment, first_slot);
     let gate = geometry.gate_at(segment, first_slot);

@@ -1,7 +1,7 @@
 // The frame gates that a stop left open behind a closed one.
-ghost use Rattle.std.specs.Prelude.{◌≡◌, ◌+◌, ◌<◌, ◌≤◌, ◌↔◌, ◌==◌, OnOk, length};
+ghost use Rattle.std.specs.Prelude.{◌≡◌, ◌+◌, ◌<◌, ◌≤◌, ◌==◌, OnOk, length};
 ghost use Rattle.std.specs.List.{list_any};
-ghost use Rattle.loop_disk.specs.Calls.{CountedAny, Stays, newest_after};
+ghost use Rattle.loop_disk.specs.Calls.{Called, Stays, failed_call};
 ghost use Rattle.loop_disk.specs.Medium.{IsSettled, LeavesOnly, SameOutside};
 ghost use Rattle.loop_record.specs.Change.{ShowsSegment};
 ghost use Rattle.loop_record.specs.Geometry.{disk_size};
@@ -27,20 +27,17 @@ impl<A: Allocator> Ring<A> {
         segment: u32,
         frames: u32,
     ) -> Result<(), DiskFault>
-        requires extent { D.extent disk.old ≡ disk_size self.now.geometry }
+        requires extent { (D.medium disk.old).size ≡ disk_size self.now.geometry }
         requires segment { segment < self.now.geometry.segments }
         requires few { frames ≤ self.now.geometry.slots }
-        requires settled { D.honest disk.old → IsSettled (D.medium disk.old) }
-        requires whole { D.honest disk.old → whole_frames self.now.geometry (D.medium disk.old).bytes segment ≡ frames }
-        ensures moments { D.honest disk.old → LeavesOnly (D.medium disk.old) (D.medium disk.new) (ShowsSegment self.now.geometry segment (segment_in self.now.geometry (D.medium disk.old).bytes segment) (D.medium disk.old).bytes) }
-        ensures same { D.honest disk.old → OnOk result (ShowsSegment self.now.geometry segment (segment_in self.now.geometry (D.medium disk.old).bytes segment) (D.medium disk.old).bytes (D.medium disk.new).bytes) }
-        ensures stray { D.honest disk.old → OnOk result (HasNoStray self.now.geometry segment (D.medium disk.new).bytes) }
-        ensures quiet { D.honest disk.old → HasNoStray self.now.geometry segment (D.medium disk.old).bytes → Stays (D.medium disk.old) (D.medium disk.new) }
-        ensures settled { D.honest disk.old → OnOk result (IsSettled (D.medium disk.new)) }
-        ensures counted { CountedAny (D.faults disk.old) (D.faults disk.new) result }
-        ensures kind { D.newest_fault disk.new ≡ newest_after (D.newest_fault disk.old) result }
-        ensures extent { D.extent disk.new ≡ D.extent disk.old }
-        ensures honest { D.honest disk.old ↔ D.honest disk.new }
+        requires settled { (D.medium disk.old).honest → IsSettled (D.medium disk.old) }
+        requires whole { (D.medium disk.old).honest → whole_frames self.now.geometry (D.medium disk.old).bytes segment ≡ frames }
+        ensures moments { (D.medium disk.old).honest → LeavesOnly (D.medium disk.old) (D.medium disk.new) (ShowsSegment self.now.geometry segment (segment_in self.now.geometry (D.medium disk.old).bytes segment) (D.medium disk.old).bytes) }
+        ensures same { (D.medium disk.old).honest → OnOk result (ShowsSegment self.now.geometry segment (segment_in self.now.geometry (D.medium disk.old).bytes segment) (D.medium disk.old).bytes (D.medium disk.new).bytes) }
+        ensures stray { (D.medium disk.old).honest → OnOk result (HasNoStray self.now.geometry segment (D.medium disk.new).bytes) }
+        ensures quiet { (D.medium disk.old).honest → HasNoStray self.now.geometry segment (D.medium disk.old).bytes → Stays (D.medium disk.old) (D.medium disk.new) }
+        ensures settled { (D.medium disk.old).honest → OnOk result (IsSettled (D.medium disk.new)) }
+        ensures called { Called (D.medium disk.old) (D.medium disk.new) (failed_call result) }
     {
         let first = frames + 1;
         if first >= self.geometry.slots {
@@ -54,18 +51,15 @@ impl<A: Allocator> Ring<A> {
 
 // Closes the gates of a range, where one of them is open.
 fn close_gates<D: Disk>(disk: &mut D, at: u64, count: usize) -> Result<(), DiskFault>
-    requires inside { at + count ≤ D.extent disk.old }
+    requires inside { at + count ≤ (D.medium disk.old).size }
     requires few { count ≤ 256 }
-    requires settled { D.honest disk.old → IsSettled (D.medium disk.old) }
-    ensures moments { D.honest disk.old → LeavesOnly (D.medium disk.old) (D.medium disk.new) (SameOutside at count (D.medium disk.old).bytes) }
-    ensures elsewhere { D.honest disk.old → SameOutside at count (D.medium disk.old).bytes (D.medium disk.new).bytes }
-    ensures closed { D.honest disk.old → OnOk result (AreClosed at count (D.medium disk.new).bytes) }
-    ensures quiet { D.honest disk.old → AreClosed at count (D.medium disk.old).bytes → Stays (D.medium disk.old) (D.medium disk.new) }
-    ensures settled { D.honest disk.old → OnOk result (IsSettled (D.medium disk.new)) }
-    ensures counted { CountedAny (D.faults disk.old) (D.faults disk.new) result }
-    ensures kind { D.newest_fault disk.new ≡ newest_after (D.newest_fault disk.old) result }
-    ensures extent { D.extent disk.new ≡ D.extent disk.old }
-    ensures honest { D.honest disk.old ↔ D.honest disk.new }
+    requires settled { (D.medium disk.old).honest → IsSettled (D.medium disk.old) }
+    ensures moments { (D.medium disk.old).honest → LeavesOnly (D.medium disk.old) (D.medium disk.new) (SameOutside at count (D.medium disk.old).bytes) }
+    ensures elsewhere { (D.medium disk.old).honest → SameOutside at count (D.medium disk.old).bytes (D.medium disk.new).bytes }
+    ensures closed { (D.medium disk.old).honest → OnOk result (AreClosed at count (D.medium disk.new).bytes) }
+    ensures quiet { (D.medium disk.old).honest → AreClosed at count (D.medium disk.old).bytes → Stays (D.medium disk.old) (D.medium disk.new) }
+    ensures settled { (D.medium disk.old).honest → OnOk result (IsSettled (D.medium disk.new)) }
+    ensures called { Called (D.medium disk.old) (D.medium disk.new) (failed_call result) }
 {
     let mut buffer = [0; MAX_GATES];
     let gates = &mut buffer[..count];

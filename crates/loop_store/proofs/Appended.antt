@@ -157,12 +157,12 @@ place-refused g r must ps fault (inr (inr x)) = inr (inr (inl (x.0, (x.1.0, (x.1
 -- ---- the store
 
 -- what a group of n frames has grown to
-pub record Grew {D : Type 0} (medium : D → Medium) (honest : D → Type 0) (g : Geometry) (old new : D) (next n j : ℕ) (ps : List Picture) : Type 0 where
-  pub back : honest new → honest old
+pub record Grew {D : Type 0} (medium : D → Medium) (g : Geometry) (old new : D) (next n j : ℕ) (ps : List Picture) : Type 0 where
+  pub back : (medium new).honest → (medium old).honest
   pub count : n ≡ length ps
-  pub grown : honest old → IsGrownAt g next n j (medium old).bytes (medium new).bytes
-  pub settled : honest old → IsSettled (medium new)
-  pub stored : (r : Recording) → r.next ≡ next → honest old → Holds g r (medium old).bytes → Holds g (plain (ring_of g) r (steps_before g r ++ map store ps)) (medium new).bytes
+  pub grown : (medium old).honest → IsGrownAt g next n j (medium old).bytes (medium new).bytes
+  pub settled : (medium old).honest → IsSettled (medium new)
+  pub stored : (r : Recording) → r.next ≡ next → (medium old).honest → Holds g r (medium old).bytes → Holds g (plain (ring_of g) r (steps_before g r ++ map store ps)) (medium new).bytes
 
 -- the headers that are noted then
 heads-grown : (g : Geometry) (next n j : ℕ) (heads hs : List (Option SegmentHead)) (old new : List ℕ) → heads ≡ heads_of g old → hs ≡ set heads j (Some (head_after g next n)) → IsGrownAt g next n j old new → hs ≡ heads_of g new
@@ -171,10 +171,10 @@ heads-grown g next n j heads hs old new are noted grown = noted ∙ ap (λ (l : 
 pub noted-at : (g h : Geometry) (next n i j : ℕ) (heads hs : List (Option SegmentHead)) → h ≡ g → i ≡ j → hs ≡ set heads i (Some (head_after h next n)) → hs ≡ set heads j (Some (head_after g next n))
 noted-at g h next n i j heads hs same at noted = noted ∙ (λ k. set heads (at k) (Some (head_after (same k) next n)))
 
-pub kept-grown : {D : Type 0} (extent : D → ℕ) (medium : D → Medium) (honest : D → Type 0) (g h : Geometry) (old new : D) (next n j : ℕ) (ps : List Picture) (heads hs : List (Option SegmentHead)) (clips : List (Option Span)) (must : Bool) → IsKept extent medium honest g old next heads clips must → must ≡ false
-    → h ≡ g → 1 ≤ g.slots → extent new ≡ extent old → next ≢ last_number (ring_of g) → next % g.slots + n ≤ g.slots → hs ≡ set heads j (Some (head_after g next n)) → Grew medium honest g old new next n j ps → IsKept extent medium honest h new (next + n) hs clips must
-kept-grown {D} extent medium honest g h old new next n j ps heads hs clips must kept fine same some size unspent room noted grew =
-    subst (λ (k : Geometry). IsKept extent medium honest k new (next + n) hs clips must) (sym same)
+pub kept-grown : {D : Type 0} (medium : D → Medium) (g h : Geometry) (old new : D) (next n j : ℕ) (ps : List Picture) (heads hs : List (Option SegmentHead)) (clips : List (Option Span)) (must : Bool) → IsKept medium g old next heads clips must → must ≡ false
+    → h ≡ g → 1 ≤ g.slots → (medium new).size ≡ (medium old).size → next ≢ last_number (ring_of g) → next % g.slots + n ≤ g.slots → hs ≡ set heads j (Some (head_after g next n)) → Grew medium g old new next n j ps → IsKept medium h new (next + n) hs clips must
+kept-grown {D} medium g h old new next n j ps heads hs clips must kept fine same some size unspent room noted grew =
+    subst (λ (k : Geometry). IsKept medium k new (next + n) hs clips must) (sym same)
     (record {
       size = size ∙ kept.size;
       few = appended-few g next n some kept.few unspent room;
@@ -193,9 +193,9 @@ kept-grown {D} extent medium honest g h old new next n j ps heads hs clips must 
     })
 
 -- it stands for the recording with the steps of the append
-pub stands-grown : {D : Type 0} (medium : D → Medium) (honest : D → Type 0) (old new : Seen D) (n j : ℕ) (ps : List Picture) (r : Recording) → StandsFor medium honest old r → old.must_reopen ≡ false → new.geometry ≡ old.geometry → new.next ≡ old.next + n
-    → new.heads ≡ set old.heads j (Some (head_after old.geometry old.next n)) → new.clips ≡ old.clips → Grew medium honest old.geometry old.disk new.disk old.next n j ps → StandsFor medium honest new (plain (ring_of old.geometry) r (steps_before old.geometry r ++ map store ps))
-stands-grown {D} medium honest old new n j ps r stands fine same more noted clips grew = record {
+pub stands-grown : {D : Type 0} (medium : D → Medium) (old new : Seen D) (n j : ℕ) (ps : List Picture) (r : Recording) → StandsFor medium old r → old.must_reopen ≡ false → new.geometry ≡ old.geometry → new.next ≡ old.next + n
+    → new.heads ≡ set old.heads j (Some (head_after old.geometry old.next n)) → new.clips ≡ old.clips → Grew medium old.geometry old.disk new.disk old.next n j ps → StandsFor medium new (plain (ring_of old.geometry) r (steps_before old.geometry r ++ map store ps))
+stands-grown {D} medium old new n j ps r stands fine same more noted clips grew = record {
   remembered = λ now. record { image = (medium new.disk).bytes; held = held now; next_is = next_is now; heads_are = agrees now; clips_are = clips ∙ (stands.remembered (grew.back now)).clips_are ∙ sym (appended-clips g r ps) };
   settled = λ f now. grew.settled (grew.back now);
   held = λ f now. held now;
@@ -205,26 +205,26 @@ stands-grown {D} medium honest old new n j ps r stands fine same more noted clip
     g : Geometry
     g = old.geometry
 
-    held : honest new.disk → Holds new.geometry (plain (ring_of g) r (steps_before g r ++ map store ps)) (medium new.disk).bytes
+    held : (medium new.disk).honest → Holds new.geometry (plain (ring_of g) r (steps_before g r ++ map store ps)) (medium new.disk).bytes
     held now =
         let back = grew.back now in
         subst (λ (k : Geometry). Holds k (plain (ring_of g) r (steps_before g r ++ map store ps)) (medium new.disk).bytes) (sym same) (grew.stored r (sym (stands.remembered back).next_is) back (stands.held fine back))
 
-    next_is : honest new.disk → new.next ≡ (plain (ring_of g) r (steps_before g r ++ map store ps)).next
+    next_is : (medium new.disk).honest → new.next ≡ (plain (ring_of g) r (steps_before g r ++ map store ps)).next
     next_is now =
         let was = (stands.remembered (grew.back now)).next_is in
         more ∙ (λ i. was i + grew.count i) ∙ sym (appended-next g r ps)
 
-    agrees : honest new.disk → new.heads ≡ heads_of new.geometry (medium new.disk).bytes
+    agrees : (medium new.disk).honest → new.heads ≡ heads_of new.geometry (medium new.disk).bytes
     agrees now =
         let back = grew.back now in
         heads-grown g old.next n j old.heads new.heads (medium old.disk).bytes (medium new.disk).bytes (stands.agrees fine back) noted (grew.grown back) ∙ ap (λ (k : Geometry). heads_of k (medium new.disk).bytes) (sym same)
 
 -- these are all its steps
-pub stood-steps : {D : Type 0} (medium : D → Medium) (honest : D → Type 0) (old new : Seen D) (r : Recording) (ps : List Picture) → (honest new.disk → honest old.disk)
-    → (honest old.disk → old.must_reopen ≡ false × ((r.next ≢ last_number (ring_of old.geometry)) × (recycling_first (needs_recycling (ring_of old.geometry) r) (victim (ring_of old.geometry) r) ≢ None)))
-    → StandsFor medium honest new (plain (ring_of old.geometry) r (steps_before old.geometry r ++ map store ps)) → StandsFor medium honest new (plain (ring_of old.geometry) r (steps_or_none (steps (ring_of old.geometry) r ps)))
-stood-steps {D} medium honest old new r ps back place stands = record {
+pub stood-steps : {D : Type 0} (medium : D → Medium) (old new : Seen D) (r : Recording) (ps : List Picture) → ((medium new.disk).honest → (medium old.disk).honest)
+    → ((medium old.disk).honest → old.must_reopen ≡ false × ((r.next ≢ last_number (ring_of old.geometry)) × (recycling_first (needs_recycling (ring_of old.geometry) r) (victim (ring_of old.geometry) r) ≢ None)))
+    → StandsFor medium new (plain (ring_of old.geometry) r (steps_before old.geometry r ++ map store ps)) → StandsFor medium new (plain (ring_of old.geometry) r (steps_or_none (steps (ring_of old.geometry) r ps)))
+stood-steps {D} medium old new r ps back place stands = record {
   remembered = λ now. let m = stands.remembered now in let q = same now in record {
     image = m.image;
     held = subst (λ (l : List Step). Holds new.geometry (plain (ring_of old.geometry) r l) m.image) q m.held;
@@ -237,5 +237,5 @@ stood-steps {D} medium honest old new r ps back place stands = record {
   agrees = stands.agrees;
 }
   where
-    same : honest new.disk → steps_before old.geometry r ++ map store ps ≡ steps_or_none (steps (ring_of old.geometry) r ps)
+    same : (medium new.disk).honest → steps_before old.geometry r ++ map store ps ≡ steps_or_none (steps (ring_of old.geometry) r ps)
     same now = let at = place (back now) in steps-are old.geometry r ps at.1.0 at.1.1

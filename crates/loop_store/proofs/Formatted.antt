@@ -85,6 +85,6 @@ opening-fresh g old new r laid stores =
 -- ---- the whole
 
 -- a sync behind a closed gate
-pub sync-none : (size : ℕ) (g : Geometry) (old new : Medium) → IsSound size old → AreClosed old → Stays old new → LeavesOnly old new (NoneOrEmpty g)
-sync-none size g old new sound closed stays =
-    goes_on old old new (NoneOrEmpty g) old.may_leave (started size old (NoneOrEmpty g) sound (λ c left. inl (closed-none c (closed c left)))) stays.time (λ c left. inl (closed-none c (closed c left)))
+pub sync-none : (g : Geometry) (old new : Medium) → IsSound old → AreClosed old → Stays old new → LeavesOnly old new (NoneOrEmpty g)
+sync-none g old new sound closed stays =
+    goes_on old old new (NoneOrEmpty g) old.may_leave (started old (NoneOrEmpty g) sound (λ c left. inl (closed-none c (closed c left)))) stays.time (λ c left. inl (closed-none c (closed c left)))

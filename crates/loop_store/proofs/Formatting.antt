@@ -20,8 +20,8 @@ use Rattle.loop_store.proofs.Looks.{stays-settled}
 -- ---- the gate is closed
 
 -- an image in which an open gate may have been torn: it was there before, or the gate is closed
-pub closing-torn : (size : ℕ) (m : Medium) (c : List ℕ) → IsSound size m → is_open m.bytes 0 ≡ true → SameOutside 0 1 m.bytes c → WasOrClosed m c
-closing-torn size m c sound opened torn = go (is_open c 0) refl
+pub closing-torn : (m : Medium) (c : List ℕ) → IsSound m → is_open m.bytes 0 ≡ true → SameOutside 0 1 m.bytes c → WasOrClosed m c
+closing-torn m c sound opened torn = go (is_open c 0) refl
   where
     place : (i : ℕ) → is_open c 0 ≡ true → (i < 1) ⊎ (1 ≤ i) → get_or c i 0 ≡ get_or m.bytes i 0
     place i e (inl l) =
@@ -36,12 +36,12 @@ closing-torn size m c sound opened torn = go (is_open c 0) refl
     go false e = inr e
 
 -- a read, and then the gate's store
-pub closing : {T : Type 0} (size : ℕ) (old mid new : Medium) (r : Result T DiskFault) → IsSound size old → IsSettled old → Stays old mid → is_open old.bytes 0 ≡ true → Stores 0 (0 ∷ []) mid new r → LeavesOnly old new (WasOrClosed old)
-closing size old mid new r sound settled stays opened stores =
+pub closing : {T : Type 0} (old mid new : Medium) (r : Result T DiskFault) → IsSound old → IsSettled old → Stays old mid → is_open old.bytes 0 ≡ true → Stores 0 (0 ∷ []) mid new r → LeavesOnly old new (WasOrClosed old)
+closing old mid new r sound settled stays opened stores =
     let P = WasOrClosed old in
-    let before : LeavesOnly old mid P = goes_on old old mid P old.may_leave (started size old P sound (λ c left. inl left)) stays.time (λ c left. inl left) in
+    let before : LeavesOnly old mid P = goes_on old old mid P old.may_leave (started old P sound (λ c left. inl left)) stays.time (λ c left. inl left) in
     joined old mid new P before (stored 0 (0 ∷ []) mid new r P (stays-settled old mid stays settled) stores (λ c torn.
-    closing-torn size old c sound opened (subst (λ (image : List ℕ). SameOutside 0 1 image c) stays.bytes torn)))
+    closing-torn old c sound opened (subst (λ (image : List ℕ). SameOutside 0 1 image c) stays.bytes torn)))
 
 -- ---- behind a closed gate
 
@@ -49,9 +49,9 @@ closing size old mid new r sound settled stays opened stores =
 pub closed-behind : (at n : ℕ) (m : Medium) (c : List ℕ) → 1 ≤ at → AreClosed m → TornAt at n m c → IsClosed c
 closed-behind at n m c behind closed torn = ap (λ (b : ℕ). eqb b 165) (torn.2.before 0 (omega (arith, behind))) ∙ closed torn.0 torn.1
 
-pub writing-closed : {T : Type 0} (size at : ℕ) (bytes : List ℕ) (old new : Medium) (r : Result T DiskFault) → 1 ≤ at → IsSound size old → AreClosed old → Writes at bytes old new r → LeavesOnly old new IsClosed
-writing-closed size at bytes old new r behind sound closed writes =
-    goes_on old old new IsClosed (TornAt at (length bytes) old) (started size old IsClosed sound closed) writes.time (λ c torn. closed-behind at (length bytes) old c behind closed torn)
+pub writing-closed : {T : Type 0} (at : ℕ) (bytes : List ℕ) (old new : Medium) (r : Result T DiskFault) → 1 ≤ at → IsSound old → AreClosed old → Writes at bytes old new r → LeavesOnly old new IsClosed
+writing-closed at bytes old new r behind sound closed writes =
+    goes_on old old new IsClosed (TornAt at (length bytes) old) (started old IsClosed sound closed) writes.time (λ c torn. closed-behind at (length bytes) old c behind closed torn)
 
 -- ---- the bytes
 
@@ -149,9 +149,9 @@ still-closed at bytes old new r behind closed writes = λ c left. closed-behind 
 pub front-closed : {T : Type 0} (bytes : List ℕ) (old new : Medium) (r : Result T DiskFault) → AreClosed old → Writes 1 bytes old new r → OnOk r (AreClosed new)
 front-closed bytes old new r closed writes = always r (still-closed 1 bytes old new r (omega arith) closed writes)
 
-pub front-laid : {T : Type 0} (g : Geometry) (size : ℕ) (front bytes : List ℕ) (old new : Medium) (r : Result T DiskFault) → front ≡ super_bytes g ++ drop 512 (replicate 2560 0) → length front ≡ 2560 → bytes ≡ drop 1 front → IsSound size old → size ≡ disk_size g
+pub front-laid : {T : Type 0} (g : Geometry) (front bytes : List ℕ) (old new : Medium) (r : Result T DiskFault) → front ≡ super_bytes g ++ drop 512 (replicate 2560 0) → length front ≡ 2560 → bytes ≡ drop 1 front → IsSound old → old.size ≡ disk_size g
     → Writes 1 bytes old new r → OnOk r (IsLaid g 0 new.bytes)
-front-laid g size front bytes old new r is long behind sound whole writes =
+front-laid g front bytes old new r is long behind sound whole writes =
     on_ok_weaker r (λ (done : new.bytes ≡ written 1 bytes old.bytes).
     subst (λ (image : List ℕ). IsLaid g 0 image) (sym (done ∙ (λ i. written 1 (behind i) old.bytes))) (laid-super g front old.bytes is long (sound.length_is ∙ whole))) writes.done
 

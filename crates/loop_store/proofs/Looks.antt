@@ -23,9 +23,9 @@ use Rattle.loop_store.proofs.Looked.{held-slot}
 pub stays-settled : (old new : Medium) → Stays old new → IsSettled old → IsSettled new
 stays-settled old new stays settled = λ c left. settled c (stays.images c left) ∙ sym stays.bytes
 
-pub looked-kept : {D : Type 0} (extent : D → ℕ) (medium : D → Medium) (honest : D → Type 0) (g : Geometry) (old new : D) (next : ℕ) (heads : List (Option SegmentHead)) (clips : List (Option Span)) (must_reopen : Bool) → IsKept extent medium honest g old next heads clips must_reopen
-    → extent new ≡ extent old → (honest new → honest old) → (honest old → Stays (medium old) (medium new)) → IsKept extent medium honest g new next heads clips must_reopen
-looked-kept extent medium honest g old new next heads clips must_reopen kept size back stays = record {
+pub looked-kept : {D : Type 0} (medium : D → Medium) (g : Geometry) (old new : D) (next : ℕ) (heads : List (Option SegmentHead)) (clips : List (Option Span)) (must_reopen : Bool) → IsKept medium g old next heads clips must_reopen
+    → (medium new).size ≡ (medium old).size → ((medium new).honest → (medium old).honest) → ((medium old).honest → Stays (medium old) (medium new)) → IsKept medium g new next heads clips must_reopen
+looked-kept medium g old new next heads clips must_reopen kept size back stays = record {
   size = size ∙ kept.size;
   few = kept.few;
   count = kept.count;
@@ -35,8 +35,8 @@ looked-kept extent medium honest g old new next heads clips must_reopen kept siz
   recorded = λ fine now. subst (λ (image : List ℕ). IsRecovered g heads clips next image) (sym (stays (back now)).bytes) (kept.recorded fine (back now));
 }
 
-pub looked-stands : {D : Type 0} (medium : D → Medium) (honest : D → Type 0) (old : Seen D) (disk : D) (r : Recording) → StandsFor medium honest old r → (honest disk → honest old.disk) → (honest old.disk → Stays (medium old.disk) (medium disk)) → StandsFor medium honest (record old { disk = disk }) r
-looked-stands medium honest old disk r stands back stays = record {
+pub looked-stands : {D : Type 0} (medium : D → Medium) (old : Seen D) (disk : D) (r : Recording) → StandsFor medium old r → ((medium disk).honest → (medium old.disk).honest) → ((medium old.disk).honest → Stays (medium old.disk) (medium disk)) → StandsFor medium (record old { disk = disk }) r
+looked-stands medium old disk r stands back stays = record {
   remembered = λ now. let m = stands.remembered (back now) in record { image = m.image; held = m.held; next_is = m.next_is; heads_are = m.heads_are; clips_are = m.clips_are };
   settled = λ fine now. stays-settled (medium old.disk) (medium disk) (stays (back now)) (stands.settled fine (back now));
   held = λ fine now. subst (λ (image : List ℕ). Holds old.geometry r image) (sym (stays (back now)).bytes) (stands.held fine (back now));

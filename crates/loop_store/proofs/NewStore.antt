@@ -30,10 +30,10 @@ fresh-heads g image fresh = all-none (λ j. header_at g image (segment_at g j)) 
     closed-head j l = λ i. cond (fresh.segments j l i) (Some (record { block = little_from (segment_at g j + 8) 8 image; frames = open_gates g.slots image (segment_at g j + 256) })) None
 
 -- the image of a disk that was formatted, with the memory of its store
-pub fresh-kept : {D : Type 0} (extent : D → ℕ) (medium : D → Medium) (honest : D → Type 0) (g h : Geometry) (disk : D) (heads : List (Option SegmentHead)) (clips : List (Option Span)) → h ≡ g → heads ≡ replicate g.segments None → clips ≡ replicate 64 None → IsTrue (is_good g) → extent disk ≡ disk_size g
-    → (honest disk → IsSettled (medium disk)) → (honest disk → IsFresh g (medium disk).bytes) → IsKept extent medium honest h disk 0 heads clips false
-fresh-kept extent medium honest g h disk heads clips same closed none good size settled fresh =
-    subst (λ (k : Geometry). IsKept extent medium honest k disk 0 heads clips false) (sym same)
+pub fresh-kept : {D : Type 0} (medium : D → Medium) (g h : Geometry) (disk : D) (heads : List (Option SegmentHead)) (clips : List (Option Span)) → h ≡ g → heads ≡ replicate g.segments None → clips ≡ replicate 64 None → IsTrue (is_good g) → (medium disk).size ≡ disk_size g
+    → ((medium disk).honest → IsSettled (medium disk)) → ((medium disk).honest → IsFresh g (medium disk).bytes) → IsKept medium h disk 0 heads clips false
+fresh-kept medium g h disk heads clips same closed none good size settled fresh =
+    subst (λ (k : Geometry). IsKept medium k disk 0 heads clips false) (sym same)
     (record {
       size = size;
       few = omega arith;
@@ -50,10 +50,10 @@ fresh-kept extent medium honest g h disk heads clips same closed none good size 
       };
     })
 
-pub fresh-stands : {D : Type 0} (medium : D → Medium) (honest : D → Type 0) (g h : Geometry) (disk : D) (heads : List (Option SegmentHead)) (clips : List (Option Span)) → h ≡ g → heads ≡ replicate g.segments None → clips ≡ replicate 64 None → IsTrue (is_good g)
-    → (honest disk → IsSettled (medium disk)) → (honest disk → IsFresh g (medium disk).bytes) → StandsFor medium honest (record { disk = disk; geometry = h; next = 0; heads = heads; clips = clips; must_reopen = false }) empty
-fresh-stands medium honest g h disk heads clips same closed none good settled fresh =
-    subst (λ (k : Geometry). StandsFor medium honest (record { disk = disk; geometry = k; next = 0; heads = heads; clips = clips; must_reopen = false }) empty) (sym same)
+pub fresh-stands : {D : Type 0} (medium : D → Medium) (g h : Geometry) (disk : D) (heads : List (Option SegmentHead)) (clips : List (Option Span)) → h ≡ g → heads ≡ replicate g.segments None → clips ≡ replicate 64 None → IsTrue (is_good g)
+    → ((medium disk).honest → IsSettled (medium disk)) → ((medium disk).honest → IsFresh g (medium disk).bytes) → StandsFor medium (record { disk = disk; geometry = h; next = 0; heads = heads; clips = clips; must_reopen = false }) empty
+fresh-stands medium g h disk heads clips same closed none good settled fresh =
+    subst (λ (k : Geometry). StandsFor medium (record { disk = disk; geometry = k; next = 0; heads = heads; clips = clips; must_reopen = false }) empty) (sym same)
     (record {
       remembered = λ now. record { image = (medium disk).bytes; held = held now; next_is = refl; heads_are = heads_are now; clips_are = none };
       settled = λ fine now. settled now;
@@ -61,8 +61,8 @@ fresh-stands medium honest g h disk heads clips same closed none good settled fr
       agrees = λ fine now. heads_are now;
     })
   where
-    held : honest disk → Holds g empty (medium disk).bytes
+    held : (medium disk).honest → Holds g empty (medium disk).bytes
     held now = reading-fresh g (medium disk).bytes good (fresh now)
 
-    heads_are : honest disk → heads ≡ heads_of g (medium disk).bytes
+    heads_are : (medium disk).honest → heads ≡ heads_of g (medium disk).bytes
     heads_are now = closed ∙ sym (fresh-heads g (medium disk).bytes (fresh now))

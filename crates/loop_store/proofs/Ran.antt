@@ -57,38 +57,38 @@ idle g r (command.Read number) p said = record { made = refl; begun = refl }
 -- ---- a run so far
 
 -- what is known of a store after some commands and their replies
-pub record Ran {D A : Type 0} (medium : D → Medium) (honest : D → Type 0) (old now : Seen D) (cs : List (Command A)) (ps : List (Reply A)) : Type 0 where
+pub record Ran {D A : Type 0} (medium : D → Medium) (old now : Seen D) (cs : List (Command A)) (ps : List (Reply A)) : Type 0 where
   pub count : length ps ≡ length cs
   pub failed : now.must_reopen ≡ some_failed ps
   pub geometry : now.geometry ≡ old.geometry
-  pub honesty : honest old.disk → honest now.disk
-  pub stands : (r : Recording) → StandsFor medium honest old r → StandsFor medium honest now (plain (ring_of old.geometry) r (made_in (ring_of old.geometry) r cs ps))
-  pub answers : (r : Recording) → StandsFor medium honest old r → honest old.disk → AreAnswers old.geometry r false cs ps
-  pub moments : (r : Recording) → StandsFor medium honest old r → honest old.disk → LeavesOnly (medium old.disk) (medium now.disk) (HoldsSome old.geometry r (made_in (ring_of old.geometry) r cs ps ++ begun_in (ring_of old.geometry) r cs ps))
-  pub each : (r : Recording) → StandsFor medium honest old r → honest old.disk
+  pub honesty : (medium old.disk).honest → (medium now.disk).honest
+  pub stands : (r : Recording) → StandsFor medium old r → StandsFor medium now (plain (ring_of old.geometry) r (made_in (ring_of old.geometry) r cs ps))
+  pub answers : (r : Recording) → StandsFor medium old r → (medium old.disk).honest → AreAnswers old.geometry r false cs ps
+  pub moments : (r : Recording) → StandsFor medium old r → (medium old.disk).honest → LeavesOnly (medium old.disk) (medium now.disk) (HoldsSome old.geometry r (made_in (ring_of old.geometry) r cs ps ++ begun_in (ring_of old.geometry) r cs ps))
+  pub each : (r : Recording) → StandsFor medium old r → (medium old.disk).honest
       → EachNow (medium now.disk) (HoldsFrom old.geometry r (length (made_in (ring_of old.geometry) r cs ps)) (made_in (ring_of old.geometry) r cs ps ++ begun_in (ring_of old.geometry) r cs ps))
 
 -- what one command says
-pub record Turned {D A : Type 0} (medium : D → Medium) (honest : D → Type 0) (now new : Seen D) (c : Command A) (p : Reply A) : Type 0 where
-  pub answers : (r : Recording) → StandsFor medium honest now r → honest now.disk → IsAnswer now.geometry r now.must_reopen c p
-  pub moments : (r : Recording) → StandsFor medium honest now r → now.must_reopen ≡ false → honest now.disk → LeavesOnly (medium now.disk) (medium new.disk) (HoldsSome now.geometry r (made_by (ring_of now.geometry) r c p ++ begun_by (ring_of now.geometry) r c p))
-  pub each : (r : Recording) → StandsFor medium honest now r → now.must_reopen ≡ false → honest now.disk
+pub record Turned {D A : Type 0} (medium : D → Medium) (now new : Seen D) (c : Command A) (p : Reply A) : Type 0 where
+  pub answers : (r : Recording) → StandsFor medium now r → (medium now.disk).honest → IsAnswer now.geometry r now.must_reopen c p
+  pub moments : (r : Recording) → StandsFor medium now r → now.must_reopen ≡ false → (medium now.disk).honest → LeavesOnly (medium now.disk) (medium new.disk) (HoldsSome now.geometry r (made_by (ring_of now.geometry) r c p ++ begun_by (ring_of now.geometry) r c p))
+  pub each : (r : Recording) → StandsFor medium now r → now.must_reopen ≡ false → (medium now.disk).honest
       → EachNow (medium new.disk) (HoldsFrom now.geometry r (length (made_by (ring_of now.geometry) r c p)) (made_by (ring_of now.geometry) r c p ++ begun_by (ring_of now.geometry) r c p))
-  pub stands : (r : Recording) → StandsFor medium honest now r → StandsFor medium honest new (plain (ring_of now.geometry) r (made_by (ring_of now.geometry) r c p))
+  pub stands : (r : Recording) → StandsFor medium now r → StandsFor medium new (plain (ring_of now.geometry) r (made_by (ring_of now.geometry) r c p))
   pub failed : new.must_reopen ≡ (now.must_reopen || has_failed p)
   pub unmoved : now.must_reopen ≡ true → new ≡ now
-  pub honesty : honest now.disk → honest new.disk
+  pub honesty : (medium now.disk).honest → (medium new.disk).honest
   pub geometry : new.geometry ≡ now.geometry
 
-pub ran-none : {D A : Type 0} (size : ℕ) (medium : D → Medium) (honest : D → Type 0) (old : Seen D) → old.must_reopen ≡ false → (honest old.disk → IsSound size (medium old.disk)) → let cs : List (Command A) = [] in Ran medium honest old old cs []
-ran-none size medium honest old fine sound = record {
+pub ran-none : {D A : Type 0} (medium : D → Medium) (old : Seen D) → old.must_reopen ≡ false → ((medium old.disk).honest → IsSound (medium old.disk)) → let cs : List (Command A) = [] in Ran medium old old cs []
+ran-none medium old fine sound = record {
   count = refl;
   failed = fine;
   geometry = refl;
   honesty = λ now. now;
   stands = λ r stands. stands;
   answers = λ r stands now. tt;
-  moments = λ r stands now. unmoved-some size (medium old.disk) old.geometry r [] (sound now) (stands.settled fine now) (stands.held fine now);
+  moments = λ r stands now. unmoved-some (medium old.disk) old.geometry r [] (sound now) (stands.settled fine now) (stands.held fine now);
   each = λ r stands now image left. held-some old.geometry r [] image (subst (λ (c : List ℕ). Holds old.geometry r c) (sym (stands.settled fine now image left)) (stands.held fine now));
 }
 
@@ -126,14 +126,14 @@ made-idle : {A : Type 0} (ring : Ring) (r : Recording) (cs : List (Command A)) (
     → made_in ring r (cs ++ c ∷ []) (ps ++ p ∷ []) ≡ made_in ring r cs ps
 made-idle ring r cs ps c p same idle = made-more ring r cs ps c p same ∙ (λ i. made_in ring r cs ps ++ idle.made i) ∙ append-nil (made_in ring r cs ps)
 
-pub ran-more : {D A : Type 0} (medium : D → Medium) (honest : D → Type 0) (old now new : Seen D) (cs : List (Command A)) (ps : List (Reply A)) (c : Command A) (p : Reply A) → Ran medium honest old now cs ps → Turned medium honest now new c p
-    → Ran medium honest old new (cs ++ c ∷ []) (ps ++ p ∷ [])
-ran-more {D} {A} medium honest old now new cs ps c p ran turn = record {
+pub ran-more : {D A : Type 0} (medium : D → Medium) (old now new : Seen D) (cs : List (Command A)) (ps : List (Reply A)) (c : Command A) (p : Reply A) → Ran medium old now cs ps → Turned medium now new c p
+    → Ran medium old new (cs ++ c ∷ []) (ps ++ p ∷ [])
+ran-more {D} {A} medium old now new cs ps c p ran turn = record {
   count = omega (arith, length-append ps (p ∷ []), length-append cs (c ∷ []), ran.count);
   failed = turn.failed ∙ ap (λ (b : Bool). b || has_failed p) ran.failed ∙ sym (failed-more ps p);
   geometry = turn.geometry ∙ ran.geometry;
   honesty = λ h. turn.honesty (ran.honesty h);
-  stands = λ r stands. subst (λ (q : Recording). StandsFor medium honest new q) (state r) (subst (λ (g : Geometry). StandsFor medium honest new (plain (ring_of g) (after r) (made_by (ring_of g) (after r) c p))) ran.geometry (turn.stands (after r) (ran.stands r stands)));
+  stands = λ r stands. subst (λ (q : Recording). StandsFor medium new q) (state r) (subst (λ (g : Geometry). StandsFor medium new (plain (ring_of g) (after r) (made_by (ring_of g) (after r) c p))) ran.geometry (turn.stands (after r) (ran.stands r stands)));
   answers = λ r stands h. answers-more old.geometry r false cs ps c p (ran.answers r stands h) (answered r stands h);
   moments = λ r stands h. go_moments r stands h now.must_reopen refl;
   each = λ r stands h. go_each r stands h now.must_reopen refl;
@@ -148,16 +148,16 @@ ran-more {D} {A} medium honest old now new cs ps c p ran turn = record {
     state : (r : Recording) → plain ring (after r) (made_by ring (after r) c p) ≡ plain ring r (made_in ring r (cs ++ c ∷ []) (ps ++ p ∷ []))
     state r = sym (ap (plain ring r) (made-more ring r cs ps c p ran.count) ∙ plain-append ring r (made_in ring r cs ps) (made_by ring (after r) c p))
 
-    said : (r : Recording) → StandsFor medium honest old r → honest old.disk → IsAnswer old.geometry (after r) now.must_reopen c p
+    said : (r : Recording) → StandsFor medium old r → (medium old.disk).honest → IsAnswer old.geometry (after r) now.must_reopen c p
     said r stands h = subst (λ (g : Geometry). IsAnswer g (after r) now.must_reopen c p) ran.geometry (turn.answers (after r) (ran.stands r stands) (ran.honesty h))
 
-    answered : (r : Recording) → StandsFor medium honest old r → honest old.disk → IsAnswer old.geometry (after r) (false || some_failed ps) c p
+    answered : (r : Recording) → StandsFor medium old r → (medium old.disk).honest → IsAnswer old.geometry (after r) (false || some_failed ps) c p
     answered r stands h = subst (λ (b : Bool). IsAnswer old.geometry (after r) b c p) ran.failed (said r stands h)
 
-    does_nothing : (r : Recording) → StandsFor medium honest old r → honest old.disk → now.must_reopen ≡ true → IsIdle ring (after r) c p
+    does_nothing : (r : Recording) → StandsFor medium old r → (medium old.disk).honest → now.must_reopen ≡ true → IsIdle ring (after r) c p
     does_nothing r stands h must = idle old.geometry (after r) c p (subst (λ (b : Bool). IsAnswer old.geometry (after r) b c p) must (said r stands h))
 
-    go_moments : (r : Recording) → StandsFor medium honest old r → honest old.disk → (b : Bool) → now.must_reopen ≡ b
+    go_moments : (r : Recording) → StandsFor medium old r → (medium old.disk).honest → (b : Bool) → now.must_reopen ≡ b
         → LeavesOnly (medium old.disk) (medium new.disk) (HoldsSome old.geometry r (made_in ring r (cs ++ c ∷ []) (ps ++ p ∷ []) ++ begun_in ring r (cs ++ c ∷ []) (ps ++ p ∷ [])))
     go_moments r stands h true must =
         subst (λ (s : Seen D). LeavesOnly (medium old.disk) (medium s.disk) (HoldsSome old.geometry r (made_in ring r (cs ++ c ∷ []) (ps ++ p ∷ []) ++ begun_in ring r (cs ++ c ∷ []) (ps ++ p ∷ [])))) (sym (turn.unmoved must))
@@ -173,7 +173,7 @@ ran-more {D} {A} medium honest old now new cs ps c p ran turn = record {
         subst (λ (l : List Step). LeavesOnly (medium old.disk) (medium new.disk) (HoldsSome old.geometry r l)) (sym (lists-fine ring r cs ps c p ran.count (sym ran.failed ∙ fine)))
         (steps-joined old.geometry r made more (medium old.disk) (medium now.disk) (medium new.disk) first second)
 
-    go_each : (r : Recording) → StandsFor medium honest old r → honest old.disk → (b : Bool) → now.must_reopen ≡ b
+    go_each : (r : Recording) → StandsFor medium old r → (medium old.disk).honest → (b : Bool) → now.must_reopen ≡ b
         → EachNow (medium new.disk) (HoldsFrom old.geometry r (length (made_in ring r (cs ++ c ∷ []) (ps ++ p ∷ []))) (made_in ring r (cs ++ c ∷ []) (ps ++ p ∷ []) ++ begun_in ring r (cs ++ c ∷ []) (ps ++ p ∷ [])))
     go_each r stands h true must =
         let lists = lists-idle ring r cs ps c p ran.count (does_nothing r stands h must) in
@@ -192,15 +192,15 @@ ran-more {D} {A} medium honest old now new cs ps c p ran turn = record {
 
 -- ---- the loop
 
-pub ran-none_yet : {D A : Type 0} (size : ℕ) (medium : D → Medium) (honest : D → Type 0) (old : Seen D) (ps : List (Reply A)) → ps ≡ [] → old.must_reopen ≡ false → (honest old.disk → IsSound size (medium old.disk)) → Ran {A = A} medium honest old old [] ps
-ran-none_yet {A = A} size medium honest old ps none fine sound = subst (λ (x : List (Reply A)). Ran {A = A} medium honest old old [] x) (sym none) (ran-none size medium honest old fine sound)
+pub ran-none_yet : {D A : Type 0} (medium : D → Medium) (old : Seen D) (ps : List (Reply A)) → ps ≡ [] → old.must_reopen ≡ false → ((medium old.disk).honest → IsSound (medium old.disk)) → Ran {A = A} medium old old [] ps
+ran-none_yet {A = A} medium old ps none fine sound = subst (λ (x : List (Reply A)). Ran {A = A} medium old old [] x) (sym none) (ran-none medium old fine sound)
 
-pub ran-turn : {D A : Type 0} (medium : D → Medium) (honest : D → Type 0) (old now new : Seen D) (cs : List (Command A)) (ps more : List (Reply A)) (i : ℕ) (c : Command A) (p : Reply A) → i < length cs → c ≡ get_or cs i c → more ≡ ps ++ p ∷ [] → Ran medium honest old now (take i cs) ps → Turned medium honest now new c p
-    → Ran medium honest old new (take (i + 1) cs) more
-ran-turn {A = A} medium honest old now new cs ps more i c p below is pushed ran turn =
+pub ran-turn : {D A : Type 0} (medium : D → Medium) (old now new : Seen D) (cs : List (Command A)) (ps more : List (Reply A)) (i : ℕ) (c : Command A) (p : Reply A) → i < length cs → c ≡ get_or cs i c → more ≡ ps ++ p ∷ [] → Ran medium old now (take i cs) ps → Turned medium now new c p
+    → Ran medium old new (take (i + 1) cs) more
+ran-turn {A = A} medium old now new cs ps more i c p below is pushed ran turn =
     let front : take (i + 1) cs ≡ take i cs ++ c ∷ [] = take_more cs i c below ∙ (λ k. take i cs ++ sym is k ∷ []) in
-    subst (λ (x : List (Reply A)). Ran medium honest old new (take (i + 1) cs) x) (sym pushed)
-    (subst (λ (x : List (Command A)). Ran medium honest old new x (ps ++ p ∷ [])) (sym front) (ran-more medium honest old now new (take i cs) ps c p ran turn))
+    subst (λ (x : List (Reply A)). Ran medium old new (take (i + 1) cs) x) (sym pushed)
+    (subst (λ (x : List (Command A)). Ran medium old new x (ps ++ p ∷ [])) (sym front) (ran-more medium old now new (take i cs) ps c p ran turn))
 
-pub ran-all : {D A : Type 0} (medium : D → Medium) (honest : D → Type 0) (old now : Seen D) (cs : List (Command A)) (ps : List (Reply A)) (i : ℕ) → length cs ≤ i → Ran medium honest old now (take i cs) ps → Ran medium honest old now cs ps
-ran-all {A = A} medium honest old now cs ps i end ran = subst (λ (x : List (Command A)). Ran medium honest old now x ps) (take_all i cs end) ran
+pub ran-all : {D A : Type 0} (medium : D → Medium) (old now : Seen D) (cs : List (Command A)) (ps : List (Reply A)) (i : ℕ) → length cs ≤ i → Ran medium old now (take i cs) ps → Ran medium old now cs ps
+ran-all {A = A} medium old now cs ps i end ran = subst (λ (x : List (Command A)). Ran medium old now x ps) (take_all i cs end) ran

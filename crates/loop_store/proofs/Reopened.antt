@@ -153,22 +153,22 @@ alike-same g r j old new e l shows = reading-same g r old new j e l shows ∙ sy
 -- ---- moments
 
 -- what a disk holds now was left at some moment
-pub left-now : (size : ℕ) (old new : Medium) (P : List ℕ → Type 0) → IsSound size new → LeavesOnly old new P → P new.bytes
-left-now size old new P sound run = run.each new.bytes (sound.counts_now old.moment new.bytes run.later sound.present)
+pub left-now : (old new : Medium) (P : List ℕ → Type 0) → IsSound new → LeavesOnly old new P → P new.bytes
+left-now old new P sound run = run.each new.bytes (sound.counts_now old.moment new.bytes run.later sound.present)
 
 -- a run that left all as it was
-pub stays-moments : (size : ℕ) (old new : Medium) → IsSound size old → Stays old new → LeavesOnly old new (WasOrReadsAlike old)
-stays-moments size old new sound stays =
-    goes_on old old new (WasOrReadsAlike old) old.may_leave (started size old (WasOrReadsAlike old) sound (λ c left. inl left)) stays.time (λ c left. inl left)
+pub stays-moments : (old new : Medium) → IsSound old → Stays old new → LeavesOnly old new (WasOrReadsAlike old)
+stays-moments old new sound stays =
+    goes_on old old new (WasOrReadsAlike old) old.may_leave (started old (WasOrReadsAlike old) sound (λ c left. inl left)) stays.time (λ c left. inl left)
 
 -- and then one that left only what reads alike
-pub moments-on : (size : ℕ) (old mid new : Medium) → IsSound size old → Stays old mid → LeavesOnly mid new (ReadsAlike mid.bytes) → LeavesOnly old new (WasOrReadsAlike old)
-moments-on size old mid new sound stays run =
-    joined old mid new (WasOrReadsAlike old) (stays-moments size old mid sound stays)
+pub moments-on : (old mid new : Medium) → IsSound old → Stays old mid → LeavesOnly mid new (ReadsAlike mid.bytes) → LeavesOnly old new (WasOrReadsAlike old)
+moments-on old mid new sound stays run =
+    joined old mid new (WasOrReadsAlike old) (stays-moments old mid sound stays)
     (weaker mid new (ReadsAlike mid.bytes) (WasOrReadsAlike old) run (λ c alike. inr (alike ∙ ap reading stays.bytes)))
 
-pub alike-on : (size : ℕ) (old mid new : Medium) → IsSound size new → Stays old mid → LeavesOnly mid new (ReadsAlike mid.bytes) → ReadsAlike old.bytes new.bytes
-alike-on size old mid new sound stays run = left-now size mid new (ReadsAlike mid.bytes) sound run ∙ ap reading stays.bytes
+pub alike-on : (old mid new : Medium) → IsSound new → Stays old mid → LeavesOnly mid new (ReadsAlike mid.bytes) → ReadsAlike old.bytes new.bytes
+alike-on old mid new sound stays run = left-now mid new (ReadsAlike mid.bytes) sound run ∙ ap reading stays.bytes
 
 -- ---- the segment of the next number
 

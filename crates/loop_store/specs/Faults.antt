@@ -1,7 +1,6 @@
 -- Refusals: their numbers, and what each says of the disk.
-use Rattle.std.specs.Prelude.{ℕ, Bool, true, false, Option, Some, Result, Ok, Err}
+use Rattle.std.specs.Prelude.{ℕ, Bool, true, false, Option, None, Some, Result, Ok, Err}
 use Rattle.loop_disk.specs.declared.fault.DiskFault.{DiskFault}
-use Rattle.loop_disk.specs.Calls.{one_more}
 use Rattle.loop_ring.specs.declared.fault.SlotFault.{SlotFault}
 use Rattle.loop_ring.specs.declared.fault.SlotFault.TheVariants as slot
 use Rattle.loop_store.specs.declared.fault.StoreFault.{StoreFault}
@@ -36,27 +35,22 @@ abbrev pub answers_disk : {T : Type 0} → Result T StoreFault → Bool
 answers_disk (Ok x) = false
 answers_disk (Err fault) = is_disk fault
 
--- the count of failed calls of the disk after an answer: it rises where the answer says so, and nowhere else
-abbrev pub faults_after : Bool → ℕ → ℕ
-faults_after true before = one_more before
-faults_after false before = before
+-- the call of the disk that failed, if a refusal says that one did
+abbrev pub failed_by : StoreFault → Option DiskFault
+failed_by NoMemory = None
+failed_by (Disk fault) = Some fault
+failed_by MustReopen = None
+failed_by NotFormatted = None
+failed_by (Damaged damage) = None
+failed_by NotHeld = None
+failed_by BadGeometry = None
+failed_by NumbersSpent = None
+failed_by AllLocked = None
 
--- the kind of the newest failed call of the disk after a refusal
-abbrev pub newest_refused : Option DiskFault → StoreFault → Option DiskFault
-newest_refused before NoMemory = before
-newest_refused before (Disk fault) = Some fault
-newest_refused before MustReopen = before
-newest_refused before NotFormatted = before
-newest_refused before (Damaged damage) = before
-newest_refused before NotHeld = before
-newest_refused before BadGeometry = before
-newest_refused before NumbersSpent = before
-newest_refused before AllLocked = before
-
--- and after an answer
-abbrev pub newest_told : {T : Type 0} → Option DiskFault → Result T StoreFault → Option DiskFault
-newest_told before (Ok x) = before
-newest_told before (Err fault) = newest_refused before fault
+-- and if an answer does
+abbrev pub failed_in : {T : Type 0} → Result T StoreFault → Option DiskFault
+failed_in (Ok x) = None
+failed_in (Err fault) = failed_by fault
 
 -- the refusal of a slot as a store's
 abbrev pub slot_refusal : SlotFault → StoreFault

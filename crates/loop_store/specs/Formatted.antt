@@ -10,7 +10,7 @@ use Rattle.loop_record.specs.Reading.{Holds, reading}
 use Rattle.loop_record.specs.Recording.{empty}
 use Rattle.loop_store.specs.declared.fault.OpenRefused.{OpenRefused}
 use Rattle.loop_store.specs.declared.fault.StoreFault.TheVariants.{BadGeometry, NoMemory}
-use Rattle.loop_store.specs.Faults.{is_disk, newest_refused}
+use Rattle.loop_store.specs.Faults.{failed_by, is_disk}
 use Rattle.loop_store.specs.Seen.{Seen}
 
 -- the superblock's gate is closed
@@ -64,12 +64,7 @@ abbrev pub disk_after : {D : Type 0} → Result (Seen D) (OpenRefused D) → D
 disk_after (Ok store) = store.disk
 disk_after (Err refused) = refused.disk
 
--- a call of the disk has failed
-abbrev pub is_refused_disk : {D : Type 0} → Result (Seen D) (OpenRefused D) → Bool
-is_refused_disk (Ok store) = false
-is_refused_disk (Err refused) = is_disk refused.fault
-
--- the kind of the newest failed call of the disk after such an answer
-abbrev pub newest_opened : {D : Type 0} → Option DiskFault → Result (Seen D) (OpenRefused D) → Option DiskFault
-newest_opened before (Ok store) = before
-newest_opened before (Err refused) = newest_refused before refused.fault
+-- the call of the disk that failed, if the answer says that one did
+abbrev pub failed_opening : {D : Type 0} → Result (Seen D) (OpenRefused D) → Option DiskFault
+failed_opening (Ok store) = None
+failed_opening (Err refused) = failed_by refused.fault

@@ -24,10 +24,10 @@ abbrev pub WasOrReadsAlike : Medium → List ℕ → Type 0
 WasOrReadsAlike m c = m.may_leave c ⊎ ReadsAlike m.bytes c
 
 -- the image reads as a recording of the store's geometry, for which the store stands
-pub record IsOpened {D : Type 0} (medium : D → Medium) (honest : D → Type 0) (image : List ℕ) (store : Seen D) : Type 0 where
+pub record IsOpened {D : Type 0} (medium : D → Medium) (image : List ℕ) (store : Seen D) : Type 0 where
   pub recording : Recording
   pub held : Holds store.geometry recording image
-  pub stands : StandsFor medium honest store recording
+  pub stands : StandsFor medium store recording
 
 -- the refusal is what the image reads as, or memory was refused, or a call of the disk failed
 abbrev pub IsRefusedOpen : List ℕ → StoreFault → Type 0

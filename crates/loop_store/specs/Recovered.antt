@@ -1,7 +1,6 @@
 -- What is found on a disk again, and in which order damage is answered.
 use Rattle.std.specs.Prelude.{◌≡◌, ℕ, ◌≤◌, Bool, false, Option, Some, None, Result, Ok, Err, List, map}
 use Rattle.std.specs.List.{list_any, range_with_len}
-use Rattle.loop_disk.specs.Calls.{one_more}
 use Rattle.loop_record.specs.declared.clip.Span.{Span}
 use Rattle.loop_record.specs.declared.damage.LayoutFault.{LayoutFault}
 use Rattle.loop_record.specs.declared.geometry.Geometry.{Geometry}
@@ -31,23 +30,6 @@ Recovers (Err StoreFault.NotHeld) P Q = ⊥
 Recovers (Err StoreFault.BadGeometry) P Q = ⊥
 Recovers (Err StoreFault.NumbersSpent) P Q = ⊥
 Recovers (Err StoreFault.AllLocked) P Q = ⊥
-
--- The refusal is that a call of the disk failed, which is counted, or none failed. No other refusal is made here.
-abbrev pub CountedRefusal : ℕ → ℕ → StoreFault → Type 0
-CountedRefusal before now (StoreFault.Disk fault) = now ≡ one_more before
-CountedRefusal before now StoreFault.NoMemory = now ≡ before
-CountedRefusal before now StoreFault.NotFormatted = now ≡ before
-CountedRefusal before now (StoreFault.Damaged damage) = now ≡ before
-CountedRefusal before now StoreFault.MustReopen = ⊥
-CountedRefusal before now StoreFault.NotHeld = ⊥
-CountedRefusal before now StoreFault.BadGeometry = ⊥
-CountedRefusal before now StoreFault.NumbersSpent = ⊥
-CountedRefusal before now StoreFault.AllLocked = ⊥
-
--- A call of the disk failed, which is counted and answered, or none did.
-abbrev pub CountedRecovery : {T : Type 0} → ℕ → ℕ → Result T StoreFault → Type 0
-CountedRecovery before now (Ok x) = now ≡ before
-CountedRecovery before now (Err fault) = CountedRefusal before now fault
 
 -- ---- segments
 

@@ -1,6 +1,9 @@
 -- What lists of commands make of a recording, and which replies they get.
-use Rattle.std.specs.Prelude.{◌≡◌, ◌≢◌, ◌⊎◌, ℕ, Bool, true, false, ◌||◌, Option, Some, None, Result, Ok, Err, List, [], ◌∷◌, ◌++◌, length}
+use Rattle.std.specs.Prelude.{◌≡◌, ◌≢◌, ◌⊎◌, ℕ, Bool, true, false, ◌||◌, Option, Some, None, Result, Ok, Err, List, [], ◌∷◌, ◌++◌, length, ◌↔◌}
 use Rattle.loop_disk.specs.declared.fault.DiskFault.{DiskFault}
+use Rattle.loop_disk.specs.declared.fault.Failures.{Failures}
+use Rattle.loop_disk.specs.Medium.{Medium}
+use Rattle.loop_disk.specs.Calls.{with_failed}
 use Rattle.loop_record.specs.declared.geometry.Geometry.{Geometry}
 use Rattle.loop_record.specs.Geometry.{frame_bytes}
 use Rattle.loop_record.specs.Recording.{Picture, Recording, Ring, Step, frame_under, head, holds, last_number, picture, plain, ring_of, steps}
@@ -11,7 +14,7 @@ use Rattle.loop_store.specs.declared.command.Reply.{Reply}
 use Rattle.loop_store.specs.declared.command.Reply.TheVariants as reply
 use Rattle.loop_store.specs.declared.fault.StoreFault.{StoreFault}
 use Rattle.loop_store.specs.declared.fault.StoreFault.TheVariants.{AllLocked, NoMemory, MustReopen, NotHeld, NumbersSpent}
-use Rattle.loop_store.specs.Faults.{answers_disk, faults_after, is_disk, newest_told}
+use Rattle.loop_store.specs.Faults.{answers_disk, failed_in, is_disk}
 use Rattle.loop_store.specs.Seen.{steps_or_none}
 
 -- a frame that is to be stored has the size of the geometry's
@@ -80,15 +83,10 @@ abbrev pub has_failed : {A : Type 0} → Reply A → Bool
 has_failed (reply.Store result) = answers_disk result
 has_failed (reply.Read result) = false
 
--- the count of failed calls of the disk after a reply
-abbrev pub faults_of : {A : Type 0} → Reply A → ℕ → ℕ
-faults_of (reply.Store result) before = faults_after (answers_disk result) before
-faults_of (reply.Read result) before = faults_after (answers_disk result) before
-
--- the kind of the newest of them
-abbrev pub newest_of : {A : Type 0} → Reply A → Option DiskFault → Option DiskFault
-newest_of (reply.Store result) before = newest_told before result
-newest_of (reply.Read result) before = newest_told before result
+-- the call of the disk that failed, if a reply says that one did
+abbrev pub failed_for : {A : Type 0} → Reply A → Option DiskFault
+failed_for (reply.Store result) = failed_in result
+failed_for (reply.Read result) = failed_in result
 
 -- ---- lists of commands
 
@@ -116,12 +114,13 @@ abbrev pub some_failed : {A : Type 0} → List (Reply A) → Bool
 some_failed [] = false
 some_failed (p ∷ ps) = has_failed p || some_failed ps
 
--- the count of failed calls of the disk after replies
-abbrev pub faults_in : {A : Type 0} → List (Reply A) → ℕ → ℕ
-faults_in [] before = before
-faults_in (p ∷ ps) before = faults_in ps (faults_of p before)
+-- the failures with each of these
+abbrev pub with_each : List (Option DiskFault) → Failures → Failures
+with_each [] failures = failures
+with_each (failed ∷ more) failures = with_each more (with_failed failed failures)
 
--- the kind of the newest of them
-abbrev pub newest_in : {A : Type 0} → List (Reply A) → Option DiskFault → Option DiskFault
-newest_in [] before = before
-newest_in (p ∷ ps) before = newest_in ps (newest_of p before)
+-- what a run of calls keeps, where these failed
+pub record CalledEach (old new : Medium) (failed : List (Option DiskFault)) : Type 0 where
+  pub size : new.size ≡ old.size
+  pub honest : old.honest ↔ new.honest
+  pub failures : new.failures ≡ with_each failed old.failures

@@ -34,11 +34,11 @@ pub record Remembers {D : Type 0} (s : Seen D) (r : Recording) : Type 0 where
   pub clips_are : s.clips ≡ r.clips
 
 -- The store stands for a recording, where its disk is honest: it remembers that recording, and where it needn't be reopened, the disk holds it, as it is remembered, and a crash leaves nothing else.
-pub record StandsFor {D : Type 0} (medium : D → Medium) (honest : D → Type 0) (s : Seen D) (r : Recording) : Type 0 where
-  pub remembered : honest s.disk → Remembers s r
-  pub settled : s.must_reopen ≡ false → honest s.disk → IsSettled (medium s.disk)
-  pub held : s.must_reopen ≡ false → honest s.disk → Holds s.geometry r (medium s.disk).bytes
-  pub agrees : s.must_reopen ≡ false → honest s.disk → s.heads ≡ heads_of s.geometry (medium s.disk).bytes
+pub record StandsFor {D : Type 0} (medium : D → Medium) (s : Seen D) (r : Recording) : Type 0 where
+  pub remembered : (medium s.disk).honest → Remembers s r
+  pub settled : s.must_reopen ≡ false → (medium s.disk).honest → IsSettled (medium s.disk)
+  pub held : s.must_reopen ≡ false → (medium s.disk).honest → Holds s.geometry r (medium s.disk).bytes
+  pub agrees : s.must_reopen ≡ false → (medium s.disk).honest → s.heads ≡ heads_of s.geometry (medium s.disk).bytes
 
 -- the steps of an append, or none
 abbrev pub steps_or_none : Option (List Step) → List Step
@@ -90,11 +90,11 @@ Refused old new (Err fault) = Unless (is_disk fault) old new
 -- ---- what only the store's own code looks at
 
 -- the disk's size is the geometry's, the memory is one of this geometry, and where the store needn't be reopened, an honest disk holds what is remembered, with no stray gate, and a crash leaves nothing else
-pub record IsKept {D : Type 0} (extent : D → ℕ) (medium : D → Medium) (honest : D → Type 0) (g : Geometry) (disk : D) (next : ℕ) (heads : List (Option SegmentHead)) (clips : List (Option Span)) (must_reopen : Bool) : Type 0 where
-  pub size : extent disk ≡ disk_size g
+pub record IsKept {D : Type 0} (medium : D → Medium) (g : Geometry) (disk : D) (next : ℕ) (heads : List (Option SegmentHead)) (clips : List (Option Span)) (must_reopen : Bool) : Type 0 where
+  pub size : (medium disk).size ≡ disk_size g
   pub few : next ≤ last_number (ring_of g)
   pub count : length heads ≡ g.segments
   pub within : All (IsHeadIn g) heads
-  pub unstray : must_reopen ≡ false → honest disk → HasNoneStray g (medium disk).bytes
-  pub settled : must_reopen ≡ false → honest disk → IsSettled (medium disk)
-  pub recorded : must_reopen ≡ false → honest disk → IsRecovered g heads clips next (medium disk).bytes
+  pub unstray : must_reopen ≡ false → (medium disk).honest → HasNoneStray g (medium disk).bytes
+  pub settled : must_reopen ≡ false → (medium disk).honest → IsSettled (medium disk)
+  pub recorded : must_reopen ≡ false → (medium disk).honest → IsRecovered g heads clips next (medium disk).bytes

@@ -1,13 +1,13 @@
 //! Lists of commands, and the replies.
 
-ghost use Rattle.std.specs.Prelude.{◌≡◌, ◌↔◌, ◌⊎◌, ◌||◌, ◌∷◌, ◌++◌, [], All, Err, IfErr, IfOk, IsTrue, OnOk, length, false, true};
-ghost use Rattle.loop_disk.specs.Calls.{Stays};
+ghost use Rattle.std.specs.Prelude.{◌≡◌, ◌↔◌, ◌⊎◌, ◌||◌, ◌∷◌, ◌++◌, [], All, Err, IfErr, IfOk, IsTrue, OnOk, length, map, false, true};
+ghost use Rattle.loop_disk.specs.Calls.{Called, Stays};
 ghost use Rattle.loop_disk.specs.Medium.{LeavesOnly};
 ghost use Rattle.loop_record.specs.Geometry.{frame_bytes};
 ghost use Rattle.loop_record.specs.Recording.{Recording, picture, plain, ring_of, steps};
 ghost use Rattle.loop_store.specs.Held.{EachNow, HoldsFrom, HoldsSome};
-ghost use Rattle.loop_store.specs.Faults.{answers_disk, faults_after, newest_told};
-ghost use Rattle.loop_store.specs.Runs.{AnswersAppend, AnswersRead, AreAnswers, IsAnswer, IsOfSize, begun_by, begun_in, faults_in, faults_of, has_failed, made_by, made_in, newest_in, newest_of, some_failed, steps_if_failed, steps_if_stored};
+ghost use Rattle.loop_store.specs.Faults.{answers_disk, failed_in};
+ghost use Rattle.loop_store.specs.Runs.{CalledEach, AnswersAppend, AnswersRead, AreAnswers, IsAnswer, IsOfSize, begun_by, begun_in, has_failed, made_by, made_in, failed_for, some_failed, steps_if_failed, steps_if_stored};
 ghost use Rattle.loop_store.specs.Seen.{Refused, StandsFor, TellsTheSame, steps_or_none};
 
 use crate::grow::append_one;
@@ -48,17 +48,14 @@ impl<D: Disk + Drop, A: Allocator> Store<D, A> {
     /// Stores one frame, as `append` a group of one.
     pub(crate) fn append_frame(&mut self, frame: &Frame<A>) -> Result<u64, StoreFault>
         requires size { length frame.now.bytes.items ≡ frame_bytes self.old.geometry }
-        ensures answers { (r : Recording) → StandsFor D.medium D.honest self.old r → D.honest self.old.disk → AnswersAppend self.old.geometry r self.old.must_reopen (picture frame.now ∷ []) result }
+        ensures answers { (r : Recording) → StandsFor D.medium self.old r → (D.medium self.old.disk).honest → AnswersAppend self.old.geometry r self.old.must_reopen (picture frame.now ∷ []) result }
         ensures must_reopen { (result ≡ Err StoreFault.MustReopen) ↔ IsTrue self.old.must_reopen }
-        ensures moments { (r : Recording) → StandsFor D.medium D.honest self.old r → self.old.must_reopen ≡ false → D.honest self.old.disk
+        ensures moments { (r : Recording) → StandsFor D.medium self.old r → self.old.must_reopen ≡ false → (D.medium self.old.disk).honest
             → LeavesOnly (D.medium self.old.disk) (D.medium self.new.disk) (HoldsSome self.old.geometry r (steps_or_none (steps (ring_of self.old.geometry) r (picture frame.now ∷ [])))) }
-        ensures stored { (r : Recording) → StandsFor D.medium D.honest self.old r
-            → OnOk result (StandsFor D.medium D.honest self.new (plain (ring_of self.old.geometry) r (steps_or_none (steps (ring_of self.old.geometry) r (picture frame.now ∷ []))))) }
+        ensures stored { (r : Recording) → StandsFor D.medium self.old r
+            → OnOk result (StandsFor D.medium self.new (plain (ring_of self.old.geometry) r (steps_or_none (steps (ring_of self.old.geometry) r (picture frame.now ∷ []))))) }
         ensures refused { Refused self.old self.new result }
-        ensures counted { D.faults self.new.disk ≡ faults_after (answers_disk result) (D.faults self.old.disk) }
-        ensures kind { D.newest_fault self.new.disk ≡ newest_told (D.newest_fault self.old.disk) result }
-        ensures extent { D.extent self.new.disk ≡ D.extent self.old.disk }
-        ensures honest { D.honest self.old.disk ↔ D.honest self.new.disk }
+        ensures called { Called (D.medium self.old.disk) (D.medium self.new.disk) (failed_in result) }
         ensures failed { self.new.must_reopen ≡ (self.old.must_reopen || answers_disk result) }
         ensures geometry { self.new.geometry ≡ self.old.geometry }
     {
@@ -83,19 +80,16 @@ impl<D: Disk + Drop, A: Allocator + Copy> Store<D, A> {
     /// Stores one frame, as a command of a list.
     fn store_frame(&mut self, frame: &Frame<A>) -> Result<u64, StoreFault>
         requires size { length frame.now.bytes.items ≡ frame_bytes self.old.geometry }
-        ensures answers { (r : Recording) → StandsFor D.medium D.honest self.old r → D.honest self.old.disk → AnswersAppend self.old.geometry r self.old.must_reopen (picture frame.now ∷ []) result }
-        ensures moments { (r : Recording) → StandsFor D.medium D.honest self.old r → self.old.must_reopen ≡ false → D.honest self.old.disk
+        ensures answers { (r : Recording) → StandsFor D.medium self.old r → (D.medium self.old.disk).honest → AnswersAppend self.old.geometry r self.old.must_reopen (picture frame.now ∷ []) result }
+        ensures moments { (r : Recording) → StandsFor D.medium self.old r → self.old.must_reopen ≡ false → (D.medium self.old.disk).honest
             → LeavesOnly (D.medium self.old.disk) (D.medium self.new.disk) (HoldsSome self.old.geometry r (steps_if_stored (ring_of self.old.geometry) r (picture frame.now) result ++ steps_if_failed (ring_of self.old.geometry) r (picture frame.now) (answers_disk result))) }
-        ensures now { (r : Recording) → StandsFor D.medium D.honest self.old r → self.old.must_reopen ≡ false → D.honest self.old.disk
+        ensures now { (r : Recording) → StandsFor D.medium self.old r → self.old.must_reopen ≡ false → (D.medium self.old.disk).honest
             → EachNow (D.medium self.new.disk) (HoldsFrom self.old.geometry r (length (steps_if_stored (ring_of self.old.geometry) r (picture frame.now) result))
             (steps_if_stored (ring_of self.old.geometry) r (picture frame.now) result ++ steps_if_failed (ring_of self.old.geometry) r (picture frame.now) (answers_disk result))) }
-        ensures stands { (r : Recording) → StandsFor D.medium D.honest self.old r → StandsFor D.medium D.honest self.new (plain (ring_of self.old.geometry) r (steps_if_stored (ring_of self.old.geometry) r (picture frame.now) result)) }
+        ensures stands { (r : Recording) → StandsFor D.medium self.old r → StandsFor D.medium self.new (plain (ring_of self.old.geometry) r (steps_if_stored (ring_of self.old.geometry) r (picture frame.now) result)) }
         ensures failed { self.new.must_reopen ≡ (self.old.must_reopen || answers_disk result) }
         ensures unmoved { self.old.must_reopen ≡ true → self.new ≡ self.old }
-        ensures counted { D.faults self.new.disk ≡ faults_after (answers_disk result) (D.faults self.old.disk) }
-        ensures kind { D.newest_fault self.new.disk ≡ newest_told (D.newest_fault self.old.disk) result }
-        ensures extent { D.extent self.new.disk ≡ D.extent self.old.disk }
-        ensures honest { D.honest self.old.disk ↔ D.honest self.new.disk }
+        ensures called { Called (D.medium self.old.disk) (D.medium self.new.disk) (failed_in result) }
         ensures geometry { self.new.geometry ≡ self.old.geometry }
     {
         self.append_frame(frame)
@@ -103,14 +97,11 @@ impl<D: Disk + Drop, A: Allocator + Copy> Store<D, A> {
 
     /// Reads a frame into memory of its own. `MustReopen`, `NotHeld`, then `NoMemory` for its bytes, then `Disk` or `Damaged`.
     pub(crate) fn read_frame(&mut self, alloc: A, number: u64) -> Result<ReadFrame<A>, StoreFault>
-        ensures answers { (r : Recording) → StandsFor D.medium D.honest self.old r → D.honest self.old.disk → AnswersRead r self.old.must_reopen number result }
-        ensures stands { (r : Recording) → StandsFor D.medium D.honest self.old r → StandsFor D.medium D.honest self.new r }
-        ensures stays { D.honest self.old.disk → Stays (D.medium self.old.disk) (D.medium self.new.disk) }
+        ensures answers { (r : Recording) → StandsFor D.medium self.old r → (D.medium self.old.disk).honest → AnswersRead r self.old.must_reopen number result }
+        ensures stands { (r : Recording) → StandsFor D.medium self.old r → StandsFor D.medium self.new r }
+        ensures stays { (D.medium self.old.disk).honest → Stays (D.medium self.old.disk) (D.medium self.new.disk) }
         ensures unmoved { self.old.must_reopen ≡ true → self.new ≡ self.old }
-        ensures counted { D.faults self.new.disk ≡ faults_after (answers_disk result) (D.faults self.old.disk) }
-        ensures kind { D.newest_fault self.new.disk ≡ newest_told (D.newest_fault self.old.disk) result }
-        ensures extent { D.extent self.new.disk ≡ D.extent self.old.disk }
-        ensures honest { D.honest self.old.disk ↔ D.honest self.new.disk }
+        ensures called { Called (D.medium self.old.disk) (D.medium self.new.disk) (failed_in result) }
         ensures same { TellsTheSame self.old self.new }
     {
         if self.must_reopen {
@@ -130,19 +121,16 @@ impl<D: Disk + Drop, A: Allocator + Copy> Store<D, A> {
     /// Does one command.
     fn answer(&mut self, alloc: A, command: &Command<A>) -> Reply<A>
         requires size { IsOfSize self.old.geometry command.now }
-        ensures answers { (r : Recording) → StandsFor D.medium D.honest self.old r → D.honest self.old.disk → IsAnswer self.old.geometry r self.old.must_reopen command.now result }
-        ensures moments { (r : Recording) → StandsFor D.medium D.honest self.old r → self.old.must_reopen ≡ false → D.honest self.old.disk
+        ensures answers { (r : Recording) → StandsFor D.medium self.old r → (D.medium self.old.disk).honest → IsAnswer self.old.geometry r self.old.must_reopen command.now result }
+        ensures moments { (r : Recording) → StandsFor D.medium self.old r → self.old.must_reopen ≡ false → (D.medium self.old.disk).honest
             → LeavesOnly (D.medium self.old.disk) (D.medium self.new.disk) (HoldsSome self.old.geometry r (made_by (ring_of self.old.geometry) r command.now result ++ begun_by (ring_of self.old.geometry) r command.now result)) }
-        ensures now { (r : Recording) → StandsFor D.medium D.honest self.old r → self.old.must_reopen ≡ false → D.honest self.old.disk
+        ensures now { (r : Recording) → StandsFor D.medium self.old r → self.old.must_reopen ≡ false → (D.medium self.old.disk).honest
             → EachNow (D.medium self.new.disk) (HoldsFrom self.old.geometry r (length (made_by (ring_of self.old.geometry) r command.now result))
             (made_by (ring_of self.old.geometry) r command.now result ++ begun_by (ring_of self.old.geometry) r command.now result)) }
-        ensures stands { (r : Recording) → StandsFor D.medium D.honest self.old r → StandsFor D.medium D.honest self.new (plain (ring_of self.old.geometry) r (made_by (ring_of self.old.geometry) r command.now result)) }
+        ensures stands { (r : Recording) → StandsFor D.medium self.old r → StandsFor D.medium self.new (plain (ring_of self.old.geometry) r (made_by (ring_of self.old.geometry) r command.now result)) }
         ensures failed { self.new.must_reopen ≡ (self.old.must_reopen || has_failed result) }
         ensures unmoved { self.old.must_reopen ≡ true → self.new ≡ self.old }
-        ensures counted { D.faults self.new.disk ≡ faults_of result (D.faults self.old.disk) }
-        ensures kind { D.newest_fault self.new.disk ≡ newest_of result (D.newest_fault self.old.disk) }
-        ensures extent { D.extent self.new.disk ≡ D.extent self.old.disk }
-        ensures honest { D.honest self.old.disk ↔ D.honest self.new.disk }
+        ensures called { Called (D.medium self.old.disk) (D.medium self.new.disk) (failed_for result) }
         ensures geometry { self.new.geometry ≡ self.old.geometry }
     {
         match command {
@@ -162,18 +150,15 @@ impl<D: Disk + Drop, A: Allocator + Copy> Store<D, A> {
         requires sizes { All (IsOfSize self.old.geometry) commands.now }
         ensures must_reopen { (result ≡ Err StoreFault.MustReopen) ↔ IsTrue self.old.must_reopen }
         ensures refused { IfErr result (λ fault. ((fault ≡ StoreFault.MustReopen) ⊎ (fault ≡ StoreFault.NoMemory)) × (self.new ≡ self.old)) }
-        ensures answers { (r : Recording) → StandsFor D.medium D.honest self.old r → D.honest self.old.disk → IfOk result (λ replies. AreAnswers self.old.geometry r false commands.now replies.items) }
-        ensures moments { (r : Recording) → StandsFor D.medium D.honest self.old r → D.honest self.old.disk
+        ensures answers { (r : Recording) → StandsFor D.medium self.old r → (D.medium self.old.disk).honest → IfOk result (λ replies. AreAnswers self.old.geometry r false commands.now replies.items) }
+        ensures moments { (r : Recording) → StandsFor D.medium self.old r → (D.medium self.old.disk).honest
             → IfOk result (λ replies. LeavesOnly (D.medium self.old.disk) (D.medium self.new.disk) (HoldsSome self.old.geometry r (made_in (ring_of self.old.geometry) r commands.now replies.items ++ begun_in (ring_of self.old.geometry) r commands.now replies.items))) }
-        ensures now { (r : Recording) → StandsFor D.medium D.honest self.old r → D.honest self.old.disk
+        ensures now { (r : Recording) → StandsFor D.medium self.old r → (D.medium self.old.disk).honest
             → IfOk result (λ replies. EachNow (D.medium self.new.disk) (HoldsFrom self.old.geometry r (length (made_in (ring_of self.old.geometry) r commands.now replies.items))
             (made_in (ring_of self.old.geometry) r commands.now replies.items ++ begun_in (ring_of self.old.geometry) r commands.now replies.items))) }
-        ensures stands { (r : Recording) → StandsFor D.medium D.honest self.old r → IfOk result (λ replies. StandsFor D.medium D.honest self.new (plain (ring_of self.old.geometry) r (made_in (ring_of self.old.geometry) r commands.now replies.items))) }
+        ensures stands { (r : Recording) → StandsFor D.medium self.old r → IfOk result (λ replies. StandsFor D.medium self.new (plain (ring_of self.old.geometry) r (made_in (ring_of self.old.geometry) r commands.now replies.items))) }
         ensures failed { IfOk result (λ replies. self.new.must_reopen ≡ some_failed replies.items) }
-        ensures counted { IfOk result (λ replies. D.faults self.new.disk ≡ faults_in replies.items (D.faults self.old.disk)) }
-        ensures kind { IfOk result (λ replies. D.newest_fault self.new.disk ≡ newest_in replies.items (D.newest_fault self.old.disk)) }
-        ensures extent { D.extent self.new.disk ≡ D.extent self.old.disk }
-        ensures honest { D.honest self.old.disk ↔ D.honest self.new.disk }
+        ensures called { IfOk result (λ replies. CalledEach (D.medium self.old.disk) (D.medium self.new.disk) (map failed_for replies.items)) }
         ensures geometry { self.new.geometry ≡ self.old.geometry }
     {
         if self.must_reopen {

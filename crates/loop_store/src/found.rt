@@ -4,7 +4,7 @@
 
 ghost use Rattle.std.specs.Prelude.{◌≡◌, ◌+◌, ◌<◌, ◌≤◌, ◌↔◌, ℕ, List, Ok, Err, IsTrue, IfOk, OnOk, All, true, false, length};
 ghost use Rattle.std.specs.List.{list_any};
-ghost use Rattle.loop_disk.specs.Calls.{Stays};
+ghost use Rattle.loop_disk.specs.Calls.{Called, Stays};
 ghost use Rattle.loop_record.specs.declared.damage.Damage.{Damage};
 ghost use Rattle.loop_record.specs.declared.damage.LayoutFault.{LayoutFault};
 ghost use Rattle.loop_record.specs.declared.geometry.Geometry.{Geometry};
@@ -13,8 +13,8 @@ ghost use Rattle.loop_record.specs.Layout.{checked_header, geometry_in, header_a
 ghost use Rattle.loop_record.specs.Plain.{AreIn, IsSomeHigh, segment_of, segments_of, with_segment};
 ghost use Rattle.loop_record.specs.Reading.{by_block, is_bad_slot, is_high, opened, parts_of, reading};
 ghost use Rattle.loop_ring.specs.Heads.{heads_of};
-ghost use Rattle.loop_store.specs.Faults.{newest_told};
-ghost use Rattle.loop_store.specs.Recovered.{CountedRecovery, IsHeadIn, Recovers, clips_of, refusal, segment_said, some_bad_clip};
+ghost use Rattle.loop_store.specs.Faults.{failed_in};
+ghost use Rattle.loop_store.specs.Recovered.{IsHeadIn, Recovers, clips_of, refusal, segment_said, some_bad_clip};
 
 use crate::StoreFault;
 use loop_disk::Disk;
@@ -38,13 +38,10 @@ impl From<LayoutFault> for StoreFault {
 /// The geometry in the superblock of a disk of its size: one read, or none where the disk has no room for a superblock.
 pub(crate) fn read_geometry<D: Disk>(disk: &mut D) -> Result<Geometry, StoreFault>
     ensures good { IfOk result (λ geometry. IsTrue (is_good geometry)) }
-    ensures size { IfOk result (λ geometry. D.extent disk.old ≡ disk_size geometry) }
-    ensures geometry { D.honest disk.old → Recovers result (λ geometry. geometry_in (D.medium disk.old).bytes ≡ Ok geometry) (λ fault. reading (D.medium disk.old).bytes ≡ Err fault) }
-    ensures disk { D.honest disk.old → Stays (D.medium disk.old) (D.medium disk.new) }
-    ensures counted { CountedRecovery (D.faults disk.old) (D.faults disk.new) result }
-    ensures kind { D.newest_fault disk.new ≡ newest_told (D.newest_fault disk.old) result }
-    ensures extent { D.extent disk.new ≡ D.extent disk.old }
-    ensures honest { D.honest disk.old ↔ D.honest disk.new }
+    ensures size { IfOk result (λ geometry. (D.medium disk.old).size ≡ disk_size geometry) }
+    ensures geometry { (D.medium disk.old).honest → Recovers result (λ geometry. geometry_in (D.medium disk.old).bytes ≡ Ok geometry) (λ fault. reading (D.medium disk.old).bytes ≡ Err fault) }
+    ensures disk { (D.medium disk.old).honest → Stays (D.medium disk.old) (D.medium disk.new) }
+    ensures called { Called (D.medium disk.old) (D.medium disk.new) (failed_in result) }
 {
     let size = disk.size();
     if size < SUPER_SIZE as u64 {
@@ -66,16 +63,13 @@ fn read_head<D: Disk>(
     segment: u32,
 ) -> Result<Option<SegmentHead>, StoreFault>
     requires good { IsTrue (is_good geometry.now) }
-    requires size { D.extent disk.old ≡ disk_size geometry.now }
+    requires size { (D.medium disk.old).size ≡ disk_size geometry.now }
     requires segment { segment < geometry.now.segments }
     ensures within { IfOk result (IsHeadIn geometry.now) }
-    ensures head { D.honest disk.old → Recovers result (λ head. head ≡ header_at geometry.now (D.medium disk.old).bytes (segment_at geometry.now segment))
+    ensures head { (D.medium disk.old).honest → Recovers result (λ head. head ≡ header_at geometry.now (D.medium disk.old).bytes (segment_at geometry.now segment))
         (λ fault. (fault ≡ LayoutFault.Damaged Damage.BlockTooHigh) × IsSomeHigh geometry.now (segment_in geometry.now (D.medium disk.old).bytes segment)) }
-    ensures disk { D.honest disk.old → Stays (D.medium disk.old) (D.medium disk.new) }
-    ensures counted { CountedRecovery (D.faults disk.old) (D.faults disk.new) result }
-    ensures kind { D.newest_fault disk.new ≡ newest_told (D.newest_fault disk.old) result }
-    ensures extent { D.extent disk.new ≡ D.extent disk.old }
-    ensures honest { D.honest disk.old ↔ D.honest disk.new }
+    ensures disk { (D.medium disk.old).honest → Stays (D.medium disk.old) (D.medium disk.new) }
+    ensures called { Called (D.medium disk.old) (D.medium disk.new) (failed_in result) }
 {
     let mut header = [0; HEADER_SIZE];
     disk.read(geometry.segment_at(segment), &mut header)?;
@@ -90,16 +84,13 @@ pub(crate) fn read_heads<D: Disk, A: Allocator>(
     geometry: &Geometry,
 ) -> Result<Vec<Option<SegmentHead>, A>, StoreFault>
     requires good { IsTrue (is_good geometry.now) }
-    requires size { D.extent disk.old ≡ disk_size geometry.now }
+    requires size { (D.medium disk.old).size ≡ disk_size geometry.now }
     ensures count { IfOk result (λ heads. length heads.items ≡ geometry.now.segments) }
     ensures within { IfOk result (λ heads. All (IsHeadIn geometry.now) heads.items) }
-    ensures heads { D.honest disk.old → Recovers result (λ heads. heads.items ≡ heads_of geometry.now (D.medium disk.old).bytes)
+    ensures heads { (D.medium disk.old).honest → Recovers result (λ heads. heads.items ≡ heads_of geometry.now (D.medium disk.old).bytes)
         (λ fault. (fault ≡ LayoutFault.Damaged Damage.BlockTooHigh) × (list_any (is_high geometry.now) (by_block (opened (parts_of geometry.now (D.medium disk.old).bytes).segments)) ≡ true)) }
-    ensures disk { D.honest disk.old → Stays (D.medium disk.old) (D.medium disk.new) }
-    ensures counted { CountedRecovery (D.faults disk.old) (D.faults disk.new) result }
-    ensures kind { D.newest_fault disk.new ≡ newest_told (D.newest_fault disk.old) result }
-    ensures extent { D.extent disk.new ≡ D.extent disk.old }
-    ensures honest { D.honest disk.old ↔ D.honest disk.new }
+    ensures disk { (D.medium disk.old).honest → Stays (D.medium disk.old) (D.medium disk.new) }
+    ensures called { Called (D.medium disk.old) (D.medium disk.new) (failed_in result) }
 {
     let mut heads = Vec::with_capacity(alloc, geometry.segments as usize)?;
     for segment in 0..geometry.segments {
@@ -161,16 +152,13 @@ fn check_slot<D: Disk>(
     number: u64,
 ) -> Result<(), StoreFault>
     requires good { IsTrue (is_good geometry.now) }
-    requires size { D.extent disk.old ≡ disk_size geometry.now }
+    requires size { (D.medium disk.old).size ≡ disk_size geometry.now }
     requires segment { segment < geometry.now.segments }
     requires slot { slot < geometry.now.slots }
     ensures slot { let n = frame_bytes geometry.now in let said = is_slot_of n number (slot_in n (D.medium disk.old).bytes (slot_at geometry.now segment slot)) in
-        D.honest disk.old → Recovers result (λ _. said ≡ true) (λ fault. (fault ≡ LayoutFault.Damaged Damage.SlotHead) × (said ≡ false)) }
-    ensures disk { D.honest disk.old → Stays (D.medium disk.old) (D.medium disk.new) }
-    ensures counted { CountedRecovery (D.faults disk.old) (D.faults disk.new) result }
-    ensures kind { D.newest_fault disk.new ≡ newest_told (D.newest_fault disk.old) result }
-    ensures extent { D.extent disk.new ≡ D.extent disk.old }
-    ensures honest { D.honest disk.old ↔ D.honest disk.new }
+        (D.medium disk.old).honest → Recovers result (λ _. said ≡ true) (λ fault. (fault ≡ LayoutFault.Damaged Damage.SlotHead) × (said ≡ false)) }
+    ensures disk { (D.medium disk.old).honest → Stays (D.medium disk.old) (D.medium disk.new) }
+    ensures called { Called (D.medium disk.old) (D.medium disk.new) (failed_in result) }
 {
     let mut head = [0; HEAD_SIZE];
     disk.read(geometry.slot_at(segment, slot), &mut head)?;
@@ -181,17 +169,14 @@ fn check_slot<D: Disk>(
 /// Whether the slots of a segment's whole frames hold these frames, or `SlotHead`: a read each.
 fn check_segment<D: Disk>(disk: &mut D, geometry: &Geometry, found: Found) -> Result<(), StoreFault>
     requires good { IsTrue (is_good geometry.now) }
-    requires size { D.extent disk.old ≡ disk_size geometry.now }
+    requires size { (D.medium disk.old).size ≡ disk_size geometry.now }
     requires segment { found.segment < geometry.now.segments }
     requires few { found.frames ≤ geometry.now.slots }
     requires low { is_too_high geometry.now found.block ≡ false }
     ensures slots { let bad = is_bad_slot geometry.now (segment_of geometry.now (D.medium disk.old).bytes found) in
-        D.honest disk.old → Recovers result (λ _. bad ≡ false) (λ fault. (fault ≡ LayoutFault.Damaged Damage.SlotHead) × (bad ≡ true)) }
-    ensures disk { D.honest disk.old → Stays (D.medium disk.old) (D.medium disk.new) }
-    ensures counted { CountedRecovery (D.faults disk.old) (D.faults disk.new) result }
-    ensures kind { D.newest_fault disk.new ≡ newest_told (D.newest_fault disk.old) result }
-    ensures extent { D.extent disk.new ≡ D.extent disk.old }
-    ensures honest { D.honest disk.old ↔ D.honest disk.new }
+        (D.medium disk.old).honest → Recovers result (λ _. bad ≡ false) (λ fault. (fault ≡ LayoutFault.Damaged Damage.SlotHead) × (bad ≡ true)) }
+    ensures disk { (D.medium disk.old).honest → Stays (D.medium disk.old) (D.medium disk.new) }
+    ensures called { Called (D.medium disk.old) (D.medium disk.new) (failed_in result) }
 {
     let first = found.block * u64::from(geometry.slots);
     for slot in 0..found.frames {
@@ -207,15 +192,12 @@ pub(crate) fn check_slots<D: Disk>(
     open: &[Found],
 ) -> Result<(), StoreFault>
     requires good { IsTrue (is_good geometry.now) }
-    requires size { D.extent disk.old ≡ disk_size geometry.now }
+    requires size { (D.medium disk.old).size ≡ disk_size geometry.now }
     requires within { AreIn geometry.now open.now }
     ensures slots { let bad = list_any (is_bad_slot geometry.now) (segments_of geometry.now (D.medium disk.old).bytes open.now) in
-        D.honest disk.old → Recovers result (λ _. bad ≡ false) (λ fault. (fault ≡ LayoutFault.Damaged Damage.SlotHead) × (bad ≡ true)) }
-    ensures disk { D.honest disk.old → Stays (D.medium disk.old) (D.medium disk.new) }
-    ensures counted { CountedRecovery (D.faults disk.old) (D.faults disk.new) result }
-    ensures kind { D.newest_fault disk.new ≡ newest_told (D.newest_fault disk.old) result }
-    ensures extent { D.extent disk.new ≡ D.extent disk.old }
-    ensures honest { D.honest disk.old ↔ D.honest disk.new }
+        (D.medium disk.old).honest → Recovers result (λ _. bad ≡ false) (λ fault. (fault ≡ LayoutFault.Damaged Damage.SlotHead) × (bad ≡ true)) }
+    ensures disk { (D.medium disk.old).honest → Stays (D.medium disk.old) (D.medium disk.new) }
+    ensures called { Called (D.medium disk.old) (D.medium disk.new) (failed_in result) }
 {
     let Some((first, others)) = open.split_first() else {
         return Ok(());
@@ -231,15 +213,12 @@ pub(crate) fn read_table<D: Disk>(
     open: &[Found],
 ) -> Result<[Option<Span>; 64], StoreFault>
     requires good { IsTrue (is_good geometry.now) }
-    requires size { D.extent disk.old ≡ disk_size geometry.now }
+    requires size { (D.medium disk.old).size ≡ disk_size geometry.now }
     requires within { AreIn geometry.now open.now }
     ensures clips { let bad = some_bad_clip geometry.now (D.medium disk.old).bytes open.now in
-        D.honest disk.old → Recovers result (λ clips. (clips ≡ clips_of (D.medium disk.old).bytes) × (bad ≡ false)) (λ fault. (fault ≡ LayoutFault.Damaged Damage.ClipRange) × (bad ≡ true)) }
-    ensures disk { D.honest disk.old → Stays (D.medium disk.old) (D.medium disk.new) }
-    ensures counted { CountedRecovery (D.faults disk.old) (D.faults disk.new) result }
-    ensures kind { D.newest_fault disk.new ≡ newest_told (D.newest_fault disk.old) result }
-    ensures extent { D.extent disk.new ≡ D.extent disk.old }
-    ensures honest { D.honest disk.old ↔ D.honest disk.new }
+        (D.medium disk.old).honest → Recovers result (λ clips. (clips ≡ clips_of (D.medium disk.old).bytes) × (bad ≡ false)) (λ fault. (fault ≡ LayoutFault.Damaged Damage.ClipRange) × (bad ≡ true)) }
+    ensures disk { (D.medium disk.old).honest → Stays (D.medium disk.old) (D.medium disk.new) }
+    ensures called { Called (D.medium disk.old) (D.medium disk.new) (failed_in result) }
 {
     let mut table = [0; TABLE_SIZE];
     disk.read(SUPER_SIZE as u64, &mut table)?;

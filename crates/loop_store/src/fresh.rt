@@ -1,7 +1,7 @@
 //! What formatting writes, in its order: the superblock's gate is closed first and opened last.
 
 ghost use Rattle.std.specs.Prelude.{◌≡◌, ◌+◌, ◌<◌, ◌≤◌, ◌↔◌, IsTrue, OnOk, ◌++◌, drop, false, length};
-ghost use Rattle.loop_disk.specs.Calls.{CountedAny, newest_after};
+ghost use Rattle.loop_disk.specs.Calls.{Called, failed_call};
 ghost use Rattle.loop_disk.specs.Medium.{IsSettled, LeavesOnly};
 ghost use Rattle.loop_record.specs.Geometry.{disk_size, is_good};
 ghost use Rattle.loop_record.specs.Layout.{is_open, super_bytes};
@@ -16,15 +16,12 @@ const FRONT_SIZE: usize = 2560;
 
 /// Closes the superblock's gate, if it is open, on a disk where a crash leaves the present bytes and nothing else.
 fn close_gate<D: Disk>(disk: &mut D) -> Result<(), DiskFault>
-    requires extent { 1 ≤ D.extent disk.old }
-    requires settled { D.honest disk.old → IsSettled (D.medium disk.old) }
-    ensures moments { D.honest disk.old → LeavesOnly (D.medium disk.old) (D.medium disk.new) (WasOrClosed (D.medium disk.old)) }
-    ensures closed { D.honest disk.old → OnOk result (is_open (D.medium disk.new).bytes 0 ≡ false) }
-    ensures settled { D.honest disk.old → OnOk result (IsSettled (D.medium disk.new)) }
-    ensures counted { CountedAny (D.faults disk.old) (D.faults disk.new) result }
-    ensures kind { D.newest_fault disk.new ≡ newest_after (D.newest_fault disk.old) result }
-    ensures extent { D.extent disk.new ≡ D.extent disk.old }
-    ensures honest { D.honest disk.old ↔ D.honest disk.new }
+    requires extent { 1 ≤ (D.medium disk.old).size }
+    requires settled { (D.medium disk.old).honest → IsSettled (D.medium disk.old) }
+    ensures moments { (D.medium disk.old).honest → LeavesOnly (D.medium disk.old) (D.medium disk.new) (WasOrClosed (D.medium disk.old)) }
+    ensures closed { (D.medium disk.old).honest → OnOk result (is_open (D.medium disk.new).bytes 0 ≡ false) }
+    ensures settled { (D.medium disk.old).honest → OnOk result (IsSettled (D.medium disk.new)) }
+    ensures called { Called (D.medium disk.old) (D.medium disk.new) (failed_call result) }
 {
     let mut gate = [0];
     disk.read(0, &mut gate)?;
@@ -37,13 +34,10 @@ fn close_gate<D: Disk>(disk: &mut D) -> Result<(), DiskFault>
 
 /// Settles the disk and closes the superblock's gate.
 fn unformat<D: Disk>(disk: &mut D) -> Result<(), DiskFault>
-    requires extent { 1 ≤ D.extent disk.old }
-    ensures moments { D.honest disk.old → LeavesOnly (D.medium disk.old) (D.medium disk.new) (WasOrClosed (D.medium disk.old)) }
-    ensures closed { D.honest disk.old → OnOk result (AreClosed (D.medium disk.new)) }
-    ensures counted { CountedAny (D.faults disk.old) (D.faults disk.new) result }
-    ensures kind { D.newest_fault disk.new ≡ newest_after (D.newest_fault disk.old) result }
-    ensures extent { D.extent disk.new ≡ D.extent disk.old }
-    ensures honest { D.honest disk.old ↔ D.honest disk.new }
+    requires extent { 1 ≤ (D.medium disk.old).size }
+    ensures moments { (D.medium disk.old).honest → LeavesOnly (D.medium disk.old) (D.medium disk.new) (WasOrClosed (D.medium disk.old)) }
+    ensures closed { (D.medium disk.old).honest → OnOk result (AreClosed (D.medium disk.new)) }
+    ensures called { Called (D.medium disk.old) (D.medium disk.new) (failed_call result) }
 {
     disk.sync()?;
     close_gate(disk)
@@ -69,15 +63,12 @@ fn behind_gate(bytes: &[u8]) -> &[u8]
 /// Writes the superblock behind its gate, and the clip table without a clip.
 fn write_front<D: Disk>(disk: &mut D, geometry: &Geometry) -> Result<(), DiskFault>
     requires good { IsTrue (is_good geometry.now) }
-    requires extent { D.extent disk.old ≡ disk_size geometry.now }
-    requires closed { D.honest disk.old → AreClosed (D.medium disk.old) }
-    ensures moments { D.honest disk.old → LeavesOnly (D.medium disk.old) (D.medium disk.new) IsClosed }
-    ensures closed { D.honest disk.old → OnOk result (AreClosed (D.medium disk.new)) }
-    ensures laid { D.honest disk.old → OnOk result (IsLaid geometry.now 0 (D.medium disk.new).bytes) }
-    ensures counted { CountedAny (D.faults disk.old) (D.faults disk.new) result }
-    ensures kind { D.newest_fault disk.new ≡ newest_after (D.newest_fault disk.old) result }
-    ensures extent { D.extent disk.new ≡ D.extent disk.old }
-    ensures honest { D.honest disk.old ↔ D.honest disk.new }
+    requires extent { (D.medium disk.old).size ≡ disk_size geometry.now }
+    requires closed { (D.medium disk.old).honest → AreClosed (D.medium disk.old) }
+    ensures moments { (D.medium disk.old).honest → LeavesOnly (D.medium disk.old) (D.medium disk.new) IsClosed }
+    ensures closed { (D.medium disk.old).honest → OnOk result (AreClosed (D.medium disk.new)) }
+    ensures laid { (D.medium disk.old).honest → OnOk result (IsLaid geometry.now 0 (D.medium disk.new).bytes) }
+    ensures called { Called (D.medium disk.old) (D.medium disk.new) (failed_call result) }
 {
     let mut front = [0; FRONT_SIZE];
     put_super(&mut front, geometry);
@@ -87,17 +78,14 @@ fn write_front<D: Disk>(disk: &mut D, geometry: &Geometry) -> Result<(), DiskFau
 /// Writes the header of a segment as zeros.
 fn write_header<D: Disk>(disk: &mut D, geometry: &Geometry, segment: u32) -> Result<(), DiskFault>
     requires good { IsTrue (is_good geometry.now) }
-    requires extent { D.extent disk.old ≡ disk_size geometry.now }
+    requires extent { (D.medium disk.old).size ≡ disk_size geometry.now }
     requires segment { segment < geometry.now.segments }
-    requires closed { D.honest disk.old → AreClosed (D.medium disk.old) }
-    requires laid { D.honest disk.old → IsLaid geometry.now segment (D.medium disk.old).bytes }
-    ensures moments { D.honest disk.old → LeavesOnly (D.medium disk.old) (D.medium disk.new) IsClosed }
-    ensures closed { D.honest disk.old → AreClosed (D.medium disk.new) }
-    ensures laid { D.honest disk.old → OnOk result (IsLaid geometry.now (segment + 1) (D.medium disk.new).bytes) }
-    ensures counted { CountedAny (D.faults disk.old) (D.faults disk.new) result }
-    ensures kind { D.newest_fault disk.new ≡ newest_after (D.newest_fault disk.old) result }
-    ensures extent { D.extent disk.new ≡ D.extent disk.old }
-    ensures honest { D.honest disk.old ↔ D.honest disk.new }
+    requires closed { (D.medium disk.old).honest → AreClosed (D.medium disk.old) }
+    requires laid { (D.medium disk.old).honest → IsLaid geometry.now segment (D.medium disk.old).bytes }
+    ensures moments { (D.medium disk.old).honest → LeavesOnly (D.medium disk.old) (D.medium disk.new) IsClosed }
+    ensures closed { (D.medium disk.old).honest → AreClosed (D.medium disk.new) }
+    ensures laid { (D.medium disk.old).honest → OnOk result (IsLaid geometry.now (segment + 1) (D.medium disk.new).bytes) }
+    ensures called { Called (D.medium disk.old) (D.medium disk.new) (failed_call result) }
 {
     disk.write_at(geometry.segment_at(segment), &[0; HEADER_SIZE])
 }
@@ -105,16 +93,13 @@ fn write_header<D: Disk>(disk: &mut D, geometry: &Geometry, segment: u32) -> Res
 /// Writes the headers of all segments as zeros.
 fn write_headers<D: Disk>(disk: &mut D, geometry: &Geometry) -> Result<(), DiskFault>
     requires good { IsTrue (is_good geometry.now) }
-    requires extent { D.extent disk.old ≡ disk_size geometry.now }
-    requires closed { D.honest disk.old → AreClosed (D.medium disk.old) }
-    requires laid { D.honest disk.old → IsLaid geometry.now 0 (D.medium disk.old).bytes }
-    ensures moments { D.honest disk.old → LeavesOnly (D.medium disk.old) (D.medium disk.new) IsClosed }
-    ensures closed { D.honest disk.old → AreClosed (D.medium disk.new) }
-    ensures laid { D.honest disk.old → OnOk result (IsLaid geometry.now geometry.now.segments (D.medium disk.new).bytes) }
-    ensures counted { CountedAny (D.faults disk.old) (D.faults disk.new) result }
-    ensures kind { D.newest_fault disk.new ≡ newest_after (D.newest_fault disk.old) result }
-    ensures extent { D.extent disk.new ≡ D.extent disk.old }
-    ensures honest { D.honest disk.old ↔ D.honest disk.new }
+    requires extent { (D.medium disk.old).size ≡ disk_size geometry.now }
+    requires closed { (D.medium disk.old).honest → AreClosed (D.medium disk.old) }
+    requires laid { (D.medium disk.old).honest → IsLaid geometry.now 0 (D.medium disk.old).bytes }
+    ensures moments { (D.medium disk.old).honest → LeavesOnly (D.medium disk.old) (D.medium disk.new) IsClosed }
+    ensures closed { (D.medium disk.old).honest → AreClosed (D.medium disk.new) }
+    ensures laid { (D.medium disk.old).honest → OnOk result (IsLaid geometry.now geometry.now.segments (D.medium disk.new).bytes) }
+    ensures called { Called (D.medium disk.old) (D.medium disk.new) (failed_call result) }
 {
     for segment in 0..geometry.segments {
         write_header(disk, geometry, segment)?;
@@ -125,16 +110,13 @@ fn write_headers<D: Disk>(disk: &mut D, geometry: &Geometry) -> Result<(), DiskF
 /// Opens the superblock's gate, on a disk where a crash leaves the present bytes and nothing else.
 fn open_gate<D: Disk>(disk: &mut D, geometry: &Geometry) -> Result<(), DiskFault>
     requires good { IsTrue (is_good geometry.now) }
-    requires extent { D.extent disk.old ≡ disk_size geometry.now }
-    requires settled { D.honest disk.old → IsSettled (D.medium disk.old) }
-    requires laid { D.honest disk.old → IsLaid geometry.now geometry.now.segments (D.medium disk.old).bytes }
-    ensures moments { D.honest disk.old → LeavesOnly (D.medium disk.old) (D.medium disk.new) (NoneOrEmpty geometry.now) }
-    ensures fresh { D.honest disk.old → OnOk result (IsFresh geometry.now (D.medium disk.new).bytes) }
-    ensures settled { D.honest disk.old → OnOk result (IsSettled (D.medium disk.new)) }
-    ensures counted { CountedAny (D.faults disk.old) (D.faults disk.new) result }
-    ensures kind { D.newest_fault disk.new ≡ newest_after (D.newest_fault disk.old) result }
-    ensures extent { D.extent disk.new ≡ D.extent disk.old }
-    ensures honest { D.honest disk.old ↔ D.honest disk.new }
+    requires extent { (D.medium disk.old).size ≡ disk_size geometry.now }
+    requires settled { (D.medium disk.old).honest → IsSettled (D.medium disk.old) }
+    requires laid { (D.medium disk.old).honest → IsLaid geometry.now geometry.now.segments (D.medium disk.old).bytes }
+    ensures moments { (D.medium disk.old).honest → LeavesOnly (D.medium disk.old) (D.medium disk.new) (NoneOrEmpty geometry.now) }
+    ensures fresh { (D.medium disk.old).honest → OnOk result (IsFresh geometry.now (D.medium disk.new).bytes) }
+    ensures settled { (D.medium disk.old).honest → OnOk result (IsSettled (D.medium disk.new)) }
+    ensures called { Called (D.medium disk.old) (D.medium disk.new) (failed_call result) }
 {
     store(disk, 0, &[OPEN])
 }
@@ -142,16 +124,13 @@ fn open_gate<D: Disk>(disk: &mut D, geometry: &Geometry) -> Result<(), DiskFault
 /// Settles what was laid out behind the gate, and opens it.
 fn finish<D: Disk>(disk: &mut D, geometry: &Geometry) -> Result<(), DiskFault>
     requires good { IsTrue (is_good geometry.now) }
-    requires extent { D.extent disk.old ≡ disk_size geometry.now }
-    requires closed { D.honest disk.old → AreClosed (D.medium disk.old) }
-    requires laid { D.honest disk.old → IsLaid geometry.now geometry.now.segments (D.medium disk.old).bytes }
-    ensures moments { D.honest disk.old → LeavesOnly (D.medium disk.old) (D.medium disk.new) (NoneOrEmpty geometry.now) }
-    ensures fresh { D.honest disk.old → OnOk result (IsFresh geometry.now (D.medium disk.new).bytes) }
-    ensures settled { D.honest disk.old → OnOk result (IsSettled (D.medium disk.new)) }
-    ensures counted { CountedAny (D.faults disk.old) (D.faults disk.new) result }
-    ensures kind { D.newest_fault disk.new ≡ newest_after (D.newest_fault disk.old) result }
-    ensures extent { D.extent disk.new ≡ D.extent disk.old }
-    ensures honest { D.honest disk.old ↔ D.honest disk.new }
+    requires extent { (D.medium disk.old).size ≡ disk_size geometry.now }
+    requires closed { (D.medium disk.old).honest → AreClosed (D.medium disk.old) }
+    requires laid { (D.medium disk.old).honest → IsLaid geometry.now geometry.now.segments (D.medium disk.old).bytes }
+    ensures moments { (D.medium disk.old).honest → LeavesOnly (D.medium disk.old) (D.medium disk.new) (NoneOrEmpty geometry.now) }
+    ensures fresh { (D.medium disk.old).honest → OnOk result (IsFresh geometry.now (D.medium disk.new).bytes) }
+    ensures settled { (D.medium disk.old).honest → OnOk result (IsSettled (D.medium disk.new)) }
+    ensures called { Called (D.medium disk.old) (D.medium disk.new) (failed_call result) }
 {
     disk.sync()?;
     open_gate(disk, geometry)
@@ -160,14 +139,11 @@ fn finish<D: Disk>(disk: &mut D, geometry: &Geometry) -> Result<(), DiskFault>
 /// Writes an empty recording over whatever stands on a disk of the geometry's size.
 pub(crate) fn lay_out<D: Disk>(disk: &mut D, geometry: &Geometry) -> Result<(), DiskFault>
     requires good { IsTrue (is_good geometry.now) }
-    requires extent { D.extent disk.old ≡ disk_size geometry.now }
-    ensures moments { D.honest disk.old → LeavesOnly (D.medium disk.old) (D.medium disk.new) (WasOrEmpty geometry.now (D.medium disk.old)) }
-    ensures fresh { D.honest disk.old → OnOk result (IsFresh geometry.now (D.medium disk.new).bytes) }
-    ensures settled { D.honest disk.old → OnOk result (IsSettled (D.medium disk.new)) }
-    ensures counted { CountedAny (D.faults disk.old) (D.faults disk.new) result }
-    ensures kind { D.newest_fault disk.new ≡ newest_after (D.newest_fault disk.old) result }
-    ensures extent { D.extent disk.new ≡ D.extent disk.old }
-    ensures honest { D.honest disk.old ↔ D.honest disk.new }
+    requires extent { (D.medium disk.old).size ≡ disk_size geometry.now }
+    ensures moments { (D.medium disk.old).honest → LeavesOnly (D.medium disk.old) (D.medium disk.new) (WasOrEmpty geometry.now (D.medium disk.old)) }
+    ensures fresh { (D.medium disk.old).honest → OnOk result (IsFresh geometry.now (D.medium disk.new).bytes) }
+    ensures settled { (D.medium disk.old).honest → OnOk result (IsSettled (D.medium disk.new)) }
+    ensures called { Called (D.medium disk.old) (D.medium disk.new) (failed_call result) }
 {
     unformat(disk)?;
     write_front(disk, geometry)?;

@@ -1,7 +1,7 @@
 //! What an append writes: the block that it begins, and the frames.
 
 ghost use Rattle.std.specs.Prelude.{◌≡◌, ◌≢◌, ◌+◌, ◌<◌, ◌≤◌, ◌/◌, ◌%◌, ◌^◌, ◌↔◌, ◌∷◌, ◌++◌, [], ℕ, All, None, OnOk, Some, length, map};
-ghost use Rattle.loop_disk.specs.Calls.{CountedAny, newest_after};
+ghost use Rattle.loop_disk.specs.Calls.{Called, failed_call};
 ghost use Rattle.loop_disk.specs.Medium.{IsSettled, LeavesOnly};
 ghost use Rattle.loop_record.specs.Geometry.{disk_size, frame_bytes};
 ghost use Rattle.loop_record.specs.Plain.{pictures};
@@ -27,20 +27,17 @@ pub(crate) fn begin<D: Disk, A: Allocator>(
     segment: u32,
     next: u64,
 ) -> Result<(), DiskFault>
-    requires extent { D.extent disk.old ≡ disk_size ring.now.geometry }
+    requires extent { (D.medium disk.old).size ≡ disk_size ring.now.geometry }
     requires segment { segment < ring.now.geometry.segments }
-    requires first { D.honest disk.old → next % ring.now.geometry.slots ≡ 0 }
-    requires settled { D.honest disk.old → IsSettled (D.medium disk.old) }
-    requires free { D.honest disk.old → IsFreeFor ring.now.geometry next segment (D.medium disk.old).bytes }
-    ensures moments { (r : Recording) → r.next ≡ next → D.honest disk.old → Holds ring.now.geometry r (D.medium disk.old).bytes → LeavesOnly (D.medium disk.old) (D.medium disk.new) (Holds ring.now.geometry r) }
-    ensures held { (r : Recording) → r.next ≡ next → D.honest disk.old → Holds ring.now.geometry r (D.medium disk.old).bytes → OnOk result (Holds ring.now.geometry r (D.medium disk.new).bytes) }
-    ensures newest { D.honest disk.old → OnOk result (IsNewest ring.now.geometry next segment (D.medium disk.new).bytes) }
-    ensures begun { D.honest disk.old → OnOk result (ShowsSegment ring.now.geometry segment (Some (begun (next / ring.now.geometry.slots))) (D.medium disk.old).bytes (D.medium disk.new).bytes) }
-    ensures settled { D.honest disk.old → OnOk result (IsSettled (D.medium disk.new)) }
-    ensures counted { CountedAny (D.faults disk.old) (D.faults disk.new) result }
-    ensures kind { D.newest_fault disk.new ≡ newest_after (D.newest_fault disk.old) result }
-    ensures extent { D.extent disk.new ≡ D.extent disk.old }
-    ensures honest { D.honest disk.old ↔ D.honest disk.new }
+    requires first { (D.medium disk.old).honest → next % ring.now.geometry.slots ≡ 0 }
+    requires settled { (D.medium disk.old).honest → IsSettled (D.medium disk.old) }
+    requires free { (D.medium disk.old).honest → IsFreeFor ring.now.geometry next segment (D.medium disk.old).bytes }
+    ensures moments { (r : Recording) → r.next ≡ next → (D.medium disk.old).honest → Holds ring.now.geometry r (D.medium disk.old).bytes → LeavesOnly (D.medium disk.old) (D.medium disk.new) (Holds ring.now.geometry r) }
+    ensures held { (r : Recording) → r.next ≡ next → (D.medium disk.old).honest → Holds ring.now.geometry r (D.medium disk.old).bytes → OnOk result (Holds ring.now.geometry r (D.medium disk.new).bytes) }
+    ensures newest { (D.medium disk.old).honest → OnOk result (IsNewest ring.now.geometry next segment (D.medium disk.new).bytes) }
+    ensures begun { (D.medium disk.old).honest → OnOk result (ShowsSegment ring.now.geometry segment (Some (begun (next / ring.now.geometry.slots))) (D.medium disk.old).bytes (D.medium disk.new).bytes) }
+    ensures settled { (D.medium disk.old).honest → OnOk result (IsSettled (D.medium disk.new)) }
+    ensures called { Called (D.medium disk.old) (D.medium disk.new) (failed_call result) }
 {
     ring.begin_block(disk, segment, next / u64::from(ring.geometry.slots))
 }
@@ -53,20 +50,17 @@ pub(crate) fn store_one<D: Disk, A: Allocator>(
     next: u64,
     frame: &Frame<A>,
 ) -> Result<(), DiskFault>
-    requires extent { D.extent disk.old ≡ disk_size ring.old.geometry }
+    requires extent { (D.medium disk.old).size ≡ disk_size ring.old.geometry }
     requires segment { segment < ring.old.geometry.segments }
     requires size { length frame.now.bytes.items ≡ frame_bytes ring.old.geometry }
-    requires settled { D.honest disk.old → IsSettled (D.medium disk.old) }
-    requires newest { D.honest disk.old → IsNewest ring.old.geometry next segment (D.medium disk.old).bytes }
-    ensures moments { (r : Recording) → r.next ≡ next → D.honest disk.old → Holds ring.old.geometry r (D.medium disk.old).bytes → LeavesOnly (D.medium disk.old) (D.medium disk.new) (HoldsSome ring.old.geometry r (store (picture frame.now) ∷ [])) }
-    ensures stored { (r : Recording) → r.next ≡ next → D.honest disk.old → Holds ring.old.geometry r (D.medium disk.old).bytes → OnOk result (Holds ring.old.geometry (plain (ring_of ring.old.geometry) r (store (picture frame.now) ∷ [])) (D.medium disk.new).bytes) }
-    ensures committed { D.honest disk.old → OnOk result (ShowsFrames ring.old.geometry segment next (picture frame.now ∷ []) (D.medium disk.old).bytes (D.medium disk.new).bytes) }
-    ensures stray { D.honest disk.old → OnOk result (HasNoStray ring.old.geometry segment (D.medium disk.new).bytes) }
-    ensures settled { D.honest disk.old → OnOk result (IsSettled (D.medium disk.new)) }
-    ensures counted { CountedAny (D.faults disk.old) (D.faults disk.new) result }
-    ensures kind { D.newest_fault disk.new ≡ newest_after (D.newest_fault disk.old) result }
-    ensures extent { D.extent disk.new ≡ D.extent disk.old }
-    ensures honest { D.honest disk.old ↔ D.honest disk.new }
+    requires settled { (D.medium disk.old).honest → IsSettled (D.medium disk.old) }
+    requires newest { (D.medium disk.old).honest → IsNewest ring.old.geometry next segment (D.medium disk.old).bytes }
+    ensures moments { (r : Recording) → r.next ≡ next → (D.medium disk.old).honest → Holds ring.old.geometry r (D.medium disk.old).bytes → LeavesOnly (D.medium disk.old) (D.medium disk.new) (HoldsSome ring.old.geometry r (store (picture frame.now) ∷ [])) }
+    ensures stored { (r : Recording) → r.next ≡ next → (D.medium disk.old).honest → Holds ring.old.geometry r (D.medium disk.old).bytes → OnOk result (Holds ring.old.geometry (plain (ring_of ring.old.geometry) r (store (picture frame.now) ∷ [])) (D.medium disk.new).bytes) }
+    ensures committed { (D.medium disk.old).honest → OnOk result (ShowsFrames ring.old.geometry segment next (picture frame.now ∷ []) (D.medium disk.old).bytes (D.medium disk.new).bytes) }
+    ensures stray { (D.medium disk.old).honest → OnOk result (HasNoStray ring.old.geometry segment (D.medium disk.new).bytes) }
+    ensures settled { (D.medium disk.old).honest → OnOk result (IsSettled (D.medium disk.new)) }
+    ensures called { Called (D.medium disk.old) (D.medium disk.new) (failed_call result) }
     ensures geometry { ring.new.geometry ≡ ring.old.geometry }
 {
     let slot = (next % u64::from(ring.geometry.slots)) as u32;
@@ -81,24 +75,21 @@ pub(crate) fn store_group<D: Disk, A: Allocator>(
     next: u64,
     frames: &[Frame<A>],
 ) -> Result<(), DiskFault>
-    requires extent { D.extent disk.old ≡ disk_size ring.old.geometry }
+    requires extent { (D.medium disk.old).size ≡ disk_size ring.old.geometry }
     requires segment { segment < ring.old.geometry.segments }
     requires some { 1 ≤ length frames.now }
     requires few { length frames.now ≤ 8 }
     requires room { next % ring.old.geometry.slots + length frames.now ≤ ring.old.geometry.slots }
     requires numbers { next + length frames.now ≤ 2 ^ 64 }
     requires sizes { All (λ frame. length frame.bytes.items ≡ frame_bytes ring.old.geometry) frames.now }
-    requires settled { D.honest disk.old → IsSettled (D.medium disk.old) }
-    requires newest { D.honest disk.old → IsNewest ring.old.geometry next segment (D.medium disk.old).bytes }
-    ensures moments { (r : Recording) → r.next ≡ next → D.honest disk.old → Holds ring.old.geometry r (D.medium disk.old).bytes → LeavesOnly (D.medium disk.old) (D.medium disk.new) (HoldsSome ring.old.geometry r (map store (pictures frames.now))) }
-    ensures stored { (r : Recording) → r.next ≡ next → D.honest disk.old → Holds ring.old.geometry r (D.medium disk.old).bytes → OnOk result (Holds ring.old.geometry (plain (ring_of ring.old.geometry) r (map store (pictures frames.now))) (D.medium disk.new).bytes) }
-    ensures committed { D.honest disk.old → OnOk result (ShowsFrames ring.old.geometry segment next (pictures frames.now) (D.medium disk.old).bytes (D.medium disk.new).bytes) }
-    ensures stray { D.honest disk.old → OnOk result (HasNoStray ring.old.geometry segment (D.medium disk.new).bytes) }
-    ensures settled { D.honest disk.old → OnOk result (IsSettled (D.medium disk.new)) }
-    ensures counted { CountedAny (D.faults disk.old) (D.faults disk.new) result }
-    ensures kind { D.newest_fault disk.new ≡ newest_after (D.newest_fault disk.old) result }
-    ensures extent { D.extent disk.new ≡ D.extent disk.old }
-    ensures honest { D.honest disk.old ↔ D.honest disk.new }
+    requires settled { (D.medium disk.old).honest → IsSettled (D.medium disk.old) }
+    requires newest { (D.medium disk.old).honest → IsNewest ring.old.geometry next segment (D.medium disk.old).bytes }
+    ensures moments { (r : Recording) → r.next ≡ next → (D.medium disk.old).honest → Holds ring.old.geometry r (D.medium disk.old).bytes → LeavesOnly (D.medium disk.old) (D.medium disk.new) (HoldsSome ring.old.geometry r (map store (pictures frames.now))) }
+    ensures stored { (r : Recording) → r.next ≡ next → (D.medium disk.old).honest → Holds ring.old.geometry r (D.medium disk.old).bytes → OnOk result (Holds ring.old.geometry (plain (ring_of ring.old.geometry) r (map store (pictures frames.now))) (D.medium disk.new).bytes) }
+    ensures committed { (D.medium disk.old).honest → OnOk result (ShowsFrames ring.old.geometry segment next (pictures frames.now) (D.medium disk.old).bytes (D.medium disk.new).bytes) }
+    ensures stray { (D.medium disk.old).honest → OnOk result (HasNoStray ring.old.geometry segment (D.medium disk.new).bytes) }
+    ensures settled { (D.medium disk.old).honest → OnOk result (IsSettled (D.medium disk.new)) }
+    ensures called { Called (D.medium disk.old) (D.medium disk.new) (failed_call result) }
     ensures geometry { ring.new.geometry ≡ ring.old.geometry }
 {
     let slot = (next % u64::from(ring.geometry.slots)) as u32;
@@ -111,18 +102,15 @@ fn recycle<D: Disk, A: Allocator>(
     ring: &Ring<A>,
     segment: u32,
 ) -> Result<(), DiskFault>
-    requires extent { D.extent disk.old ≡ disk_size ring.now.geometry }
+    requires extent { (D.medium disk.old).size ≡ disk_size ring.now.geometry }
     requires segment { segment < ring.now.geometry.segments }
-    requires settled { D.honest disk.old → IsSettled (D.medium disk.old) }
-    requires there { D.honest disk.old → segment_in ring.now.geometry (D.medium disk.old).bytes segment ≢ None }
-    ensures moments { (r : Recording) (b : ℕ) → victim (ring_of ring.now.geometry) r ≡ Some b → IsOldFor ring.now.geometry r.next b segment (D.medium disk.old).bytes → D.honest disk.old → Holds ring.now.geometry r (D.medium disk.old).bytes → LeavesOnly (D.medium disk.old) (D.medium disk.new) (HoldsSome ring.now.geometry r (recycle b ∷ [])) }
-    ensures held { (r : Recording) (b : ℕ) → victim (ring_of ring.now.geometry) r ≡ Some b → IsOldFor ring.now.geometry r.next b segment (D.medium disk.old).bytes → D.honest disk.old → Holds ring.now.geometry r (D.medium disk.old).bytes → OnOk result (Holds ring.now.geometry (after (ring_of ring.now.geometry) r (recycle b)) (D.medium disk.new).bytes) }
-    ensures retired { D.honest disk.old → OnOk result (ShowsSegment ring.now.geometry segment None (D.medium disk.old).bytes (D.medium disk.new).bytes) }
-    ensures settled { D.honest disk.old → OnOk result (IsSettled (D.medium disk.new)) }
-    ensures counted { CountedAny (D.faults disk.old) (D.faults disk.new) result }
-    ensures kind { D.newest_fault disk.new ≡ newest_after (D.newest_fault disk.old) result }
-    ensures extent { D.extent disk.new ≡ D.extent disk.old }
-    ensures honest { D.honest disk.old ↔ D.honest disk.new }
+    requires settled { (D.medium disk.old).honest → IsSettled (D.medium disk.old) }
+    requires there { (D.medium disk.old).honest → segment_in ring.now.geometry (D.medium disk.old).bytes segment ≢ None }
+    ensures moments { (r : Recording) (b : ℕ) → victim (ring_of ring.now.geometry) r ≡ Some b → IsOldFor ring.now.geometry r.next b segment (D.medium disk.old).bytes → (D.medium disk.old).honest → Holds ring.now.geometry r (D.medium disk.old).bytes → LeavesOnly (D.medium disk.old) (D.medium disk.new) (HoldsSome ring.now.geometry r (recycle b ∷ [])) }
+    ensures held { (r : Recording) (b : ℕ) → victim (ring_of ring.now.geometry) r ≡ Some b → IsOldFor ring.now.geometry r.next b segment (D.medium disk.old).bytes → (D.medium disk.old).honest → Holds ring.now.geometry r (D.medium disk.old).bytes → OnOk result (Holds ring.now.geometry (after (ring_of ring.now.geometry) r (recycle b)) (D.medium disk.new).bytes) }
+    ensures retired { (D.medium disk.old).honest → OnOk result (ShowsSegment ring.now.geometry segment None (D.medium disk.old).bytes (D.medium disk.new).bytes) }
+    ensures settled { (D.medium disk.old).honest → OnOk result (IsSettled (D.medium disk.new)) }
+    ensures called { Called (D.medium disk.old) (D.medium disk.new) (failed_call result) }
 {
     ring.retire(disk, segment)
 }
@@ -134,19 +122,16 @@ fn replace<D: Disk, A: Allocator>(
     segment: u32,
     next: u64,
 ) -> Result<(), DiskFault>
-    requires extent { D.extent disk.old ≡ disk_size ring.now.geometry }
+    requires extent { (D.medium disk.old).size ≡ disk_size ring.now.geometry }
     requires segment { segment < ring.now.geometry.segments }
-    requires settled { D.honest disk.old → IsSettled (D.medium disk.old) }
-    requires known { D.honest disk.old → IsKnown ring.now.geometry next (Victim segment) (D.medium disk.old).bytes }
-    ensures moments { (r : Recording) → r.next ≡ next → D.honest disk.old → Holds ring.now.geometry r (D.medium disk.old).bytes → LeavesOnly (D.medium disk.old) (D.medium disk.new) (HoldsSome ring.now.geometry r (steps_before ring.now.geometry r)) }
-    ensures held { (r : Recording) → r.next ≡ next → D.honest disk.old → Holds ring.now.geometry r (D.medium disk.old).bytes → OnOk result (Holds ring.now.geometry (plain (ring_of ring.now.geometry) r (steps_before ring.now.geometry r)) (D.medium disk.new).bytes) }
-    ensures newest { D.honest disk.old → OnOk result (IsNewest ring.now.geometry next segment (D.medium disk.new).bytes) }
-    ensures replaced { D.honest disk.old → OnOk result (IsBegunAt ring.now.geometry next segment (D.medium disk.old).bytes (D.medium disk.new).bytes) }
-    ensures settled { D.honest disk.old → OnOk result (IsSettled (D.medium disk.new)) }
-    ensures counted { CountedAny (D.faults disk.old) (D.faults disk.new) result }
-    ensures kind { D.newest_fault disk.new ≡ newest_after (D.newest_fault disk.old) result }
-    ensures extent { D.extent disk.new ≡ D.extent disk.old }
-    ensures honest { D.honest disk.old ↔ D.honest disk.new }
+    requires settled { (D.medium disk.old).honest → IsSettled (D.medium disk.old) }
+    requires known { (D.medium disk.old).honest → IsKnown ring.now.geometry next (Victim segment) (D.medium disk.old).bytes }
+    ensures moments { (r : Recording) → r.next ≡ next → (D.medium disk.old).honest → Holds ring.now.geometry r (D.medium disk.old).bytes → LeavesOnly (D.medium disk.old) (D.medium disk.new) (HoldsSome ring.now.geometry r (steps_before ring.now.geometry r)) }
+    ensures held { (r : Recording) → r.next ≡ next → (D.medium disk.old).honest → Holds ring.now.geometry r (D.medium disk.old).bytes → OnOk result (Holds ring.now.geometry (plain (ring_of ring.now.geometry) r (steps_before ring.now.geometry r)) (D.medium disk.new).bytes) }
+    ensures newest { (D.medium disk.old).honest → OnOk result (IsNewest ring.now.geometry next segment (D.medium disk.new).bytes) }
+    ensures replaced { (D.medium disk.old).honest → OnOk result (IsBegunAt ring.now.geometry next segment (D.medium disk.old).bytes (D.medium disk.new).bytes) }
+    ensures settled { (D.medium disk.old).honest → OnOk result (IsSettled (D.medium disk.new)) }
+    ensures called { Called (D.medium disk.old) (D.medium disk.new) (failed_call result) }
 {
     recycle(disk, ring, segment)?;
     begin(disk, ring, segment, next)
@@ -159,19 +144,16 @@ fn make_room<D: Disk, A: Allocator>(
     place: Place,
     next: u64,
 ) -> Result<(), DiskFault>
-    requires extent { D.extent disk.old ≡ disk_size ring.now.geometry }
+    requires extent { (D.medium disk.old).size ≡ disk_size ring.now.geometry }
     requires segment { segment_of place < ring.now.geometry.segments }
-    requires settled { D.honest disk.old → IsSettled (D.medium disk.old) }
-    requires known { D.honest disk.old → IsKnown ring.now.geometry next place (D.medium disk.old).bytes }
-    ensures moments { (r : Recording) → r.next ≡ next → D.honest disk.old → Holds ring.now.geometry r (D.medium disk.old).bytes → LeavesOnly (D.medium disk.old) (D.medium disk.new) (HoldsSome ring.now.geometry r (steps_before ring.now.geometry r)) }
-    ensures held { (r : Recording) → r.next ≡ next → D.honest disk.old → Holds ring.now.geometry r (D.medium disk.old).bytes → OnOk result (Holds ring.now.geometry (plain (ring_of ring.now.geometry) r (steps_before ring.now.geometry r)) (D.medium disk.new).bytes) }
-    ensures newest { D.honest disk.old → OnOk result (IsNewest ring.now.geometry next (segment_of place) (D.medium disk.new).bytes) }
-    ensures begun { D.honest disk.old → OnOk result (IsBegunAt ring.now.geometry next (segment_of place) (D.medium disk.old).bytes (D.medium disk.new).bytes) }
-    ensures settled { D.honest disk.old → OnOk result (IsSettled (D.medium disk.new)) }
-    ensures counted { CountedAny (D.faults disk.old) (D.faults disk.new) result }
-    ensures kind { D.newest_fault disk.new ≡ newest_after (D.newest_fault disk.old) result }
-    ensures extent { D.extent disk.new ≡ D.extent disk.old }
-    ensures honest { D.honest disk.old ↔ D.honest disk.new }
+    requires settled { (D.medium disk.old).honest → IsSettled (D.medium disk.old) }
+    requires known { (D.medium disk.old).honest → IsKnown ring.now.geometry next place (D.medium disk.old).bytes }
+    ensures moments { (r : Recording) → r.next ≡ next → (D.medium disk.old).honest → Holds ring.now.geometry r (D.medium disk.old).bytes → LeavesOnly (D.medium disk.old) (D.medium disk.new) (HoldsSome ring.now.geometry r (steps_before ring.now.geometry r)) }
+    ensures held { (r : Recording) → r.next ≡ next → (D.medium disk.old).honest → Holds ring.now.geometry r (D.medium disk.old).bytes → OnOk result (Holds ring.now.geometry (plain (ring_of ring.now.geometry) r (steps_before ring.now.geometry r)) (D.medium disk.new).bytes) }
+    ensures newest { (D.medium disk.old).honest → OnOk result (IsNewest ring.now.geometry next (segment_of place) (D.medium disk.new).bytes) }
+    ensures begun { (D.medium disk.old).honest → OnOk result (IsBegunAt ring.now.geometry next (segment_of place) (D.medium disk.old).bytes (D.medium disk.new).bytes) }
+    ensures settled { (D.medium disk.old).honest → OnOk result (IsSettled (D.medium disk.new)) }
+    ensures called { Called (D.medium disk.old) (D.medium disk.new) (failed_call result) }
 {
     match place {
         Place::Newest(_) => Ok(()),
@@ -188,23 +170,20 @@ pub(crate) fn append_group<D: Disk, A: Allocator>(
     next: u64,
     frames: &[Frame<A>],
 ) -> Result<(), DiskFault>
-    requires extent { D.extent disk.old ≡ disk_size ring.old.geometry }
+    requires extent { (D.medium disk.old).size ≡ disk_size ring.old.geometry }
     requires segment { segment_of place < ring.old.geometry.segments }
     requires some { 1 ≤ length frames.now }
     requires few { length frames.now ≤ 8 }
     requires room { next % ring.old.geometry.slots + length frames.now ≤ ring.old.geometry.slots }
     requires numbers { next + length frames.now ≤ 2 ^ 64 }
     requires sizes { All (λ frame. length frame.bytes.items ≡ frame_bytes ring.old.geometry) frames.now }
-    requires settled { D.honest disk.old → IsSettled (D.medium disk.old) }
-    requires known { D.honest disk.old → IsKnown ring.old.geometry next place (D.medium disk.old).bytes }
-    ensures moments { (r : Recording) → r.next ≡ next → D.honest disk.old → Holds ring.old.geometry r (D.medium disk.old).bytes → LeavesOnly (D.medium disk.old) (D.medium disk.new) (HoldsSome ring.old.geometry r (steps_before ring.old.geometry r ++ map store (pictures frames.now))) }
-    ensures stored { (r : Recording) → r.next ≡ next → D.honest disk.old → Holds ring.old.geometry r (D.medium disk.old).bytes → OnOk result (Holds ring.old.geometry (plain (ring_of ring.old.geometry) r (steps_before ring.old.geometry r ++ map store (pictures frames.now))) (D.medium disk.new).bytes) }
-    ensures grown { D.honest disk.old → OnOk result (IsGrownAt ring.old.geometry next (length frames.now) (segment_of place) (D.medium disk.old).bytes (D.medium disk.new).bytes) }
-    ensures settled { D.honest disk.old → OnOk result (IsSettled (D.medium disk.new)) }
-    ensures counted { CountedAny (D.faults disk.old) (D.faults disk.new) result }
-    ensures kind { D.newest_fault disk.new ≡ newest_after (D.newest_fault disk.old) result }
-    ensures extent { D.extent disk.new ≡ D.extent disk.old }
-    ensures honest { D.honest disk.old ↔ D.honest disk.new }
+    requires settled { (D.medium disk.old).honest → IsSettled (D.medium disk.old) }
+    requires known { (D.medium disk.old).honest → IsKnown ring.old.geometry next place (D.medium disk.old).bytes }
+    ensures moments { (r : Recording) → r.next ≡ next → (D.medium disk.old).honest → Holds ring.old.geometry r (D.medium disk.old).bytes → LeavesOnly (D.medium disk.old) (D.medium disk.new) (HoldsSome ring.old.geometry r (steps_before ring.old.geometry r ++ map store (pictures frames.now))) }
+    ensures stored { (r : Recording) → r.next ≡ next → (D.medium disk.old).honest → Holds ring.old.geometry r (D.medium disk.old).bytes → OnOk result (Holds ring.old.geometry (plain (ring_of ring.old.geometry) r (steps_before ring.old.geometry r ++ map store (pictures frames.now))) (D.medium disk.new).bytes) }
+    ensures grown { (D.medium disk.old).honest → OnOk result (IsGrownAt ring.old.geometry next (length frames.now) (segment_of place) (D.medium disk.old).bytes (D.medium disk.new).bytes) }
+    ensures settled { (D.medium disk.old).honest → OnOk result (IsSettled (D.medium disk.new)) }
+    ensures called { Called (D.medium disk.old) (D.medium disk.new) (failed_call result) }
     ensures geometry { ring.new.geometry ≡ ring.old.geometry }
 {
     make_room(disk, ring, place, next)?;
@@ -219,19 +198,16 @@ pub(crate) fn append_one<D: Disk, A: Allocator>(
     next: u64,
     frame: &Frame<A>,
 ) -> Result<(), DiskFault>
-    requires extent { D.extent disk.old ≡ disk_size ring.old.geometry }
+    requires extent { (D.medium disk.old).size ≡ disk_size ring.old.geometry }
     requires segment { segment_of place < ring.old.geometry.segments }
     requires size { length frame.now.bytes.items ≡ frame_bytes ring.old.geometry }
-    requires settled { D.honest disk.old → IsSettled (D.medium disk.old) }
-    requires known { D.honest disk.old → IsKnown ring.old.geometry next place (D.medium disk.old).bytes }
-    ensures moments { (r : Recording) → r.next ≡ next → D.honest disk.old → Holds ring.old.geometry r (D.medium disk.old).bytes → LeavesOnly (D.medium disk.old) (D.medium disk.new) (HoldsSome ring.old.geometry r (steps_before ring.old.geometry r ++ (store (picture frame.now) ∷ []))) }
-    ensures stored { (r : Recording) → r.next ≡ next → D.honest disk.old → Holds ring.old.geometry r (D.medium disk.old).bytes → OnOk result (Holds ring.old.geometry (plain (ring_of ring.old.geometry) r (steps_before ring.old.geometry r ++ (store (picture frame.now) ∷ []))) (D.medium disk.new).bytes) }
-    ensures grown { D.honest disk.old → OnOk result (IsGrownAt ring.old.geometry next 1 (segment_of place) (D.medium disk.old).bytes (D.medium disk.new).bytes) }
-    ensures settled { D.honest disk.old → OnOk result (IsSettled (D.medium disk.new)) }
-    ensures counted { CountedAny (D.faults disk.old) (D.faults disk.new) result }
-    ensures kind { D.newest_fault disk.new ≡ newest_after (D.newest_fault disk.old) result }
-    ensures extent { D.extent disk.new ≡ D.extent disk.old }
-    ensures honest { D.honest disk.old ↔ D.honest disk.new }
+    requires settled { (D.medium disk.old).honest → IsSettled (D.medium disk.old) }
+    requires known { (D.medium disk.old).honest → IsKnown ring.old.geometry next place (D.medium disk.old).bytes }
+    ensures moments { (r : Recording) → r.next ≡ next → (D.medium disk.old).honest → Holds ring.old.geometry r (D.medium disk.old).bytes → LeavesOnly (D.medium disk.old) (D.medium disk.new) (HoldsSome ring.old.geometry r (steps_before ring.old.geometry r ++ (store (picture frame.now) ∷ []))) }
+    ensures stored { (r : Recording) → r.next ≡ next → (D.medium disk.old).honest → Holds ring.old.geometry r (D.medium disk.old).bytes → OnOk result (Holds ring.old.geometry (plain (ring_of ring.old.geometry) r (steps_before ring.old.geometry r ++ (store (picture frame.now) ∷ []))) (D.medium disk.new).bytes) }
+    ensures grown { (D.medium disk.old).honest → OnOk result (IsGrownAt ring.old.geometry next 1 (segment_of place) (D.medium disk.old).bytes (D.medium disk.new).bytes) }
+    ensures settled { (D.medium disk.old).honest → OnOk result (IsSettled (D.medium disk.new)) }
+    ensures called { Called (D.medium disk.old) (D.medium disk.new) (failed_call result) }
     ensures geometry { ring.new.geometry ≡ ring.old.geometry }
 {
     make_room(disk, ring, place, next)?;

@@ -2,7 +2,7 @@
 
 ghost use Rattle.std.specs.Prelude.{◌≡◌, ◌<◌, ◌≤◌, ◌+◌, ◌*◌, ◌++◌, ◌↔◌, ◌⊎◌, ℕ, List, IfErr, IfNone, IfOk, IfSome, IsTrue, None, false, length, slice_index_or, true, vec_capacity};
 ghost use Rattle.std.specs.List.{range_with_len};
-ghost use Rattle.loop_disk.specs.Calls.{Stays};
+ghost use Rattle.loop_disk.specs.Calls.{Called, Stays};
 ghost use Rattle.loop_record.specs.Geometry.{disk_size, frame_bytes, is_good};
 ghost use Rattle.loop_record.specs.Layout.{is_too_high};
 ghost use Rattle.loop_record.specs.Plain.{AreIn};
@@ -11,7 +11,7 @@ ghost use Rattle.loop_record.specs.Recording.{Recording, frame_under, holds};
 ghost use Rattle.loop_record.specs.declared.damage.Damage.TheVariants.{SlotHead};
 ghost use Rattle.loop_ring.specs.Heads.{has_number, heads_of};
 ghost use Rattle.loop_store.specs.declared.fault.StoreFault.TheVariants.{Damaged};
-ghost use Rattle.loop_store.specs.Faults.{answers_disk, faults_after, newest_told, is_disk};
+ghost use Rattle.loop_store.specs.Faults.{answers_disk, is_disk, failed_in};
 ghost use Rattle.loop_store.specs.Numbers.{numbers_in};
 ghost use Rattle.loop_store.specs.Seen.{AnswersFrame};
 
@@ -50,16 +50,13 @@ pub(crate) fn read_held<D: Disk, A: Allocator>(
     number: u64,
     out: &mut [u8],
 ) -> Result<FrameHead, StoreFault>
-    requires extent { D.extent disk.old ≡ disk_size ring.now.geometry }
+    requires extent { (D.medium disk.old).size ≡ disk_size ring.now.geometry }
     requires segment { segment < ring.now.geometry.segments }
     requires size { length out.old ≡ frame_bytes ring.now.geometry }
-    ensures frame { (r : Recording) → D.honest disk.old → Holds ring.now.geometry r (D.medium disk.old).bytes → has_number ring.now.geometry.slots number (slice_index_or (heads_of ring.now.geometry (D.medium disk.old).bytes) segment None) ≡ true → AnswersFrame number (frame_under r.frames number) result out.new }
+    ensures frame { (r : Recording) → (D.medium disk.old).honest → Holds ring.now.geometry r (D.medium disk.old).bytes → has_number ring.now.geometry.slots number (slice_index_or (heads_of ring.now.geometry (D.medium disk.old).bytes) segment None) ≡ true → AnswersFrame number (frame_under r.frames number) result out.new }
     ensures refusals { IfErr result (λ fault. (fault ≡ Damaged SlotHead) ⊎ (is_disk fault ≡ true)) }
-    ensures stays { D.honest disk.old → Stays (D.medium disk.old) (D.medium disk.new) }
-    ensures counted { D.faults disk.new ≡ faults_after (answers_disk result) (D.faults disk.old) }
-    ensures kind { D.newest_fault disk.new ≡ newest_told (D.newest_fault disk.old) result }
-    ensures extent { D.extent disk.new ≡ D.extent disk.old }
-    ensures honest { D.honest disk.old ↔ D.honest disk.new }
+    ensures stays { (D.medium disk.old).honest → Stays (D.medium disk.old) (D.medium disk.new) }
+    ensures called { Called (D.medium disk.old) (D.medium disk.new) (failed_in result) }
 {
     let slot = (number % u64::from(ring.geometry.slots)) as u32;
     Ok(ring.read_slot(disk, segment, slot, number, out)?)

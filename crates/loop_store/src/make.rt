@@ -1,11 +1,12 @@
 //! Makes a store on a disk.
 
 ghost use Rattle.std.specs.Prelude.{◌≡◌, ◌&&◌, ◌==◌, ◌↔◌, IfErr, IfOk, false};
+ghost use Rattle.loop_disk.specs.Calls.{Called};
 ghost use Rattle.loop_disk.specs.Medium.{LeavesOnly};
 ghost use Rattle.loop_record.specs.Geometry.{disk_size, is_good};
 ghost use Rattle.loop_record.specs.Recording.{empty};
-ghost use Rattle.loop_store.specs.Faults.{faults_after, is_disk};
-ghost use Rattle.loop_store.specs.Formatted.{IsBadGeometry, IsFormatted, IsRefusedFormat, WasOrEmpty, disk_after, is_refused_disk, newest_opened};
+ghost use Rattle.loop_store.specs.Faults.{is_disk};
+ghost use Rattle.loop_store.specs.Formatted.{IsBadGeometry, IsFormatted, IsRefusedFormat, WasOrEmpty, disk_after, failed_opening};
 ghost use Rattle.loop_store.specs.Seen.{StandsFor};
 
 use crate::fresh::lay_out;
@@ -18,7 +19,7 @@ use std::alloc::Allocator;
 
 /// Whether a geometry is good, and a disk has its size.
 fn fits<D: Disk>(disk: &D, geometry: &Geometry) -> bool
-    ensures { result ≡ (is_good geometry.now && (D.extent disk.now == disk_size geometry.now)) }
+    ensures { result ≡ (is_good geometry.now && ((D.medium disk.now).size == disk_size geometry.now)) }
 {
     match geometry.check() {
         Ok(()) => disk.size() == geometry.disk_size(),
@@ -37,16 +38,13 @@ pub fn format<D: Disk + Drop, A: Allocator + Copy>(
     disk: D,
     geometry: Geometry,
 ) -> Result<Store<D, A>, OpenRefused<D>>
-    ensures bad { (IsBadGeometry result) ↔ ((is_good geometry && (D.extent disk == disk_size geometry)) ≡ false) }
+    ensures bad { (IsBadGeometry result) ↔ ((is_good geometry && ((D.medium disk).size == disk_size geometry)) ≡ false) }
     ensures refusals { IfErr result IsRefusedFormat }
     ensures untouched { IfErr result (λ refused. is_disk refused.fault ≡ false → refused.disk ≡ disk) }
     ensures formatted { IfOk result (λ store. IsFormatted geometry store) }
-    ensures stands { IfOk result (λ store. StandsFor D.medium D.honest store empty) }
-    ensures moments { D.honest disk → LeavesOnly (D.medium disk) (D.medium (disk_after result)) (WasOrEmpty geometry (D.medium disk)) }
-    ensures counted { D.faults (disk_after result) ≡ faults_after (is_refused_disk result) (D.faults disk) }
-    ensures kind { D.newest_fault (disk_after result) ≡ newest_opened (D.newest_fault disk) result }
-    ensures extent { D.extent (disk_after result) ≡ D.extent disk }
-    ensures honest { D.honest disk ↔ D.honest (disk_after result) }
+    ensures stands { IfOk result (λ store. StandsFor D.medium store empty) }
+    ensures moments { (D.medium disk).honest → LeavesOnly (D.medium disk) (D.medium (disk_after result)) (WasOrEmpty geometry (D.medium disk)) }
+    ensures called { Called (D.medium disk) (D.medium (disk_after result)) (failed_opening result) }
 {
     let mut disk = disk;
     if !fits(&disk, &geometry) {

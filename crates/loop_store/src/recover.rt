@@ -1,13 +1,13 @@
 //! What a disk's image reads as, found with few reads and without pixels.
 
 ghost use Rattle.std.specs.Prelude.{◌≡◌, ◌↔◌, Ok, Err, IfOk, IsTrue};
-ghost use Rattle.loop_disk.specs.Calls.{Stays};
+ghost use Rattle.loop_disk.specs.Calls.{Called, Stays};
 ghost use Rattle.loop_record.specs.Geometry.{disk_size, is_good};
 ghost use Rattle.loop_record.specs.Layout.{geometry_in};
 ghost use Rattle.loop_record.specs.Reading.{reading};
-ghost use Rattle.loop_store.specs.Faults.{newest_told};
+ghost use Rattle.loop_store.specs.Faults.{failed_in};
 ghost use Rattle.loop_store.specs.Opened.{IsFitting};
-ghost use Rattle.loop_store.specs.Recovered.{CountedRecovery, IsRecovered, Recovers};
+ghost use Rattle.loop_store.specs.Recovered.{IsRecovered, Recovers};
 
 use crate::StoreFault;
 use crate::found::{check_slots, in_order, read_geometry, read_heads, read_table};
@@ -35,18 +35,15 @@ fn recover_parts<D: Disk, A: Allocator + Copy>(
     geometry: Geometry,
 ) -> Result<Recovered<A>, StoreFault>
     requires good { IsTrue (is_good geometry) }
-    requires size { D.extent disk.old ≡ disk_size geometry }
-    requires geometry { D.honest disk.old → geometry_in (D.medium disk.old).bytes ≡ Ok geometry }
+    requires size { (D.medium disk.old).size ≡ disk_size geometry }
+    requires geometry { (D.medium disk.old).honest → geometry_in (D.medium disk.old).bytes ≡ Ok geometry }
     ensures good { IfOk result (λ found. IsTrue (is_good found.geometry)) }
-    ensures size { IfOk result (λ found. D.extent disk.old ≡ disk_size found.geometry) }
+    ensures size { IfOk result (λ found. (D.medium disk.old).size ≡ disk_size found.geometry) }
     ensures fits { IfOk result (λ found. IsFitting found.geometry found.heads.items found.next) }
-    ensures recovered { D.honest disk.old → Recovers result (λ found. IsRecovered found.geometry found.heads.items found.clips found.next (D.medium disk.old).bytes)
+    ensures recovered { (D.medium disk.old).honest → Recovers result (λ found. IsRecovered found.geometry found.heads.items found.clips found.next (D.medium disk.old).bytes)
         (λ fault. reading (D.medium disk.old).bytes ≡ Err fault) }
-    ensures disk { D.honest disk.old → Stays (D.medium disk.old) (D.medium disk.new) }
-    ensures counted { CountedRecovery (D.faults disk.old) (D.faults disk.new) result }
-    ensures kind { D.newest_fault disk.new ≡ newest_told (D.newest_fault disk.old) result }
-    ensures extent { D.extent disk.new ≡ D.extent disk.old }
-    ensures honest { D.honest disk.old ↔ D.honest disk.new }
+    ensures disk { (D.medium disk.old).honest → Stays (D.medium disk.old) (D.medium disk.new) }
+    ensures called { Called (D.medium disk.old) (D.medium disk.new) (failed_in result) }
 {
     let heads = read_heads(alloc, disk, &geometry)?;
     let segments = in_order(alloc, &geometry, heads.as_slice())?;
@@ -80,15 +77,12 @@ pub(crate) fn recover<D: Disk, A: Allocator + Copy>(
     disk: &mut D,
 ) -> Result<Recovered<A>, StoreFault>
     ensures good { IfOk result (λ found. IsTrue (is_good found.geometry)) }
-    ensures size { IfOk result (λ found. D.extent disk.old ≡ disk_size found.geometry) }
+    ensures size { IfOk result (λ found. (D.medium disk.old).size ≡ disk_size found.geometry) }
     ensures fits { IfOk result (λ found. IsFitting found.geometry found.heads.items found.next) }
-    ensures recovered { D.honest disk.old → Recovers result (λ found. IsRecovered found.geometry found.heads.items found.clips found.next (D.medium disk.old).bytes)
+    ensures recovered { (D.medium disk.old).honest → Recovers result (λ found. IsRecovered found.geometry found.heads.items found.clips found.next (D.medium disk.old).bytes)
         (λ fault. reading (D.medium disk.old).bytes ≡ Err fault) }
-    ensures disk { D.honest disk.old → Stays (D.medium disk.old) (D.medium disk.new) }
-    ensures counted { CountedRecovery (D.faults disk.old) (D.faults disk.new) result }
-    ensures kind { D.newest_fault disk.new ≡ newest_told (D.newest_fault disk.old) result }
-    ensures extent { D.extent disk.new ≡ D.extent disk.old }
-    ensures honest { D.honest disk.old ↔ D.honest disk.new }
+    ensures disk { (D.medium disk.old).honest → Stays (D.medium disk.old) (D.medium disk.new) }
+    ensures called { Called (D.medium disk.old) (D.medium disk.new) (failed_in result) }
 {
     let geometry = read_geometry(disk)?;
     recover_parts(alloc, disk, geometry)

@@ -1,16 +1,16 @@
 //! Finds the recording on a disk again.
 
 ghost use Rattle.std.specs.Prelude.{◌≡◌, ◌↔◌, Err, IfErr, IfOk, IsTrue, OnOk, false, length};
-ghost use Rattle.loop_disk.specs.Calls.{CountedAny, Stays, newest_after};
+ghost use Rattle.loop_disk.specs.Calls.{Called, Stays, failed_call};
 ghost use Rattle.loop_disk.specs.Medium.{IsSettled, LeavesOnly};
 ghost use Rattle.loop_record.specs.Geometry.{disk_size, is_good};
 ghost use Rattle.loop_record.specs.Reading.{reading};
 ghost use Rattle.loop_ring.specs.Heads.{heads_of};
-ghost use Rattle.loop_store.specs.Faults.{faults_after, is_disk, newest_told};
+ghost use Rattle.loop_store.specs.Faults.{is_disk, failed_in};
 ghost use Rattle.loop_store.specs.Held.{HasNoneStray};
-ghost use Rattle.loop_store.specs.Formatted.{disk_after, is_refused_disk, newest_opened};
+ghost use Rattle.loop_store.specs.Formatted.{disk_after, failed_opening};
 ghost use Rattle.loop_store.specs.Opened.{IsFitting, IsOpened, IsReady, IsRefusedOpen, IsTold, ReadsAlike, WasOrReadsAlike};
-ghost use Rattle.loop_store.specs.Recovered.{CountedRecovery, IsRecovered, Recovers};
+ghost use Rattle.loop_store.specs.Recovered.{IsRecovered, Recovers};
 
 use crate::recover::{Recovered, recover};
 use crate::{OpenRefused, Store, StoreFault};
@@ -31,16 +31,13 @@ struct Known<A: Allocator> {
 /// Syncs, so that a stop leaves what a read gives, and finds what the disk's image reads as.
 fn reread<D: Disk, A: Allocator + Copy>(alloc: A, disk: &mut D) -> Result<Recovered<A>, StoreFault>
     ensures good { IfOk result (λ found. IsTrue (is_good found.geometry)) }
-    ensures size { IfOk result (λ found. D.extent disk.old ≡ disk_size found.geometry) }
+    ensures size { IfOk result (λ found. (D.medium disk.old).size ≡ disk_size found.geometry) }
     ensures fits { IfOk result (λ found. IsFitting found.geometry found.heads.items found.next) }
-    ensures recovered { D.honest disk.old → Recovers result (λ found. IsRecovered found.geometry found.heads.items found.clips found.next (D.medium disk.old).bytes)
+    ensures recovered { (D.medium disk.old).honest → Recovers result (λ found. IsRecovered found.geometry found.heads.items found.clips found.next (D.medium disk.old).bytes)
         (λ fault. reading (D.medium disk.old).bytes ≡ Err fault) }
-    ensures disk { D.honest disk.old → Stays (D.medium disk.old) (D.medium disk.new) }
-    ensures settled { D.honest disk.old → IfOk result (λ _. IsSettled (D.medium disk.new)) }
-    ensures counted { CountedRecovery (D.faults disk.old) (D.faults disk.new) result }
-    ensures kind { D.newest_fault disk.new ≡ newest_told (D.newest_fault disk.old) result }
-    ensures extent { D.extent disk.new ≡ D.extent disk.old }
-    ensures honest { D.honest disk.old ↔ D.honest disk.new }
+    ensures disk { (D.medium disk.old).honest → Stays (D.medium disk.old) (D.medium disk.new) }
+    ensures settled { (D.medium disk.old).honest → IfOk result (λ _. IsSettled (D.medium disk.new)) }
+    ensures called { Called (D.medium disk.old) (D.medium disk.new) (failed_in result) }
 {
     disk.sync()?;
     recover(alloc, disk)
@@ -72,18 +69,15 @@ fn clear_newest<D: Disk, A: Allocator>(
     table: &SegmentTable<A>,
     next: u64,
 ) -> Result<(), DiskFault>
-    requires extent { D.extent disk.old ≡ disk_size ring.now.geometry }
+    requires extent { (D.medium disk.old).size ≡ disk_size ring.now.geometry }
     requires count { length table.now ≡ ring.now.geometry.segments }
-    requires settled { D.honest disk.old → IsSettled (D.medium disk.old) }
-    requires told { D.honest disk.old → IsTold ring.now.geometry table.now next (D.medium disk.old).bytes }
-    ensures moments { D.honest disk.old → LeavesOnly (D.medium disk.old) (D.medium disk.new) (ReadsAlike (D.medium disk.old).bytes) }
-    ensures heads { D.honest disk.old → OnOk result (table.now ≡ heads_of ring.now.geometry (D.medium disk.new).bytes) }
-    ensures stray { D.honest disk.old → OnOk result (HasNoneStray ring.now.geometry (D.medium disk.new).bytes) }
-    ensures settled { D.honest disk.old → OnOk result (IsSettled (D.medium disk.new)) }
-    ensures counted { CountedAny (D.faults disk.old) (D.faults disk.new) result }
-    ensures kind { D.newest_fault disk.new ≡ newest_after (D.newest_fault disk.old) result }
-    ensures extent { D.extent disk.new ≡ D.extent disk.old }
-    ensures honest { D.honest disk.old ↔ D.honest disk.new }
+    requires settled { (D.medium disk.old).honest → IsSettled (D.medium disk.old) }
+    requires told { (D.medium disk.old).honest → IsTold ring.now.geometry table.now next (D.medium disk.old).bytes }
+    ensures moments { (D.medium disk.old).honest → LeavesOnly (D.medium disk.old) (D.medium disk.new) (ReadsAlike (D.medium disk.old).bytes) }
+    ensures heads { (D.medium disk.old).honest → OnOk result (table.now ≡ heads_of ring.now.geometry (D.medium disk.new).bytes) }
+    ensures stray { (D.medium disk.old).honest → OnOk result (HasNoneStray ring.now.geometry (D.medium disk.new).bytes) }
+    ensures settled { (D.medium disk.old).honest → OnOk result (IsSettled (D.medium disk.new)) }
+    ensures called { Called (D.medium disk.old) (D.medium disk.new) (failed_call result) }
 {
     let slots = u64::from(ring.geometry.slots);
     match table.find(next / slots) {
@@ -94,17 +88,14 @@ fn clear_newest<D: Disk, A: Allocator>(
 
 /// Finds the recording on a disk again, and makes the disk ready for a store.
 fn reopen<D: Disk, A: Allocator + Copy>(alloc: A, disk: &mut D) -> Result<Known<A>, StoreFault>
-    ensures size { IfOk result (λ known. D.extent disk.old ≡ disk_size known.ring.geometry) }
+    ensures size { IfOk result (λ known. (D.medium disk.old).size ≡ disk_size known.ring.geometry) }
     ensures fits { IfOk result (λ known. IsFitting known.ring.geometry known.table known.next) }
-    ensures ready { D.honest disk.old → Recovers result (λ known. IsReady known.ring.geometry known.table known.clips known.next (D.medium disk.old).bytes (D.medium disk.new))
+    ensures ready { (D.medium disk.old).honest → Recovers result (λ known. IsReady known.ring.geometry known.table known.clips known.next (D.medium disk.old).bytes (D.medium disk.new))
         (λ fault. reading (D.medium disk.old).bytes ≡ Err fault) }
-    ensures moments { D.honest disk.old → LeavesOnly (D.medium disk.old) (D.medium disk.new) (WasOrReadsAlike (D.medium disk.old)) }
-    ensures alike { D.honest disk.old → ReadsAlike (D.medium disk.old).bytes (D.medium disk.new).bytes }
-    ensures stays { D.honest disk.old → IfErr result (λ fault. is_disk fault ≡ false → Stays (D.medium disk.old) (D.medium disk.new)) }
-    ensures counted { CountedRecovery (D.faults disk.old) (D.faults disk.new) result }
-    ensures kind { D.newest_fault disk.new ≡ newest_told (D.newest_fault disk.old) result }
-    ensures extent { D.extent disk.new ≡ D.extent disk.old }
-    ensures honest { D.honest disk.old ↔ D.honest disk.new }
+    ensures moments { (D.medium disk.old).honest → LeavesOnly (D.medium disk.old) (D.medium disk.new) (WasOrReadsAlike (D.medium disk.old)) }
+    ensures alike { (D.medium disk.old).honest → ReadsAlike (D.medium disk.old).bytes (D.medium disk.new).bytes }
+    ensures stays { (D.medium disk.old).honest → IfErr result (λ fault. is_disk fault ≡ false → Stays (D.medium disk.old) (D.medium disk.new)) }
+    ensures called { Called (D.medium disk.old) (D.medium disk.new) (failed_in result) }
 {
     let found = reread(alloc, disk)?;
     let known = remember(alloc, found)?;
@@ -125,16 +116,13 @@ impl<D: Disk + Drop, A: Allocator + Copy> Store<D, A> {
     /// before the first write; `Disk` where a call failed. Each hands the disk back, and its image reads as before. So does
     /// each image that a stop within the call leaves, unless a stop before the call could have left it.
     pub fn open(alloc: A, disk: D) -> Result<Store<D, A>, OpenRefused<D>>
-        ensures opened { D.honest disk → IfOk result (λ store. IsOpened D.medium D.honest (D.medium disk).bytes store) }
+        ensures opened { (D.medium disk).honest → IfOk result (λ store. IsOpened D.medium (D.medium disk).bytes store) }
         ensures fine { IfOk result (λ store. store.must_reopen ≡ false) }
-        ensures refused { D.honest disk → IfErr result (λ refused. IsRefusedOpen (D.medium disk).bytes refused.fault) }
-        ensures alike { D.honest disk → ReadsAlike (D.medium disk).bytes (D.medium (disk_after result)).bytes }
-        ensures stays { D.honest disk → IfErr result (λ refused. is_disk refused.fault ≡ false → Stays (D.medium disk) (D.medium refused.disk)) }
-        ensures moments { D.honest disk → LeavesOnly (D.medium disk) (D.medium (disk_after result)) (WasOrReadsAlike (D.medium disk)) }
-        ensures counted { D.faults (disk_after result) ≡ faults_after (is_refused_disk result) (D.faults disk) }
-        ensures kind { D.newest_fault (disk_after result) ≡ newest_opened (D.newest_fault disk) result }
-        ensures extent { D.extent (disk_after result) ≡ D.extent disk }
-        ensures honest { D.honest disk ↔ D.honest (disk_after result) }
+        ensures refused { (D.medium disk).honest → IfErr result (λ refused. IsRefusedOpen (D.medium disk).bytes refused.fault) }
+        ensures alike { (D.medium disk).honest → ReadsAlike (D.medium disk).bytes (D.medium (disk_after result)).bytes }
+        ensures stays { (D.medium disk).honest → IfErr result (λ refused. is_disk refused.fault ≡ false → Stays (D.medium disk) (D.medium refused.disk)) }
+        ensures moments { (D.medium disk).honest → LeavesOnly (D.medium disk) (D.medium (disk_after result)) (WasOrReadsAlike (D.medium disk)) }
+        ensures called { Called (D.medium disk) (D.medium (disk_after result)) (failed_opening result) }
     {
         let mut disk = disk;
         match reopen(alloc, &mut disk) {

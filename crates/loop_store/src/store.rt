@@ -1,13 +1,13 @@
 //! A store: a disk that holds a recording, and what is known of it in memory.
 
 ghost use Rattle.std.specs.Prelude.{◌≡◌, ◌≢◌, ◌+◌, ◌-◌, ◌%◌, ◌/◌, ◌<◌, ◌≤◌, ◌↔◌, ◌⊎◌, ◌||◌, All, Err, IfErr, IfOk, IsTrue, OnOk, Some, List, length, map, slice_set, false, true};
-ghost use Rattle.loop_disk.specs.Calls.{Stays};
+ghost use Rattle.loop_disk.specs.Calls.{Called, Stays};
 ghost use Rattle.loop_disk.specs.Medium.{LeavesOnly};
 ghost use Rattle.loop_record.specs.declared.segment.SegmentHead.{SegmentHead};
 ghost use Rattle.loop_record.specs.Geometry.{frame_bytes, is_good};
 ghost use Rattle.loop_record.specs.Plain.{pictures};
 ghost use Rattle.loop_record.specs.Recording.{Recording, frame_under, holds, last_number, plain, ring_of, room, steps};
-ghost use Rattle.loop_store.specs.Faults.{answers_disk, faults_after, newest_told};
+ghost use Rattle.loop_store.specs.Faults.{answers_disk, failed_in};
 ghost use Rattle.loop_store.specs.Held.{HoldsSome};
 ghost use Rattle.loop_store.specs.Places.{AnswersPlace, IsKnown, IsRefusedPlace, head_after, segment_of};
 ghost use Rattle.loop_store.specs.Runs.{AnswersAppend};
@@ -41,7 +41,7 @@ impl<D: Disk + Drop, A: Allocator> Model for Store<D, A> {
 
     ghost view = { λ s. record { disk = s.disk; geometry = s.ring.geometry; next = s.next; heads = s.table; clips = s.clips; must_reopen = s.must_reopen } };
 
-    ghost invariant = { λ s. IsKept D.extent D.medium D.honest s.ring.geometry s.disk s.next s.table s.clips s.must_reopen };
+    ghost invariant = { λ s. IsKept D.medium s.ring.geometry s.disk s.next s.table s.clips s.must_reopen };
 }
 
 /// No frame has this number or one above it.
@@ -97,7 +97,7 @@ impl<D: Disk + Drop, A: Allocator> Store<D, A> {
     /// How many frames an append may store at most: as many as the block of the next number still takes.
     pub fn room(&self) -> u32
         ensures room { result ≡ self.now.geometry.slots - self.now.next % self.now.geometry.slots }
-        ensures recording { (r : Recording) → StandsFor D.medium D.honest self.now r → D.honest self.now.disk → result ≡ room (ring_of self.now.geometry) r }
+        ensures recording { (r : Recording) → StandsFor D.medium self.now r → (D.medium self.now.disk).honest → result ≡ room (ring_of self.now.geometry) r }
     {
         let slots = self.ring.geometry.slots;
         slots - (self.next % u64::from(slots)) as u32
@@ -105,7 +105,7 @@ impl<D: Disk + Drop, A: Allocator> Store<D, A> {
 
     /// Whether a frame has this number.
     pub fn holds(&self, number: u64) -> bool
-        ensures { (r : Recording) → StandsFor D.medium D.honest self.now r → D.honest self.now.disk → result ≡ holds r number }
+        ensures { (r : Recording) → StandsFor D.medium self.now r → (D.medium self.now.disk).honest → result ≡ holds r number }
     {
         self.table.holds(self.ring.geometry.slots, number)
     }
@@ -135,8 +135,8 @@ impl<D: Disk + Drop, A: Allocator> Store<D, A> {
         ensures fine { IfOk result (λ _. self.now.must_reopen ≡ false) }
         ensures unspent { IfOk result (λ _. self.now.next ≢ last_number (ring_of self.now.geometry)) }
         ensures spent { self.now.must_reopen ≡ false → (result ≡ Err StoreFault.NumbersSpent) ↔ (self.now.next ≡ last_number (ring_of self.now.geometry)) }
-        ensures known { D.honest self.now.disk → IfOk result (λ place. IsKnown self.now.geometry self.now.next place (D.medium self.now.disk).bytes) }
-        ensures answers { (r : Recording) → StandsFor D.medium D.honest self.now r → D.honest self.now.disk → AnswersPlace self.now.geometry r self.now.must_reopen result }
+        ensures known { (D.medium self.now.disk).honest → IfOk result (λ place. IsKnown self.now.geometry self.now.next place (D.medium self.now.disk).bytes) }
+        ensures answers { (r : Recording) → StandsFor D.medium self.now r → (D.medium self.now.disk).honest → AnswersPlace self.now.geometry r self.now.must_reopen result }
     {
         if self.must_reopen {
             return Err(StoreFault::MustReopen);
@@ -166,20 +166,17 @@ impl<D: Disk + Drop, A: Allocator> Store<D, A> {
         requires few { length frames.now ≤ 8 }
         requires room { self.old.next % self.old.geometry.slots + length frames.now ≤ self.old.geometry.slots }
         requires sizes { All (λ frame. length frame.bytes.items ≡ frame_bytes self.old.geometry) frames.now }
-        ensures answers { (r : Recording) → StandsFor D.medium D.honest self.old r → D.honest self.old.disk → AnswersAppend self.old.geometry r self.old.must_reopen (pictures frames.now) result }
+        ensures answers { (r : Recording) → StandsFor D.medium self.old r → (D.medium self.old.disk).honest → AnswersAppend self.old.geometry r self.old.must_reopen (pictures frames.now) result }
         ensures number { IfOk result (λ number. (number ≡ self.old.next) × (self.new.next ≡ self.old.next + length frames.now)) }
         ensures must_reopen { (result ≡ Err StoreFault.MustReopen) ↔ IsTrue self.old.must_reopen }
         ensures spent { self.old.must_reopen ≡ false → (result ≡ Err StoreFault.NumbersSpent) ↔ (self.old.next ≡ last_number (ring_of self.old.geometry)) }
         ensures refusals { IfErr result IsRefusedAppend }
-        ensures moments { (r : Recording) → StandsFor D.medium D.honest self.old r → self.old.must_reopen ≡ false → D.honest self.old.disk
+        ensures moments { (r : Recording) → StandsFor D.medium self.old r → self.old.must_reopen ≡ false → (D.medium self.old.disk).honest
             → LeavesOnly (D.medium self.old.disk) (D.medium self.new.disk) (HoldsSome self.old.geometry r (steps_or_none (steps (ring_of self.old.geometry) r (pictures frames.now)))) }
-        ensures stored { (r : Recording) → StandsFor D.medium D.honest self.old r
-            → OnOk result (StandsFor D.medium D.honest self.new (plain (ring_of self.old.geometry) r (steps_or_none (steps (ring_of self.old.geometry) r (pictures frames.now))))) }
+        ensures stored { (r : Recording) → StandsFor D.medium self.old r
+            → OnOk result (StandsFor D.medium self.new (plain (ring_of self.old.geometry) r (steps_or_none (steps (ring_of self.old.geometry) r (pictures frames.now))))) }
         ensures refused { Refused self.old self.new result }
-        ensures counted { D.faults self.new.disk ≡ faults_after (answers_disk result) (D.faults self.old.disk) }
-        ensures kind { D.newest_fault self.new.disk ≡ newest_told (D.newest_fault self.old.disk) result }
-        ensures extent { D.extent self.new.disk ≡ D.extent self.old.disk }
-        ensures honest { D.honest self.old.disk ↔ D.honest self.new.disk }
+        ensures called { Called (D.medium self.old.disk) (D.medium self.new.disk) (failed_in result) }
         ensures failed { self.new.must_reopen ≡ (self.old.must_reopen || answers_disk result) }
         ensures geometry { self.new.geometry ≡ self.old.geometry }
     {
@@ -214,15 +211,12 @@ impl<D: Disk + Drop, A: Allocator> Store<D, A> {
     pub fn read(&mut self, number: u64, out: &mut [u8]) -> Result<FrameHead, StoreFault>
         requires size { length out.old ≡ frame_bytes self.old.geometry }
         ensures must_reopen { (result ≡ Err StoreFault.MustReopen) ↔ IsTrue self.old.must_reopen }
-        ensures not_held { (r : Recording) → StandsFor D.medium D.honest self.old r → self.old.must_reopen ≡ false → D.honest self.old.disk → (result ≡ Err StoreFault.NotHeld) ↔ (holds r number ≡ false) }
-        ensures frame { (r : Recording) → StandsFor D.medium D.honest self.old r → self.old.must_reopen ≡ false → D.honest self.old.disk → AnswersFrame number (frame_under r.frames number) result out.new }
+        ensures not_held { (r : Recording) → StandsFor D.medium self.old r → self.old.must_reopen ≡ false → (D.medium self.old.disk).honest → (result ≡ Err StoreFault.NotHeld) ↔ (holds r number ≡ false) }
+        ensures frame { (r : Recording) → StandsFor D.medium self.old r → self.old.must_reopen ≡ false → (D.medium self.old.disk).honest → AnswersFrame number (frame_under r.frames number) result out.new }
         ensures refusals { IfErr result IsRefusedRead }
-        ensures stands { (r : Recording) → StandsFor D.medium D.honest self.old r → StandsFor D.medium D.honest self.new r }
-        ensures stays { D.honest self.old.disk → Stays (D.medium self.old.disk) (D.medium self.new.disk) }
-        ensures counted { D.faults self.new.disk ≡ faults_after (answers_disk result) (D.faults self.old.disk) }
-        ensures kind { D.newest_fault self.new.disk ≡ newest_told (D.newest_fault self.old.disk) result }
-        ensures extent { D.extent self.new.disk ≡ D.extent self.old.disk }
-        ensures honest { D.honest self.old.disk ↔ D.honest self.new.disk }
+        ensures stands { (r : Recording) → StandsFor D.medium self.old r → StandsFor D.medium self.new r }
+        ensures stays { (D.medium self.old.disk).honest → Stays (D.medium self.old.disk) (D.medium self.new.disk) }
+        ensures called { Called (D.medium self.old.disk) (D.medium self.new.disk) (failed_in result) }
         ensures same { TellsTheSame self.old self.new }
     {
         if self.must_reopen {
@@ -238,7 +232,7 @@ impl<D: Disk + Drop, A: Allocator> Store<D, A> {
     /// The numbers of the held frames, which rise. `MustReopen` where a call that writes has failed; otherwise `NoMemory`.
     pub fn frames<B: Allocator + Copy>(&self, alloc: B) -> Result<Vec<u64, B>, StoreFault>
         ensures must_reopen { (result ≡ Err StoreFault.MustReopen) ↔ IsTrue self.now.must_reopen }
-        ensures numbers { (r : Recording) → StandsFor D.medium D.honest self.now r → D.honest self.now.disk → IfOk result (λ numbers. numbers.items ≡ map (λ f. f.0) r.frames) }
+        ensures numbers { (r : Recording) → StandsFor D.medium self.now r → (D.medium self.now.disk).honest → IfOk result (λ numbers. numbers.items ≡ map (λ f. f.0) r.frames) }
         ensures refusals { IfErr result (λ fault. (fault ≡ StoreFault.MustReopen) ⊎ (fault ≡ StoreFault.NoMemory)) }
     {
         if self.must_reopen {

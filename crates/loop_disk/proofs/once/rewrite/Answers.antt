@@ -1,12 +1,13 @@
-use Rattle.std.proofs.Common.{◌+◌, ◌≤◌, ◌∙◌, length, take, Ok, arith}
+use Rattle.std.proofs.Common.{◌+◌, ◌≤◌, length, take, None, Ok, arith}
 use Rattle.std.proofs.lemmas.List.{length-take}
+use Rattle.loop_disk.proofs.Moments.{called_on}
 use Rattle.loop_disk.proofs.Tearing.{tears_same, tears_then, tears_within, tears_failed}
 use Rattle.loop_disk.proofs.once.rewrite.Goals as goal
 
 pub returns-in_err-rewrite_chunk-clause-disk : goal.returns-in_err-rewrite_chunk-clause-disk
 returns-in_err-rewrite_chunk-clause-disk g c = λ honest.
     let here = c.loop-done.invariant in
-    let failed = c.rewrite_chunk.ensures.disk (here.honest.0 honest) in
+    let failed = c.rewrite_chunk.ensures.disk (here.called.honest.0 honest) in
     let ends : c.args.at + c.loop-done.done + length (take c.min-step.result c.loop-done.chunk) ≤ c.args.at + c.args.count = omega (arith, length-take c.min-step.result c.loop-done.chunk) in
     tears_failed c.args.at c.args.count _ _ _ _ c.rewrite_chunk.result c.from_residual.result c.from_residual.ensures.0
     (tears_then c.args.at c.args.count _ _ _ _ _ tt c.rewrite_chunk.result (here.tears honest)
@@ -18,10 +19,8 @@ loop-done-preserved g c =
     let ends : c.args.at + c.loop-done.done + length (take c.min-step.result c.loop-done.chunk) ≤ c.args.at + c.args.count = omega (arith, length-take c.min-step.result c.loop-done.chunk) in record {
       within = omega arith;
       size = here.size;
-      extent = c.rewrite_chunk.ensures.extent ∙ here.extent;
-      counted = c.in_ok-rewrite_chunk.ensures.counted ∙ here.counted;
-      honest = (λ honest. c.rewrite_chunk.ensures.honest.0 (here.honest.0 honest), λ honest. here.honest.1 (c.rewrite_chunk.ensures.honest.1 honest));
+      called = called_on _ _ _ None here.called c.in_ok-rewrite_chunk.ensures.called;
       tears = λ honest. tears_same c.args.at c.args.count _ _ _ _ (Ok tt) (here.tears honest).done
           (tears_then c.args.at c.args.count _ _ _ _ _ tt (Ok tt) (here.tears honest)
-          (tears_within (c.args.at + c.loop-done.done) _ c.args.at c.args.count _ _ _ (Ok tt) (omega arith) ends (c.in_ok-rewrite_chunk.ensures.disk (here.honest.0 honest))));
+          (tears_within (c.args.at + c.loop-done.done) _ c.args.at c.args.count _ _ _ (Ok tt) (omega arith) ends (c.in_ok-rewrite_chunk.ensures.disk (here.called.honest.0 honest))));
     }

@@ -1,15 +1,14 @@
-use Rattle.std.proofs.Common.{◌≡◌, ◌≤◌, ◌-◌, ◌↔◌, Ok}
+use Rattle.std.proofs.Common.{◌≡◌, ◌≤◌, ◌-◌, None, Ok}
+use Rattle.loop_disk.specs.Calls.{Called}
 use Rattle.loop_disk.specs.Failing.{Tears}
 use Rattle.loop_disk.proofs.once.rewrite.Given as goal
 
 abbrev pub invariant-loop-done : goal.invariant-loop-done
 invariant-loop-done g l = record {
   within : l.done ≤ l.count;
-  size : l._size ≡ g.D.Disk.extent l.fn.disk;
-  extent : g.D.Disk.extent l.disk ≡ g.D.Disk.extent l.fn.disk;
-  counted : g.D.Disk.faults l.disk ≡ g.D.Disk.faults l.fn.disk;
-  honest : g.D.Disk.honest l.fn.disk ↔ g.D.Disk.honest l.disk;
-  tears : g.D.Disk.honest l.fn.disk → Tears {T = Unit {0}} l.at l.count (g.D.Disk.medium l.fn.disk).bytes (g.D.Disk.medium l.fn.disk) (g.D.Disk.medium l.disk) (Ok tt);
+  size : l._size ≡ (g.D.Disk.medium l.fn.disk).size;
+  called : Called (g.D.Disk.medium l.fn.disk) (g.D.Disk.medium l.disk) None;
+  tears : (g.D.Disk.medium l.fn.disk).honest → Tears {T = Unit {0}} l.at l.count (g.D.Disk.medium l.fn.disk).bytes (g.D.Disk.medium l.fn.disk) (g.D.Disk.medium l.disk) (Ok tt);
 }
 
 abbrev pub decreases-loop-done : goal.decreases-loop-done

@@ -12,9 +12,9 @@ returns-then-not-has_open-clause-closed g c = λ honest i low high.
 
 pub returns-clause-closed : goal.returns-clause-closed
 returns-clause-closed g c = λ honest.
-    let later = c.in_ok-read.ensures.honest.0 honest in
+    let later = c.in_ok-read.ensures.called.honest.0 honest in
     let size = (g.met.D.Disk.sound c.read.new.self later).length_is in
-    on_ok_weaker c.store.result (λ e. closed_written c.args.at c.args.count (g.D.Disk.medium c.read.new.self).bytes _ c.requires.few (omega (arith, size, c.in_ok-read.ensures.extent, c.requires.inside)) e) (c.store.ensures.disk later).done
+    on_ok_weaker c.store.result (λ e. closed_written c.args.at c.args.count (g.D.Disk.medium c.read.new.self).bytes _ c.requires.few (omega (arith, size, c.in_ok-read.ensures.called.size, c.requires.inside)) e) (c.store.ensures.disk later).done
 
 pub returns-clause-quiet : goal.returns-clause-quiet
 returns-clause-quiet g c = λ honest closed.

@@ -1,6 +1,7 @@
-use Rattle.std.proofs.Common.{sym, subst, ◌∙◌, arith}
+use Rattle.std.proofs.Common.{None, sym, subst, ◌∙◌, arith}
 use Rattle.std.specs.List.{All}
 use Rattle.std.proofs.lemmas.List.Elements.{All-push}
+use Rattle.loop_disk.proofs.Moments.{called_on}
 use Rattle.loop_ring.proofs.SlotReads.{stays_on}
 use Rattle.loop_store.specs.Recovered.{IsHeadIn}
 use Rattle.loop_store.proofs.RecoveredParts.{recovers-on, heads-more, heads-wrong}
@@ -12,7 +13,7 @@ returns-in_err-head-clause-heads g c = λ honest.
     let here = c.loop-segment.invariant in
     recovers-on _ c.in_err-head.field-0.0 _ _ _ _
     (λ fault q. (q.0, heads-wrong h (g.D.Disk.medium c.args.disk.now).bytes (g.D.Disk.medium c.loop-segment.disk).bytes c.loop-segment.segment (omega arith) (here.stays honest).bytes q.1))
-    c.from_residual-in_err-head.ensures.1 (c.in_err-head.ensures.head (here.honest.0 honest))
+    c.from_residual-in_err-head.ensures.1 (c.in_err-head.ensures.head (here.called.honest.0 honest))
 
 pub loop-segment-preserved : goal.loop-segment-preserved
 loop-segment-preserved g c =
@@ -21,11 +22,8 @@ loop-segment-preserved g c =
       count = omega (arith, here.count, c.push_reserved.ensures.len);
       capacity = omega (arith, here.capacity, c.push_reserved.ensures.capacity);
       within = subst (All (IsHeadIn h)) (sym c.push_reserved.ensures.items) (All-push (IsHeadIn h) c.loop-segment.heads.items c.in_ok-head.head here.within c.in_ok-head.ensures.within);
-      extent = c.read_head.ensures.extent ∙ here.extent;
-      counted = c.in_ok-head.ensures.counted ∙ here.counted;
-      kind = c.in_ok-head.ensures.kind ∙ here.kind;
-      honest = (λ honest. c.read_head.ensures.honest.0 (here.honest.0 honest), λ honest. here.honest.1 (c.read_head.ensures.honest.1 honest));
-      stays = λ honest. stays_on _ _ _ (here.stays honest) (c.in_ok-head.ensures.disk (here.honest.0 honest));
+      called = called_on _ _ _ None here.called c.in_ok-head.ensures.called;
+      stays = λ honest. stays_on _ _ _ (here.stays honest) (c.in_ok-head.ensures.disk (here.called.honest.0 honest));
       heads = λ honest. heads-more h (g.D.Disk.medium c.args.disk.now).bytes (g.D.Disk.medium c.loop-segment.disk).bytes c.loop-segment.segment c.in_ok-head.head c.loop-segment.heads.items c.push_reserved.new.self.items
-          (here.stays honest).bytes (c.in_ok-head.ensures.head (here.honest.0 honest)) (here.heads honest) c.push_reserved.ensures.items;
+          (here.stays honest).bytes (c.in_ok-head.ensures.head (here.called.honest.0 honest)) (here.heads honest) c.push_reserved.ensures.items;
     }

@@ -1,7 +1,7 @@
-use Rattle.std.proofs.Common.{◌≡◌, ◌↔◌, length, map}
+use Rattle.std.proofs.Common.{◌≡◌, None, length, map}
 use Rattle.std.specs.Prelude.{vec_capacity}
 use Rattle.std.specs.List.{All, range_with_len}
-use Rattle.loop_disk.specs.Calls.{Stays}
+use Rattle.loop_disk.specs.Calls.{Called, Stays}
 use Rattle.loop_record.specs.Geometry.{segment_at}
 use Rattle.loop_record.specs.Layout.{header_at}
 use Rattle.loop_store.specs.Recovered.{IsHeadIn}
@@ -12,10 +12,7 @@ invariant-loop-segment g l = record {
   count : length l.heads.items ≡ l.segment;
   capacity : vec_capacity l.heads ≡ l.geometry.segments;
   within : All (IsHeadIn l.geometry) l.heads.items;
-  extent : g.D.Disk.extent l.disk ≡ g.D.Disk.extent l.fn.disk;
-  counted : g.D.Disk.faults l.disk ≡ g.D.Disk.faults l.fn.disk;
-  kind : g.D.Disk.newest_fault l.disk ≡ g.D.Disk.newest_fault l.fn.disk;
-  honest : g.D.Disk.honest l.fn.disk ↔ g.D.Disk.honest l.disk;
-  stays : g.D.Disk.honest l.fn.disk → Stays (g.D.Disk.medium l.fn.disk) (g.D.Disk.medium l.disk);
-  heads : g.D.Disk.honest l.fn.disk → l.heads.items ≡ map (λ j. header_at l.geometry (g.D.Disk.medium l.fn.disk).bytes (segment_at l.geometry j)) (range_with_len 0 l.segment);
+  called : Called (g.D.Disk.medium l.fn.disk) (g.D.Disk.medium l.disk) None;
+  stays : (g.D.Disk.medium l.fn.disk).honest → Stays (g.D.Disk.medium l.fn.disk) (g.D.Disk.medium l.disk);
+  heads : (g.D.Disk.medium l.fn.disk).honest → l.heads.items ≡ map (λ j. header_at l.geometry (g.D.Disk.medium l.fn.disk).bytes (segment_at l.geometry j)) (range_with_len 0 l.segment);
 }

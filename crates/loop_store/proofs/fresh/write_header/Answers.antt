@@ -7,7 +7,7 @@ pub write_at-requires : goal.write_at-requires
 write_at-requires g c = omega (arith, c.segment_at.ensures, c.requires.extent, apart c.args.geometry.now c.args.segment c.args.geometry.now.segments c.requires.segment)
 
 pub returns-clause-moments : goal.returns-clause-moments
-returns-clause-moments g c = λ honest. writing-closed _ _ _ _ _ c.write_at.result (omega (arith, c.segment_at.ensures)) (g.met.D.Disk.sound c.args.disk.now honest) (c.requires.closed honest) (c.write_at.ensures.disk honest)
+returns-clause-moments g c = λ honest. writing-closed _ _ _ _ c.write_at.result (omega (arith, c.segment_at.ensures)) (g.met.D.Disk.sound c.args.disk.now honest) (c.requires.closed honest) (c.write_at.ensures.disk honest)
 
 pub returns-clause-laid : goal.returns-clause-laid
 returns-clause-laid g c = λ honest. header-laid c.args.geometry.now _ c.args.segment _ _ c.write_at.result c.segment_at.ensures c.requires.segment (c.requires.laid honest) (c.write_at.ensures.disk honest)

@@ -19,11 +19,11 @@ returns-clause-moments g c = λ r is honest held.
     let h = c.args.ring.now.geometry in
     let before = steps_before h r in
     steps-joined h r before (store (picture c.args.frame.now) ∷ []) _ _ _ (c.make_room.ensures.moments r is honest held)
-    (c.store_one.ensures.moments (plain (ring_of h) r before) (before-next h r ∙ is) (c.make_room.ensures.honest.0 honest) (c.in_ok-make_room.ensures.held r is honest held))
+    (c.store_one.ensures.moments (plain (ring_of h) r before) (before-next h r ∙ is) (c.make_room.ensures.called.honest.0 honest) (c.in_ok-make_room.ensures.held r is honest held))
 
 pub returns-clause-stored : goal.returns-clause-stored
 returns-clause-stored g c = λ r is honest held.
-    let now = c.make_room.ensures.honest.0 honest in
+    let now = c.make_room.ensures.called.honest.0 honest in
     let before = steps_before c.args.ring.now.geometry r in
     let mid = c.in_ok-make_room.ensures.held r is honest held in
     subst (λ (q : Recording). OnOk c.store_one.result (Holds c.args.ring.now.geometry q (g.D.Disk.medium c.store_one.new.disk).bytes)) (sym (plain-append (ring_of c.args.ring.now.geometry) r before ((store (picture c.args.frame.now) ∷ []))))
@@ -31,7 +31,7 @@ returns-clause-stored g c = λ r is honest held.
 
 pub returns-clause-grown : goal.returns-clause-grown
 returns-clause-grown g c = λ honest.
-    let now = c.make_room.ensures.honest.0 honest in
+    let now = c.make_room.ensures.called.honest.0 honest in
     both_ok c.store_one.result (λ shows stray.
     grown-place c.args.ring.now.geometry c.args.next 1 c.segment.result c.args.place (picture c.args.frame.now ∷ []) _ _ _ (limits c.args.ring.now.geometry c.args.ring.now.good).slots.1 c.segment.ensures c.requires.segment refl (c.in_ok-make_room.ensures.begun honest) shows stray)
     (c.store_one.ensures.committed now) (c.store_one.ensures.stray now)

@@ -10,7 +10,7 @@ use Rattle.loop_store.proofs.Answered.{both_ok}
 use Rattle.loop_store.proofs.grow.make_room.Goals as goal
 
 pub returns-in-Newest-clause-moments : goal.returns-in-Newest-clause-moments
-returns-in-Newest-clause-moments g c = λ r is honest held. unmoved-some _ _ c.args.ring.now.geometry r _ (g.met.D.Disk.sound c.args.disk.now honest) (c.requires.settled honest) held
+returns-in-Newest-clause-moments g c = λ r is honest held. unmoved-some _ c.args.ring.now.geometry r _ (g.met.D.Disk.sound c.args.disk.now honest) (c.requires.settled honest) held
 
 pub returns-in-Newest-clause-held : goal.returns-in-Newest-clause-held
 returns-in-Newest-clause-held g c = λ r is honest held.

@@ -66,7 +66,7 @@ returns-in_err-check_slots-clause-recovered g c = λ honest.
       same = c.as_slice-open.ensures.value;
     } in
     let all : AreFull h image fs xs = full h image fs xs c.repeats.result c.lacks_frame.result found (c.repeats.ensures h image) c.if-repeats.false (c.lacks_frame.ensures image) c.if-lacks_frame.false in
-    let second = c.read_heads.ensures.honest.0 honest in
+    let second = c.read_heads.ensures.called.honest.0 honest in
     recovers-on _ c.in_err-check_slots.field-0.0 _ _ _ _ (λ fault q. refused-slot h image _ fs xs fault all first.bytes q) c.from_residual-in_err-check_slots.ensures.1 (c.in_err-check_slots.ensures.slots second)
 
 pub returns-in_err-clips-clause-recovered : goal.returns-in_err-clips-clause-recovered
@@ -85,9 +85,9 @@ returns-in_err-clips-clause-recovered g c = λ honest.
       same = c.as_slice-open.ensures.value;
     } in
     let all : AreFull h image fs xs = full h image fs xs c.repeats.result c.lacks_frame.result found (c.repeats.ensures h image) c.if-repeats.false (c.lacks_frame.ensures image) c.if-lacks_frame.false in
-    let second = c.read_heads.ensures.honest.0 honest in
+    let second = c.read_heads.ensures.called.honest.0 honest in
     let checked = c.in_ok-check_slots.ensures.disk second in
-    let third = c.check_slots.ensures.honest.0 second in
+    let third = c.check_slots.ensures.called.honest.0 second in
     recovers-on _ c.in_err-clips.field-0.0 _ _ _ _ (λ fault q. refused-clip h image _ _ fs xs fault all first.bytes (c.in_ok-check_slots.ensures.slots second) (checked.bytes ∙ first.bytes) q) c.from_residual-in_err-clips.ensures.1 (c.in_err-clips.ensures.clips third)
 
 pub returns-clause-recovered : goal.returns-clause-recovered
@@ -106,15 +106,15 @@ returns-clause-recovered g c = λ honest.
       same = c.as_slice-open.ensures.value;
     } in
     let all : AreFull h image fs xs = full h image fs xs c.repeats.result c.lacks_frame.result found (c.repeats.ensures h image) c.if-repeats.false (c.lacks_frame.ensures image) c.if-lacks_frame.false in
-    let second = c.read_heads.ensures.honest.0 honest in
+    let second = c.read_heads.ensures.called.honest.0 honest in
     let checked = c.in_ok-check_slots.ensures.disk second in
-    let third = c.check_slots.ensures.honest.0 second in
+    let third = c.check_slots.ensures.called.honest.0 second in
     recovered h image _ _ fs xs c.in_ok-heads.heads.items c.in_ok-clips.clips c.next_after-next.result all first.bytes (c.in_ok-check_slots.ensures.slots second) (checked.bytes ∙ first.bytes) (c.in_ok-clips.ensures.clips third) (c.next_after-next.ensures image) (c.in_ok-heads.ensures.heads honest)
 
 pub returns-clause-disk : goal.returns-clause-disk
 returns-clause-disk g c = λ honest.
-    let second = c.read_heads.ensures.honest.0 honest in
-    stays_on _ _ _ (stays_on _ _ _ (c.in_ok-heads.ensures.disk honest) (c.in_ok-check_slots.ensures.disk second)) (c.in_ok-clips.ensures.disk (c.check_slots.ensures.honest.0 second))
+    let second = c.read_heads.ensures.called.honest.0 honest in
+    stays_on _ _ _ (stays_on _ _ _ (c.in_ok-heads.ensures.disk honest) (c.in_ok-check_slots.ensures.disk second)) (c.in_ok-clips.ensures.disk (c.check_slots.ensures.called.honest.0 second))
 
 pub returns-clause-fits : goal.returns-clause-fits
 returns-clause-fits g c =

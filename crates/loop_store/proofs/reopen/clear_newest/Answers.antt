@@ -43,7 +43,7 @@ returns-in-Some-clause-stray g c = λ honest.
 pub returns-in-None-clause-moments : goal.returns-in-None-clause-moments
 returns-in-None-clause-moments g c = λ honest.
     let m = g.D.Disk.medium c.args.disk.now in
-    started (g.D.Disk.extent c.args.disk.now) m (ReadsAlike m.bytes) (g.met.D.Disk.sound c.args.disk.now honest) (λ image left. ap reading (c.requires.settled honest image left))
+    started m (ReadsAlike m.bytes) (g.met.D.Disk.sound c.args.disk.now honest) (λ image left. ap reading (c.requires.settled honest image left))
 
 pub returns-in-None-clause-stray : goal.returns-in-None-clause-stray
 returns-in-None-clause-stray g c = λ honest.

@@ -17,7 +17,7 @@ pub returns-then-first-self-clause-moments : goal.returns-then-first-self-clause
 returns-then-first-self-clause-moments g c = λ honest.
     let geometry = c.args.self.now.geometry in
     let old = g.D.Disk.medium c.args.disk.now in
-    started _ old _ (g.met.D.Disk.sound c.args.disk.now honest) (λ image left. subst (ShowsSegment geometry c.args.segment (segment_in geometry old.bytes c.args.segment) old.bytes) (sym (c.requires.settled honest image left)) (unchanged geometry c.args.segment old.bytes))
+    started old _ (g.met.D.Disk.sound c.args.disk.now honest) (λ image left. subst (ShowsSegment geometry c.args.segment (segment_in geometry old.bytes c.args.segment) old.bytes) (sym (c.requires.settled honest image left)) (unchanged geometry c.args.segment old.bytes))
 
 pub returns-then-first-self-clause-stray : goal.returns-then-first-self-clause-stray
 returns-then-first-self-clause-stray g c = λ honest.

@@ -13,7 +13,7 @@ overflow_add-at g c =
 pub read-requires-2 : goal.read-requires-2
 read-requires-2 g c =
     let geometry = c.args.self.now.geometry in
-    omega (arith, c.slot_at-at.ensures, c.in_ok-read.ensures.extent, c.requires.extent, c.requires.size, slot_within geometry c.args.segment c.args.slot c.requires.slot, apart geometry c.args.segment geometry.segments c.requires.segment)
+    omega (arith, c.slot_at-at.ensures, c.in_ok-read.ensures.called.size, c.requires.extent, c.requires.size, slot_within geometry c.args.segment c.args.slot c.requires.slot, apart geometry c.args.segment geometry.segments c.requires.segment)
 
 pub returns-in_err-head-clause-head : goal.returns-in_err-head-clause-head
 returns-in_err-head-clause-head g c = λ honest.
@@ -27,8 +27,8 @@ returns-clause-head g c = λ honest.
 
 pub returns-clause-pixels : goal.returns-clause-pixels
 returns-clause-pixels g c = λ honest.
-    pixels_read c.args.self.now.geometry c.args.segment c.args.slot _ _ _ _ _ c.slot_at-at.ensures c.requires.size (c.in_ok-read.ensures.disk honest).bytes (c.in_ok-read-2.ensures.read (c.in_ok-read.ensures.honest.0 honest))
+    pixels_read c.args.self.now.geometry c.args.segment c.args.slot _ _ _ _ _ c.slot_at-at.ensures c.requires.size (c.in_ok-read.ensures.disk honest).bytes (c.in_ok-read-2.ensures.read (c.in_ok-read.ensures.called.honest.0 honest))
 
 pub returns-clause-disk : goal.returns-clause-disk
 returns-clause-disk g c = λ honest.
-    stays_on _ _ _ (c.in_ok-read.ensures.disk honest) (c.in_ok-read-2.ensures.disk (c.in_ok-read.ensures.honest.0 honest))
+    stays_on _ _ _ (c.in_ok-read.ensures.disk honest) (c.in_ok-read-2.ensures.disk (c.in_ok-read.ensures.called.honest.0 honest))

@@ -8,7 +8,7 @@ use Rattle.loop_store.proofs.store.Store.frames.Goals as goal
 
 pub returns-clause-numbers : goal.returns-clause-numbers
 returns-clause-numbers g c =
-    subst (λ (v : Seen g.row.D.Denot). (r : Recording) → StandsFor g.D.Disk.medium g.D.Disk.honest v r → g.D.Disk.honest v.disk → c.in_ok-numbers.numbers.items ≡ map (λ f. f.0) r.frames) c.self.view_is
+    subst (λ (v : Seen g.row.D.Denot). (r : Recording) → StandsFor g.D.Disk.medium v r → (g.D.Disk.medium v.disk).honest → c.in_ok-numbers.numbers.items ≡ map (λ f. f.0) r.frames) c.self.view_is
     (λ r stands honest.
     let h = c.self.inside.ring.geometry in
     let m = stands.remembered honest in

@@ -6,5 +6,5 @@ use Rattle.loop_store.proofs.store.Store.holds.Goals as goal
 
 pub returns : goal.returns
 returns g c =
-    subst (λ (v : Seen g.row.D.Denot). (r : Recording) → StandsFor g.D.Disk.medium g.D.Disk.honest v r → g.D.Disk.honest v.disk → c.holds.result ≡ holds r c.args.number) c.self.view_is
+    subst (λ (v : Seen g.row.D.Denot). (r : Recording) → StandsFor g.D.Disk.medium v r → (g.D.Disk.medium v.disk).honest → c.holds.result ≡ holds r c.args.number) c.self.view_is
     (λ r stands honest. held-by _ r c.holds.result c.args.number (stands.remembered honest) c.holds.ensures)

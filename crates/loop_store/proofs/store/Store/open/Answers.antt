@@ -3,14 +3,14 @@ use Rattle.loop_store.proofs.store.Store.open.Goals as goal
 
 pub invariant_of-result : goal.invariant_of-result
 invariant_of-result g c = record {
-  size = c.reopen.ensures.extent ∙ c.in-Ok.ensures.size;
+  size = c.reopen.ensures.called.size ∙ c.in-Ok.ensures.size;
   few = c.in-Ok.ensures.fits.few;
   count = c.in-Ok.ensures.fits.count;
   within = c.in-Ok.ensures.fits.within;
-  unstray = λ fine honest. (c.in-Ok.ensures.ready (c.reopen.ensures.honest.1 honest)).unstray;
-  settled = λ fine honest. (c.in-Ok.ensures.ready (c.reopen.ensures.honest.1 honest)).settled;
+  unstray = λ fine honest. (c.in-Ok.ensures.ready (c.reopen.ensures.called.honest.1 honest)).unstray;
+  settled = λ fine honest. (c.in-Ok.ensures.ready (c.reopen.ensures.called.honest.1 honest)).settled;
   recorded = λ fine honest.
-      let ready = c.in-Ok.ensures.ready (c.reopen.ensures.honest.1 honest) in record {
+      let ready = c.in-Ok.ensures.ready (c.reopen.ensures.called.honest.1 honest) in record {
         recording = ready.recording;
         held = ready.held;
         next_is = ready.next_is;

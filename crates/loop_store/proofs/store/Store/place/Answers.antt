@@ -9,14 +9,14 @@ use Rattle.loop_store.proofs.store.Store.place.Goals as goal
 pub returns-in-Some-clause-known : goal.returns-in-Some-clause-known
 returns-in-Some-clause-known g c =
     let s = c.self.inside in
-    subst (λ (v : Seen g.row.D.Denot). g.D.Disk.honest v.disk → IsKnown v.geometry v.next c.in-Some.place (g.D.Disk.medium v.disk).bytes) c.self.view_is
+    subst (λ (v : Seen g.row.D.Denot). (g.D.Disk.medium v.disk).honest → IsKnown v.geometry v.next c.in-Some.place (g.D.Disk.medium v.disk).bytes) c.self.view_is
     (λ honest. place-known s.ring.geometry s.table s.clips s.next (g.D.Disk.medium s.disk).bytes c.in-Some.place (c.self.invariant.recorded c.if-self.false honest) (c.self.invariant.unstray c.if-self.false honest)
     c.in-Some.ensures.place (λ e. c.if-self-last_number.false (e ∙ sym c.last_number.ensures)))
 
 pub returns-in-Some-clause-answers : goal.returns-in-Some-clause-answers
 returns-in-Some-clause-answers g c =
     let s = c.self.inside in
-    subst (λ (v : Seen g.row.D.Denot). (r : Recording) → StandsFor g.D.Disk.medium g.D.Disk.honest v r → g.D.Disk.honest v.disk
+    subst (λ (v : Seen g.row.D.Denot). (r : Recording) → StandsFor g.D.Disk.medium v r → (g.D.Disk.medium v.disk).honest
     → v.must_reopen ≡ false × ((r.next ≢ last_number (ring_of v.geometry)) × (recycling_first (needs_recycling (ring_of v.geometry) r) (victim (ring_of v.geometry) r) ≢ None))) c.self.view_is
     (λ r stands honest.
     let m = stands.remembered honest in
@@ -27,7 +27,7 @@ returns-in-Some-clause-answers g c =
 pub returns-in-None-clause-answers : goal.returns-in-None-clause-answers
 returns-in-None-clause-answers g c =
     let s = c.self.inside in
-    subst (λ (v : Seen g.row.D.Denot). (r : Recording) → StandsFor g.D.Disk.medium g.D.Disk.honest v r → g.D.Disk.honest v.disk → RefusesPlace v.geometry r v.must_reopen AllLocked) c.self.view_is
+    subst (λ (v : Seen g.row.D.Denot). (r : Recording) → StandsFor g.D.Disk.medium v r → (g.D.Disk.medium v.disk).honest → RefusesPlace v.geometry r v.must_reopen AllLocked) c.self.view_is
     (λ r stands honest.
     let m = stands.remembered honest in
     let unspent : s.next ≢ last_number (ring_of s.ring.geometry) = λ e. c.if-self-last_number.false (e ∙ sym c.last_number.ensures) in
