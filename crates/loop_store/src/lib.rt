@@ -16,10 +16,12 @@ mod fault;
 mod found;
 mod fresh;
 mod grow;
+mod index;
 pub mod laws;
 mod look;
 mod make;
 mod place;
+mod put;
 mod recover;
 mod reopen;
 mod store;
@@ -28,14 +30,3 @@ pub use command::{Command, ReadFrame, Reply};
 pub use fault::{OpenRefused, StoreFault};
 pub use make::format;
 pub use store::Store;
-
-#[cfg(test)]
-mod recover_tests;
-#[cfg(test)]
-mod ring_tests;
-#[cfg(test)]
-mod stop_tests;
-#[cfg(test)]
-mod tests;
-#[cfg(test)]
-mod tests_common;
