@@ -4,4 +4,3 @@ pub mod Steps
 pub mod History
 pub mod Sound
 pub mod Failing
-pub mod InTurn

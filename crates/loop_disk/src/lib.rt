@@ -24,6 +24,3 @@ pub use fuse::FuseDisk;
 pub use memory::MemDisk;
 pub use once::OnceDisk;
 pub use steps::{store, store_in_turn};
-
-#[cfg(test)]
-mod tests;
