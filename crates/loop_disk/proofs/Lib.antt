@@ -1,4 +1,5 @@
 pub mod Moments
 pub mod Images
-pub mod Entries
+pub mod Calls
+mod Nothing
 pub mod Tearing

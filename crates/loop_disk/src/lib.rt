@@ -9,12 +9,12 @@
 #![tactic(auto)]
 
 mod disk;
-mod entry;
 mod fault;
 mod file;
 mod fuse;
 mod memory;
 mod once;
+mod past;
 mod steps;
 
 pub use disk::Disk;

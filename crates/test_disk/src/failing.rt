@@ -124,19 +124,12 @@ fn a_torn_write_keeps_its_first_bytes(rt: HostRuntime) -> Result<(), Fail> {
         (9, *b"olNEWSld"),
     ] {
         let image = b"old..old".to_vec(rt.alloc())?;
-        let mut torn = OnceDisk::torn(MemDisk::of(rt.alloc(), image), 1, keep);
+        let mut torn = OnceDisk::torn(MemDisk::of(image), 1, keep);
         assert_eq!(rt; torn.sync(), Ok(()));
         assert_eq!(rt; torn.write_at(2, b"NEWS"), Err(DiskFault::Write));
         assert_eq!(rt; torn.failures, counted(&[DiskFault::Write]));
         let mut disk = torn.into_inner();
         assert_eq!(rt; disk.bytes(), want.as_slice(), "keep {keep}");
-        for at in 0..8u64 {
-            assert_eq!(rt;
-                disk.is_settled_at(at),
-                at < 2 || at >= 6,
-                "at {at}, keep {keep}"
-            );
-        }
         assert_eq!(rt; disk.write_at(0, b"whole"), Ok(()));
     }
     // A call that isn't a write isn't torn, and the next write is done.
@@ -153,7 +146,6 @@ fn a_torn_write_keeps_its_first_bytes(rt: HostRuntime) -> Result<(), Fail> {
             disk.bytes().get(at).copied(),
             Some(if (50..60).contains(&at) { 7 } else { 0 })
         );
-        assert_eq!(rt; disk.is_settled_at(at as u64), !(50..1150).contains(&at));
     }
     Ok(())
 }
