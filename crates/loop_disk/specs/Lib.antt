@@ -4,4 +4,6 @@ pub mod Steps
 pub mod History
 pub mod Behind
 pub mod Sound
+pub mod Crashing
+pub mod Replay
 pub mod Failing

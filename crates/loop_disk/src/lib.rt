@@ -8,6 +8,7 @@
 //! `specs/` has the definitions, `proofs/` the lemmas for callers: `Moments` joins runs of calls, `Images` has parts of images.
 #![tactic(auto)]
 
+mod crash;
 mod disk;
 mod fault;
 mod file;
@@ -17,6 +18,7 @@ mod once;
 mod past;
 mod steps;
 
+pub use crash::{CrashDisk, DeviceCall, Spoil};
 pub use disk::Disk;
 pub use fault::{DiskFault, Failures};
 pub use file::{FileDisk, FileFault};

@@ -1,13 +1,13 @@
 -- The walk of `after`: it makes a value of no bytes, whose data is what the clause says.
 use Rattle.std.proofs.Common.{[], ◌∷◌, refl}
-use types.Kit.{‵, raw, ◌⊛◌, ◌$◌, ◌∵◌, !, qed, move, keep, drop, split, join, fjoin, suffices, done}
+use types.Kit.{‵, raw, ◌⊛◌, ◌$◌, ◌∵◌, !, qed, move, keep, split, fjoin, suffices, done}
 use types.Part.{agg}
 use types.Run.{enter, returns, no_more}
 use types.ByLocal.{alloc_all, pass_all, free_all, look_at, sets}
 use contract.Running.{tables}
 use denote.Builtin.{RefOf}
 use denote.Exit.{yes}
-use denote.Ref.{shr_vals, shr_Tells}
+use denote.Ref.{shr_vals}
 use denote.RattleType.{owns}
 use denote.Signature.{Slot, plain, types_at, named_lft}
 use denote.Steps.{nothing}
