@@ -5,12 +5,14 @@
 //!
 //! - `make`: formats a disk; `fresh`: the writes of it;
 //! - `reopen`: finds the recording on a disk again; `recover` and `found`: what a disk's image reads as;
-//! - `store`: the store and its calls; `place`: where an append goes; `grow`: what it writes there; `look`: what is read;
+//! - `store`: the store and its calls; `index`: what it knows in memory; `put`: the append of a group, `place`: where it goes, `grow`: what it
+//!   writes there; `look`: what is read;
 //! - `command`: lists of commands, and the replies;
-//! - `laws`: what calls leave, one after the other;
+//! - `laws`: what calls leave, one after the other; `chain`: calls in a row, across a crash;
 //! - `fault`: the refusals, with their numbers and names.
 #![tactic(auto)]
 
+pub mod chain;
 mod command;
 mod fault;
 mod found;

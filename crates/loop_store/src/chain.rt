@@ -1,0 +1,63 @@
+//! Calls of a store in a row, across a crash: what these promise follows from the calls' own contracts alone.
+
+ghost use Rattle.std.specs.Prelude.{◌≡◌, ◌≤◌, All, IfOk, false, length, true};
+ghost use Rattle.loop_record.specs.Geometry.{frame_bytes};
+ghost use Rattle.loop_record.specs.Plain.{pictures};
+ghost use Rattle.loop_record.specs.Recording.{empty, holds, plain, ring_of};
+ghost use Rattle.loop_store.specs.Calls.{IsFrame, StoreState, asked};
+ghost use Rattle.loop_store.specs.Goes.{Stands};
+
+use crate::{OpenRefused, Store, StoreFault, format};
+use loop_disk::Disk;
+use loop_record::{Frame, FrameHead, Geometry};
+use std::alloc::Allocator;
+
+/// Formats a disk and appends a first group of frames: the store stands for the recording that has them.
+pub fn format_and_append<D: Disk + Drop, A: Allocator + Copy>(
+    alloc: A,
+    disk: D,
+    geometry: Geometry,
+    frames: &[Frame<A>],
+) -> Result<Store<D, A>, StoreFault>
+    requires some { 1 ≤ length frames.now }
+    requires few { length frames.now ≤ 8 }
+    requires room { length frames.now ≤ geometry.slots }
+    requires sizes { All (λ frame. length frame.bytes.items ≡ frame_bytes geometry) frames.now }
+    ensures { (D.medium disk).honest → IfOk result (λ store. Stands D.medium store (record {
+        recording = plain (ring_of geometry) empty (asked geometry empty (pictures frames.now)); must_reopen = false })) }
+{
+    match format(alloc, disk, geometry) {
+        Err(OpenRefused { fault, disk: _ }) => Err(fault),
+        Ok(mut store) => {
+            store.append(frames)?;
+            Ok(store)
+        }
+    }
+}
+
+/// Reads a frame of a store after a crash: `crashed` is a disk that holds what a crash now may leave of the store's. What the store
+/// held is read from it, byte for byte.
+///
+/// A disk that holds no store, or one of another geometry, is refused as `Store::open` refuses it, or as `BadGeometry`.
+pub fn read_after_crash<D: Disk + Drop, E: Disk + Drop, A: Allocator + Copy>(
+    alloc: A,
+    store: &Store<D, A>,
+    crashed: E,
+    number: u64,
+    out: &mut [u8],
+) -> Result<FrameHead, StoreFault>
+    requires size { length out.old ≡ frame_bytes store.now.geometry }
+    requires left { (D.medium store.now.disk).may_leave (E.medium crashed).bytes }
+    ensures { (s : StoreState) → Stands D.medium store.now s → s.must_reopen ≡ false → (D.medium store.now.disk).honest → (E.medium crashed).honest
+        → holds s.recording number ≡ true → IfOk result (λ head. IsFrame s.recording number head out.new) }
+{
+    match Store::open(alloc, crashed) {
+        Err(OpenRefused { fault, disk: _ }) => Err(fault),
+        Ok(mut opened) => {
+            if opened.geometry() != store.geometry() {
+                return Err(StoreFault::BadGeometry);
+            }
+            opened.read(number, out)
+        }
+    }
+}
