@@ -4,19 +4,47 @@ use loop_disk::{CrashDisk, Disk, DiskFault, FuseDisk, MemDisk, OnceDisk, Spoil};
 use std::alloc::{AllocError, Allocator};
 use std::test::Fail;
 
+// A write, if it is within the disk.
+fn put<D: Disk>(disk: &mut D, at: u64, bytes: &[u8]) -> Result<(), DiskFault> {
+    let size = disk.size();
+    let count = bytes.len() as u64;
+    if count > size || at > size - count {
+        return Err(DiskFault::Read);
+    }
+    disk.write_at(at, bytes)
+}
+
+// A read of one byte, if it is within the disk.
+fn look<D: Disk>(disk: &mut D, at: u64) -> Result<(), DiskFault> {
+    if at >= disk.size() {
+        return Err(DiskFault::Write);
+    }
+    let mut seen = [0];
+    disk.read(at, &mut seen)
+}
+
+// The disk after a crash, if so many calls were made.
+fn crashed<A: Allocator + Copy>(
+    disk: &CrashDisk<A>,
+    calls: usize,
+    spoil: Spoil,
+) -> Result<MemDisk<A>, AllocError> {
+    if calls > disk.calls() {
+        return Err(AllocError);
+    }
+    disk.crash(calls, spoil)
+}
+
 // On "abcdefghijk": "NEWS" at 2, a read, "!" at 9, a sync, and "z" at 0.
 fn five_calls<A: Allocator + Copy>(alloc: A) -> Result<CrashDisk<A>, AllocError> {
     let mut disk = CrashDisk::of(alloc, Vec::from_slice(alloc, b"abcdefghijk")?)?;
-    if disk.size() == 11 {
-        let mut seen = [0];
-        let _answers = [
-            disk.write_at(2, b"NEWS"),
-            disk.read(3, &mut seen),
-            disk.write_at(9, b"!"),
-            disk.sync(),
-            disk.write_at(0, b"z"),
-        ];
-    }
+    let _answers = [
+        put(&mut disk, 2, b"NEWS"),
+        look(&mut disk, 3),
+        put(&mut disk, 9, b"!"),
+        disk.sync(),
+        put(&mut disk, 0, b"z"),
+    ];
     Ok(disk)
 }
 
@@ -72,9 +100,9 @@ fn a_crash_spoils_what_was_written_since_the_sync(rt: HostRuntime) -> Result<(),
     let disk = five_calls(rt.alloc())?;
     assert_eq!(rt; disk.calls(), 5);
     assert_eq!(rt; disk.bytes(), b"zbNEWSghi!k".as_slice());
-    for calls in 0..=disk.calls() {
-        for (spoil, want) in SPOILS.into_iter().zip(IMAGES[calls]) {
-            let left = disk.crash(calls, spoil)?;
+    for (calls, images) in IMAGES.into_iter().enumerate() {
+        for (spoil, want) in SPOILS.into_iter().zip(images) {
+            let left = crashed(&disk, calls, spoil)?;
             assert_eq!(rt; left.bytes(), want.as_slice(), "{spoil:?} after {calls}");
         }
     }
@@ -87,53 +115,50 @@ fn a_call_that_finds_no_room_fails_and_changes_nothing(rt: HostRuntime) -> Resul
     let memory = Budget::new(rt.alloc());
     let mut disk = CrashDisk::new(&memory, 16)?;
     for at in 0..4u64 {
-        assert_eq!(rt; disk.size(), 16);
-        assert_eq!(rt; disk.write_at(at, &[9]), Ok(()));
+        assert_eq!(rt; put(&mut disk, at, &[9]), Ok(()));
     }
-    assert_eq!(rt; disk.size(), 16);
-    let mut seen = [0];
     memory.allow(0);
-    assert_eq!(rt; disk.read(0, &mut seen), Err(DiskFault::Read));
-    assert_eq!(rt; disk.write_at(8, &[7]), Err(DiskFault::Write));
-    memory.allow(1);
-    assert_eq!(rt; disk.write_at(8, &[7]), Err(DiskFault::Write));
-    memory.allow(0);
+    assert_eq!(rt; look(&mut disk, 0), Err(DiskFault::Read));
+    assert_eq!(rt; put(&mut disk, 8, &[7]), Err(DiskFault::Write));
     assert_eq!(rt; disk.sync(), Err(DiskFault::Sync));
-    assert!(rt; disk.crash(4, Spoil::Keep).is_err());
+    memory.allow(1);
+    assert_eq!(rt; put(&mut disk, 8, &[7]), Err(DiskFault::Write));
     assert_eq!(rt; disk.calls(), 4);
     assert_eq!(rt; disk.bytes().get(8), Some(&0));
+    for allowed in 0..=2u64 {
+        memory.allow(allowed);
+        let left = crashed(&disk, 4, Spoil::Keep);
+        assert_eq!(rt; left.is_ok(), allowed == 2);
+    }
     memory.allow(2);
-    assert_eq!(rt; disk.write_at(8, &[7]), Ok(()));
+    assert_eq!(rt; put(&mut disk, 8, &[7]), Ok(()));
     assert_eq!(rt; memory.left(), 0);
-    memory.allow(1);
-    assert!(rt; disk.crash(4, Spoil::Keep).is_err());
-    memory.allow(2);
-    assert!(rt; disk.crash(4, Spoil::Keep).is_ok());
     memory.allow(1);
     assert!(rt; CrashDisk::new(&memory, 1).is_err());
     Ok(())
 }
 
-// What a disk passes is one call of the disk beneath, and no sync comes with it.
+// Two writes and a read pass, and no sync comes with them; the fourth call fails.
+fn four_calls<D: Disk>(disk: &mut D) -> [Result<(), DiskFault>; 4] {
+    [
+        put(disk, 1, &[1]),
+        look(disk, 1),
+        put(disk, 2, &[2]),
+        disk.sync(),
+    ]
+}
+
 #[test]
 fn a_call_that_passes_is_one_call_beneath(rt: HostRuntime) -> Result<(), Fail> {
     let mut fuse = FuseDisk::new(CrashDisk::new(rt.alloc(), 4)?, 3);
     let mut once = OnceDisk::new(CrashDisk::new(rt.alloc(), 4)?, 3);
-    let mut seen = [0];
-    assert!(rt; fuse.size() == 4 && once.size() == 4);
-    assert_eq!(rt; fuse.write_at(1, &[1]), Ok(()));
-    assert_eq!(rt; once.write_at(1, &[1]), Ok(()));
-    assert!(rt; fuse.size() == 4 && once.size() == 4);
-    assert_eq!(rt; fuse.read(1, &mut seen), Ok(()));
-    assert_eq!(rt; once.read(1, &mut seen), Ok(()));
-    assert!(rt; fuse.size() == 4 && once.size() == 4);
-    assert_eq!(rt; fuse.write_at(2, &[2]), Ok(()));
-    assert_eq!(rt; once.write_at(2, &[2]), Ok(()));
-    assert_eq!(rt; fuse.sync(), Err(DiskFault::Sync));
-    assert_eq!(rt; once.sync(), Err(DiskFault::Sync));
+    let want = [Ok(()), Ok(()), Ok(()), Err(DiskFault::Sync)];
+    assert_eq!(rt; four_calls(&mut fuse), want);
+    assert_eq!(rt; four_calls(&mut once), want);
     for disk in [fuse.into_inner(), once.into_inner()] {
         assert_eq!(rt; disk.calls(), 3);
-        assert_eq!(rt; disk.crash(3, Spoil::Ones)?.bytes(), [0, 0xFF, 0xFF, 0].as_slice());
+        let left = crashed(&disk, 3, Spoil::Ones)?;
+        assert_eq!(rt; left.bytes(), [0, 0xFF, 0xFF, 0].as_slice());
     }
     Ok(())
 }
@@ -143,11 +168,14 @@ fn a_torn_write_leaves_its_whole_range_loose(rt: HostRuntime) -> Result<(), Fail
     for keep in [0, 1, 4, 9usize] {
         let mut torn = OnceDisk::torn(five_calls(rt.alloc())?, 1, keep);
         assert_eq!(rt; torn.sync(), Ok(()));
-        assert_eq!(rt; torn.size(), 11);
-        assert_eq!(rt; torn.write_at(3, b"tear"), Err(DiskFault::Write));
+        assert_eq!(rt; put(&mut torn, 3, b"tear"), Err(DiskFault::Write));
         let disk = torn.into_inner();
-        let left: MemDisk<_> = disk.crash(disk.calls(), Spoil::Ones)?;
-        assert_eq!(rt; left.bytes(), b"zbN\xFF\xFF\xFF\xFFhi!k".as_slice(), "keep {keep}");
+        let left = crashed(&disk, disk.calls(), Spoil::Ones)?;
+        assert_eq!(rt;
+            left.bytes(),
+            b"zbN\xFF\xFF\xFF\xFFhi!k".as_slice(),
+            "keep {keep}"
+        );
     }
     Ok(())
 }

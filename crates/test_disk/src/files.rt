@@ -147,3 +147,67 @@ fn short_counts_and_interruptions_are_gone_on_from(rt: HostRuntime) -> Result<()
     fs::remove_file(&rt, path)?;
     Ok(())
 }
+
+// A file whose syncs are counted, and fail where they are to.
+#[derive(Drop)]
+struct Counting<'a> {
+    file: File,
+    syncs: &'a Cell<u32>,
+    fails: &'a Cell<bool>,
+}
+
+impl<'a> OpenFile for Counting<'a> {
+    fn metadata(&self) -> io::Result<Metadata> {
+        self.file.metadata()
+    }
+
+    fn set_len(&self, size: u64) -> io::Result<()> {
+        self.file.set_len(size)
+    }
+
+    fn sync_all(&self) -> io::Result<()> {
+        self.file.sync_all()
+    }
+
+    fn sync_data(&self) -> io::Result<()> {
+        self.syncs.set(self.syncs.get().wrapping_add(1));
+        if self.fails.get() {
+            return Err(io::Error::from(ErrorKind::Other));
+        }
+        self.file.sync_data()
+    }
+}
+
+impl<'a> FileExt for Counting<'a> {
+    fn read_at(&self, buf: &mut [u8], offset: u64) -> io::Result<usize> {
+        self.file.read_at(buf, offset)
+    }
+
+    fn write_at(&self, buf: &[u8], offset: u64) -> io::Result<usize> {
+        self.file.write_at(buf, offset)
+    }
+}
+
+#[test]
+fn a_sync_is_one_of_the_file(rt: HostRuntime) -> Result<(), Fail> {
+    let path = "counting.img";
+    drop(FileDisk::create(&rt, path, 8)?);
+    let file = OpenOptions::new().read(true).write(true).open(&rt, path)?;
+    let syncs = Cell::new(0);
+    let fails = Cell::new(false);
+    let mut disk = FileDisk::over(Counting {
+        file,
+        syncs: &syncs,
+        fails: &fails,
+    })?;
+    assert_eq!(rt; disk.size(), 8);
+    assert_eq!(rt; disk.write_at(1, b"ab"), Ok(()));
+    assert_eq!(rt; syncs.get(), 0);
+    assert_eq!(rt; disk.sync(), Ok(()));
+    assert_eq!(rt; syncs.get(), 1);
+    fails.set(true);
+    assert_eq!(rt; disk.sync(), Err(DiskFault::Sync));
+    assert_eq!(rt; syncs.get(), 2);
+    fs::remove_file(&rt, path)?;
+    Ok(())
+}
