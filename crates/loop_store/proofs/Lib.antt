@@ -20,3 +20,4 @@ pub mod Modelled
 pub mod Gone
 pub mod Putting
 pub mod Reading
+pub mod Crashed

@@ -4,8 +4,9 @@ ghost use Rattle.std.specs.Prelude.{◌≡◌, ◌≤◌, All, IfOk, false, leng
 ghost use Rattle.loop_record.specs.Geometry.{frame_bytes};
 ghost use Rattle.loop_record.specs.Plain.{pictures};
 ghost use Rattle.loop_record.specs.Recording.{empty, holds, plain, ring_of};
-ghost use Rattle.loop_store.specs.Calls.{IsFrame, StoreState, asked};
+ghost use Rattle.loop_store.specs.Calls.{StoreState, asked};
 ghost use Rattle.loop_store.specs.Goes.{Stands};
+ghost use Rattle.loop_store.specs.Reads.{ReadsFrame};
 
 use crate::{OpenRefused, Store, StoreFault, format};
 use loop_disk::Disk;
@@ -36,9 +37,9 @@ pub fn format_and_append<D: Disk + Drop, A: Allocator + Copy>(
 }
 
 /// Reads a frame of a store after a crash: `crashed` is a disk that holds what a crash now may leave of the store's. What the store
-/// held is read from it, byte for byte.
+/// held is read from it, byte for byte, unless memory is refused or a call of `crashed` fails.
 ///
-/// A disk that holds no store, or one of another geometry, is refused as `Store::open` refuses it, or as `BadGeometry`.
+/// A disk that holds no store is refused as `Store::open` refuses it, and one whose frames have another size as `BadGeometry`.
 pub fn read_after_crash<D: Disk + Drop, E: Disk + Drop, A: Allocator + Copy>(
     alloc: A,
     store: &Store<D, A>,
@@ -49,12 +50,12 @@ pub fn read_after_crash<D: Disk + Drop, E: Disk + Drop, A: Allocator + Copy>(
     requires size { length out.old ≡ frame_bytes store.now.geometry }
     requires left { (D.medium store.now.disk).may_leave (E.medium crashed).bytes }
     ensures { (s : StoreState) → Stands D.medium store.now s → s.must_reopen ≡ false → (D.medium store.now.disk).honest → (E.medium crashed).honest
-        → holds s.recording number ≡ true → IfOk result (λ head. IsFrame s.recording number head out.new) }
+        → holds s.recording number ≡ true → ReadsFrame s.recording number result out.new }
 {
     match Store::open(alloc, crashed) {
         Err(OpenRefused { fault, disk: _ }) => Err(fault),
         Ok(mut opened) => {
-            if opened.geometry() != store.geometry() {
+            if out.len() != opened.geometry().frame_bytes() as usize {
                 return Err(StoreFault::BadGeometry);
             }
             opened.read(number, out)

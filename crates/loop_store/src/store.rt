@@ -2,7 +2,7 @@
 
 ghost use Rattle.std.specs.Prelude.{◌≡◌, ◌≢◌, ◌+◌, ◌-◌, ◌%◌, ◌≤◌, ◌↔◌, ◌⊎◌, ◌∷◌, [], All, Err, IfErr, IfOk, IsTrue, length, map};
 ghost use Rattle.loop_disk.specs.Calls.{Stays};
-ghost use Rattle.loop_record.specs.Geometry.{frame_bytes};
+ghost use Rattle.loop_record.specs.Geometry.{frame_bytes, is_good};
 ghost use Rattle.loop_record.specs.Plain.{pictures};
 ghost use Rattle.loop_record.specs.Recording.{Recording, holds, picture, ring_of, room};
 ghost use Rattle.loop_store.specs.Calls.{appended, read_with, was_read};
@@ -40,9 +40,17 @@ impl<D: Disk + Drop, A: Allocator> Model for Store<D, A> {
 impl<D: Disk + Drop, A: Allocator> Store<D, A> {
     /// The geometry.
     pub fn geometry(&self) -> Geometry
-        ensures { result ≡ self.now.geometry }
+        ensures geometry { result ≡ self.now.geometry }
+        ensures good { IsTrue (is_good result) }
     {
         self.index.ring.geometry
+    }
+
+    /// Whether a call that writes has failed, so that the disk is to be taken out and opened again.
+    pub fn must_reopen(&self) -> bool
+        ensures { result ≡ self.now.must_reopen }
+    {
+        self.must_reopen
     }
 
     /// The number that the next frame gets.

@@ -1,0 +1,51 @@
+-- A store whose disk crashed, and is opened again.
+use Rattle.std.proofs.Common.{◌≡◌, ◌⊎◌, inl, inr, ℕ, Bool, true, false, Result, Ok, Err, List, [], refl, sym, ap, ◌∙◌, subst}
+use Rattle.loop_disk.specs.Medium.{Medium}
+use Rattle.loop_record.specs.declared.damage.LayoutFault.{LayoutFault}
+use Rattle.loop_record.specs.declared.frame.FrameHead.{FrameHead}
+use Rattle.loop_record.specs.declared.geometry.Geometry.{Geometry}
+use Rattle.loop_record.specs.Reading.{Contents, Holds}
+use Rattle.loop_record.specs.Recording.{Recording, holds}
+use Rattle.loop_record.proofs.Decided.{clash}
+use Rattle.loop_store.specs.declared.fault.StoreFault.{StoreFault}
+use Rattle.loop_store.specs.declared.fault.StoreFault.TheVariants.{NoMemory}
+use Rattle.loop_store.specs.Calls.{IsAnswered, RefusesRead, StoreState, read_with, was_read}
+use Rattle.loop_store.specs.Faults.{is_disk}
+use Rattle.loop_store.specs.Goes.{Stands}
+use Rattle.loop_store.specs.Opened.{IsOpened}
+use Rattle.loop_store.specs.Reads.{ReadsFrame}
+use Rattle.loop_store.specs.Seen.{Seen, StandsFor}
+
+ok-inj : (a b : Contents) → let x : Result Contents LayoutFault = Ok a in let y : Result Contents LayoutFault = Ok b in x ≡ y → a ≡ b
+ok-inj a b e = cc
+
+-- what a store stood for is what the one stands for that was opened on an image that a crash may leave
+pub record IsSame {D E : Type 0} (medium : D → Medium) (other : E → Medium) (old : Seen D) (new : Seen E) (s : StoreState) : Type 0 where
+  pub geometry : new.geometry ≡ old.geometry
+  pub stands : Stands other new s
+
+pub opened-same : {D E : Type 0} (medium : D → Medium) (other : E → Medium) (old : Seen D) (new : Seen E) (image : List ℕ) (s : StoreState) → Stands medium old s → s.must_reopen ≡ false → (medium old.disk).honest → (medium old.disk).may_leave image → IsOpened other image new → new.must_reopen ≡ false
+    → IsSame medium other old new s
+opened-same medium other old new image s stands fine honest left opened still =
+    let kept : old.must_reopen ≡ false = stands.must_reopen ∙ fine in
+    let same : image ≡ (medium old.disk).bytes = stands.recording.settled kept honest image left in
+    let held : Holds old.geometry s.recording image = subst (λ (i : List ℕ). Holds old.geometry s.recording i) (sym same) (stands.recording.held kept honest) in
+    let one : record { geometry = new.geometry; recording = opened.recording } ≡ record { geometry = old.geometry; recording = s.recording } =
+    ok-inj (record { geometry = new.geometry; recording = opened.recording }) (record { geometry = old.geometry; recording = s.recording }) (sym opened.held ∙ held) in
+    record {
+      geometry = ap (λ (x : Contents). x.geometry) one;
+      stands = record {
+        recording = subst (λ (x : Contents). StandsFor other new x.recording) one opened.stands;
+        must_reopen = still ∙ sym fine;
+      };
+    }
+
+-- a read of a held number
+pub read-held : (g : Geometry) (s : StoreState) (number : ℕ) (result : Result FrameHead StoreFault) (out : List ℕ) → s.must_reopen ≡ false → holds s.recording number ≡ true → IsAnswered g s (was_read number (read_with result out)) → ReadsFrame s.recording number result out
+read-held g s number (Ok h) out fine there said = said.1
+read-held g s number (Err fault) out fine there said = go said
+  where
+    go : RefusesRead s number fault → (fault ≡ NoMemory) ⊎ (is_disk fault ≡ true)
+    go (inl x) = absurd (clash s.must_reopen x.1 fine)
+    go (inr (inl x)) = absurd (clash (holds s.recording number) there x.1.1)
+    go (inr (inr x)) = x.0

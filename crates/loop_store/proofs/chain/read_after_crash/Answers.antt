@@ -1,0 +1,14 @@
+use Rattle.std.proofs.Common.{sym, ap, ◌∙◌}
+use Rattle.loop_record.specs.Geometry.{frame_bytes}
+use Rattle.loop_store.proofs.Crashed.{opened-same, read-held}
+use Rattle.loop_store.proofs.chain.read_after_crash.Goals as goal
+
+pub returns-then-out-frame_bytes : goal.returns-then-out-frame_bytes
+returns-then-out-frame_bytes g c = λ s stands fine honest crashed there.
+    let same = opened-same g.D.Disk.medium g.E.Disk.medium c.args.store.now c.in-Ok.opened (g.E.Disk.medium c.args.crashed).bytes s stands fine honest c.requires.left (c.in-Ok.ensures.opened crashed) c.in-Ok.ensures.fine in
+    absurd (c.if-out-frame_bytes.true (c.requires.size ∙ sym (c.frame_bytes.ensures ∙ ap frame_bytes (c.geometry.ensures.geometry ∙ same.geometry))))
+
+pub returns : goal.returns
+returns g c = λ s stands fine honest crashed there.
+    let same = opened-same g.D.Disk.medium g.E.Disk.medium c.args.store.now c.in-Ok.opened (g.E.Disk.medium c.args.crashed).bytes s stands fine honest c.requires.left (c.in-Ok.ensures.opened crashed) c.in-Ok.ensures.fine in
+    read-held c.in-Ok.opened.geometry s c.args.number c.read.result c.read.new.out fine there (c.read.ensures.goes.answers s same.stands (c.in-Ok.ensures.called.honest.0 crashed)).0
