@@ -1,5 +1,5 @@
 -- A queue's life as a list of events, each with its answer: which answers the model gives, and the state after them.
-use Rattle.std.specs.Prelude.{◌≡◌, ◌⊎◌, ℕ, Bool, true, false, ◌==◌, List, [], ◌∷◌, Option, Some, None, option_map, Result, Ok, Err, slice_get}
+use Rattle.std.specs.Prelude.{◌≡◌, ◌⊎◌, ℕ, Bool, true, false, ◌==◌, List, [], ◌∷◌, Option, Some, None, option_map, Result, Ok, Err, take, drop, slice_get}
 use Rattle.loop_plane.specs.Plane.{Plane}
 use Rattle.loop_plane.specs.declared.memory.Memory.{Memory}
 use Rattle.loop_record.specs.Turns.{after_all, EachIn}
@@ -12,8 +12,8 @@ use Rattle.loop_vb2.specs.declared.reason.Errno.{Errno}
 use Rattle.loop_vb2.specs.declared.reason.Reason.{Reason}
 use Rattle.loop_vb2.specs.declared.reason.Reason.TheVariants.{NoMemory}
 use Rattle.loop_vb2.specs.Answers.{IsAnswer, IsInfo}
-use Rattle.loop_vb2.specs.Buffers.{mapped_as, emptied}
-use Rattle.loop_vb2.specs.Checks.{queue_refusal, prepare_refusal, dequeue_refusal, stream_on_refusal, query_refusal, map_refusal, unmap_refusal, take_refusal, end_refusal, request_refusal}
+use Rattle.loop_vb2.specs.Buffers.{mapped_as, emptied, bytes_at}
+use Rattle.loop_vb2.specs.Checks.{queue_refusal, prepare_refusal, dequeue_refusal, stream_on_refusal, query_refusal, map_refusal, unmap_refusal, take_refusal, copy_refusal, end_refusal, request_refusal}
 use Rattle.loop_vb2.specs.Effects.{queued, prepared, dequeued, first_ended, streaming, stopped_state, completed, failed, touched, fatal_state, seen_state}
 use Rattle.loop_vb2.specs.Errnos.{errno}
 use Rattle.loop_vb2.specs.Requests.{grants_or_none, left_in, requested}
@@ -27,7 +27,7 @@ pub record Grant : Type 0 where
 
 -- an event and its answer; where nothing else is answered, that is the refusal or None
 pub data Event : Type 0 where
-  -- the application's: the ioctls by their names, and planes taken out of a buffer
+  -- the application's: the ioctls by their names, planes taken out of a buffer, and bytes copied out of one of its planes, from a place on
   reqbufs : ℕ → Memory → List (PlaneSet Plane) → Result Grant Errno → Event
   prepare_buf : ℕ → Memory → Option (PlaneSet Plane) → Option Errno → Event
   qbuf : ℕ → Memory → Option (PlaneSet Plane) → Option Errno → Event
@@ -38,6 +38,7 @@ pub data Event : Type 0 where
   mmap : ℕ → Option Errno → Event
   munmap : ℕ → Option Errno → Event
   take_planes : ℕ → Result (PlaneSet Plane) Errno → Event
+  copy_plane : ℕ → ℕ → ℕ → ℕ → Result (List ℕ) Errno → Event
   -- the device's
   complete : ℕ → Stamp → List ℕ → Option Errno → Event
   fail : ℕ → Stamp → Option Errno → Event
@@ -64,6 +65,7 @@ after s (mmap index refusal) = unless refusal s (touched (mapped_as true) index 
 after s (munmap index refusal) = unless refusal s (touched (mapped_as false) index s)
 after s (take_planes index (Ok set)) = touched emptied index s
 after s (take_planes index (Err e)) = s
+after s (copy_plane index plane at count answer) = s
 after s (complete index stamp bytes refusal) = unless refusal s (completed index stamp bytes s)
 after s (fail index stamp refusal) = unless refusal s (failed index stamp s)
 after s fatal = fatal_state s
@@ -95,6 +97,9 @@ IsAnswered s (munmap index refusal) = IsRefusal (unmap_refusal index s.body) ref
 IsAnswered s (take_planes index (Ok set)) =
     Passes (take_refusal index s.body) × ((b : Buffer Plane) × (slice_get s.body.buffers index ≡ Some b) × (b.planes ≡ Some set))
 IsAnswered s (take_planes index (Err e)) = Fails (take_refusal index s.body) e
+IsAnswered s (copy_plane index plane at count (Ok bytes)) =
+    Passes (copy_refusal index plane at count s.body) × (bytes ≡ take count (drop at (bytes_at s.body.buffers index plane)))
+IsAnswered s (copy_plane index plane at count (Err e)) = Fails (copy_refusal index plane at count s.body) e
 IsAnswered s (complete index stamp bytes refusal) = IsRefusal (end_refusal index s.body) refusal
 IsAnswered s (fail index stamp refusal) = IsRefusal (end_refusal index s.body) refusal
 IsAnswered s fatal = Unit {0}
