@@ -1,0 +1,11 @@
+//! Tests of the buffer queue over real planes: what its contracts leave open, and the worked rows of its rules.
+//!
+//! - `common`: planes over claimed pages, and a queue of frames of one byte whose calls stand in tables;
+//! - `rounds`: buffers go round, with ample memory and with each growth refused;
+//! - `refusals`: what is handed back, and in which order the checks come;
+#![tactic(auto)]
+
+#[cfg(test)]
+mod common;
+#[cfg(test)]
+mod refusals;
