@@ -1,5 +1,5 @@
 -- Each call is one event, and lists of events join.
-use Rattle.std.proofs.Common.{◌≡◌, ◌⊎◌, ℕ, Bool, true, false, List, [], ◌∷◌, ◌++◌, length, map, Option, Some, None, option_map, Result, Ok, Err, refl, sym, ◌∙◌, ap, subst}
+use Rattle.std.proofs.Common.{◌≡◌, ℕ, Bool, true, false, List, [], ◌∷◌, ◌++◌, length, Option, Some, None, option_map, Result, Ok, Err, refl, sym, ◌∙◌, ap, subst}
 use Rattle.loop_plane.specs.Plane.{Plane}
 use Rattle.loop_plane.specs.declared.memory.Memory.{Memory}
 use Rattle.loop_record.specs.Turns.{after_all, EachIn}
