@@ -12,7 +12,7 @@ use Rattle.loop_vb2.specs.declared.buffer.Stamp.{Stamp}
 use Rattle.loop_vb2.specs.declared.planes.PlaneSet.{PlaneSet}
 use Rattle.loop_vb2.specs.declared.planes.Shape.{Shape}
 use Rattle.loop_vb2.specs.declared.state.BufferState.TheVariants.{Done}
-use Rattle.loop_vb2.specs.Planes.{number_at, same_memory, is_kind, is_long, are_kind, has_count, has_room, has_bytes, misfits, frame_size, slot_filled, slot_cut, set_filled}
+use Rattle.loop_vb2.specs.Planes.{number_at, same_memory, is_kind, is_long, are_kind, has_count, has_room, has_bytes, misfits, frame_size, slot_filled, slot_cut, set_by, set_filled}
 use Rattle.loop_vb2.specs.Buffers.{changed, unused, prepared_with, queued_with, completed_by, completed_with, dequeued_from, failed_with, mapped_as, emptied, stopped, woken, kept}
 use Rattle.loop_vb2.specs.Checks.{queue_checks, queue_refusal, prepare_checks, prepare_refusal, request_checks, request_refusal, serves, is_supply, granted}
 use Rattle.loop_vb2.specs.Effects.{awake, device_runs, settled, with_buffer, body_queued, body_streaming, body_stopped}
@@ -111,7 +111,7 @@ module _ (shape : Shape) (kind : Memory) (bytes : List ℕ) (set : PlaneSet Plan
   abbrev part_cr : List ℕ
   part_cr = take (number_at shape.sizes 2) (drop (number_at shape.sizes 0 + number_at shape.sizes 1) bytes)
 
-  filled_fits : (used : List ℕ) → length bytes ≡ frame_size shape → Fits shape kind used set → Fits shape kind shape.sizes (set_filled slot_filled shape bytes set)
+  filled_fits : (used : List ℕ) → length bytes ≡ frame_size shape → Fits shape kind used set → Fits shape kind shape.sizes (set_filled shape bytes set)
   filled_fits used whole f =
       let parts : Parts shape bytes = parts_of shape bytes whole in record {
         of_kind = rw (kind_filled kind set.planes.y part_y, kind_filled kind set.planes.cb part_cb, kind_filled kind set.planes.cr part_cr) f.of_kind;
@@ -122,7 +122,7 @@ module _ (shape : Shape) (kind : Memory) (bytes : List ℕ) (set : PlaneSet Plan
             (bytes_filled (number_at shape.sizes 2) set.planes.cr part_cr (enough_behind (number_at shape.sizes 0 + number_at shape.sizes 1) (number_at shape.sizes 2) bytes parts.third));
       }
 
-  cut_set : has_room shape set ≡ true → set_filled slot_cut shape bytes set ≡ set_filled slot_filled shape bytes set
+  cut_set : has_room shape set ≡ true → set_by slot_cut shape bytes set ≡ set_filled shape bytes set
   cut_set room =
       let y_cb : (is_long (number_at shape.sizes 0) set.planes.y && is_long (number_at shape.sizes 1) set.planes.cb) ≡ true = and_left (is_long (number_at shape.sizes 0) set.planes.y && is_long (number_at shape.sizes 1) set.planes.cb) (is_long (number_at shape.sizes 2) set.planes.cr) room in
       rw (
@@ -169,16 +169,16 @@ dequeued_fits : (shape : Shape) (kind own : Memory) (b : Buffer Plane) → Buffe
 dequeued_fits shape kind own b h = kept_fits shape kind own b.used b.planes h
 
 filled_planes : (shape : Shape) (kind : Memory) (bytes used : List ℕ) → length bytes ≡ frame_size shape → (o : Option (PlaneSet Plane)) → ((set : PlaneSet Plane) → o ≡ Some set → Fits shape kind used set)
-    → (set : PlaneSet Plane) → option_map (set_filled slot_filled shape bytes) o ≡ Some set → Fits shape kind shape.sizes set
+    → (set : PlaneSet Plane) → option_map (set_filled shape bytes) o ≡ Some set → Fits shape kind shape.sizes set
 filled_planes shape kind bytes used whole None h set e = absurd (nothing_given set e)
 filled_planes shape kind bytes used whole (Some old) h set e =
-    subst (λ (x : PlaneSet Plane). Fits shape kind shape.sizes x) (given_set (Some (set_filled slot_filled shape bytes old)) (set_filled slot_filled shape bytes old) set refl e)
+    subst (λ (x : PlaneSet Plane). Fits shape kind shape.sizes x) (given_set (Some (set_filled shape bytes old)) (set_filled shape bytes old) set refl e)
     (filled_fits shape kind bytes old used whole (h old refl))
 
 completed_fits : (shape : Shape) (kind : Memory) (stamp : Stamp) (bytes : List ℕ) → length bytes ≡ frame_size shape → (b : Buffer Plane) → BufferFits shape kind b → BufferFits shape kind (completed_with shape stamp bytes b)
 completed_fits shape kind stamp bytes whole b h = filled_planes shape kind bytes b.used whole b.planes h
 
-cut_planes : (shape : Shape) (kind : Memory) (bytes used : List ℕ) (o : Option (PlaneSet Plane)) → ((set : PlaneSet Plane) → o ≡ Some set → Fits shape kind used set) → option_map (set_filled slot_cut shape bytes) o ≡ option_map (set_filled slot_filled shape bytes) o
+cut_planes : (shape : Shape) (kind : Memory) (bytes used : List ℕ) (o : Option (PlaneSet Plane)) → ((set : PlaneSet Plane) → o ≡ Some set → Fits shape kind used set) → option_map (set_by slot_cut shape bytes) o ≡ option_map (set_filled shape bytes) o
 cut_planes shape kind bytes used None h = refl
 cut_planes shape kind bytes used (Some set) h = let f : Fits shape kind used set = h set refl in ap (λ x. Some x) (cut_set shape kind bytes set f.roomy)
 

@@ -21,8 +21,8 @@ place_kept : (o : Option Plane) (part : List ℕ) → is_some (slot_filled o par
 place_kept None part some = absurd (cc)
 place_kept (Some p) part some = refl
 
-set_kept : (kind : Memory) (shape : Shape) (bytes : List ℕ) (o : Option (PlaneSet Plane)) → is_some (plane_in (kept kind (option_map (set_filled slot_filled shape bytes) o)) 0) ≡ true
-    → bytes_in (plane_in (kept kind (option_map (set_filled slot_filled shape bytes) o)) 0) ≡ take (number_at shape.sizes 0) bytes
+set_kept : (kind : Memory) (shape : Shape) (bytes : List ℕ) (o : Option (PlaneSet Plane)) → is_some (plane_in (kept kind (option_map (set_filled shape bytes) o)) 0) ≡ true
+    → bytes_in (plane_in (kept kind (option_map (set_filled shape bytes) o)) 0) ≡ take (number_at shape.sizes 0) bytes
 set_kept Mmap shape bytes None some = absurd (cc)
 set_kept Mmap shape bytes (Some set) some = place_kept set.planes.y (take (number_at shape.sizes 0) bytes) some
 set_kept UserPtr shape bytes o some = absurd (cc)
