@@ -1,4 +1,4 @@
-//! Tests of the buffer queue over real planes: what its contracts leave open, and the worked rows of its rules.
+//! Tests of the buffer queue over real planes: what its contracts leave open, and what its rules answer, call by call.
 //!
 //! - `common`: planes over claimed pages, and a queue of frames of one byte whose calls stand in tables;
 //! - `rounds`: buffers go round, with ample memory and with each growth refused;

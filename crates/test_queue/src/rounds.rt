@@ -1,4 +1,4 @@
-//! Buffers go round: the worked rows, with ample memory and with every growth refused once the buffers are there.
+//! Buffers go round, call by call, with ample memory and with every growth refused once the buffers are there.
 
 use crate::common::Call::*;
 use crate::common::Said::{Buffer, Byte, Count, Done, Flags, Frame, Is, Refused};
