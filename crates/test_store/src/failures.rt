@@ -1,0 +1,205 @@
+//! Each call of the disk fails: once, torn or not, or from a moment on.
+
+use crate::common::*;
+use loop_disk::{Disk, DiskFault, FuseDisk, MemDisk, OnceDisk};
+use loop_record::OPEN;
+use loop_store::{Command, Store, StoreFault};
+use std::alloc::Global;
+use std::process::Abort;
+use std::test::Fail;
+
+/// An opening and an append, of which each call of the disk fails in turn.
+#[derive(Drop)]
+struct Row<'a> {
+    /// The image.
+    image: &'a [u8],
+    /// How many frames the append stores.
+    count: u64,
+    /// The calls in their order: sync, read, write.
+    calls: &'a str,
+    /// The frames that are held before the append, and after it.
+    before: &'a [(u64, u64)],
+    after: &'a [(u64, u64)],
+}
+
+// The fault of a call.
+fn fault_of(call: u8) -> StoreFault {
+    StoreFault::Disk(match call {
+        b'r' => DiskFault::Read,
+        b'w' => DiskFault::Write,
+        _ => DiskFault::Sync,
+    })
+}
+
+// Each call of a store that has to be opened again is refused, but for those that tell what it knows.
+fn is_stopped<D: Disk + Drop>(
+    rt: &impl Abort,
+    alloc: Global,
+    store: &mut Store<D>,
+    next: u64,
+) -> Result<(), Fail> {
+    let refused = Some(StoreFault::MustReopen);
+    assert_eq!(rt; append_next(rt, alloc, store, 1, 0).err(), refused);
+    assert_eq!(rt; read(rt, alloc, store, 0).err(), refused);
+    assert_eq!(rt; store.frames(alloc).err(), refused);
+    assert_eq!(rt; store.run(alloc, &[Command::Read(0)]).err(), refused);
+    assert_eq!(rt; store.next(), next);
+    assert!(rt; next == 0 || store.holds(next.wrapping_sub(1)));
+    Ok(())
+}
+
+// Opens a disk and appends so many frames. Answers the first refusal, and the disk.
+fn tried<D: Disk + Drop>(
+    rt: &impl Abort,
+    alloc: Global,
+    disk: D,
+    count: u64,
+) -> Result<(Option<StoreFault>, D), Fail> {
+    let mut store = match Store::open(alloc, disk) {
+        Ok(store) => store,
+        Err(refused) => return Ok((Some(refused.fault), refused.disk)),
+    };
+    let next = store.next();
+    match append_next(rt, alloc, &mut store, count, 0) {
+        Ok(number) => {
+            assert_eq!(rt; number, next);
+            Ok((None, store.into_disk()))
+        }
+        Err(fault) => {
+            is_stopped(rt, alloc, &mut store, next)?;
+            Ok((Some(fault), store.into_disk()))
+        }
+    }
+}
+
+// Whether frames are those from before an append of so many, or those after it or after a beginning of its steps.
+fn is_beginning(found: &[u64], before: &[u64], after: &[u64], count: u64) -> bool {
+    let most = found.len().saturating_add(count as usize);
+    found.iter().eq(before.iter()) || (most >= after.len() && after.starts_with(found))
+}
+
+// Opens what a failed append left, and stores a frame in a second attempt. What was given up doesn't come back.
+fn goes_on(
+    rt: &impl Abort,
+    alloc: Global,
+    disk: MemDisk,
+    row: &Row,
+    refused: Option<StoreFault>,
+) -> Result<(), Fail> {
+    let mut store = opened(alloc, disk)?;
+    let found = held(rt, alloc, &mut store, u64::MAX)?;
+    let before = numbers(alloc, row.before)?;
+    let after = numbers(alloc, row.after)?;
+    assert!(rt;
+        is_beginning(&found, &before, &after, row.count),
+        "{found:?}"
+    );
+    assert!(rt; refused.is_some() || found.iter().eq(after.iter()));
+    let next = store.next();
+    let answer = append_next(rt, alloc, &mut store, 1, 1);
+    assert_eq!(rt; answer, Ok(next));
+    let more = held(rt, alloc, &mut store, next)?;
+    assert_eq!(rt; more.last(), Some(&next));
+    let mut store = opened(alloc, store.into_disk())?;
+    assert_eq!(rt;
+        held(rt, alloc, &mut store, next)?.as_slice(),
+        more.as_slice()
+    );
+    Ok(())
+}
+
+// Fails one call of a row, a write torn after some bytes of it or left out.
+fn fails_once(rt: &impl Abort, alloc: Global, row: &Row, call: u64) -> Result<(), Fail> {
+    let fault = row
+        .calls
+        .as_bytes()
+        .get(call as usize)
+        .map(|call| fault_of(*call));
+    for keep in [None, Some(0), Some(1), Some(20)] {
+        let disk = MemDisk::of(alloc, row.image.to_vec(alloc)?);
+        let disk = match keep {
+            Some(keep) => OnceDisk::torn(disk, call, keep),
+            None => OnceDisk::new(disk, call),
+        };
+        let (refused, disk) = tried(rt, alloc, disk, row.count)?;
+        assert_eq!(rt; refused, fault, "call {call}");
+        goes_on(rt, alloc, disk.into_inner(), row, refused)?;
+    }
+    Ok(())
+}
+
+// Fails the calls of a row from one on.
+fn fails_from(rt: &impl Abort, alloc: Global, row: &Row, call: u64) -> Result<(), Fail> {
+    let fault = row
+        .calls
+        .as_bytes()
+        .get(call as usize)
+        .map(|call| fault_of(*call));
+    let disk = FuseDisk::new(MemDisk::of(alloc, row.image.to_vec(alloc)?), call);
+    let (refused, disk) = tried(rt, alloc, disk, row.count)?;
+    assert_eq!(rt; (refused, disk.left), (fault, 0), "call {call}");
+    goes_on(rt, alloc, disk.into_inner(), row, refused)
+}
+
+// Fails each call of a row.
+fn fails(rt: &impl Abort, alloc: Global, row: &Row) -> Result<(), Fail> {
+    for call in 0..=row.calls.len() as u64 {
+        fails_once(rt, alloc, row, call)?;
+        fails_from(rt, alloc, row, call)?;
+    }
+    Ok(())
+}
+
+#[test]
+fn each_failed_call_leaves_a_beginning(rt: HostRuntime) -> Result<(), Fail> {
+    let alloc = rt.alloc();
+    let six = image_of(&rt, alloc, SMALL, &[1; 6])?;
+    let eights = image_of(&rt, alloc, pixels(3, 8), &[8; 3])?;
+    let mut stray = image_of(&rt, alloc, pixels(3, 4), &[3])?;
+    put(stray.as_mut_slice(), 2816, &[OPEN, 7, OPEN, 0]);
+    let rows = [
+        Row {
+            image: &six,
+            count: 1,
+            calls: "srrrrrrrrrrrwswswswsws",
+            before: &[(0, 5)],
+            after: &[(2, 6)],
+        },
+        Row {
+            image: &eights,
+            count: 8,
+            calls: "srrrrrrrrrrrrrrrrrrrrrrrrrrrrrwswswswsws",
+            before: &[(0, 23)],
+            after: &[(8, 31)],
+        },
+        // The gate behind a closed one is closed first.
+        Row {
+            image: &stray,
+            count: 3,
+            calls: "srrrrrrrwswsws",
+            before: &[(0, 0)],
+            after: &[(0, 3)],
+        },
+    ];
+    for row in rows {
+        fails(&rt, alloc, &row)?;
+    }
+    Ok(())
+}
+
+// Reads of a store are no end of it.
+#[test]
+fn a_failed_read_is_no_end(rt: HostRuntime) -> Result<(), Fail> {
+    let alloc = rt.alloc();
+    // To open three frames takes nine calls, and a read two.
+    for call in [9, 10u64] {
+        let image = image_of(&rt, alloc, SMALL, &[1; 3])?;
+        let disk = OnceDisk::new(MemDisk::of(alloc, image), call);
+        let mut store = opened(alloc, disk)?;
+        let failed = Some(StoreFault::Disk(DiskFault::Read));
+        assert_eq!(rt; read(&rt, alloc, &mut store, 0).err(), failed);
+        holds(&rt, alloc, &mut store, &[(0, 2)])?;
+        assert_eq!(rt; append_next(&rt, alloc, &mut store, 1, 0), Ok(3));
+    }
+    Ok(())
+}

@@ -1,0 +1,177 @@
+//! What an opening answers to images of all kinds.
+
+use crate::common::*;
+use loop_disk::MemDisk;
+use loop_record::{Damage, Geometry, OPEN};
+use loop_store::{Store, StoreFault};
+use std::alloc::Global;
+use std::process::Abort;
+use std::test::Fail;
+
+/// Bytes that are put into an image, each row from a place on.
+type Changes = &'static [(usize, &'static [u8])];
+
+// Opens an image. It shows these frames, or it is refused and its disk is handed back unchanged.
+fn opens(
+    rt: &impl Abort,
+    alloc: Global,
+    image: &[u8],
+    expected: Result<&[(u64, u64)], StoreFault>,
+    what: &str,
+) -> Result<(), Fail> {
+    match Store::open(alloc, MemDisk::of(alloc, image.to_vec(alloc)?)) {
+        Ok(mut store) => {
+            let spans = expected.ok().ok_or("it has no recording")?;
+            holds(rt, alloc, &mut store, spans)?;
+        }
+        Err(refused) => {
+            assert_eq!(rt; Some(refused.fault), expected.err(), "{what}");
+            assert!(rt; refused.disk.bytes().iter().eq(image.iter()), "{what}");
+        }
+    }
+    Ok(())
+}
+
+// Opens an image with changes. It shows these frames, or it is damaged.
+fn changed(
+    rt: &impl Abort,
+    alloc: Global,
+    image: &[u8],
+    changes: Changes,
+    expected: Result<&[(u64, u64)], Damage>,
+) -> Result<(), Fail> {
+    let mut image = image.to_vec(alloc)?;
+    let mut at = 0;
+    for (place, bytes) in changes {
+        put(image.as_mut_slice(), *place, bytes);
+        at = *place;
+    }
+    let expected = match expected {
+        Ok(spans) => Ok(spans),
+        Err(damage) => Err(StoreFault::Damaged(damage)),
+    };
+    opens(rt, alloc, &image, expected, "changed at {at}")
+}
+
+// The changes of the image after frames 0 to 6, and what they make of it. Segment 0 has frame 6 and, behind a closed gate, the
+// slot of frame 1; segment 1 has frames 2 and 3, segment 2 frames 4 and 5.
+const DAMAGES: [(Changes, Damage); 19] = [
+    // Four segments, for which the disk is too short; the version; the height; a byte behind the fields.
+    (&[(32, &[4])], Damage::DiskSize),
+    (&[(8, &[2])], Damage::Superblock),
+    (&[(12, &[5])], Damage::Superblock),
+    (&[(100, &[1])], Damage::Superblock),
+    (&[(3775, &[0x40])], Damage::BlockTooHigh),
+    (&[(3768, &[1])], Damage::RepeatedBlock),
+    (&[(3416, &[0])], Damage::ClosedGate),
+    // A slot's number, its length, and a gate before a slot that names another frame.
+    (&[(3716, &[4])], Damage::SlotHead),
+    (&[(3740, &[13])], Damage::SlotHead),
+    (&[(2817, &[OPEN])], Damage::SlotHead),
+    // Clips of frame 0, from 2 to 7, from 1 to 6, from 7 to 6, of the greatest numbers, and of all of them.
+    (&[(512, &[OPEN])], Damage::ClipRange),
+    (
+        &[(2528, &[OPEN]), (2536, &[2]), (2544, &[7])],
+        Damage::ClipRange,
+    ),
+    (
+        &[(2528, &[OPEN]), (2536, &[1]), (2544, &[6])],
+        Damage::ClipRange,
+    ),
+    (
+        &[(2528, &[OPEN]), (2536, &[7]), (2544, &[6])],
+        Damage::ClipRange,
+    ),
+    (&[(512, &[OPEN]), (520, &[0xFF; 16])], Damage::ClipRange),
+    (&[(512, &[OPEN]), (528, &[0xFF; 8])], Damage::ClipRange),
+    // Of several damages the first in the order.
+    (&[(3416, &[0]), (3716, &[4])], Damage::ClosedGate),
+    (
+        &[(3768, &[1]), (3416, &[0]), (3716, &[4])],
+        Damage::RepeatedBlock,
+    ),
+    (
+        &[
+            (512, &[OPEN]),
+            (3716, &[4]),
+            (3416, &[0]),
+            (2568, &[2]),
+            (3775, &[0x40]),
+            (32, &[4]),
+            (100, &[1]),
+        ],
+        Damage::Superblock,
+    ),
+];
+
+// Changes that leave a recording, and its frames.
+const SOUND: [(Changes, (u64, u64)); 6] = [
+    // A closed gate has any byte but one; what stands in a closed entry, in a header behind its gates or in a closed segment
+    // isn't looked at; and a clip of the frames that are held is sound.
+    (&[(2817, &[7])], (2, 6)),
+    (&[(520, &[0xFF; 16])], (2, 6)),
+    (&[(2576, &[0xFF; 200]), (2818, &[0xFF; 200])], (2, 6)),
+    (&[(2528, &[OPEN]), (2536, &[2]), (2544, &[6])], (2, 6)),
+    (&[(2560, &[0])], (2, 5)),
+    (&[(2560, &[7]), (2568, &[0xFF; 8])], (2, 5)),
+];
+
+#[test]
+fn damage_is_answered_in_its_order(rt: HostRuntime) -> Result<(), Fail> {
+    let alloc = rt.alloc();
+    let seven = image_of(&rt, alloc, SMALL, &[1; 7])?;
+    for (changes, damage) in DAMAGES {
+        changed(&rt, alloc, &seven, changes, Err(damage))?;
+    }
+    for (changes, span) in SOUND {
+        changed(&rt, alloc, &seven, changes, Ok(&[span]))?;
+    }
+    // A pixel isn't judged.
+    let mut pixel = seven;
+    put(pixel.as_mut_slice(), 3748, &[0xFF]);
+    let mut store = opened(alloc, MemDisk::of(alloc, pixel))?;
+    let (head, bytes) = read(&rt, alloc, &mut store, 3)?;
+    assert_eq!(rt;
+        (head.number, head.sequence, bytes.first().copied()),
+        (3, 3, Some(0xFF))
+    );
+    Ok(())
+}
+
+// The whole image of some bytes.
+fn filled(alloc: Global, byte: u8, count: usize) -> Result<Vec<u8>, Fail> {
+    Ok(vec![in alloc; byte; count]?)
+}
+
+#[test]
+fn what_has_no_recording_is_handed_back(rt: HostRuntime) -> Result<(), Fail> {
+    let alloc = rt.alloc();
+    let mut short = fresh(&rt, alloc, SMALL)?;
+    short.truncate(4359);
+    let mut front = fresh(&rt, alloc, SMALL)?;
+    front.truncate(512);
+    let mut cut = fresh(&rt, alloc, SMALL)?;
+    cut.truncate(511);
+    let mut magic = fresh(&rt, alloc, SMALL)?;
+    put(magic.as_mut_slice(), 1, b"M");
+    let mut twice = image_of(&rt, alloc, SMALL, &[1; 6])?;
+    put(twice.as_mut_slice(), 3768, &[1]);
+    let rows = [
+        (short, StoreFault::Damaged(Damage::DiskSize)),
+        (front, StoreFault::Damaged(Damage::DiskSize)),
+        (cut, StoreFault::NotFormatted),
+        (magic, StoreFault::NotFormatted),
+        (twice, StoreFault::Damaged(Damage::RepeatedBlock)),
+        (
+            image_of_block(&rt, alloc, 4_611_686_018_427_387_904)?,
+            StoreFault::Damaged(Damage::BlockTooHigh),
+        ),
+        (filled(alloc, 0, 4360)?, StoreFault::NotFormatted),
+        (filled(alloc, OPEN, 100)?, StoreFault::NotFormatted),
+        (filled(alloc, OPEN, 0)?, StoreFault::NotFormatted),
+    ];
+    for (image, fault) in rows {
+        opens(&rt, alloc, &image, Err(fault), fault.name())?;
+    }
+    opens(&rt, alloc, &fresh(&rt, alloc, SMALL)?, Ok(&[]), "fresh")
+}
