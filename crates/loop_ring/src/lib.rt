@@ -22,6 +22,3 @@ pub use fault::SlotFault;
 pub use ring::{MAX_GROUP, Ring};
 pub use table::SegmentTable;
 pub use victim::{victim_block, victim_segment};
-
-#[cfg(test)]
-mod tests;

@@ -28,14 +28,3 @@ pub use command::{Command, ReadFrame, Reply};
 pub use fault::{OpenRefused, StoreFault};
 pub use make::format;
 pub use store::Store;
-
-#[cfg(test)]
-mod recover_tests;
-#[cfg(test)]
-mod ring_tests;
-#[cfg(test)]
-mod stop_tests;
-#[cfg(test)]
-mod tests;
-#[cfg(test)]
-mod tests_common;

@@ -71,14 +71,11 @@ enum Asked {
 
 use Asked::{Read, Store as Stored};
 
-/// A list of commands over an image, one call of the disk that fails, and what is held when the disk is opened again.
-#[derive(Drop)]
-struct Row<'a> {
-    image: Vec<u8>,
-    fails: u64,
-    asked: &'a [Asked],
-    held: &'a [(u64, u64)],
-}
+/// No call of a test has this number.
+const NEVER: u64 = 1000;
+
+/// The last numbers that are given.
+const LAST_TWO: [(u64, u64); 1] = [(4_611_686_018_427_387_902, 4_611_686_018_427_387_903)];
 
 // The commands, the first of which stores a frame under this number.
 fn commands(
@@ -120,8 +117,8 @@ fn all_fit<A: Allocator>(commands: &[Command<A>], geometry: &Geometry) -> bool
     commands.iter().all(|command| fits(command, geometry))
 }
 
-// Does commands whose frames fit.
-fn run<D: Disk + Drop, A: Allocator + Copy>(
+/// Does commands whose frames fit.
+pub(crate) fn run<D: Disk + Drop, A: Allocator + Copy>(
     rt: &impl Abort,
     alloc: A,
     store: &mut Store<D, A>,
@@ -149,18 +146,47 @@ fn answers(rt: &impl Abort, alloc: Global, reply: &Reply, asked: &Asked) -> Resu
     Ok(())
 }
 
-// Does a list of commands, and opens the disk again.
-fn runs(rt: &impl Abort, alloc: Global, row: Row) -> Result<(), Fail> {
-    let disk = OnceDisk::new(MemDisk::of(alloc, row.image), row.fails);
-    let mut store = opened(alloc, disk)?;
-    let commands = commands(alloc, size_of_frames(rt, &store), store.next(), row.asked)?;
-    let replies = run(rt, alloc, &mut store, &commands)?;
-    assert_eq!(rt; replies.len(), row.asked.len());
-    for (reply, asked) in replies.iter().zip(row.asked) {
+// Each reply is the answer that is expected.
+fn all_answer(
+    rt: &impl Abort,
+    alloc: Global,
+    replies: &[Reply],
+    asked: &[Asked],
+) -> Result<(), Fail> {
+    assert_eq!(rt; replies.len(), asked.len());
+    for (reply, asked) in replies.iter().zip(asked) {
         answers(rt, alloc, reply, asked)?;
     }
-    let mut store = opened(alloc, store.into_disk().into_inner())?;
-    holds(rt, alloc, &mut store, row.held)?;
+    Ok(())
+}
+
+// Does a list of commands over an image, on a disk of which one call fails. Answers the disk.
+fn asks(
+    rt: &impl Abort,
+    alloc: Global,
+    image: &[u8],
+    fails: u64,
+    asked: &[Asked],
+) -> Result<MemDisk, Fail> {
+    let disk = MemDisk::of(alloc, image.to_vec(alloc)?);
+    let mut store = opened(alloc, OnceDisk::new(disk, fails))?;
+    let commands = commands(alloc, size_of_frames(rt, &store), store.next(), asked)?;
+    let replies = run(rt, alloc, &mut store, &commands)?;
+    all_answer(rt, alloc, &replies, asked)?;
+    Ok(store.into_disk().into_inner())
+}
+
+// Does a list of commands, and opens the disk again.
+fn runs(
+    rt: &impl Abort,
+    alloc: Global,
+    image: &[u8],
+    fails: u64,
+    asked: &[Asked],
+    spans: &[(u64, u64)],
+) -> Result<(), Fail> {
+    let mut store = opened(alloc, asks(rt, alloc, image, fails, asked)?)?;
+    holds(rt, alloc, &mut store, spans)?;
     Ok(())
 }
 
@@ -219,33 +245,16 @@ const FAILED_READ: [Asked; 4] = [
 #[test]
 fn each_command_is_answered_as_its_call(rt: HostRuntime) -> Result<(), Fail> {
     let alloc = rt.alloc();
-    let last = 4_611_686_018_427_387_902;
-    let six = image_of(&rt, alloc, SMALL, &[1; 6])?;
-    let mut locked = six.clone()?;
-    put_clip(locked.as_mut_slice(), 0, 1, 4);
-    let row = |image, fails, asked, held| Row {
-        image,
-        fails,
-        asked,
-        held,
-    };
+    let last = image_of_block(&rt, alloc, 4_611_686_018_427_387_902)?;
+    runs(&rt, alloc, &last, NEVER, &SPENT, &LAST_TWO)?;
+    let none = fresh(&rt, alloc, SMALL)?;
+    runs(&rt, alloc, &none, NEVER, &FOURTEEN, &[(2, 6)])?;
+    let mut six = image_of(&rt, alloc, SMALL, &[1; 6])?;
     // To open six frames takes twelve calls, and to read a frame two.
-    let rows = [
-        row(fresh(&rt, alloc, SMALL)?, 1000, &FOURTEEN, &[(2, 6)]),
-        row(locked, 1000, &LOCKED, &[(0, 5)]),
-        row(
-            image_of_block(&rt, alloc, last)?,
-            1000,
-            &SPENT,
-            &[(4_611_686_018_427_387_902, 4_611_686_018_427_387_903)],
-        ),
-        row(six.clone()?, 17, &FAILED_STORE, &[(2, 5)]),
-        row(six, 12, &FAILED_READ, &[(2, 6)]),
-    ];
-    for one in rows {
-        runs(&rt, alloc, one)?;
-    }
-    Ok(())
+    runs(&rt, alloc, &six, 17, &FAILED_STORE, &[(2, 5)])?;
+    runs(&rt, alloc, &six, 12, &FAILED_READ, &[(2, 6)])?;
+    put_clip(six.as_mut_slice(), 0, 1, 4);
+    runs(&rt, alloc, &six, NEVER, &LOCKED, &[(0, 5)])
 }
 
 // Formats a disk of zeros where each growth is refused in turn.
@@ -334,11 +343,10 @@ fn grows_in_looks<'a>(
     Ok(())
 }
 
-// Whether the first reply has a frame, or memory for it was refused.
+// Whether the first reply has a frame.
 fn has_read<A: Allocator>(replies: &[Reply<A>]) -> bool {
     match replies.first() {
-        Some(Reply::Read(Ok(_))) => true,
-        Some(Reply::Read(Err(StoreFault::NoMemory))) => false,
+        Some(Reply::Read(answer)) => answer.is_ok(),
         _ => false,
     }
 }

@@ -207,6 +207,12 @@ pub(crate) fn holds<D: Disk + Drop, A: Allocator>(
     Ok(())
 }
 
+/// Whether frames are those from before an append of so many, or those after it or after a beginning of its steps.
+pub(crate) fn is_beginning(found: &[u64], before: &[u64], after: &[u64], count: u64) -> bool {
+    let most = found.len().saturating_add(count as usize);
+    found.iter().eq(before.iter()) || (most >= after.len() && after.starts_with(found))
+}
+
 /// The store of a disk that has a recording.
 pub(crate) fn opened<D: Disk + Drop>(alloc: Global, disk: D) -> Result<Store<D>, Fail> {
     match Store::open(alloc, disk) {

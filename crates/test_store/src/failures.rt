@@ -4,7 +4,7 @@ use crate::common::*;
 use loop_disk::{Disk, DiskFault, FuseDisk, MemDisk, OnceDisk};
 use loop_record::OPEN;
 use loop_store::{Command, Store, StoreFault};
-use std::alloc::Global;
+use std::alloc::{AllocError, Global};
 use std::process::Abort;
 use std::test::Fail;
 
@@ -72,79 +72,90 @@ fn tried<D: Disk + Drop>(
     }
 }
 
-// Whether frames are those from before an append of so many, or those after it or after a beginning of its steps.
-fn is_beginning(found: &[u64], before: &[u64], after: &[u64], count: u64) -> bool {
-    let most = found.len().saturating_add(count as usize);
-    found.iter().eq(before.iter()) || (most >= after.len() && after.starts_with(found))
+// Whether an append that was refused, or wasn't, may leave these frames.
+fn is_left(alloc: Global, row: &Row, refused: bool, found: &[u64]) -> Result<bool, AllocError> {
+    let before = numbers(alloc, row.before)?;
+    let after = numbers(alloc, row.after)?;
+    Ok(if refused {
+        is_beginning(found, &before, &after, row.count)
+    } else {
+        found.iter().eq(after.iter())
+    })
 }
 
-// Opens what a failed append left, and stores a frame in a second attempt. What was given up doesn't come back.
-fn goes_on(
+// Opens what an append left.
+fn reopened(
     rt: &impl Abort,
     alloc: Global,
     disk: MemDisk,
     row: &Row,
-    refused: Option<StoreFault>,
-) -> Result<(), Fail> {
+    refused: bool,
+) -> Result<Store<MemDisk>, Fail> {
     let mut store = opened(alloc, disk)?;
     let found = held(rt, alloc, &mut store, u64::MAX)?;
-    let before = numbers(alloc, row.before)?;
-    let after = numbers(alloc, row.after)?;
-    assert!(rt;
-        is_beginning(&found, &before, &after, row.count),
-        "{found:?}"
-    );
-    assert!(rt; refused.is_some() || found.iter().eq(after.iter()));
+    let is_left = is_left(alloc, row, refused, &found)?;
+    assert!(rt; is_left, "{found:?}");
+    Ok(store)
+}
+
+// Stores a frame in a second attempt, and opens the disk again. What was given up doesn't come back.
+fn goes_on(rt: &impl Abort, alloc: Global, store: Store<MemDisk>) -> Result<(), Fail> {
+    let mut store = store;
     let next = store.next();
-    let answer = append_next(rt, alloc, &mut store, 1, 1);
-    assert_eq!(rt; answer, Ok(next));
-    let more = held(rt, alloc, &mut store, next)?;
-    assert_eq!(rt; more.last(), Some(&next));
+    assert_eq!(rt; append_next(rt, alloc, &mut store, 1, 1), Ok(next));
+    let shown = held(rt, alloc, &mut store, next)?;
+    assert_eq!(rt; shown.last().copied(), Some(next));
     let mut store = opened(alloc, store.into_disk())?;
-    assert_eq!(rt;
-        held(rt, alloc, &mut store, next)?.as_slice(),
-        more.as_slice()
-    );
+    let again = held(rt, alloc, &mut store, next)?;
+    assert_eq!(rt; again.as_slice(), shown.as_slice());
     Ok(())
 }
 
-// Fails one call of a row, a write torn after some bytes of it or left out.
-fn fails_once(rt: &impl Abort, alloc: Global, row: &Row, call: u64) -> Result<(), Fail> {
-    let fault = row
-        .calls
-        .as_bytes()
-        .get(call as usize)
-        .map(|call| fault_of(*call));
-    for keep in [None, Some(0), Some(1), Some(20)] {
-        let disk = MemDisk::of(alloc, row.image.to_vec(alloc)?);
-        let disk = match keep {
-            Some(keep) => OnceDisk::torn(disk, call, keep),
-            None => OnceDisk::new(disk, call),
-        };
-        let (refused, disk) = tried(rt, alloc, disk, row.count)?;
-        assert_eq!(rt; refused, fault, "call {call}");
-        goes_on(rt, alloc, disk.into_inner(), row, refused)?;
+// The fault of this call of a row, if it makes so many.
+fn fault_at(row: &Row, call: u64) -> Option<StoreFault> {
+    let call = row.calls.as_bytes().get(call as usize)?;
+    Some(fault_of(*call))
+}
+
+// A disk that fails one call, a write torn after some bytes of it or left out.
+fn failing(disk: MemDisk, call: u64, keep: Option<usize>) -> OnceDisk<MemDisk> {
+    match keep {
+        Some(keep) => OnceDisk::torn(disk, call, keep),
+        None => OnceDisk::new(disk, call),
     }
-    Ok(())
+}
+
+// Fails one call of a row.
+fn fails_once(
+    rt: &impl Abort,
+    alloc: Global,
+    row: &Row,
+    call: u64,
+    keep: Option<usize>,
+) -> Result<(), Fail> {
+    let disk = failing(MemDisk::of(alloc, row.image.to_vec(alloc)?), call, keep);
+    let (refused, disk) = tried(rt, alloc, disk, row.count)?;
+    assert_eq!(rt; refused, fault_at(row, call), "call {call}");
+    let store = reopened(rt, alloc, disk.into_inner(), row, refused.is_some())?;
+    goes_on(rt, alloc, store)
 }
 
 // Fails the calls of a row from one on.
 fn fails_from(rt: &impl Abort, alloc: Global, row: &Row, call: u64) -> Result<(), Fail> {
-    let fault = row
-        .calls
-        .as_bytes()
-        .get(call as usize)
-        .map(|call| fault_of(*call));
     let disk = FuseDisk::new(MemDisk::of(alloc, row.image.to_vec(alloc)?), call);
     let (refused, disk) = tried(rt, alloc, disk, row.count)?;
-    assert_eq!(rt; (refused, disk.left), (fault, 0), "call {call}");
-    goes_on(rt, alloc, disk.into_inner(), row, refused)
+    assert_eq!(rt; refused, fault_at(row, call), "call {call}");
+    assert_eq!(rt; disk.left, 0);
+    let store = reopened(rt, alloc, disk.into_inner(), row, refused.is_some())?;
+    goes_on(rt, alloc, store)
 }
 
 // Fails each call of a row.
 fn fails(rt: &impl Abort, alloc: Global, row: &Row) -> Result<(), Fail> {
     for call in 0..=row.calls.len() as u64 {
-        fails_once(rt, alloc, row, call)?;
+        for keep in [None, Some(0), Some(1), Some(20)] {
+            fails_once(rt, alloc, row, call, keep)?;
+        }
         fails_from(rt, alloc, row, call)?;
     }
     Ok(())
@@ -187,7 +198,6 @@ fn each_failed_call_leaves_a_beginning(rt: HostRuntime) -> Result<(), Fail> {
     Ok(())
 }
 
-// Reads of a store are no end of it.
 #[test]
 fn a_failed_read_is_no_end(rt: HostRuntime) -> Result<(), Fail> {
     let alloc = rt.alloc();

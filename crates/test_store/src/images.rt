@@ -2,7 +2,7 @@
 
 use crate::common::*;
 use loop_disk::MemDisk;
-use loop_record::{Damage, Geometry, OPEN};
+use loop_record::{Damage, OPEN};
 use loop_store::{Store, StoreFault};
 use std::alloc::Global;
 use std::process::Abort;
@@ -11,13 +11,13 @@ use std::test::Fail;
 /// Bytes that are put into an image, each row from a place on.
 type Changes = &'static [(usize, &'static [u8])];
 
-// Opens an image. It shows these frames, or it is refused and its disk is handed back unchanged.
+// Opens an image. It shows these frames, or it is refused and its disk is handed back unchanged. Rows are told by a place.
 fn opens(
     rt: &impl Abort,
     alloc: Global,
     image: &[u8],
     expected: Result<&[(u64, u64)], StoreFault>,
-    what: &str,
+    place: usize,
 ) -> Result<(), Fail> {
     match Store::open(alloc, MemDisk::of(alloc, image.to_vec(alloc)?)) {
         Ok(mut store) => {
@@ -25,8 +25,8 @@ fn opens(
             holds(rt, alloc, &mut store, spans)?;
         }
         Err(refused) => {
-            assert_eq!(rt; Some(refused.fault), expected.err(), "{what}");
-            assert!(rt; refused.disk.bytes().iter().eq(image.iter()), "{what}");
+            assert_eq!(rt; Some(refused.fault), expected.err(), "at {place}");
+            assert!(rt; refused.disk.bytes().iter().eq(image.iter()), "at {place}");
         }
     }
     Ok(())
@@ -38,7 +38,7 @@ fn changed(
     alloc: Global,
     image: &[u8],
     changes: Changes,
-    expected: Result<&[(u64, u64)], Damage>,
+    expected: Result<&[(u64, u64)], StoreFault>,
 ) -> Result<(), Fail> {
     let mut image = image.to_vec(alloc)?;
     let mut at = 0;
@@ -46,11 +46,7 @@ fn changed(
         put(image.as_mut_slice(), *place, bytes);
         at = *place;
     }
-    let expected = match expected {
-        Ok(spans) => Ok(spans),
-        Err(damage) => Err(StoreFault::Damaged(damage)),
-    };
-    opens(rt, alloc, &image, expected, "changed at {at}")
+    opens(rt, alloc, &image, expected, at)
 }
 
 // The changes of the image after frames 0 to 6, and what they make of it. Segment 0 has frame 6 and, behind a closed gate, the
@@ -116,62 +112,61 @@ const SOUND: [(Changes, (u64, u64)); 6] = [
     (&[(2560, &[7]), (2568, &[0xFF; 8])], (2, 5)),
 ];
 
+// Changes that leave no recording: a closed gate, and another magic.
+const UNFORMATTED: [Changes; 2] = [&[(0, &[0x5A])], &[(1, b"M")]];
+
+// The pixels aren't judged: the first one of frame 3 is read as it stands.
+fn pixel_is_read(rt: &impl Abort, alloc: Global, image: &[u8]) -> Result<(), Fail> {
+    let mut image = image.to_vec(alloc)?;
+    put(image.as_mut_slice(), 3748, &[0xFF]);
+    let mut store = opened(alloc, MemDisk::of(alloc, image))?;
+    let (head, bytes) = read(rt, alloc, &mut store, 3)?;
+    assert_eq!(rt; (head.number, head.sequence), (3, 3));
+    assert_eq!(rt; bytes.first().copied(), Some(0xFF));
+    Ok(())
+}
+
 #[test]
 fn damage_is_answered_in_its_order(rt: HostRuntime) -> Result<(), Fail> {
     let alloc = rt.alloc();
     let seven = image_of(&rt, alloc, SMALL, &[1; 7])?;
-    for (changes, damage) in DAMAGES {
-        changed(&rt, alloc, &seven, changes, Err(damage))?;
+    for (changes, damage) in &DAMAGES {
+        let fault = StoreFault::Damaged(*damage);
+        changed(&rt, alloc, &seven, changes, Err(fault))?;
     }
-    for (changes, span) in SOUND {
-        changed(&rt, alloc, &seven, changes, Ok(&[span]))?;
+    for changes in UNFORMATTED {
+        changed(&rt, alloc, &seven, changes, Err(StoreFault::NotFormatted))?;
     }
-    // A pixel isn't judged.
-    let mut pixel = seven;
-    put(pixel.as_mut_slice(), 3748, &[0xFF]);
-    let mut store = opened(alloc, MemDisk::of(alloc, pixel))?;
-    let (head, bytes) = read(&rt, alloc, &mut store, 3)?;
-    assert_eq!(rt;
-        (head.number, head.sequence, bytes.first().copied()),
-        (3, 3, Some(0xFF))
-    );
-    Ok(())
+    for (changes, span) in &SOUND {
+        changed(&rt, alloc, &seven, changes, Ok(&[*span]))?;
+    }
+    pixel_is_read(&rt, alloc, &seven)
 }
 
-// The whole image of some bytes.
-fn filled(alloc: Global, byte: u8, count: usize) -> Result<Vec<u8>, Fail> {
-    Ok(vec![in alloc; byte; count]?)
+// Opens the first bytes of a fresh image.
+fn cut(rt: &impl Abort, alloc: Global, count: usize, fault: StoreFault) -> Result<(), Fail> {
+    let mut image = fresh(rt, alloc, SMALL)?;
+    image.truncate(count);
+    opens(rt, alloc, &image, Err(fault), count)
+}
+
+// Opens so many times a byte.
+fn filled(rt: &impl Abort, alloc: Global, byte: u8, count: usize) -> Result<(), Fail> {
+    let image = vec![in alloc; byte; count]?;
+    opens(rt, alloc, &image, Err(StoreFault::NotFormatted), count)
 }
 
 #[test]
 fn what_has_no_recording_is_handed_back(rt: HostRuntime) -> Result<(), Fail> {
     let alloc = rt.alloc();
-    let mut short = fresh(&rt, alloc, SMALL)?;
-    short.truncate(4359);
-    let mut front = fresh(&rt, alloc, SMALL)?;
-    front.truncate(512);
-    let mut cut = fresh(&rt, alloc, SMALL)?;
-    cut.truncate(511);
-    let mut magic = fresh(&rt, alloc, SMALL)?;
-    put(magic.as_mut_slice(), 1, b"M");
-    let mut twice = image_of(&rt, alloc, SMALL, &[1; 6])?;
-    put(twice.as_mut_slice(), 3768, &[1]);
-    let rows = [
-        (short, StoreFault::Damaged(Damage::DiskSize)),
-        (front, StoreFault::Damaged(Damage::DiskSize)),
-        (cut, StoreFault::NotFormatted),
-        (magic, StoreFault::NotFormatted),
-        (twice, StoreFault::Damaged(Damage::RepeatedBlock)),
-        (
-            image_of_block(&rt, alloc, 4_611_686_018_427_387_904)?,
-            StoreFault::Damaged(Damage::BlockTooHigh),
-        ),
-        (filled(alloc, 0, 4360)?, StoreFault::NotFormatted),
-        (filled(alloc, OPEN, 100)?, StoreFault::NotFormatted),
-        (filled(alloc, OPEN, 0)?, StoreFault::NotFormatted),
-    ];
-    for (image, fault) in rows {
-        opens(&rt, alloc, &image, Err(fault), fault.name())?;
+    let short = StoreFault::Damaged(Damage::DiskSize);
+    for (count, fault) in [(4359, short), (512, short), (511, StoreFault::NotFormatted)] {
+        cut(&rt, alloc, count, fault)?;
     }
-    opens(&rt, alloc, &fresh(&rt, alloc, SMALL)?, Ok(&[]), "fresh")
+    for (byte, count) in [(0, 4360), (OPEN, 100), (OPEN, 0)] {
+        filled(&rt, alloc, byte, count)?;
+    }
+    let high = image_of_block(&rt, alloc, 4_611_686_018_427_387_904)?;
+    let fault = StoreFault::Damaged(Damage::BlockTooHigh);
+    opens(&rt, alloc, &high, Err(fault), 0)
 }

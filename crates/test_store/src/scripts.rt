@@ -146,6 +146,24 @@ fn changes<'a>(
     Ok(store)
 }
 
+// Plays a line of a script.
+fn play_line<'a>(
+    rt: &impl Abort,
+    alloc: Global,
+    calls: &'a Cell<u64>,
+    store: Recorder<'a>,
+    line: &Line,
+) -> Result<Recorder<'a>, Fail> {
+    match line {
+        Line::Store(count, expected, spans) => {
+            stores(rt, alloc, calls, store, (*count, *expected), spans)
+        }
+        Refused(fault) => refuses(rt, alloc, calls, store, *fault),
+        Open(expected, spans) => opens(rt, alloc, calls, store, *expected, spans),
+        _ => changes(rt, alloc, calls, store, line),
+    }
+}
+
 // Plays a script over an image, and answers the image that is left. The disk may be opened again before each line.
 fn play(
     rt: &impl Abort,
@@ -160,14 +178,7 @@ fn play(
         if reopens {
             store = open_image(alloc, &calls, image_in(alloc, store)?)?;
         }
-        store = match line {
-            Line::Store(count, expected, spans) => {
-                stores(rt, alloc, &calls, store, (*count, *expected), spans)?
-            }
-            Refused(fault) => refuses(rt, alloc, &calls, store, *fault)?,
-            Open(expected, spans) => opens(rt, alloc, &calls, store, *expected, spans)?,
-            _ => changes(rt, alloc, &calls, store, line)?,
-        };
+        store = play_line(rt, alloc, &calls, store, line)?;
     }
     image_in(alloc, store)
 }
@@ -274,12 +285,27 @@ fn frames_are_held_as_the_rules_say(rt: HostRuntime) -> Result<(), Fail> {
     Ok(())
 }
 
-// Six frames, and the first segment retired. Nothing has to go for the next frame.
-const RETIRED: [Line; 4] = [
+// Six frames, and the first segment retired. Nothing has to go for the next frame, and what stood in the header goes.
+const RETIRED: [Line; 9] = [
     Put(2560, &[0], 10),
+    Put(2576, &[0xFF; 240], 10),
+    Put(2818, &[0xFF; 254], 10),
     Line::Store(1, 8, &[(2, 6)]),
+    Has(2576, &[0; 240]),
+    Has(2816, &[OPEN, 0, 0]),
+    Has(2819, &[0; 253]),
     Line::Store(1, 4, &[(2, 7)]),
     Line::Store(1, 10, &[(4, 8)]),
+];
+
+// Six frames, and the first two segments retired. The first of them is begun, and the other stays closed.
+const TWO_RETIRED: [Line; 6] = [
+    Put(3160, &[0], 10),
+    Put(2560, &[0], 8),
+    Line::Store(2, 8, &[(4, 7)]),
+    Has(2560, &[OPEN, 0, 0, 0, 0, 0, 0, 0, 3]),
+    Has(3160, &[0, 0, 0, 0, 0, 0, 0, 0, 1]),
+    Line::Store(1, 8, &[(4, 8)]),
 ];
 
 // Six frames, the first segment retired, and then begun for block 3, which has no frame yet.
@@ -310,8 +336,12 @@ const STRAY: [Line; 7] = [
 fn what_stops_leave_is_taken_up(rt: HostRuntime) -> Result<(), Fail> {
     let alloc = rt.alloc();
     let six = image_of(&rt, alloc, SMALL, &[1; 6])?;
-    plays(&rt, alloc, six.clone()?, &RETIRED)?;
-    plays(&rt, alloc, six, &BEGUN)?;
+    let pairs = image_of(&rt, alloc, SMALL, &[2; 3])?;
+    assert_eq!(rt; six.as_slice(), pairs.as_slice());
+    let rows: [&[Line]; 3] = [&RETIRED, &TWO_RETIRED, &BEGUN];
+    for lines in rows {
+        plays(&rt, alloc, six.clone()?, lines)?;
+    }
     let four = fresh(&rt, alloc, Geometry { slots: 4, ..SMALL })?;
     plays(&rt, alloc, four, &STRAY)
 }
