@@ -1,6 +1,6 @@
 //! Calls of a ring over images.
 
-ghost use Rattle.std.specs.Prelude.{◌≡◌, ◌+◌, ◌<◌, ◌≤◌, ⊥, IfErr, IfOk, OnOk, absurd, length, vec_len};
+ghost use Rattle.std.specs.Prelude.{◌≡◌, ◌+◌, ◌<◌, ◌≤◌, IfErr, IfOk, OnOk, absurd, length, vec_len};
 ghost use Rattle.loop_disk.specs.declared.fault.DiskFault.TheVariants.{Read, Write, Sync};
 ghost use Rattle.loop_disk.specs.Medium.{piece};
 ghost use Rattle.loop_disk.specs.Calls.{Called, Stays, Writes, Syncs, failed_call};
@@ -9,6 +9,7 @@ use loop_disk::{Disk, DiskFault, FuseDisk, MemDisk, OnceDisk};
 use loop_record::{Damage, FrameHead, Geometry, OPEN, PixelFormat};
 use loop_ring::{Ring, SlotFault};
 use std::alloc::{AllocError, Global};
+use std::process::Abort;
 use std::test::Fail;
 
 /// Two segments with four slots each, of frames of 12 bytes. The segments begin at 2,560 and 3,248, and the disk has 3,936 bytes.
@@ -97,21 +98,51 @@ const UNCLEARED: [(u64, usize, DiskFault, [u8; 4]); 4] = [
     (2, 0, DiskFault::Sync, [0xA5, 0x07, 0x00, 0x00]),
 ];
 
+// Clears the stray gates of an image, in so many calls of its disk.
+fn clears(
+    rt: &impl Abort,
+    alloc: Global,
+    (before, frames, calls, after): ([u8; 4], u32, u64, [u8; 4]),
+) -> Result<(), Fail> {
+    let ring = ring(alloc)?;
+    let expected = image(alloc, after)?;
+    let mut disk = Bare(FuseDisk::new(MemDisk::of(alloc, image(alloc, before)?), calls));
+    assert!(rt; frames <= 4);
+    assert_eq!(rt; clear(&ring, &mut disk, frames), Ok(()), "{before:?}");
+    assert_eq!(rt; disk.0.left, 0, "{before:?}");
+    assert!(rt;
+        disk.0.inner.bytes().iter().eq(expected.iter()),
+        "{before:?}"
+    );
+    Ok(())
+}
+
+// Fails one call of clearing, a write torn.
+fn clears_in_part(
+    rt: &impl Abort,
+    alloc: Global,
+    (call, keep, fault, after): (u64, usize, DiskFault, [u8; 4]),
+) -> Result<(), Fail> {
+    let ring = ring(alloc)?;
+    let expected = image(alloc, after)?;
+    let before = image(alloc, [0xA5, 0x07, 0xA5, 0x01])?;
+    let mut disk = Bare(OnceDisk::torn(MemDisk::of(alloc, before), call, keep));
+    assert_eq!(rt; clear(&ring, &mut disk, 1), Err(fault), "call {call}");
+    assert!(rt;
+        disk.0.inner.bytes().iter().eq(expected.iter()),
+        "call {call}"
+    );
+    Ok(())
+}
+
 #[test]
 fn stray_gates_are_cleared_and_no_others(rt: HostRuntime) -> Result<(), Fail> {
     let alloc = rt.alloc();
-    let ring = ring(alloc)?;
-    for (before, frames, calls, after) in CLEARED {
-        let mut disk = Bare(FuseDisk::new(MemDisk::of(alloc, image(alloc, before)?), calls));
-        assert_eq!(rt; clear(&ring, &mut disk, frames), Ok(()), "{before:?}");
-        assert_eq!(rt; disk.0.left, 0, "{before:?}");
-        assert_eq!(rt; disk.0.inner.bytes(), image(alloc, after)?.as_slice());
+    for row in CLEARED {
+        clears(&rt, alloc, row)?;
     }
-    for (call, keep, fault, after) in UNCLEARED {
-        let before = image(alloc, [0xA5, 0x07, 0xA5, 0x01])?;
-        let mut disk = Bare(OnceDisk::torn(MemDisk::of(alloc, before), call, keep));
-        assert_eq!(rt; clear(&ring, &mut disk, 1), Err(fault), "call {call}");
-        assert_eq!(rt; disk.0.inner.bytes(), image(alloc, after)?.as_slice());
+    for row in UNCLEARED {
+        clears_in_part(&rt, alloc, row)?;
     }
     Ok(())
 }

@@ -1,6 +1,6 @@
 //! The segments and the clips in memory.
 
-ghost use Rattle.std.specs.Prelude.{◌≡◌, IfOk, vec_len};
+ghost use Rattle.std.specs.Prelude.{◌≡◌, IfOk, length, vec_len};
 
 use loop_budget::Budget;
 use loop_clips::{CLIPS, Clip, ClipTable};
@@ -8,6 +8,7 @@ use loop_disk::{DiskFault, FuseDisk, MemDisk};
 use loop_record::{Geometry, OPEN, PixelFormat, SegmentHead, Span};
 use loop_ring::{SegmentTable, victim_block, victim_segment};
 use std::alloc::{AllocError, Allocator, Global};
+use std::process::Abort;
 use std::test::Fail;
 
 /// Blocks of two frames.
@@ -25,7 +26,9 @@ const SMALL: Geometry = Geometry {
 fn table<A: Allocator>(
     alloc: A,
     heads: [Option<SegmentHead>; 3],
-) -> Result<SegmentTable<A>, AllocError> {
+) -> Result<SegmentTable<A>, AllocError>
+    ensures { IfOk result (λ table. length table ≡ 3) }
+{
     let mut table = SegmentTable::new(alloc, 3)?;
     table.set(0, heads[0]);
     table.set(1, heads[1]);
@@ -46,6 +49,21 @@ fn clip(number: u64) -> Option<Span> {
     })
 }
 
+// What is found in the table of a block 3 with one frame, a closed segment, and a block 2 with both frames; and once block 4
+// is begun in the closed one.
+fn finds<A: Allocator>(rt: &impl Abort, table: &mut SegmentTable<A>)
+    requires { length table.old ≡ 3 }
+{
+    assert_eq!(rt; (table.find(2), table.find(1)), (Some(2), None));
+    assert_eq!(rt; table.first_closed(), Some(1));
+    for (number, held) in [(3, false), (5, true), (6, true), (7, false)] {
+        assert_eq!(rt; table.holds(2, number), held, "{number}");
+    }
+    table.set(1, open(4, 0));
+    assert_eq!(rt; table.get(1), open(4, 0));
+    assert_eq!(rt; (table.first_closed(), table.held_blocks()), (None, 2));
+}
+
 #[test]
 fn segments_are_found_by_what_they_hold(rt: HostRuntime) -> Result<(), Fail> {
     let memory = Budget::new(rt.alloc());
@@ -55,14 +73,8 @@ fn segments_are_found_by_what_they_hold(rt: HostRuntime) -> Result<(), Fail> {
     let heads = [open(3, 1), None, open(2, 2)];
     let mut table = table(&memory, heads)?;
     memory.allow(0);
-    assert_eq!(rt; table.as_slice(), heads.as_slice());
-    assert_eq!(rt; (table.find(2), table.find(1)), (Some(2), None));
-    assert_eq!(rt; table.first_closed(), Some(1));
-    let held = [3, 5, 6, 7].map(|number: u64| table.holds(2, number));
-    assert_eq!(rt; held, [false, true, true, false]);
-    table.set(1, open(4, 0));
-    assert_eq!(rt; table.get(1), open(4, 0));
-    assert_eq!(rt; (table.first_closed(), table.held_blocks()), (None, 2));
+    assert!(rt; table.as_slice().iter().eq(heads.iter()));
+    finds(&rt, &mut table);
     Ok(())
 }
 
@@ -85,7 +97,11 @@ fn the_least_block_that_no_clip_meets_goes(rt: HostRuntime) -> Result<(), Fail> 
     let begun = [open(3, 0), open(1, 2), open(2, 2)];
     let full = [open(3, 2), open(1, 2), open(2, 2)];
     let later = [open(3, 2), open(1, 2), open(4, 2)];
-    let rows: [([Option<SegmentHead>; 3], &[Option<Span>], Option<(u64, u32)>); 7] = [
+    let rows: [(
+        [Option<SegmentHead>; 3],
+        &[Option<Span>],
+        Option<(u64, u32)>,
+    ); 7] = [
         ([None, None, open(0, 2)], &[], None),
         (begun, &[], Some((1, 1))),
         ([open(1, 0), open(0, 2), None], &[], None),
@@ -132,15 +148,34 @@ fn the_open_entries_are_read_as_they_stand(rt: HostRuntime) -> Result<(), Fail> 
     let mut disk = FuseDisk::new(MemDisk::of(alloc, image(alloc)?), 1);
     let table = ClipTable::read(&mut disk)?;
     assert!(rt; matches!(ClipTable::read(&mut disk), Err(DiskFault::Read)));
-    let found = [0, 1, 63, 64].map(|id: u32| table.get(id));
-    assert_eq!(rt; found, [Some(Span { from: 2, to: 5 }), None, clip(u64::MAX), None]);
+    for (id, expected) in [
+        (0, Some(Span { from: 2, to: 5 })),
+        (1, None),
+        (63, clip(u64::MAX)),
+        (64, None),
+    ] {
+        assert_eq!(rt; table.get(id), expected, "{id}");
+    }
     // Frames 2 to 5 lie in blocks 1 and 2; the clip of no frame meets none.
-    let met = [0, 1, 2, 3, 127, 128, u64::MAX / 2].map(|block: u64| table.meets(&SMALL, block));
-    assert_eq!(rt; met, [false, true, true, false, false, false, true]);
+    for (block, met) in [
+        (0, false),
+        (1, true),
+        (2, true),
+        (3, false),
+        (127, false),
+        (128, false),
+        (u64::MAX / 2, true),
+    ] {
+        assert_eq!(rt; table.meets(&SMALL, block), met, "{block}");
+    }
     memory.allow(0);
     assert!(rt; table.list(&memory).is_err());
     memory.allow(1);
-    let clips = [listed(0, 2, 5), listed(2, 256, 255), listed(63, u64::MAX, u64::MAX)];
+    let clips = [
+        listed(0, 2, 5),
+        listed(2, 256, 255),
+        listed(63, u64::MAX, u64::MAX),
+    ];
     assert_eq!(rt; table.list(&memory)?.as_slice(), clips.as_slice());
     Ok(())
 }

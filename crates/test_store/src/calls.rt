@@ -160,23 +160,20 @@ fn all_answer(
     Ok(())
 }
 
-// Does a list of commands over an image, on a disk of which one call fails. Answers the disk.
-fn asks(
+// Does a list of commands.
+fn asks<D: Disk + Drop>(
     rt: &impl Abort,
     alloc: Global,
-    image: &[u8],
-    fails: u64,
+    store: &mut Store<D>,
     asked: &[Asked],
-) -> Result<MemDisk, Fail> {
-    let disk = MemDisk::of(alloc, image.to_vec(alloc)?);
-    let mut store = opened(alloc, OnceDisk::new(disk, fails))?;
-    let commands = commands(alloc, size_of_frames(rt, &store), store.next(), asked)?;
-    let replies = run(rt, alloc, &mut store, &commands)?;
-    all_answer(rt, alloc, &replies, asked)?;
-    Ok(store.into_disk().into_inner())
+) -> Result<(), Fail> {
+    let size = size_of_frames(rt, store);
+    let commands = commands(alloc, size, store.next(), asked)?;
+    let replies = run(rt, alloc, store, &commands)?;
+    all_answer(rt, alloc, &replies, asked)
 }
 
-// Does a list of commands, and opens the disk again.
+// Does a list of commands over an image, on a disk of which one call fails, and opens it again.
 fn runs(
     rt: &impl Abort,
     alloc: Global,
@@ -185,9 +182,11 @@ fn runs(
     asked: &[Asked],
     spans: &[(u64, u64)],
 ) -> Result<(), Fail> {
-    let mut store = opened(alloc, asks(rt, alloc, image, fails, asked)?)?;
-    holds(rt, alloc, &mut store, spans)?;
-    Ok(())
+    let disk = MemDisk::of(alloc, image.to_vec(alloc)?);
+    let mut store = opened(alloc, OnceDisk::new(disk, fails))?;
+    asks(rt, alloc, &mut store, asked)?;
+    let mut store = opened(alloc, store.into_disk().into_inner())?;
+    Ok(holds(rt, alloc, &mut store, spans)?)
 }
 
 // Frames are stored and read, and numbers are read that aren't there yet, or no more.

@@ -83,32 +83,47 @@ fn is_left(alloc: Global, row: &Row, refused: bool, found: &[u64]) -> Result<boo
     })
 }
 
-// Opens what an append left.
-fn reopened(
+// What an append left shows the frames before it or with a beginning of its steps. A frame is stored then, in a second attempt,
+// and its number is answered.
+fn goes_on(
+    rt: &impl Abort,
+    alloc: Global,
+    store: &mut Store<MemDisk>,
+    row: &Row,
+    refused: bool,
+) -> Result<u64, Fail> {
+    let found = held(rt, alloc, store, u64::MAX)?;
+    let is_left = is_left(alloc, row, refused, &found)?;
+    assert!(rt; is_left, "{found:?}");
+    let next = store.next();
+    assert_eq!(rt; append_next(rt, alloc, store, 1, 1), Ok(next));
+    Ok(next)
+}
+
+// The last frame is the one of this number. It is of the second attempt, and those before it are of the first.
+fn ends_with(
+    rt: &impl Abort,
+    alloc: Global,
+    store: &mut Store<MemDisk>,
+    number: u64,
+) -> Result<(), Fail> {
+    let shown = held(rt, alloc, store, number)?;
+    assert_eq!(rt; shown.last().copied(), Some(number));
+    Ok(())
+}
+
+// Opens what an append left, stores a frame, and opens it again. What was given up doesn't come back.
+fn reopens(
     rt: &impl Abort,
     alloc: Global,
     disk: MemDisk,
     row: &Row,
     refused: bool,
-) -> Result<Store<MemDisk>, Fail> {
+) -> Result<(), Fail> {
     let mut store = opened(alloc, disk)?;
-    let found = held(rt, alloc, &mut store, u64::MAX)?;
-    let is_left = is_left(alloc, row, refused, &found)?;
-    assert!(rt; is_left, "{found:?}");
-    Ok(store)
-}
-
-// Stores a frame in a second attempt, and opens the disk again. What was given up doesn't come back.
-fn goes_on(rt: &impl Abort, alloc: Global, store: Store<MemDisk>) -> Result<(), Fail> {
-    let mut store = store;
-    let next = store.next();
-    assert_eq!(rt; append_next(rt, alloc, &mut store, 1, 1), Ok(next));
-    let shown = held(rt, alloc, &mut store, next)?;
-    assert_eq!(rt; shown.last().copied(), Some(next));
+    let number = goes_on(rt, alloc, &mut store, row, refused)?;
     let mut store = opened(alloc, store.into_disk())?;
-    let again = held(rt, alloc, &mut store, next)?;
-    assert_eq!(rt; again.as_slice(), shown.as_slice());
-    Ok(())
+    ends_with(rt, alloc, &mut store, number)
 }
 
 // The fault of this call of a row, if it makes so many.
@@ -136,8 +151,7 @@ fn fails_once(
     let disk = failing(MemDisk::of(alloc, row.image.to_vec(alloc)?), call, keep);
     let (refused, disk) = tried(rt, alloc, disk, row.count)?;
     assert_eq!(rt; refused, fault_at(row, call), "call {call}");
-    let store = reopened(rt, alloc, disk.into_inner(), row, refused.is_some())?;
-    goes_on(rt, alloc, store)
+    reopens(rt, alloc, disk.into_inner(), row, refused.is_some())
 }
 
 // Fails the calls of a row from one on.
@@ -146,8 +160,7 @@ fn fails_from(rt: &impl Abort, alloc: Global, row: &Row, call: u64) -> Result<()
     let (refused, disk) = tried(rt, alloc, disk, row.count)?;
     assert_eq!(rt; refused, fault_at(row, call), "call {call}");
     assert_eq!(rt; disk.left, 0);
-    let store = reopened(rt, alloc, disk.into_inner(), row, refused.is_some())?;
-    goes_on(rt, alloc, store)
+    reopens(rt, alloc, disk.into_inner(), row, refused.is_some())
 }
 
 // Fails each call of a row.

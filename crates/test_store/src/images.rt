@@ -11,6 +11,20 @@ use std::test::Fail;
 /// Bytes that are put into an image, each row from a place on.
 type Changes = &'static [(usize, &'static [u8])];
 
+// A store shows these frames, where it shows any.
+fn is_shown(
+    rt: &impl Abort,
+    alloc: Global,
+    store: &mut Store<MemDisk>,
+    expected: Result<&[(u64, u64)], StoreFault>,
+) -> Result<(), Fail> {
+    let Ok(spans) = expected else {
+        return Err("it has no recording".into());
+    };
+    holds(rt, alloc, store, spans)?;
+    Ok(())
+}
+
 // Opens an image. It shows these frames, or it is refused and its disk is handed back unchanged. Rows are told by a place.
 fn opens(
     rt: &impl Abort,
@@ -19,17 +33,15 @@ fn opens(
     expected: Result<&[(u64, u64)], StoreFault>,
     place: usize,
 ) -> Result<(), Fail> {
-    match Store::open(alloc, MemDisk::of(alloc, image.to_vec(alloc)?)) {
-        Ok(mut store) => {
-            let spans = expected.ok().ok_or("it has no recording")?;
-            holds(rt, alloc, &mut store, spans)?;
-        }
+    let disk = MemDisk::of(alloc, image.to_vec(alloc)?);
+    match Store::open(alloc, disk) {
+        Ok(mut store) => is_shown(rt, alloc, &mut store, expected),
         Err(refused) => {
             assert_eq!(rt; Some(refused.fault), expected.err(), "at {place}");
             assert!(rt; refused.disk.bytes().iter().eq(image.iter()), "at {place}");
+            Ok(())
         }
     }
-    Ok(())
 }
 
 // Opens an image with changes. It shows these frames, or it is damaged.
@@ -116,11 +128,8 @@ const SOUND: [(Changes, (u64, u64)); 6] = [
 const UNFORMATTED: [Changes; 2] = [&[(0, &[0x5A])], &[(1, b"M")]];
 
 // The pixels aren't judged: the first one of frame 3 is read as it stands.
-fn pixel_is_read(rt: &impl Abort, alloc: Global, image: &[u8]) -> Result<(), Fail> {
-    let mut image = image.to_vec(alloc)?;
-    put(image.as_mut_slice(), 3748, &[0xFF]);
-    let mut store = opened(alloc, MemDisk::of(alloc, image))?;
-    let (head, bytes) = read(rt, alloc, &mut store, 3)?;
+fn reads_pixel(rt: &impl Abort, alloc: Global, store: &mut Store<MemDisk>) -> Result<(), Fail> {
+    let (head, bytes) = read(rt, alloc, store, 3)?;
     assert_eq!(rt; (head.number, head.sequence), (3, 3));
     assert_eq!(rt; bytes.first().copied(), Some(0xFF));
     Ok(())
@@ -129,7 +138,7 @@ fn pixel_is_read(rt: &impl Abort, alloc: Global, image: &[u8]) -> Result<(), Fai
 #[test]
 fn damage_is_answered_in_its_order(rt: HostRuntime) -> Result<(), Fail> {
     let alloc = rt.alloc();
-    let seven = image_of(&rt, alloc, SMALL, &[1; 7])?;
+    let mut seven = image_of(&rt, alloc, SMALL, &[1; 7])?;
     for (changes, damage) in &DAMAGES {
         let fault = StoreFault::Damaged(*damage);
         changed(&rt, alloc, &seven, changes, Err(fault))?;
@@ -140,7 +149,9 @@ fn damage_is_answered_in_its_order(rt: HostRuntime) -> Result<(), Fail> {
     for (changes, span) in &SOUND {
         changed(&rt, alloc, &seven, changes, Ok(&[*span]))?;
     }
-    pixel_is_read(&rt, alloc, &seven)
+    put(seven.as_mut_slice(), 3748, &[0xFF]);
+    let mut store = opened(alloc, MemDisk::of(alloc, seven))?;
+    reads_pixel(&rt, alloc, &mut store)
 }
 
 // Opens the first bytes of a fresh image.
