@@ -1,4 +1,6 @@
 pub mod Moments
 pub mod Images
-pub mod Entries
+pub mod Calls
+mod Nothing
+pub mod Crashing
 pub mod Tearing

@@ -1,55 +1,60 @@
--- What a memory disk keeps of its writes and syncs, and what that says of a crash. The entries stand with the newest first,
--- and `kept` is what each write went over, that of the newest last.
-use Rattle.std.specs.Prelude.{◌≡◌, ◌⊎◌, ℕ, ◌+◌, ◌-◌, ◌≤◌, Bool, false, ◌&&◌, ◌||◌, nat_le, nat_lt, List, [], ◌∷◌, length, take, drop, get_or}
-use Rattle.loop_disk.specs.declared.entry.Entry.{Entry}
+-- What a crash may leave of a disk in memory: its moments, and the images of each. Such a disk has one moment more after each write and each sync.
+use Rattle.std.specs.Prelude.{◌≡◌, ◌⊎◌, ℕ, ◌+◌, ◌≤◌, Bool, false, ◌&&◌, ◌||◌, nat_le, nat_lt, List, [], ◌∷◌, length, get_or}
 use Rattle.loop_disk.specs.declared.fault.Failures.{Failures}
-use Rattle.loop_disk.specs.declared.entry.Entry.TheVariants.{Wrote, Synced}
 use Rattle.loop_disk.specs.Medium.{Medium, written}
+
+-- a moment between two calls
+pub record Moment : Type 0 where
+  -- what the last sync put on the disk, or what was there at first
+  pub settled : List ℕ
+  -- the ranges written since then, the newest first: the first place and the count of each
+  pub loose : List (ℕ × ℕ)
+  -- what a read gives
+  pub bytes : List ℕ
+
+-- a disk that holds this image, with nothing written since a sync
+abbrev pub at_rest : List ℕ → Moment
+at_rest image = record { settled = image; loose = []; bytes = image }
+
+-- the moment after a write
+abbrev pub after_write : ℕ → List ℕ → Moment → Moment
+after_write at bytes m = record m { loose = (at, length bytes) ∷ m.loose; bytes = written at bytes m.bytes }
+
+-- the moment after a sync
+abbrev pub after_sync : Moment → Moment
+after_sync m = at_rest m.bytes
 
 -- this place is one of the n from `at` on
 abbrev pub is_within : ℕ → ℕ → ℕ → Bool
 is_within at n i = nat_le at i && nat_lt i (at + n)
 
--- this place was written since the last sync
-abbrev pub is_loose : List Entry → ℕ → Bool
+-- this place lies in one of the ranges
+abbrev pub is_loose : List (ℕ × ℕ) → ℕ → Bool
 is_loose [] i = false
-is_loose (Synced ∷ entries) i = false
-is_loose (Wrote at n ∷ entries) i = is_within at n i || is_loose entries i
+is_loose (range ∷ ranges) i = is_within range.0 range.1 i || is_loose ranges i
 
 -- an image that a crash may leave: any byte in each place that was written since the last sync, and the present one elsewhere
-pub record IsLeft (entries : List Entry) (bytes image : List ℕ) : Type 0 where
-  pub size : length image ≡ length bytes
-  pub kept : (i : ℕ) → is_loose entries i ≡ false → get_or image i 0 ≡ get_or bytes i 0
+pub record IsLeft (m : Moment) (image : List ℕ) : Type 0 where
+  pub size : length image ≡ length m.bytes
+  pub kept : (i : ℕ) → is_loose m.loose i ≡ false → get_or image i 0 ≡ get_or m.bytes i 0
 
--- what the disk held before an entry
-abbrev pub bytes_before : Entry → List ℕ → List ℕ → List ℕ
-bytes_before (Wrote at n) kept bytes = written at (drop (length kept - n) kept) bytes
-bytes_before Synced kept bytes = bytes
+-- an image that a crash might have left at one of these moments, the newest first, back to moment t
+abbrev pub IsLeftSince : List Moment → ℕ → List ℕ → Type 0
+IsLeftSince [] t image = ⊥
+IsLeftSince (m ∷ earlier) t image = ((t ≤ length earlier) × IsLeft m image) ⊎ IsLeftSince earlier t image
 
--- what was kept before an entry
-abbrev pub kept_before : Entry → List ℕ → List ℕ
-kept_before (Wrote at n) kept = take (length kept - n) kept
-kept_before Synced kept = kept
-
--- an image that a crash might have left at this moment or at an earlier one, back to moment t; moments are counted by entries
-abbrev pub IsLeftSince : List Entry → List ℕ → List ℕ → ℕ → List ℕ → Type 0
-IsLeftSince [] kept bytes t image = (t ≤ 0) × IsLeft [] bytes image
-IsLeftSince (e ∷ entries) kept bytes t image =
-    ((t ≤ length entries + 1) × IsLeft (e ∷ entries) bytes image)
-    ⊎ IsLeftSince entries (kept_before e kept) (bytes_before e kept bytes) t image
-
--- the medium of an honest disk with these failures, entries and bytes
-abbrev pub medium_of : Failures → List Entry → List ℕ → List ℕ → Medium
-medium_of failures entries kept bytes = record {
-  size = length bytes;
+-- the medium of an honest disk with these failures, at this moment, after those
+abbrev pub medium_of : Failures → Moment → List Moment → Medium
+medium_of failures now earlier = record {
+  size = length now.bytes;
   honest = Unit {0};
   failures = failures;
-  bytes = bytes;
-  may_leave = IsLeft entries bytes;
-  moment = length entries;
-  left_since = IsLeftSince entries kept bytes;
+  bytes = now.bytes;
+  may_leave = IsLeft now;
+  moment = length earlier;
+  left_since = IsLeftSince (now ∷ earlier);
 }
 
 -- what is said of a disk of which nothing is known but its size and failures
 abbrev pub unknown : ℕ → Failures → Medium
-unknown size failures = record (medium_of failures [] [] []) { size = size; honest = ⊥ }
+unknown size failures = record (medium_of failures (at_rest []) []) { size = size; honest = ⊥ }

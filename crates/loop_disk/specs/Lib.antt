@@ -2,6 +2,8 @@ pub mod Medium
 pub mod Calls
 pub mod Steps
 pub mod History
+pub mod Behind
 pub mod Sound
+pub mod Crashing
+pub mod Replay
 pub mod Failing
-pub mod InTurn

@@ -8,15 +8,17 @@
 //! `specs/` has the definitions, `proofs/` the lemmas for callers: `Moments` joins runs of calls, `Images` has parts of images.
 #![tactic(auto)]
 
+mod crash;
 mod disk;
-mod entry;
 mod fault;
 mod file;
 mod fuse;
 mod memory;
 mod once;
+mod past;
 mod steps;
 
+pub use crash::{CrashDisk, DeviceCall, Spoil};
 pub use disk::Disk;
 pub use fault::{DiskFault, Failures};
 pub use file::{FileDisk, FileFault};
@@ -24,6 +26,3 @@ pub use fuse::FuseDisk;
 pub use memory::MemDisk;
 pub use once::OnceDisk;
 pub use steps::{store, store_in_turn};
-
-#[cfg(test)]
-mod tests;

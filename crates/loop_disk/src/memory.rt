@@ -1,30 +1,25 @@
 // A disk in memory. A crash may leave any bytes in each range that was written since the last sync.
-ghost use Rattle.std.specs.Prelude.{◌≡◌, ◌≤◌, ◌+◌, ◌++◌, [], ◌∷◌, ℕ, List, length, IfOk, OnOk, OnErr, IsOk, IsTrue, replicate, reverse, false, get_or, slice_set, IfErr};
-ghost use Rattle.loop_disk.specs.declared.entry.Entry.TheVariants.{Wrote, Synced};
+ghost use Rattle.std.specs.Prelude.{◌≡◌, ◌≤◌, ◌+◌, ◌∷◌, length, IfOk, OnOk, IsOk, replicate, IfErr};
 ghost use Rattle.loop_disk.specs.declared.fault.DiskFault.TheVariants.{Read, Write, Sync};
 ghost use Rattle.loop_disk.specs.Medium.{written, piece, IsFresh, IsSame, LeavesEachTorn};
 ghost use Rattle.loop_disk.specs.Calls.{Called, Stays, Writes, Syncs, failed_call, no_failures};
-ghost use Rattle.loop_disk.specs.History.{is_loose, medium_of};
+ghost use Rattle.loop_disk.specs.History.{medium_of};
+ghost use Rattle.loop_disk.specs.Behind.{moment_now};
 ghost use Rattle.loop_disk.specs.Sound.{sound_of};
 
-use crate::entry::Entry;
-use crate::{Disk, DiskFault, Failures};
+use crate::past::{Event, Past};
+use crate::{Disk, DiskFault};
 use std::alloc::{AllocError, Allocator, Global};
 
-/// A disk in memory, honest, whose crashes are as bad as the model allows.
-///
-/// It keeps a record of its writes and syncs for its contracts: 24 bytes for each, and for a write the bytes that it went over.
-/// A write or a sync for which the record can't grow fails as a device's call does, and changes nothing; no other call fails.
+/// A disk in memory, honest, whose crashes are as bad as the model allows. None of its calls fails or takes memory.
 #[derive(Drop)]
 pub struct MemDisk<A: Allocator = Global> {
     bytes: Vec<u8, A>,
-    // Its writes and syncs, the newest last, and what the writes went over, that of the newest last.
-    entries: Vec<Entry, A>,
-    kept: Vec<u8, A>,
-    failures: Failures,
+    // Its writes and syncs. It takes no memory: proofs alone read it.
+    past: Past,
 }
 
-impl<A: Allocator + Copy> MemDisk<A> {
+impl<A: Allocator> MemDisk<A> {
     /// A disk of so many bytes of zero. Its only error is want of memory, for a size that memory can't hold too.
     pub fn new(alloc: A, size: u64) -> Result<Self, AllocError>
         ensures fresh { IfOk result (λ disk. IsFresh (replicate size 0) (⟦<MemDisk<A> as Disk>⟧.medium disk)) }
@@ -32,22 +27,18 @@ impl<A: Allocator + Copy> MemDisk<A> {
         ensures honest { IfOk result (λ disk. (⟦<MemDisk<A> as Disk>⟧.medium disk).honest) }
         ensures counted { IfOk result (λ disk. (⟦<MemDisk<A> as Disk>⟧.medium disk).failures ≡ no_failures) }
     {
-        Ok(MemDisk::of(alloc, vec![in alloc; 0; size as usize]?))
+        Ok(MemDisk::of(vec![in alloc; 0; size as usize]?))
     }
 
-    /// A disk that holds an image, all of it on the disk. It takes no memory; the record of later calls is taken from `alloc`.
-    pub fn of(alloc: A, bytes: Vec<u8, A>) -> Self
+    /// A disk that holds an image, all of it on the disk.
+    pub fn of(bytes: Vec<u8, A>) -> Self
         ensures fresh { IsFresh bytes.items (⟦<MemDisk<A> as Disk>⟧.medium result) }
         ensures size { (⟦<MemDisk<A> as Disk>⟧.medium result).size ≡ length bytes.items }
         ensures honest { (⟦<MemDisk<A> as Disk>⟧.medium result).honest }
         ensures counted { (⟦<MemDisk<A> as Disk>⟧.medium result).failures ≡ no_failures }
     {
-        MemDisk {
-            bytes,
-            entries: Vec::new(alloc),
-            kept: Vec::new(alloc),
-            failures: Failures::none(),
-        }
+        let past = Past::none().after(&Event::Began(&bytes));
+        MemDisk { bytes, past }
     }
 
     /// What a read gives now, all of it.
@@ -56,21 +47,12 @@ impl<A: Allocator + Copy> MemDisk<A> {
     {
         &self.bytes
     }
-
-    /// Whether the byte at this place is on the disk: it wasn't written since the last sync that succeeded.
-    /// A crash then leaves the present byte there, and else any byte.
-    pub fn is_settled_at(&self, at: u64) -> bool
-        ensures settled { IsTrue result → (c : List ℕ) → (⟦<MemDisk<A> as Disk>⟧.medium self.now).may_leave c → get_or c at 0 ≡ get_or (⟦<MemDisk<A> as Disk>⟧.medium self.now).bytes at 0 }
-        ensures loose { result ≡ false → (b : ℕ) → (⟦<MemDisk<A> as Disk>⟧.medium self.now).may_leave (slice_set (⟦<MemDisk<A> as Disk>⟧.medium self.now).bytes at b) }
-    {
-        !is_loose_at(&self.entries, at)
-    }
 }
 
-impl<A: Allocator + Copy> Disk for MemDisk<A> {
-    ghost medium = { λ disk. medium_of disk.failures (reverse disk.entries.items) disk.kept.items disk.bytes.items };
+impl<A: Allocator> Disk for MemDisk<A> {
+    ghost medium = { λ disk. medium_of no_failures (moment_now disk.past.behind disk.bytes.items) disk.past.behind.moments };
 
-    ghost sound = { λ disk honest. sound_of disk.failures (reverse disk.entries.items) disk.kept.items disk.bytes.items };
+    ghost sound = { λ disk honest. sound_of no_failures (moment_now disk.past.behind disk.bytes.items) disk.past.behind.moments };
 
     fn size(&self) -> u64 {
         self.bytes.len() as u64
@@ -92,87 +74,39 @@ impl<A: Allocator + Copy> Disk for MemDisk<A> {
         Ok(())
     }
 
-    /// It fails where the record can't grow, and then changes nothing. At Ok a crash may leave any bytes in the range.
+    /// It never fails. A crash may then leave any bytes in the range.
     fn write_at(&mut self, at: u64, bytes: &[u8]) -> Result<(), DiskFault>
         requires { at + length bytes.now ≤ (⟦<MemDisk<A> as Disk>⟧.medium self.old).size }
+        ensures always { IsOk result }
         ensures disk { (⟦<MemDisk<A> as Disk>⟧.medium self.old).honest → Writes at bytes.now (⟦<MemDisk<A> as Disk>⟧.medium self.old) (⟦<MemDisk<A> as Disk>⟧.medium self.new) result }
-        ensures torn { OnOk result (LeavesEachTorn at (length bytes.now) (⟦<MemDisk<A> as Disk>⟧.medium self.old) (⟦<MemDisk<A> as Disk>⟧.medium self.new)) }
-        ensures failed { OnErr result (IsSame (⟦<MemDisk<A> as Disk>⟧.medium self.old) (⟦<MemDisk<A> as Disk>⟧.medium self.new)) }
+        ensures torn { LeavesEachTorn at (length bytes.now) (⟦<MemDisk<A> as Disk>⟧.medium self.old) (⟦<MemDisk<A> as Disk>⟧.medium self.new) }
         ensures fault { IfErr result (λ fault. fault ≡ Write) }
         ensures called { Called (⟦<MemDisk<A> as Disk>⟧.medium self.old) (⟦<MemDisk<A> as Disk>⟧.medium self.new) (failed_call result) }
     {
-        match write_noted(
-            &mut self.entries,
-            &mut self.kept,
-            &mut self.bytes,
-            at,
-            bytes,
-        ) {
-            Ok(()) => Ok(()),
-            Err(_) => {
-                self.failures.count(DiskFault::Write);
-                Err(DiskFault::Write)
-            }
-        }
+        let event = Event::Wrote(&self.bytes, at, bytes.len());
+        self.past = self.past.after(&event);
+        put(&mut self.bytes, at, bytes);
+        Ok(())
     }
 
-    /// It fails where the record can't grow, and then changes nothing.
+    /// It never fails.
     fn sync(&mut self) -> Result<(), DiskFault>
+        ensures always { IsOk result }
         ensures disk { (⟦<MemDisk<A> as Disk>⟧.medium self.old).honest → Syncs (⟦<MemDisk<A> as Disk>⟧.medium self.old) (⟦<MemDisk<A> as Disk>⟧.medium self.new) result }
-        ensures failed { OnErr result (IsSame (⟦<MemDisk<A> as Disk>⟧.medium self.old) (⟦<MemDisk<A> as Disk>⟧.medium self.new)) }
         ensures fault { IfErr result (λ fault. fault ≡ Sync) }
         ensures called { Called (⟦<MemDisk<A> as Disk>⟧.medium self.old) (⟦<MemDisk<A> as Disk>⟧.medium self.new) (failed_call result) }
     {
-        match self.entries.push(Entry::Synced) {
-            Ok(()) => Ok(()),
-            Err(_) => {
-                self.failures.count(DiskFault::Sync);
-                Err(DiskFault::Sync)
-            }
-        }
+        self.past = self.past.after(&Event::Synced(&self.bytes));
+        Ok(())
     }
 }
 
-// Whether a place was written since the last sync. The newest entry is the last.
-fn is_loose_at(entries: &[Entry], at: u64) -> bool
-    ensures { result ≡ is_loose (reverse entries.now) at }
-{
-    let mut rest = entries;
-    while let Some((newest, earlier)) = rest.split_last() {
-        match newest {
-            Entry::Synced => return false,
-            Entry::Wrote(start, count) => {
-                if *start <= at && at - *start < *count as u64 {
-                    return true;
-                }
-            }
-        }
-        rest = earlier;
-    }
-    false
-}
-
-// Notes a write and what it goes over, and makes it; or makes no change where a note finds no room.
-fn write_noted<A: Allocator>(
-    entries: &mut Vec<Entry, A>,
-    kept: &mut Vec<u8, A>,
-    image: &mut Vec<u8, A>,
-    at: u64,
-    bytes: &[u8],
-) -> Result<(), AllocError>
+// Puts bytes in their place.
+pub(crate) fn put<A: Allocator>(image: &mut Vec<u8, A>, at: u64, bytes: &[u8])
     requires { at + length bytes.now ≤ length image.old.items }
-    ensures entry { OnOk result (entries.new.items ≡ entries.old.items ++ Wrote at (length bytes.now) ∷ []) }
-    ensures kept { OnOk result (kept.new.items ≡ kept.old.items ++ piece at (length bytes.now) image.old.items) }
-    ensures image { OnOk result (image.new.items ≡ written at bytes.now image.old.items) }
-    ensures no_entry { OnErr result (entries.new.items ≡ entries.old.items) }
-    ensures none_kept { OnErr result (kept.new.items ≡ kept.old.items) }
-    ensures same_image { OnErr result (image.new.items ≡ image.old.items) }
+    ensures { image.new.items ≡ written at bytes.now image.old.items }
 {
     let start = at as usize;
     let end = start + bytes.len();
-    entries.reserve(1)?;
-    kept.extend_from_slice(&image[start..end])?;
-    entries.push_reserved(Entry::Wrote(at, bytes.len()));
     image[start..end].copy_from_slice(bytes);
-    Ok(())
 }

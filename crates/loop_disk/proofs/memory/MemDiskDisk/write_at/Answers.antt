@@ -1,12 +1,10 @@
-use Rattle.loop_disk.proofs.Entries.{write_noted, torn_noted}
+use Rattle.std.proofs.Common.{◌∙◌, ap, length}
+use Rattle.loop_disk.specs.Calls.{no_failures}
+use Rattle.loop_disk.proofs.Calls.{behind_write, writes_behind}
 use Rattle.loop_disk.proofs.memory.MemDiskDisk.write_at.Goals as goal
 
-pub returns-in-Ok-clause-disk : goal.returns-in-Ok-clause-disk
-returns-in-Ok-clause-disk g c = λ honest.
-    let note = c.in-Ok.ensures in
-    write_noted _ c.args.at c.args.bytes.now _ _ _ _ _ _ c.requires note.entry note.kept note.image
-
-pub returns-in-Ok-clause-torn : goal.returns-in-Ok-clause-torn
-returns-in-Ok-clause-torn g c =
-    let note = c.in-Ok.ensures in
-    torn_noted c.args.self.now.failures c.args.at c.args.bytes.now _ _ _ _ _ _ c.requires note.entry note.kept note.image
+pub returns-clause-disk : goal.returns-clause-disk
+returns-clause-disk g c = λ honest.
+    let past = c.args.self.now.past.behind in
+    writes_behind no_failures past c.after-self.result.behind c.args.self.now.bytes.items c.put.new.image.items c.args.bytes.now c.args.at c.requires
+    (c.after-self.ensures ∙ ap (behind_write c.args.at (length c.args.bytes.now) past) c.deref.ensures.value) c.put.ensures

@@ -1,0 +1,149 @@
+// The disk over a file.
+use loop_disk::{Disk, DiskFault, FileDisk, FileFault};
+use std::cell::Cell;
+use std::fs::{File, Metadata, OpenFile, OpenOptions, Permissions};
+use std::io::ErrorKind;
+use std::os::unix::fs::{FileExt, PermissionsExt};
+use std::test::Fail;
+use std::{fs, io};
+
+#[test]
+fn a_file_is_written_and_read_back(rt: HostRuntime) -> Result<(), Fail> {
+    let path = "written.img";
+    let mut disk = FileDisk::create(&rt, path, 4096)?;
+    assert_eq!(rt; disk.size(), 4096);
+    let mut last = [1; 2];
+    assert_eq!(rt; disk.read(4094, &mut last), Ok(()));
+    assert_eq!(rt; last, [0, 0]);
+    assert_eq!(rt; disk.write_at(100, b"footage"), Ok(()));
+    assert_eq!(rt; disk.write_at(4095, b"z"), Ok(()));
+    assert_eq!(rt; disk.sync(), Ok(()));
+    // It is in use, also for one who would make it anew, and keeps its bytes.
+    assert_eq!(rt; FileDisk::open(&rt, path).err(), Some(FileFault::Busy));
+    assert_eq!(rt; FileDisk::create(&rt, path, 1).err(), Some(FileFault::Busy));
+    drop(disk);
+
+    let mut disk = FileDisk::open(&rt, path)?;
+    assert_eq!(rt; disk.size(), 4096);
+    let mut seen = [0; 7];
+    assert_eq!(rt; disk.read(100, &mut seen), Ok(()));
+    assert_eq!(rt; seen, *b"footage");
+    assert_eq!(rt; disk.read(4094, &mut last), Ok(()));
+    assert_eq!(rt; last, *b"\0z");
+    // A file that was cut short under the disk: a read fails, and is counted as a read's failure.
+    OpenOptions::new().write(true).open(&rt, path)?.set_len(50)?;
+    assert_eq!(rt; disk.read(4094, &mut last), Err(DiskFault::Read));
+    drop(disk);
+
+    // No file has that size: the file is as it was.
+    assert_eq!(rt;
+        FileDisk::create(&rt, path, u64::MAX).err(),
+        Some(FileFault::Failed)
+    );
+    assert_eq!(rt; FileDisk::open(&rt, path)?.size(), 50);
+    let mut disk = FileDisk::create(&rt, path, 200)?;
+    let mut zeros = [1; 200];
+    assert_eq!(rt; disk.read(0, &mut zeros), Ok(()));
+    assert!(rt; zeros.iter().all(|byte| *byte == 0));
+    fs::remove_file(&rt, path)?;
+    Ok(())
+}
+
+#[test]
+fn what_is_no_file_of_ours_is_refused_by_name(rt: HostRuntime) -> Result<(), Fail> {
+    assert_eq!(rt;
+        FileDisk::open(&rt, "missing.img").err(),
+        Some(FileFault::Missing)
+    );
+    assert_eq!(rt;
+        FileDisk::create(&rt, "missing/new.img", 1).err(),
+        Some(FileFault::Missing)
+    );
+    assert_eq!(rt; FileDisk::open(&rt, ".").err(), Some(FileFault::Folder));
+    assert_eq!(rt;
+        FileDisk::create(&rt, ".", 1).err(),
+        Some(FileFault::Folder)
+    );
+    assert_eq!(rt;
+        FileDisk::open(&rt, "/dev/null").err(),
+        Some(FileFault::NotRegular)
+    );
+    let path = "denied.img";
+    drop(FileDisk::create(&rt, path, 1)?);
+    fs::set_permissions(&rt, path, Permissions::from_mode(0o400))?;
+    // The gate runs tests without a superuser's rights; a superuser may open it.
+    if let Err(fault) = FileDisk::open(&rt, path) {
+        assert_eq!(rt; fault, FileFault::Denied);
+    }
+    let denied = io::Error::from(ErrorKind::PermissionDenied);
+    assert_eq!(rt; FileFault::from(denied), FileFault::Denied);
+    fs::remove_file(&rt, path)?;
+    Ok(())
+}
+
+// A file that moves three bytes at a time, and is interrupted before each.
+#[derive(Drop)]
+struct Halting {
+    file: File,
+    turn: Cell<u32>,
+}
+
+impl Halting {
+    fn is_interrupted(&self) -> bool {
+        let turn = self.turn.get();
+        self.turn.set(turn.wrapping_add(1));
+        turn % 2 == 0
+    }
+}
+
+impl OpenFile for Halting {
+    fn metadata(&self) -> io::Result<Metadata> {
+        self.file.metadata()
+    }
+
+    fn set_len(&self, size: u64) -> io::Result<()> {
+        self.file.set_len(size)
+    }
+
+    fn sync_all(&self) -> io::Result<()> {
+        self.file.sync_all()
+    }
+
+    fn sync_data(&self) -> io::Result<()> {
+        self.file.sync_data()
+    }
+}
+
+impl FileExt for Halting {
+    fn read_at(&self, buf: &mut [u8], offset: u64) -> io::Result<usize> {
+        if self.is_interrupted() {
+            return Err(io::Error::from(ErrorKind::Interrupted));
+        }
+        let count = buf.len().min(3);
+        self.file.read_at(&mut buf[..count], offset)
+    }
+
+    fn write_at(&self, buf: &[u8], offset: u64) -> io::Result<usize> {
+        if self.is_interrupted() {
+            return Err(io::Error::from(ErrorKind::Interrupted));
+        }
+        let count = buf.len().min(3);
+        self.file.write_at(&buf[..count], offset)
+    }
+}
+
+#[test]
+fn short_counts_and_interruptions_are_gone_on_from(rt: HostRuntime) -> Result<(), Fail> {
+    let path = "halting.img";
+    drop(FileDisk::create(&rt, path, 20)?);
+    let file = OpenOptions::new().read(true).write(true).open(&rt, path)?;
+    let turn = Cell::new(0);
+    let mut disk = FileDisk::over(Halting { file, turn })?;
+    assert_eq!(rt; disk.size(), 20);
+    assert_eq!(rt; disk.write_at(2, b"one whole write"), Ok(()));
+    let mut seen = [0; 17];
+    assert_eq!(rt; disk.read(2, &mut seen), Ok(()));
+    assert_eq!(rt; seen, *b"one whole write\0\0");
+    fs::remove_file(&rt, path)?;
+    Ok(())
+}
