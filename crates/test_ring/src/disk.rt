@@ -1,6 +1,6 @@
 //! Calls of a ring over images.
 
-ghost use Rattle.std.specs.Prelude.{◌≡◌, ◌+◌, ◌<◌, ◌≤◌, IfErr, IfOk, OnOk, absurd, length, vec_len};
+ghost use Rattle.std.specs.Prelude.{◌≡◌, ◌+◌, ◌<◌, ◌≤◌, IfErr, IfOk, OnOk, length, vec_len};
 ghost use Rattle.loop_disk.specs.declared.fault.DiskFault.TheVariants.{Read, Write, Sync};
 ghost use Rattle.loop_disk.specs.Medium.{piece};
 ghost use Rattle.loop_disk.specs.Calls.{Called, Stays, Writes, Syncs, failed_call};
@@ -106,7 +106,7 @@ fn clears(
 ) -> Result<(), Fail> {
     let ring = ring(alloc)?;
     let expected = image(alloc, after)?;
-    let mut disk = Bare(FuseDisk::new(MemDisk::of(alloc, image(alloc, before)?), calls));
+    let mut disk = Bare(FuseDisk::new(MemDisk::of(image(alloc, before)?), calls));
     assert!(rt; frames <= 4);
     assert_eq!(rt; clear(&ring, &mut disk, frames), Ok(()), "{before:?}");
     assert_eq!(rt; disk.0.left, 0, "{before:?}");
@@ -126,7 +126,7 @@ fn clears_in_part(
     let ring = ring(alloc)?;
     let expected = image(alloc, after)?;
     let before = image(alloc, [0xA5, 0x07, 0xA5, 0x01])?;
-    let mut disk = Bare(OnceDisk::torn(MemDisk::of(alloc, before), call, keep));
+    let mut disk = Bare(OnceDisk::torn(MemDisk::of(before), call, keep));
     assert_eq!(rt; clear(&ring, &mut disk, 1), Err(fault), "call {call}");
     assert!(rt;
         disk.0.inner.bytes().iter().eq(expected.iter()),
@@ -162,7 +162,7 @@ fn read(
     let mut image = image(alloc, [OPEN; 4])?;
     let (at, byte) = change;
     image[at] = byte;
-    let mut disk = Bare(FuseDisk::new(MemDisk::of(alloc, image), calls));
+    let mut disk = Bare(FuseDisk::new(MemDisk::of(image), calls));
     Ok(ring.read_slot(&mut disk, 0, 3, number, out))
 }
 

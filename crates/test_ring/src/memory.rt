@@ -145,7 +145,7 @@ fn listed(id: u32, from: u64, to: u64) -> Clip {
 fn the_open_entries_are_read_as_they_stand(rt: HostRuntime) -> Result<(), Fail> {
     let alloc = rt.alloc();
     let memory = Budget::new(alloc);
-    let mut disk = FuseDisk::new(MemDisk::of(alloc, image(alloc)?), 1);
+    let mut disk = FuseDisk::new(MemDisk::of(image(alloc)?), 1);
     let table = ClipTable::read(&mut disk)?;
     assert!(rt; matches!(ClipTable::read(&mut disk), Err(DiskFault::Read)));
     for (id, expected) in [

@@ -20,11 +20,7 @@ fn formats(rt: &impl Abort, alloc: Global, image: Vec<u8>, calls: u64) -> Result
         let slots = image.get(at..at.wrapping_add(88)).ok_or("it is too short")?;
         put(expected.as_mut_slice(), at, slots);
     }
-    let mut store = match format(
-        alloc,
-        FuseDisk::new(MemDisk::of(alloc, image), calls),
-        SMALL,
-    ) {
+    let mut store = match format(alloc, FuseDisk::new(MemDisk::of(image), calls), SMALL) {
         Ok(store) => store,
         Err(_) => return Err("the disk is formatted".into()),
     };
@@ -182,7 +178,7 @@ fn runs(
     asked: &[Asked],
     spans: &[(u64, u64)],
 ) -> Result<(), Fail> {
-    let disk = MemDisk::of(alloc, image.to_vec(alloc)?);
+    let disk = MemDisk::of(image.to_vec(alloc)?);
     let mut store = opened(alloc, OnceDisk::new(disk, fails))?;
     asks(rt, alloc, &mut store, asked)?;
     let mut store = opened(alloc, store.into_disk().into_inner())?;
@@ -290,14 +286,14 @@ fn grows_in_open<'a>(
 ) -> Result<Store<MemDisk, &'a Budget>, Fail> {
     for allowed in 0..growths {
         memory.allow(allowed);
-        let Err(refused) = Store::open(memory, MemDisk::of(alloc, image.to_vec(alloc)?)) else {
+        let Err(refused) = Store::open(memory, MemDisk::of(image.to_vec(alloc)?)) else {
             return Err("more growths are needed".into());
         };
         assert_eq!(rt; (refused.fault, memory.left()), (StoreFault::NoMemory, 0));
         assert!(rt; refused.disk.bytes().iter().eq(image.iter()));
     }
     memory.allow(growths);
-    match Store::open(memory, MemDisk::of(alloc, image.to_vec(alloc)?)) {
+    match Store::open(memory, MemDisk::of(image.to_vec(alloc)?)) {
         Ok(store) => Ok(store),
         Err(_) => Err("these growths are enough".into()),
     }

@@ -267,7 +267,7 @@ pub(crate) fn image_of(
     counts: &[u64],
 ) -> Result<Vec<u8>, Fail> {
     let image = fresh(rt, alloc, geometry)?;
-    let mut store = opened(alloc, MemDisk::of(alloc, image))?;
+    let mut store = opened(alloc, MemDisk::of(image))?;
     for count in counts {
         assert!(rt; append_next(rt, alloc, &mut store, *count, 0).is_ok());
     }

@@ -148,7 +148,7 @@ fn fails_once(
     call: u64,
     keep: Option<usize>,
 ) -> Result<(), Fail> {
-    let disk = failing(MemDisk::of(alloc, row.image.to_vec(alloc)?), call, keep);
+    let disk = failing(MemDisk::of(row.image.to_vec(alloc)?), call, keep);
     let (refused, disk) = tried(rt, alloc, disk, row.count)?;
     assert_eq!(rt; refused, fault_at(row, call), "call {call}");
     reopens(rt, alloc, disk.into_inner(), row, refused.is_some())
@@ -156,7 +156,7 @@ fn fails_once(
 
 // Fails the calls of a row from one on.
 fn fails_from(rt: &impl Abort, alloc: Global, row: &Row, call: u64) -> Result<(), Fail> {
-    let disk = FuseDisk::new(MemDisk::of(alloc, row.image.to_vec(alloc)?), call);
+    let disk = FuseDisk::new(MemDisk::of(row.image.to_vec(alloc)?), call);
     let (refused, disk) = tried(rt, alloc, disk, row.count)?;
     assert_eq!(rt; refused, fault_at(row, call), "call {call}");
     assert_eq!(rt; disk.left, 0);
@@ -217,7 +217,7 @@ fn a_failed_read_is_no_end(rt: HostRuntime) -> Result<(), Fail> {
     // To open three frames takes nine calls, and a read two.
     for call in [9, 10u64] {
         let image = image_of(&rt, alloc, SMALL, &[1; 3])?;
-        let disk = OnceDisk::new(MemDisk::of(alloc, image), call);
+        let disk = OnceDisk::new(MemDisk::of(image), call);
         let mut store = opened(alloc, disk)?;
         let failed = Some(StoreFault::Disk(DiskFault::Read));
         assert_eq!(rt; read(&rt, alloc, &mut store, 0).err(), failed);

@@ -33,7 +33,7 @@ fn opens(
     expected: Result<&[(u64, u64)], StoreFault>,
     place: usize,
 ) -> Result<(), Fail> {
-    let disk = MemDisk::of(alloc, image.to_vec(alloc)?);
+    let disk = MemDisk::of(image.to_vec(alloc)?);
     match Store::open(alloc, disk) {
         Ok(mut store) => is_shown(rt, alloc, &mut store, expected),
         Err(refused) => {
@@ -150,7 +150,7 @@ fn damage_is_answered_in_its_order(rt: HostRuntime) -> Result<(), Fail> {
         changed(&rt, alloc, &seven, changes, Ok(&[*span]))?;
     }
     put(seven.as_mut_slice(), 3748, &[0xFF]);
-    let mut store = opened(alloc, MemDisk::of(alloc, seven))?;
+    let mut store = opened(alloc, MemDisk::of(seven))?;
     reads_pixel(&rt, alloc, &mut store)
 }
 

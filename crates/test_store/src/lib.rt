@@ -5,7 +5,8 @@
 //! - `scripts`: appends line by line, with the calls of the disk that each takes and the frames that are held then;
 //! - `images`: what openings answer to images of all kinds, and the bytes of a recording;
 //! - `calls`: formatting, lists of commands, refused memory, and the names of the refusals;
-//! - `failures`: each call of the disk fails, once or from a moment on.
+//! - `failures`: each call of the disk fails, once or from a moment on;
+//! - `stops`: each moment of an append, of a list of commands and of a format is a stop, behind which the recording goes on.
 #![tactic(auto)]
 
 #[cfg(test)]
@@ -20,3 +21,5 @@ mod failures;
 mod images;
 #[cfg(test)]
 mod scripts;
+#[cfg(test)]
+mod stops;

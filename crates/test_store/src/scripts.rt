@@ -43,7 +43,7 @@ fn open_image<'a>(
     opened(
         alloc,
         Counted {
-            inner: MemDisk::of(alloc, image),
+            inner: MemDisk::of(image),
             calls,
         },
     )
