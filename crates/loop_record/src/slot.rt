@@ -1,6 +1,6 @@
 //! Slots: a frame's number and head, and its bytes.
 
-ghost use Rattle.std.specs.Prelude.{◌≡◌, ◌+◌, ◌-◌, ◌<◌, ◌≤◌, ◌^◌, IfErr, length};
+ghost use Rattle.std.specs.Prelude.{◌≡◌, ◌++◌, ◌+◌, ◌-◌, ◌<◌, ◌≤◌, ◌^◌, IfErr, length};
 ghost use Rattle.loop_record.specs.declared.damage.Damage.TheVariants.{SlotHead};
 ghost use Rattle.loop_record.specs.Recording.{picture};
 ghost use Rattle.loop_record.specs.Layout.{slot_bytes, slot_in, slot_head};
@@ -25,6 +25,21 @@ pub fn encode_slot<A: Allocator>(number: u64, frame: &Frame<A>, out: &mut [u8])
     put_u32(out, 24, frame.bytes.len() as u32);
     put_u32(out, 28, 0);
     out[HEAD_SIZE..].copy_from_slice(&frame.bytes);
+}
+
+/// Writes the head of a slot: the number, the frame's head, the count of its bytes, and a zero. `out` has `HEAD_SIZE` bytes, and the
+/// frame's own bytes behind it are its slot.
+pub fn encode_head<A: Allocator>(number: u64, frame: &Frame<A>, out: &mut [u8])
+    requires size { length out.old ≡ 32 }
+    requires fits { length frame.now.bytes.items < 2 ^ 32 }
+    ensures { out.new ++ frame.now.bytes.items ≡ slot_bytes number (picture frame.now) }
+{
+    put_u64(out, 0, number);
+    put_u32(out, 8, frame.sequence);
+    put_u32(out, 12, frame.flags);
+    put_u64(out, 16, frame.timestamp);
+    put_u32(out, 24, frame.bytes.len() as u32);
+    put_u32(out, 28, 0);
 }
 
 /// The head in a slot that should hold frame `number`, or `SlotHead` where the slot names another number or another

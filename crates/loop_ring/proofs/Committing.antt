@@ -20,7 +20,7 @@ use Rattle.loop_record.proofs.Framing.{SameWithin, prefix_range, map_range, same
 use Rattle.loop_record.proofs.Gates.{first_closed_between, segment_in-more, slots_from}
 use Rattle.loop_ring.specs.Writes.{ShowsFrames, ShowsBeginning, HasNoStray, IsGroup, slots_in, slots_of, with_more}
 use Rattle.loop_ring.proofs.Bytes.{shows, torn_at, closed_none, prefix_open, moved_number, moved_slot}
-use Rattle.loop_ring.proofs.Staging.{slots-beginning, slots_in-take}
+use Rattle.loop_ring.proofs.Staging.{slots-beginning}
 
 -- what is known of a commit before its first write
 pub record CanCommit (g : Geometry) (j first count : ℕ) (bytes old : List ℕ) : Type 0 where
@@ -226,13 +226,11 @@ pub record AreStaged (g : Geometry) (number : ℕ) (frames : List Picture) (byte
   pub slots : slots_in (frame_bytes g) bytes (length frames) ≡ slots_of (frame_bytes g) number frames
 
 -- the front of a buffer in which the slots of a group stand
-pub is_group : (g : Geometry) (number n count : ℕ) (frames : List Picture) (buffer now : List ℕ) → n ≡ frame_bytes g → count ≡ length frames → now ≡ buffer → count * (32 + n) ≤ length now → slots_in n buffer count ≡ slots_of n number frames
-    → IsGroup g number frames (take (count * (32 + n)) now) count
-is_group g number n count frames buffer now n_is count_is same fits slots = record {
+-- the slots of a group are those of its frames
+pub is_group : (g : Geometry) (number n count : ℕ) (frames : List Picture) (bytes : List ℕ) → n ≡ frame_bytes g → count ≡ length frames → slots_in n bytes (length frames) ≡ slots_of n number frames → IsGroup g number frames bytes count
+is_group g number n count frames bytes n_is count_is slots = record {
   count_is = count_is;
-  slots =
-      let front : slots_in n (take (count * (32 + n)) now) count ≡ slots_of n number frames = slots_in-take n count now fits ∙ ap (λ (b : List ℕ). slots_in n b count) same ∙ slots in
-      subst (λ (k : ℕ). slots_in k (take (count * (32 + n)) now) count ≡ slots_of k number frames) n_is front;
+  slots = subst (λ (k : ℕ). slots_in k bytes count ≡ slots_of k number frames) n_is (ap (λ (k : ℕ). slots_in n bytes k) count_is ∙ slots);
 }
 
 -- what is written where, and what is known of the disk before

@@ -1,3 +1,4 @@
 pub mod Heads
 pub mod Reads
 pub mod Writes
+pub mod Groups

@@ -12,13 +12,14 @@
 #![tactic(auto)]
 
 mod fault;
+mod group;
 mod ring;
-mod stage;
 mod stray;
 mod table;
 mod victim;
 
 pub use fault::SlotFault;
-pub use ring::{MAX_GROUP, Ring};
+pub use group::{Group, MAX_GROUP};
+pub use ring::Ring;
 pub use table::SegmentTable;
 pub use victim::{victim_block, victim_segment};

@@ -1,47 +1,37 @@
 // The ring of a store: its segments, written and read one at a time.
-ghost use Rattle.std.specs.Prelude.{◌≡◌, ◌≢◌, ◌+◌, ◌*◌, ◌<◌, ◌≤◌, ◌^◌, ◌∷◌, [], ℕ, IsTrue, All, Err, IfOk, List, None, OnOk, Some, length, min, vec_capacity};
+ghost use Rattle.std.specs.Prelude.{◌≡◌, ◌≢◌, ◌+◌, ◌*◌, ◌<◌, ◌≤◌, ◌^◌, ℕ, IsTrue, Err, List, None, OnOk, Some, length};
 ghost use Rattle.loop_disk.specs.Calls.{Called, Stays, failed_call};
 ghost use Rattle.loop_disk.specs.Medium.{IsSettled, LeavesOnly};
 ghost use Rattle.loop_record.specs.Change.{ShowsSegment};
 ghost use Rattle.loop_record.specs.declared.damage.Damage.{Damage};
 ghost use Rattle.loop_record.specs.Geometry.{disk_size, frame_bytes, is_good, slot_size};
 ghost use Rattle.loop_record.specs.Layout.{segment_in, slot_head, whole_frames};
-ghost use Rattle.loop_record.specs.Plain.{pictures};
 ghost use Rattle.loop_record.specs.Reading.{begun};
-ghost use Rattle.loop_record.specs.Recording.{Picture, picture};
+ghost use Rattle.loop_record.specs.Recording.{Picture};
 ghost use Rattle.loop_ring.specs.Reads.{AnswersHead, failed_read, slot_of};
 ghost use Rattle.loop_ring.specs.Writes.{HasNoStray, IsGroup, ShowsBeginning, ShowsFrames, ShowsOrNot};
 
-use crate::SlotFault;
-use crate::stage::{lengthen, stage, stage_one};
+use crate::group::MAX_GROUP;
+use crate::{Group, SlotFault};
 use loop_disk::{Disk, DiskFault, store, store_in_turn};
-use loop_record::{Damage, Frame, FrameHead, Geometry, HEAD_SIZE, OPEN, decode_head, put_u64};
-use std::alloc::{AllocError, Allocator, Global};
-
-/// The most frames that one commit takes.
-pub const MAX_GROUP: usize = 8;
+use loop_record::{Damage, FrameHead, Geometry, HEAD_SIZE, OPEN, decode_head, put_u64};
+use std::alloc::Allocator;
 
 /// The segments of a store's ring.
-#[derive(Drop)]
-pub struct Ring<A: Allocator = Global> {
+#[derive(Clone, Copy, Debug)]
+pub struct Ring {
     /// The store's geometry.
     pub geometry: Geometry,
-    // A group's slots, before they are written: it has the memory from the start, and the bytes once they are needed.
-    staged: Vec<u8, A>,
     pub ghost good: { IsTrue (is_good geometry) },
-    ghost room: { min 8 geometry.slots * slot_size geometry ≤ vec_capacity staged },
 }
 
-impl<A: Allocator> Ring<A> {
-    /// A ring of this geometry. It takes the memory of a group's slots, as many as a segment has and at most `MAX_GROUP`,
-    /// and keeps it; no later call takes any. Nothing is written into that memory before the first commit.
-    pub fn new(alloc: A, geometry: Geometry) -> Result<Self, AllocError>
-        requires good { IsTrue (is_good geometry) }
-        ensures { IfOk result (λ ring. ring.geometry ≡ geometry) }
+impl Ring {
+    /// A ring of this geometry.
+    pub fn new(geometry: Geometry) -> Ring
+        requires { IsTrue (is_good geometry) }
+        ensures { result.geometry ≡ geometry }
     {
-        let slot_size = HEAD_SIZE + geometry.frame_bytes() as usize;
-        let staged = Vec::with_capacity(alloc, MAX_GROUP.min(geometry.slots as usize) * slot_size)?;
-        Ok(Ring { geometry, staged })
+        Ring { geometry }
     }
 
     /// Closes an open segment: one write and one sync. Its frames are gone with it.
@@ -82,76 +72,37 @@ impl<A: Allocator> Ring<A> {
         store_in_turn(disk, at + 1, &header, at, &[OPEN])
     }
 
-    /// Adds a group of frames to a segment, behind its whole frames: two writes, each with its sync. `first_slot` is how many
-    /// whole frames it has, `first_number` the number of the group's first frame, and the others follow it.
-    pub fn commit<D: Disk>(
-        &mut self,
+    /// Adds the frames of a group to a segment, behind its whole frames, of which there are as many as `first_slot` says: two writes,
+    /// each with its sync.
+    pub fn commit<D: Disk, A: Allocator>(
+        &self,
         disk: &mut D,
         segment: u32,
         first_slot: u32,
-        first_number: u64,
-        frames: &[Frame<A>],
+        group: &Group<A>,
     ) -> Result<(), DiskFault>
-        requires extent { (D.medium disk.old).size ≡ disk_size self.old.geometry }
-        requires segment { segment < self.old.geometry.segments }
-        requires some { 1 ≤ length frames.now }
-        requires few { length frames.now ≤ 8 }
-        requires room { first_slot + length frames.now ≤ self.old.geometry.slots }
-        requires sizes { All (λ frame. length frame.bytes.items ≡ frame_bytes self.old.geometry) frames.now }
-        requires numbers { first_number + length frames.now ≤ 2 ^ 64 }
+        requires extent { (D.medium disk.old).size ≡ disk_size self.now.geometry }
+        requires segment { segment < self.now.geometry.segments }
+        requires some { 1 ≤ length group.now.frames }
+        requires room { first_slot + length group.now.frames ≤ self.now.geometry.slots }
+        requires size { group.now.size ≡ frame_bytes self.now.geometry }
         requires settled { (D.medium disk.old).honest → IsSettled (D.medium disk.old) }
-        requires whole { (D.medium disk.old).honest → whole_frames self.old.geometry (D.medium disk.old).bytes segment ≡ first_slot }
-        requires stray { (D.medium disk.old).honest → HasNoStray self.old.geometry segment (D.medium disk.old).bytes }
-        ensures moments { (D.medium disk.old).honest → LeavesOnly (D.medium disk.old) (D.medium disk.new) (ShowsBeginning self.old.geometry segment first_number (pictures frames.now) (D.medium disk.old).bytes) }
-        ensures committed { (D.medium disk.old).honest → OnOk result (ShowsFrames self.old.geometry segment first_number (pictures frames.now) (D.medium disk.old).bytes (D.medium disk.new).bytes) }
-        ensures stray { (D.medium disk.old).honest → OnOk result (HasNoStray self.old.geometry segment (D.medium disk.new).bytes) }
+        requires whole { (D.medium disk.old).honest → whole_frames self.now.geometry (D.medium disk.old).bytes segment ≡ first_slot }
+        requires stray { (D.medium disk.old).honest → HasNoStray self.now.geometry segment (D.medium disk.old).bytes }
+        ensures moments { (D.medium disk.old).honest → LeavesOnly (D.medium disk.old) (D.medium disk.new) (ShowsBeginning self.now.geometry segment group.now.first group.now.frames (D.medium disk.old).bytes) }
+        ensures committed { (D.medium disk.old).honest → OnOk result (ShowsFrames self.now.geometry segment group.now.first group.now.frames (D.medium disk.old).bytes (D.medium disk.new).bytes) }
+        ensures stray { (D.medium disk.old).honest → OnOk result (HasNoStray self.now.geometry segment (D.medium disk.new).bytes) }
         ensures settled { (D.medium disk.old).honest → OnOk result (IsSettled (D.medium disk.new)) }
         ensures called { Called (D.medium disk.old) (D.medium disk.new) (failed_call result) }
-        ensures geometry { self.new.geometry ≡ self.old.geometry }
     {
-        let frame_bytes = self.geometry.frame_bytes() as usize;
-        let size = frames.len() * (HEAD_SIZE + frame_bytes);
-        lengthen(&mut self.staged, size);
-        stage(&mut self.staged, frame_bytes, first_number, frames);
         write_group(
             disk,
             &self.geometry,
             segment,
             first_slot,
-            frames.len(),
-            &self.staged[..size],
+            group.len(),
+            group.slots(),
         )
-    }
-
-    /// Adds one frame, as `commit` of a group of one.
-    pub fn commit_one<D: Disk>(
-        &mut self,
-        disk: &mut D,
-        segment: u32,
-        slot: u32,
-        number: u64,
-        frame: &Frame<A>,
-    ) -> Result<(), DiskFault>
-        requires extent { (D.medium disk.old).size ≡ disk_size self.old.geometry }
-        requires segment { segment < self.old.geometry.segments }
-        requires room { slot < self.old.geometry.slots }
-        requires size { length frame.now.bytes.items ≡ frame_bytes self.old.geometry }
-        requires settled { (D.medium disk.old).honest → IsSettled (D.medium disk.old) }
-        requires whole { (D.medium disk.old).honest → whole_frames self.old.geometry (D.medium disk.old).bytes segment ≡ slot }
-        requires stray { (D.medium disk.old).honest → HasNoStray self.old.geometry segment (D.medium disk.old).bytes }
-        ensures moments { (D.medium disk.old).honest → LeavesOnly (D.medium disk.old) (D.medium disk.new) (ShowsBeginning self.old.geometry segment number (picture frame.now ∷ []) (D.medium disk.old).bytes) }
-        ensures committed { (D.medium disk.old).honest → OnOk result (ShowsFrames self.old.geometry segment number (picture frame.now ∷ []) (D.medium disk.old).bytes (D.medium disk.new).bytes) }
-        ensures stray { (D.medium disk.old).honest → OnOk result (HasNoStray self.old.geometry segment (D.medium disk.new).bytes) }
-        ensures settled { (D.medium disk.old).honest → OnOk result (IsSettled (D.medium disk.new)) }
-        ensures called { Called (D.medium disk.old) (D.medium disk.new) (failed_call result) }
-        ensures geometry { self.new.geometry ≡ self.old.geometry }
-    {
-        let frame_bytes = self.geometry.frame_bytes() as usize;
-        let size = HEAD_SIZE + frame_bytes;
-        lengthen(&mut self.staged, size);
-        stage_one(&mut self.staged, frame_bytes, number, frame);
-        let slots = &self.staged[..size];
-        write_group(disk, &self.geometry, segment, slot, 1, slots)
     }
 
     /// Reads a slot that should hold frame `number`: at most two reads. `out` has the size of a frame and gets the pixels.

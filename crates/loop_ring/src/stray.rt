@@ -11,12 +11,11 @@ ghost use Rattle.loop_ring.specs.Writes.{AreClosed, HasNoStray};
 use crate::Ring;
 use loop_disk::{Disk, DiskFault, store};
 use loop_record::OPEN;
-use std::alloc::Allocator;
 
 // The most frame gates of a segment.
 const MAX_GATES: usize = 256;
 
-impl<A: Allocator> Ring<A> {
+impl Ring {
     /// Closes the frame gates behind a segment's first closed one, where one of them is open: one read, and then at most
     /// one write and one sync. `frames` is how many whole frames the segment has. Without a gate behind the first closed
     /// one nothing is read. A failed read changes nothing; a failed write or sync may leave some of these gates open.

@@ -19,10 +19,10 @@ use Rattle.loop_store.specs.declared.place.Place.{Place}
 use Rattle.loop_store.specs.declared.place.Place.TheVariants.{Newest, Closed, Victim}
 use Rattle.loop_store.specs.Held.{HasNoneStray}
 use Rattle.loop_store.specs.declared.fault.StoreFault.{StoreFault}
-use Rattle.loop_store.specs.Places.{IsGrownAt, IsKnown, IsPlaceAt, RefusesPlace, head_after, steps_before}
-use Rattle.loop_store.specs.Runs.{RefusesAppend}
+use Rattle.loop_store.specs.Places.{IsGrownAt, IsKnown, IsPlaceAt, head_after, steps_before}
 use Rattle.loop_store.specs.Recovered.{IsHeadIn, IsRecovered}
-use Rattle.loop_store.specs.Seen.{IsKept, Seen, StandsFor, steps_or_none}
+use Rattle.loop_store.specs.Seen.{IsKept, Seen, StandsFor, Tells}
+use Rattle.loop_store.specs.Steps.{steps_or_none}
 
 -- ---- the steps
 
@@ -137,22 +137,20 @@ place-some g r image place at none = go place at
 
 -- the place is there for the recording that the image holds
 pub place-known : (g : Geometry) (heads : List (Option SegmentHead)) (clips : List (Option Span)) (next : ℕ) (image : List ℕ) (place : Place) → IsRecovered g heads clips next image → HasNoneStray g image
-    → ((r : Recording) (c : List ℕ) → Holds g r c → heads ≡ heads_of g c → clips ≡ r.clips → r.next ≡ next → next ≢ last_number (ring_of g) → IsPlaceAt g r c place) → next ≢ last_number (ring_of g) → IsKnown g next place image
-place-known g heads clips next image place was clean at unspent = record {
+    → ((r : Recording) (c : List ℕ) → Tells g heads clips next r c → (r.next ≢ last_number (ring_of g)) × IsPlaceAt g r c place) → IsKnown g next place image
+place-known g heads clips next image place was clean at = record {
   recording = was.recording;
   held = was.held;
   next_is = sym was.next_is;
-  is_place = at was.recording image was.held was.heads_are was.clips_are (sym was.next_is) unspent;
+  is_place = (at was.recording image (record { held = was.held; next_is = was.next_is; heads_are = was.heads_are; clips_are = was.clips_are })).1;
   unstray = clean;
 }
 
 -- ---- refusals
 
--- a place that is refused refuses the append
-pub place-refused : (g : Geometry) (r : Recording) (must : Bool) (ps : List Picture) (fault : StoreFault) → RefusesPlace g r must fault → RefusesAppend g r must ps fault
-place-refused g r must ps fault (inl x) = inl x
-place-refused g r must ps fault (inr (inl x)) = inr (inl x)
-place-refused g r must ps fault (inr (inr x)) = inr (inr (inl (x.0, (x.1.0, (x.1.1.0, steps-none g r ps x.1.1.1)))))
+-- where there is no place, an append has no steps
+pub place-none : (g : Geometry) (r : Recording) (ps : List Picture) → recycling_first (needs_recycling (ring_of g) r) (victim (ring_of g) r) ≡ None → steps (ring_of g) r ps ≡ None
+place-none g r ps none = steps-none g r ps none
 
 -- ---- the store
 
@@ -222,7 +220,7 @@ stands-grown {D} medium old new n j ps r stands fine same more noted clips grew 
 
 -- these are all its steps
 pub stood-steps : {D : Type 0} (medium : D → Medium) (old new : Seen D) (r : Recording) (ps : List Picture) → ((medium new.disk).honest → (medium old.disk).honest)
-    → ((medium old.disk).honest → old.must_reopen ≡ false × ((r.next ≢ last_number (ring_of old.geometry)) × (recycling_first (needs_recycling (ring_of old.geometry) r) (victim (ring_of old.geometry) r) ≢ None)))
+    → ((medium old.disk).honest → (r.next ≢ last_number (ring_of old.geometry)) × (recycling_first (needs_recycling (ring_of old.geometry) r) (victim (ring_of old.geometry) r) ≢ None))
     → StandsFor medium new (plain (ring_of old.geometry) r (steps_before old.geometry r ++ map store ps)) → StandsFor medium new (plain (ring_of old.geometry) r (steps_or_none (steps (ring_of old.geometry) r ps)))
 stood-steps {D} medium old new r ps back place stands = record {
   remembered = λ now. let m = stands.remembered now in let q = same now in record {
@@ -238,4 +236,4 @@ stood-steps {D} medium old new r ps back place stands = record {
 }
   where
     same : (medium new.disk).honest → steps_before old.geometry r ++ map store ps ≡ steps_or_none (steps (ring_of old.geometry) r ps)
-    same now = let at = place (back now) in steps-are old.geometry r ps at.1.0 at.1.1
+    same now = let at = place (back now) in steps-are old.geometry r ps at.0 at.1

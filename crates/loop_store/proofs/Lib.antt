@@ -8,7 +8,6 @@ pub mod Room
 pub mod Looked
 pub mod Looks
 pub mod Numbers
-pub mod Replied
 pub mod Stands
 pub mod Appended
 pub mod Reopened
@@ -16,3 +15,8 @@ pub mod Asked
 pub mod Ran
 pub mod RecoveredParts
 pub mod RecoveredWhole
+pub mod Leaves
+pub mod Modelled
+pub mod Gone
+pub mod Putting
+pub mod Reading

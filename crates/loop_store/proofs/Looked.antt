@@ -1,5 +1,5 @@
 -- What a read of a slot says of the recording.
-use Rattle.std.proofs.Common.{◌≡◌, ℕ, ◌+◌, ◌*◌, ◌/◌, ◌%◌, ◌<◌, ◌≤◌, true, false, cond, eqb, ltb, Option, Some, None, Result, Ok, Err, IfNone, List, length, get_or, refl, sym, ap, ◌∙◌, subst, arith}
+use Rattle.std.proofs.Common.{◌≡◌, ℕ, ◌+◌, ◌*◌, ◌/◌, ◌%◌, ◌<◌, ◌≤◌, true, false, cond, eqb, ltb, Option, Some, None, Result, Ok, Err, IfNone, is_some, List, length, get_or, refl, sym, ap, ◌∙◌, subst, arith}
 use Rattle.std.proofs.Math.Nat.{div-add-mod'}
 use Rattle.std.proofs.lemmas.Bool.Decides.{nat_tests}
 use Rattle.std.proofs.lemmas.List.Folds.{list_any_at}
@@ -25,7 +25,7 @@ use Rattle.loop_ring.specs.declared.fault.SlotFault.TheVariants as slot
 use Rattle.loop_ring.proofs.Heads.{any-index, head-some, head-there, one-entry, position-none, there}
 use Rattle.loop_ring.proofs.Held.{held-number}
 use Rattle.loop_store.specs.Faults.{slot_refusal}
-use Rattle.loop_store.specs.Seen.{AnswersFrame}
+use Rattle.loop_store.specs.Reads.{AnswersFrame}
 
 below : (m n : ℕ) → ltb m n ≡ true → m < n
 below m n e = grind (arith, nat_tests, e)
@@ -119,11 +119,15 @@ right-head : (n number : ℕ) (s : Slot) → is_slot_of n number s ≡ true → 
 right-head n number s e = λ i. cond (e i) (Ok (head number s.picture)) (Err SlotHead)
 
 -- a read of the right slot that was answered
-pub answers-ok : (g : Geometry) (r : Recording) (number : ℕ) (s : Slot) (h : FrameHead) (out : List ℕ) → IsSlotOf g r number s → slot_head (frame_bytes g) number s ≡ Ok h → out ≡ s.picture.bytes → AnswersFrame number (frame_under r.frames number) (Ok h) out
-answers-ok g r number s h out is said bytes =
-    subst (λ (o : Option Picture). AnswersFrame number o (Ok h) out) (sym is.held) (sym (ok_head (head number s.picture) h (sym (right-head (frame_bytes g) number s is.right) ∙ said)), bytes)
+pub answers-ok : (g : Geometry) (r : Recording) (number : ℕ) (s : Slot) (h : FrameHead) (out : List ℕ) → IsSlotOf g r number s → slot_head (frame_bytes g) number s ≡ Ok h → out ≡ s.picture.bytes → AnswersFrame r number (Ok h) out
+answers-ok g r number s h out is said bytes = record {
+  picture = s.picture;
+  there = is.held;
+  head_is = sym (ok_head (head number s.picture) h (sym (right-head (frame_bytes g) number s is.right) ∙ said));
+  bytes_are = bytes;
+}
 
 -- or refused: a call of the disk has failed
-pub answers-err : (g : Geometry) (r : Recording) (number : ℕ) (s : Slot) (fault : SlotFault) (out : List ℕ) → IsSlotOf g r number s → AnswersHead (slot_head (frame_bytes g) number s) (Err fault) → AnswersFrame number (frame_under r.frames number) (Err (slot_refusal fault)) out
-answers-err g r number s (slot.Disk fault) out is said = subst (λ (o : Option Picture). AnswersFrame number o (Err (slot_refusal (slot.Disk fault))) out) (sym is.held) refl
+pub answers-err : (g : Geometry) (r : Recording) (number : ℕ) (s : Slot) (fault : SlotFault) (out : List ℕ) → IsSlotOf g r number s → AnswersHead (slot_head (frame_bytes g) number s) (Err fault) → AnswersFrame r number (Err (slot_refusal fault)) out
+answers-err g r number s (slot.Disk fault) out is said = (refl, ap (λ (o : Option Picture). is_some o) is.held)
 answers-err g r number s (slot.Damaged damage) out is said = absurd (not_damaged (head number s.picture) damage (sym (right-head (frame_bytes g) number s is.right) ∙ said))

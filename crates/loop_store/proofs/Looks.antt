@@ -4,20 +4,15 @@ use Rattle.std.specs.List.{list_any}
 use Rattle.loop_disk.specs.Calls.{Stays}
 use Rattle.loop_disk.specs.Medium.{Medium, IsSettled}
 use Rattle.loop_record.specs.declared.clip.Span.{Span}
-use Rattle.loop_record.specs.declared.damage.Damage.TheVariants.{SlotHead}
-use Rattle.loop_record.specs.declared.frame.FrameHead.{FrameHead}
 use Rattle.loop_record.specs.declared.geometry.Geometry.{Geometry}
 use Rattle.loop_record.specs.declared.segment.SegmentHead.{SegmentHead}
 use Rattle.loop_record.specs.Reading.{Holds}
 use Rattle.loop_record.specs.Recording.{Picture, Recording, holds}
 use Rattle.loop_ring.specs.Heads.{has_number, heads_of}
 use Rattle.loop_ring.proofs.Held.{held-number}
-use Rattle.loop_store.specs.declared.fault.StoreFault.{StoreFault}
-use Rattle.loop_store.specs.declared.fault.StoreFault.TheVariants.{NotHeld, Damaged}
-use Rattle.loop_store.specs.Faults.{is_disk}
 use Rattle.loop_store.specs.Held.{HasNoneStray}
 use Rattle.loop_store.specs.Recovered.{IsRecovered}
-use Rattle.loop_store.specs.Seen.{Seen, Remembers, StandsFor, AnswersFrame, IsKept}
+use Rattle.loop_store.specs.Seen.{Seen, Remembers, StandsFor, IsKept}
 use Rattle.loop_store.proofs.Looked.{held-slot}
 
 pub stays-settled : (old new : Medium) → Stays old new → IsSettled old → IsSettled new
@@ -42,20 +37,6 @@ looked-stands medium old disk r stands back stays = record {
   held = λ fine now. subst (λ (image : List ℕ). Holds old.geometry r image) (sym (stays (back now)).bytes) (stands.held fine (back now));
   agrees = λ fine now. stands.agrees fine (back now) ∙ ap (heads_of old.geometry) (sym (stays (back now)).bytes);
 }
-
--- ---- numbers that aren't held
-
-pub missing-answer : (n : ℕ) (o : Option Picture) (out : List ℕ) → is_some o ≡ false → AnswersFrame n o (Err NotHeld) out
-missing-answer n None out e = refl
-missing-answer n (Some p) out e = absurd cc
-
--- a slot that is there is never answered so
-pub not-missing : (result : Result FrameHead StoreFault) → IfErr result (λ fault. (fault ≡ Damaged SlotHead) ⊎ (is_disk fault ≡ true)) → result ≡ Err NotHeld → ⊥
-not-missing result refusals e = go (subst (λ (x : Result FrameHead StoreFault). IfErr x (λ fault. (fault ≡ Damaged SlotHead) ⊎ (is_disk fault ≡ true))) e refusals)
-  where
-    go : ((NotHeld ≡ Damaged SlotHead) ⊎ (is_disk NotHeld ≡ true)) → ⊥
-    go (inl e) = absurd cc
-    go (inr e) = absurd cc
 
 -- a number whose frame a segment has is held
 pub there-held : (g : Geometry) (r : Recording) (image : List ℕ) (heads : List (Option SegmentHead)) (j n : ℕ) → Holds g r image → heads ≡ heads_of g image → j < g.segments → has_number g.slots n (get_or heads j None) ≡ true → holds r n ≡ true

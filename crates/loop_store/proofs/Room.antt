@@ -23,7 +23,7 @@ use Rattle.loop_store.specs.declared.place.Place.{Place}
 use Rattle.loop_store.specs.declared.place.Place.TheVariants.{Newest, Closed, Victim}
 use Rattle.loop_store.specs.Held.{HasNoneStray, HoldsSome, IsFreeFor, IsNewest}
 use Rattle.loop_store.specs.Places.{IsBegunAt, IsGrownAt, IsKnown, IsOldFor, IsPlaceAt, head_at, segment_of, steps_before}
-use Rattle.loop_store.specs.Seen.{steps_or_none}
+use Rattle.loop_store.specs.Steps.{steps_or_none}
 
 -- ---- one image holds one recording
 

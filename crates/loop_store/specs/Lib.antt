@@ -7,3 +7,7 @@ pub mod Seen
 pub mod Places
 pub mod Recovered
 pub mod Runs
+pub mod Steps
+pub mod Calls
+pub mod Goes
+pub mod Reads

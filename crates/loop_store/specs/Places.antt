@@ -1,5 +1,5 @@
 -- Where an append goes.
-use Rattle.std.specs.Prelude.{◌≡◌, ◌≢◌, ◌⊎◌, ℕ, ◌+◌, ◌/◌, ◌%◌, ◌==◌, false, true, Result, Ok, Err, Bool, Option, Some, None, List, slice_index_or, slice_set}
+use Rattle.std.specs.Prelude.{◌≡◌, ◌≢◌, ◌⊎◌, ℕ, ◌+◌, ◌/◌, ◌%◌, ◌==◌, false, true, Result, Ok, Err, Option, Some, None, List, slice_index_or, slice_set}
 use Rattle.std.specs.List.{list_any}
 use Rattle.loop_record.specs.declared.geometry.Geometry.{Geometry}
 use Rattle.loop_record.specs.declared.segment.SegmentHead.{SegmentHead}
@@ -8,11 +8,11 @@ use Rattle.loop_record.specs.Reading.{Holds, opened, parts_of}
 use Rattle.loop_record.specs.Recording.{Recording, Step, last_number, needs_recycling, recycling_first, ring_of, victim}
 use Rattle.loop_ring.specs.Heads.{heads_of}
 use Rattle.loop_store.specs.declared.fault.StoreFault.{StoreFault}
-use Rattle.loop_store.specs.declared.fault.StoreFault.TheVariants.{AllLocked, MustReopen, NumbersSpent}
+use Rattle.loop_store.specs.declared.fault.StoreFault.TheVariants.{AllLocked, NumbersSpent}
 use Rattle.loop_store.specs.declared.place.Place.{Place}
 use Rattle.loop_store.specs.declared.place.Place.TheVariants.{Newest, Closed, Victim}
 use Rattle.loop_store.specs.Held.{HasNoneStray, IsFreeFor}
-use Rattle.loop_store.specs.Seen.{steps_or_none}
+use Rattle.loop_store.specs.Steps.{steps_or_none}
 
 -- the segment of a place
 abbrev pub segment_of : Place → ℕ
@@ -77,18 +77,13 @@ pub record IsGrownAt (g : Geometry) (next count j : ℕ) (old new : List ℕ) : 
   pub heads : heads_of g new ≡ slice_set (heads_of g old) j (Some (head_after g next count))
   pub unstray : HasNoneStray g new
 
--- there is no place for one of these reasons
-abbrev pub IsRefusedPlace : StoreFault → Type 0
-IsRefusedPlace fault = (fault ≡ MustReopen) ⊎ ((fault ≡ NumbersSpent) ⊎ (fault ≡ AllLocked))
+-- why there is no place: no number is left, or otherwise a block has to be recycled first and there is no victim
+abbrev pub RefusesPlace : Geometry → Recording → StoreFault → Type 0
+RefusesPlace g r fault =
+    (fault ≡ NumbersSpent) × (r.next ≡ last_number (ring_of g))
+    ⊎ (fault ≡ AllLocked) × ((r.next ≢ last_number (ring_of g)) × (recycling_first (needs_recycling (ring_of g) r) (victim (ring_of g) r) ≡ None))
 
--- why there is no place: whether the store has to be reopened comes first, then whether the numbers are spent, then whether a victim is missing
-abbrev pub RefusesPlace : Geometry → Recording → Bool → StoreFault → Type 0
-RefusesPlace g r must fault =
-    (fault ≡ MustReopen) × (must ≡ true)
-    ⊎ ((fault ≡ NumbersSpent) × ((must ≡ false) × (r.next ≡ last_number (ring_of g)))
-    ⊎ (fault ≡ AllLocked) × ((must ≡ false) × ((r.next ≢ last_number (ring_of g)) × (recycling_first (needs_recycling (ring_of g) r) (victim (ring_of g) r) ≡ None))))
-
--- the answer to where frames go, for a recording
-abbrev pub AnswersPlace : {P : Type 0} → Geometry → Recording → Bool → Result P StoreFault → Type 0
-AnswersPlace g r must (Ok place) = (must ≡ false) × ((r.next ≢ last_number (ring_of g)) × (recycling_first (needs_recycling (ring_of g) r) (victim (ring_of g) r) ≢ None))
-AnswersPlace g r must (Err fault) = RefusesPlace g r must fault
+-- the answer to where frames go, for a recording that an image holds
+abbrev pub AnswersPlace : Geometry → Recording → List ℕ → Result Place StoreFault → Type 0
+AnswersPlace g r image (Ok place) = (r.next ≢ last_number (ring_of g)) × IsPlaceAt g r image place
+AnswersPlace g r image (Err fault) = RefusesPlace g r fault

@@ -1,18 +1,17 @@
 -- A store as its callers see it, and the recording that it stands for.
-use Rattle.std.specs.Prelude.{◌≡◌, ◌⊎◌, ℕ, Result, Ok, Err, ◌≤◌, Bool, true, false, Option, Some, None, List, [], All, length}
+use Rattle.std.specs.Prelude.{◌≡◌, ℕ, Result, Ok, Err, ◌≤◌, Bool, true, false, Option, List, All, length, min}
 use Rattle.loop_disk.specs.Medium.{Medium, IsSettled}
 use Rattle.loop_record.specs.declared.clip.Span.{Span}
-use Rattle.loop_record.specs.declared.damage.Damage.TheVariants.{SlotHead}
-use Rattle.loop_record.specs.declared.frame.FrameHead.{FrameHead}
 use Rattle.loop_record.specs.declared.geometry.Geometry.{Geometry}
 use Rattle.loop_record.specs.declared.segment.SegmentHead.{SegmentHead}
-use Rattle.loop_record.specs.Geometry.{disk_size}
-use Rattle.loop_record.specs.Recording.{Picture, Recording, Step, head, last_number, ring_of}
+use Rattle.loop_record.specs.Geometry.{disk_size, frame_bytes}
+use Rattle.loop_record.specs.Recording.{Recording, last_number, ring_of}
 use Rattle.loop_record.specs.Reading.{Holds}
+use Rattle.loop_ring.specs.Groups.{Grouped}
 use Rattle.loop_ring.specs.Heads.{heads_of}
 use Rattle.loop_store.specs.declared.fault.StoreFault.{StoreFault}
-use Rattle.loop_store.specs.declared.fault.StoreFault.TheVariants.{AllLocked, MustReopen, NotHeld, NumbersSpent, Damaged}
-use Rattle.loop_store.specs.Faults.{is_disk}
+use Rattle.loop_store.specs.declared.fault.StoreFault.TheVariants.{Disk}
+use Rattle.loop_store.specs.declared.index.Index.{Index}
 use Rattle.loop_store.specs.Held.{HasNoneStray}
 use Rattle.loop_store.specs.Recovered.{IsHeadIn, IsRecovered}
 
@@ -24,6 +23,17 @@ pub record Seen (D : Type 0) : Type 0 where
   pub heads : List (Option SegmentHead)
   pub clips : List (Option Span)
   pub must_reopen : Bool
+
+-- what is seen of a disk with an index of it
+abbrev pub seen_with : {D A : Type 0} → D → Index A → Bool → Seen D
+seen_with disk index must_reopen = record { disk = disk; geometry = index.ring.geometry; next = index.next; heads = index.table; clips = index.clips; must_reopen = must_reopen }
+
+-- An image holds the recording, and an index of these headers and clips and of this next number tells what it says.
+pub record Tells (g : Geometry) (heads : List (Option SegmentHead)) (clips : List (Option Span)) (next : ℕ) (r : Recording) (image : List ℕ) : Type 0 where
+  pub held : Holds g r image
+  pub next_is : next ≡ r.next
+  pub heads_are : heads ≡ heads_of g image
+  pub clips_are : clips ≡ r.clips
 
 -- What is in memory is what an image says that holds the recording: that of the disk, or after a failed call that of before it.
 pub record Remembers {D : Type 0} (s : Seen D) (r : Recording) : Type 0 where
@@ -40,34 +50,7 @@ pub record StandsFor {D : Type 0} (medium : D → Medium) (s : Seen D) (r : Reco
   pub held : s.must_reopen ≡ false → (medium s.disk).honest → Holds s.geometry r (medium s.disk).bytes
   pub agrees : s.must_reopen ≡ false → (medium s.disk).honest → s.heads ≡ heads_of s.geometry (medium s.disk).bytes
 
--- the steps of an append, or none
-abbrev pub steps_or_none : Option (List Step) → List Step
-steps_or_none None = []
-steps_or_none (Some steps) = steps
-
 -- ---- refusals
-
--- an append is refused as one of these
-abbrev pub IsRefusedAppend : StoreFault → Type 0
-IsRefusedAppend fault = (fault ≡ MustReopen) ⊎ ((fault ≡ NumbersSpent) ⊎ ((fault ≡ AllLocked) ⊎ (is_disk fault ≡ true)))
-
--- a read is refused as one of these
-abbrev pub IsRefusedRead : StoreFault → Type 0
-IsRefusedRead fault = (fault ≡ MustReopen) ⊎ ((fault ≡ NotHeld) ⊎ ((fault ≡ Damaged SlotHead) ⊎ (is_disk fault ≡ true)))
-
--- the answer is the frame of that number, if there is one, or a call of the disk has failed
-abbrev pub AnswersFrame : ℕ → Option Picture → Result FrameHead StoreFault → List ℕ → Type 0
-AnswersFrame number None result out = result ≡ Err NotHeld
-AnswersFrame number (Some p) (Ok h) out = (h ≡ head number p) × (out ≡ p.bytes)
-AnswersFrame number (Some p) (Err fault) out = is_disk fault ≡ true
-
--- a call that only looks leaves what the store tells
-pub record TellsTheSame {D : Type 0} (old new : Seen D) : Type 0 where
-  pub geometry : new.geometry ≡ old.geometry
-  pub next : new.next ≡ old.next
-  pub heads : new.heads ≡ old.heads
-  pub clips : new.clips ≡ old.clips
-  pub must_reopen : new.must_reopen ≡ old.must_reopen
 
 -- after a failed call of the disk the store has to be opened again, and tells what it told before
 pub record HasFailed {D : Type 0} (old new : Seen D) : Type 0 where
@@ -77,15 +60,11 @@ pub record HasFailed {D : Type 0} (old new : Seen D) : Type 0 where
   pub clips : new.clips ≡ old.clips
   pub must_reopen : new.must_reopen ≡ true
 
--- any other refusal changes nothing
-abbrev pub Unless : {D : Type 0} → Bool → Seen D → Seen D → Type 0
-Unless true old new = HasFailed old new
-Unless false old new = new ≡ old
-
--- so it is with each refusal of a call that writes
+-- so it is with each refusal of a call that writes: after a failed call of the disk, as above; any other changes nothing
 abbrev pub Refused : {D T : Type 0} → Seen D → Seen D → Result T StoreFault → Type 0
 Refused old new (Ok x) = Unit {0}
-Refused old new (Err fault) = Unless (is_disk fault) old new
+Refused old new (Err (Disk fault)) = HasFailed old new
+Refused old new (Err fault) = new ≡ old
 
 -- ---- what only the store's own code looks at
 
@@ -98,3 +77,9 @@ pub record IsKept {D : Type 0} (medium : D → Medium) (g : Geometry) (disk : D)
   pub unstray : must_reopen ≡ false → (medium disk).honest → HasNoneStray g (medium disk).bytes
   pub settled : must_reopen ≡ false → (medium disk).honest → IsSettled (medium disk)
   pub recorded : must_reopen ≡ false → (medium disk).honest → IsRecovered g heads clips next (medium disk).bytes
+
+-- what a store keeps: the above of its disk and index, and a group for frames of its geometry, with memory for as many as may be stored at once
+pub record IsStore {D A : Type 0} (medium : D → Medium) (disk : D) (index : Index A) (must_reopen : Bool) (group : Grouped) : Type 0 where
+  pub kept : IsKept medium index.ring.geometry disk index.next index.table index.clips must_reopen
+  pub group_size : group.size ≡ frame_bytes index.ring.geometry
+  pub group_limit : group.limit ≡ min 8 index.ring.geometry.slots

@@ -8,28 +8,38 @@ use loop_disk::DiskFault;
 use loop_record::Damage;
 use loop_ring::SlotFault;
 use std::alloc::AllocError;
+use thiserror::Error;
 
 /// Why a call of a store is refused. The names and numbers are this project's own; a refusal changes nothing, but for `Disk`
 /// in a call that writes.
-#[derive(Clone, Copy, Debug, PartialEq, Eq)]
+#[derive(Clone, Copy, Debug, PartialEq, Eq, Error)]
 pub enum StoreFault {
     /// Memory was refused.
+    #[error("no memory")]
     NoMemory,
     /// A call of the disk failed.
+    #[error("the disk failed")]
     Disk(DiskFault),
     /// A call that writes answered `Disk` before: the disk is to be taken out and opened again.
+    #[error("the store has to be opened again")]
     MustReopen,
     /// The disk has no open superblock.
+    #[error("the disk isn't formatted")]
     NotFormatted,
     /// What stands on the disk can't be.
+    #[error("the image is damaged")]
     Damaged(Damage),
     /// No frame has this number.
+    #[error("no frame has this number")]
     NotHeld,
     /// A limit of the geometry is broken, or the disk's size isn't the geometry's.
+    #[error("the geometry isn't good, or the disk has another size")]
     BadGeometry,
     /// The next number is the first of a block whose frames would reach 2^62.
+    #[error("no number is left")]
     NumbersSpent,
     /// A block has to be recycled first, and there is none that may go: each is locked by a clip or is the newest.
+    #[error("no block may go")]
     AllLocked,
 }
 

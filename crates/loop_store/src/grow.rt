@@ -1,14 +1,13 @@
 //! What an append writes: the block that it begins, and the frames.
 
-ghost use Rattle.std.specs.Prelude.{◌≡◌, ◌≢◌, ◌+◌, ◌<◌, ◌≤◌, ◌/◌, ◌%◌, ◌^◌, ◌↔◌, ◌∷◌, ◌++◌, [], ℕ, All, None, OnOk, Some, length, map};
+ghost use Rattle.std.specs.Prelude.{◌≡◌, ◌≢◌, ◌+◌, ◌<◌, ◌≤◌, ◌/◌, ◌%◌, ◌∷◌, ◌++◌, [], ℕ, None, OnOk, Some, length, map};
 ghost use Rattle.loop_disk.specs.Calls.{Called, failed_call};
 ghost use Rattle.loop_disk.specs.Medium.{IsSettled, LeavesOnly};
 ghost use Rattle.loop_record.specs.Geometry.{disk_size, frame_bytes};
-ghost use Rattle.loop_record.specs.Plain.{pictures};
 ghost use Rattle.loop_record.specs.Change.{ShowsSegment};
 ghost use Rattle.loop_record.specs.Layout.{segment_in};
 ghost use Rattle.loop_record.specs.Reading.{Holds, begun};
-ghost use Rattle.loop_record.specs.Recording.{Recording, after, picture, plain, recycle, ring_of, store, victim};
+ghost use Rattle.loop_record.specs.Recording.{Recording, after, plain, recycle, ring_of, store, victim};
 ghost use Rattle.loop_ring.specs.Writes.{HasNoStray, ShowsFrames};
 ghost use Rattle.loop_store.specs.declared.place.Place.TheVariants.{Victim};
 ghost use Rattle.loop_store.specs.Held.{HoldsSome, IsFreeFor, IsNewest};
@@ -16,17 +15,11 @@ ghost use Rattle.loop_store.specs.Places.{IsBegunAt, IsGrownAt, IsKnown, IsOldFo
 
 use crate::place::Place;
 use loop_disk::{Disk, DiskFault};
-use loop_record::Frame;
-use loop_ring::Ring;
+use loop_ring::{Group, Ring};
 use std::alloc::Allocator;
 
 /// Begins the block of the next number, its first, in a closed segment: the recording stays as it is.
-pub(crate) fn begin<D: Disk, A: Allocator>(
-    disk: &mut D,
-    ring: &Ring<A>,
-    segment: u32,
-    next: u64,
-) -> Result<(), DiskFault>
+fn begin<D: Disk>(disk: &mut D, ring: &Ring, segment: u32, next: u64) -> Result<(), DiskFault>
     requires extent { (D.medium disk.old).size ≡ disk_size ring.now.geometry }
     requires segment { segment < ring.now.geometry.segments }
     requires first { (D.medium disk.old).honest → next % ring.now.geometry.slots ≡ 0 }
@@ -42,66 +35,33 @@ pub(crate) fn begin<D: Disk, A: Allocator>(
     ring.begin_block(disk, segment, next / u64::from(ring.geometry.slots))
 }
 
-/// Stores a frame in the block that has begun, behind its others.
-pub(crate) fn store_one<D: Disk, A: Allocator>(
-    disk: &mut D,
-    ring: &mut Ring<A>,
-    segment: u32,
-    next: u64,
-    frame: &Frame<A>,
-) -> Result<(), DiskFault>
-    requires extent { (D.medium disk.old).size ≡ disk_size ring.old.geometry }
-    requires segment { segment < ring.old.geometry.segments }
-    requires size { length frame.now.bytes.items ≡ frame_bytes ring.old.geometry }
-    requires settled { (D.medium disk.old).honest → IsSettled (D.medium disk.old) }
-    requires newest { (D.medium disk.old).honest → IsNewest ring.old.geometry next segment (D.medium disk.old).bytes }
-    ensures moments { (r : Recording) → r.next ≡ next → (D.medium disk.old).honest → Holds ring.old.geometry r (D.medium disk.old).bytes → LeavesOnly (D.medium disk.old) (D.medium disk.new) (HoldsSome ring.old.geometry r (store (picture frame.now) ∷ [])) }
-    ensures stored { (r : Recording) → r.next ≡ next → (D.medium disk.old).honest → Holds ring.old.geometry r (D.medium disk.old).bytes → OnOk result (Holds ring.old.geometry (plain (ring_of ring.old.geometry) r (store (picture frame.now) ∷ [])) (D.medium disk.new).bytes) }
-    ensures committed { (D.medium disk.old).honest → OnOk result (ShowsFrames ring.old.geometry segment next (picture frame.now ∷ []) (D.medium disk.old).bytes (D.medium disk.new).bytes) }
-    ensures stray { (D.medium disk.old).honest → OnOk result (HasNoStray ring.old.geometry segment (D.medium disk.new).bytes) }
-    ensures settled { (D.medium disk.old).honest → OnOk result (IsSettled (D.medium disk.new)) }
-    ensures called { Called (D.medium disk.old) (D.medium disk.new) (failed_call result) }
-    ensures geometry { ring.new.geometry ≡ ring.old.geometry }
-{
-    let slot = (next % u64::from(ring.geometry.slots)) as u32;
-    ring.commit_one(disk, segment, slot, next, frame)
-}
-
 /// Stores a group of frames in the block that has begun, behind its others.
-pub(crate) fn store_group<D: Disk, A: Allocator>(
+fn store_group<D: Disk, A: Allocator>(
     disk: &mut D,
-    ring: &mut Ring<A>,
+    ring: &Ring,
     segment: u32,
-    next: u64,
-    frames: &[Frame<A>],
+    group: &Group<A>,
 ) -> Result<(), DiskFault>
-    requires extent { (D.medium disk.old).size ≡ disk_size ring.old.geometry }
-    requires segment { segment < ring.old.geometry.segments }
-    requires some { 1 ≤ length frames.now }
-    requires few { length frames.now ≤ 8 }
-    requires room { next % ring.old.geometry.slots + length frames.now ≤ ring.old.geometry.slots }
-    requires numbers { next + length frames.now ≤ 2 ^ 64 }
-    requires sizes { All (λ frame. length frame.bytes.items ≡ frame_bytes ring.old.geometry) frames.now }
+    requires extent { (D.medium disk.old).size ≡ disk_size ring.now.geometry }
+    requires segment { segment < ring.now.geometry.segments }
+    requires some { 1 ≤ length group.now.frames }
+    requires room { group.now.first % ring.now.geometry.slots + length group.now.frames ≤ ring.now.geometry.slots }
+    requires size { group.now.size ≡ frame_bytes ring.now.geometry }
     requires settled { (D.medium disk.old).honest → IsSettled (D.medium disk.old) }
-    requires newest { (D.medium disk.old).honest → IsNewest ring.old.geometry next segment (D.medium disk.old).bytes }
-    ensures moments { (r : Recording) → r.next ≡ next → (D.medium disk.old).honest → Holds ring.old.geometry r (D.medium disk.old).bytes → LeavesOnly (D.medium disk.old) (D.medium disk.new) (HoldsSome ring.old.geometry r (map store (pictures frames.now))) }
-    ensures stored { (r : Recording) → r.next ≡ next → (D.medium disk.old).honest → Holds ring.old.geometry r (D.medium disk.old).bytes → OnOk result (Holds ring.old.geometry (plain (ring_of ring.old.geometry) r (map store (pictures frames.now))) (D.medium disk.new).bytes) }
-    ensures committed { (D.medium disk.old).honest → OnOk result (ShowsFrames ring.old.geometry segment next (pictures frames.now) (D.medium disk.old).bytes (D.medium disk.new).bytes) }
-    ensures stray { (D.medium disk.old).honest → OnOk result (HasNoStray ring.old.geometry segment (D.medium disk.new).bytes) }
+    requires newest { (D.medium disk.old).honest → IsNewest ring.now.geometry group.now.first segment (D.medium disk.old).bytes }
+    ensures moments { (r : Recording) → r.next ≡ group.now.first → (D.medium disk.old).honest → Holds ring.now.geometry r (D.medium disk.old).bytes → LeavesOnly (D.medium disk.old) (D.medium disk.new) (HoldsSome ring.now.geometry r (map store group.now.frames)) }
+    ensures stored { (r : Recording) → r.next ≡ group.now.first → (D.medium disk.old).honest → Holds ring.now.geometry r (D.medium disk.old).bytes → OnOk result (Holds ring.now.geometry (plain (ring_of ring.now.geometry) r (map store group.now.frames)) (D.medium disk.new).bytes) }
+    ensures committed { (D.medium disk.old).honest → OnOk result (ShowsFrames ring.now.geometry segment group.now.first group.now.frames (D.medium disk.old).bytes (D.medium disk.new).bytes) }
+    ensures stray { (D.medium disk.old).honest → OnOk result (HasNoStray ring.now.geometry segment (D.medium disk.new).bytes) }
     ensures settled { (D.medium disk.old).honest → OnOk result (IsSettled (D.medium disk.new)) }
     ensures called { Called (D.medium disk.old) (D.medium disk.new) (failed_call result) }
-    ensures geometry { ring.new.geometry ≡ ring.old.geometry }
 {
-    let slot = (next % u64::from(ring.geometry.slots)) as u32;
-    ring.commit(disk, segment, slot, next, frames)
+    let slot = (group.first() % u64::from(ring.geometry.slots)) as u32;
+    ring.commit(disk, segment, slot, group)
 }
 
 /// Retires the segment of the victim.
-fn recycle<D: Disk, A: Allocator>(
-    disk: &mut D,
-    ring: &Ring<A>,
-    segment: u32,
-) -> Result<(), DiskFault>
+fn recycle<D: Disk>(disk: &mut D, ring: &Ring, segment: u32) -> Result<(), DiskFault>
     requires extent { (D.medium disk.old).size ≡ disk_size ring.now.geometry }
     requires segment { segment < ring.now.geometry.segments }
     requires settled { (D.medium disk.old).honest → IsSettled (D.medium disk.old) }
@@ -116,12 +76,7 @@ fn recycle<D: Disk, A: Allocator>(
 }
 
 /// Recycles the victim's segment for the block of the next number.
-fn replace<D: Disk, A: Allocator>(
-    disk: &mut D,
-    ring: &Ring<A>,
-    segment: u32,
-    next: u64,
-) -> Result<(), DiskFault>
+fn replace<D: Disk>(disk: &mut D, ring: &Ring, segment: u32, next: u64) -> Result<(), DiskFault>
     requires extent { (D.medium disk.old).size ≡ disk_size ring.now.geometry }
     requires segment { segment < ring.now.geometry.segments }
     requires settled { (D.medium disk.old).honest → IsSettled (D.medium disk.old) }
@@ -138,12 +93,7 @@ fn replace<D: Disk, A: Allocator>(
 }
 
 /// Makes room for the next frames at a place: a block is recycled and another begun, or one is begun, or nothing is to be done.
-fn make_room<D: Disk, A: Allocator>(
-    disk: &mut D,
-    ring: &Ring<A>,
-    place: Place,
-    next: u64,
-) -> Result<(), DiskFault>
+fn make_room<D: Disk>(disk: &mut D, ring: &Ring, place: Place, next: u64) -> Result<(), DiskFault>
     requires extent { (D.medium disk.old).size ≡ disk_size ring.now.geometry }
     requires segment { segment_of place < ring.now.geometry.segments }
     requires settled { (D.medium disk.old).honest → IsSettled (D.medium disk.old) }
@@ -165,51 +115,23 @@ fn make_room<D: Disk, A: Allocator>(
 /// Makes room at a place, and stores a group of frames there.
 pub(crate) fn append_group<D: Disk, A: Allocator>(
     disk: &mut D,
-    ring: &mut Ring<A>,
+    ring: &Ring,
     place: Place,
-    next: u64,
-    frames: &[Frame<A>],
+    group: &Group<A>,
 ) -> Result<(), DiskFault>
-    requires extent { (D.medium disk.old).size ≡ disk_size ring.old.geometry }
-    requires segment { segment_of place < ring.old.geometry.segments }
-    requires some { 1 ≤ length frames.now }
-    requires few { length frames.now ≤ 8 }
-    requires room { next % ring.old.geometry.slots + length frames.now ≤ ring.old.geometry.slots }
-    requires numbers { next + length frames.now ≤ 2 ^ 64 }
-    requires sizes { All (λ frame. length frame.bytes.items ≡ frame_bytes ring.old.geometry) frames.now }
+    requires extent { (D.medium disk.old).size ≡ disk_size ring.now.geometry }
+    requires segment { segment_of place < ring.now.geometry.segments }
+    requires some { 1 ≤ length group.now.frames }
+    requires room { group.now.first % ring.now.geometry.slots + length group.now.frames ≤ ring.now.geometry.slots }
+    requires size { group.now.size ≡ frame_bytes ring.now.geometry }
     requires settled { (D.medium disk.old).honest → IsSettled (D.medium disk.old) }
-    requires known { (D.medium disk.old).honest → IsKnown ring.old.geometry next place (D.medium disk.old).bytes }
-    ensures moments { (r : Recording) → r.next ≡ next → (D.medium disk.old).honest → Holds ring.old.geometry r (D.medium disk.old).bytes → LeavesOnly (D.medium disk.old) (D.medium disk.new) (HoldsSome ring.old.geometry r (steps_before ring.old.geometry r ++ map store (pictures frames.now))) }
-    ensures stored { (r : Recording) → r.next ≡ next → (D.medium disk.old).honest → Holds ring.old.geometry r (D.medium disk.old).bytes → OnOk result (Holds ring.old.geometry (plain (ring_of ring.old.geometry) r (steps_before ring.old.geometry r ++ map store (pictures frames.now))) (D.medium disk.new).bytes) }
-    ensures grown { (D.medium disk.old).honest → OnOk result (IsGrownAt ring.old.geometry next (length frames.now) (segment_of place) (D.medium disk.old).bytes (D.medium disk.new).bytes) }
+    requires known { (D.medium disk.old).honest → IsKnown ring.now.geometry group.now.first place (D.medium disk.old).bytes }
+    ensures moments { (r : Recording) → r.next ≡ group.now.first → (D.medium disk.old).honest → Holds ring.now.geometry r (D.medium disk.old).bytes → LeavesOnly (D.medium disk.old) (D.medium disk.new) (HoldsSome ring.now.geometry r (steps_before ring.now.geometry r ++ map store group.now.frames)) }
+    ensures stored { (r : Recording) → r.next ≡ group.now.first → (D.medium disk.old).honest → Holds ring.now.geometry r (D.medium disk.old).bytes → OnOk result (Holds ring.now.geometry (plain (ring_of ring.now.geometry) r (steps_before ring.now.geometry r ++ map store group.now.frames)) (D.medium disk.new).bytes) }
+    ensures grown { (D.medium disk.old).honest → OnOk result (IsGrownAt ring.now.geometry group.now.first (length group.now.frames) (segment_of place) (D.medium disk.old).bytes (D.medium disk.new).bytes) }
     ensures settled { (D.medium disk.old).honest → OnOk result (IsSettled (D.medium disk.new)) }
     ensures called { Called (D.medium disk.old) (D.medium disk.new) (failed_call result) }
-    ensures geometry { ring.new.geometry ≡ ring.old.geometry }
 {
-    make_room(disk, ring, place, next)?;
-    store_group(disk, ring, place.segment(), next, frames)
-}
-
-/// Makes room at a place, and stores a frame there, as `append_group` a group of one.
-pub(crate) fn append_one<D: Disk, A: Allocator>(
-    disk: &mut D,
-    ring: &mut Ring<A>,
-    place: Place,
-    next: u64,
-    frame: &Frame<A>,
-) -> Result<(), DiskFault>
-    requires extent { (D.medium disk.old).size ≡ disk_size ring.old.geometry }
-    requires segment { segment_of place < ring.old.geometry.segments }
-    requires size { length frame.now.bytes.items ≡ frame_bytes ring.old.geometry }
-    requires settled { (D.medium disk.old).honest → IsSettled (D.medium disk.old) }
-    requires known { (D.medium disk.old).honest → IsKnown ring.old.geometry next place (D.medium disk.old).bytes }
-    ensures moments { (r : Recording) → r.next ≡ next → (D.medium disk.old).honest → Holds ring.old.geometry r (D.medium disk.old).bytes → LeavesOnly (D.medium disk.old) (D.medium disk.new) (HoldsSome ring.old.geometry r (steps_before ring.old.geometry r ++ (store (picture frame.now) ∷ []))) }
-    ensures stored { (r : Recording) → r.next ≡ next → (D.medium disk.old).honest → Holds ring.old.geometry r (D.medium disk.old).bytes → OnOk result (Holds ring.old.geometry (plain (ring_of ring.old.geometry) r (steps_before ring.old.geometry r ++ (store (picture frame.now) ∷ []))) (D.medium disk.new).bytes) }
-    ensures grown { (D.medium disk.old).honest → OnOk result (IsGrownAt ring.old.geometry next 1 (segment_of place) (D.medium disk.old).bytes (D.medium disk.new).bytes) }
-    ensures settled { (D.medium disk.old).honest → OnOk result (IsSettled (D.medium disk.new)) }
-    ensures called { Called (D.medium disk.old) (D.medium disk.new) (failed_call result) }
-    ensures geometry { ring.new.geometry ≡ ring.old.geometry }
-{
-    make_room(disk, ring, place, next)?;
-    store_one(disk, ring, place.segment(), next, frame)
+    make_room(disk, ring, place, group.first())?;
+    store_group(disk, ring, place.segment(), group)
 }

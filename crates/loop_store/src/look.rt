@@ -7,13 +7,13 @@ ghost use Rattle.loop_record.specs.Geometry.{disk_size, frame_bytes, is_good};
 ghost use Rattle.loop_record.specs.Layout.{is_too_high};
 ghost use Rattle.loop_record.specs.Plain.{AreIn};
 ghost use Rattle.loop_record.specs.Reading.{Holds};
-ghost use Rattle.loop_record.specs.Recording.{Recording, frame_under, holds};
+ghost use Rattle.loop_record.specs.Recording.{Recording, holds};
 ghost use Rattle.loop_record.specs.declared.damage.Damage.TheVariants.{SlotHead};
 ghost use Rattle.loop_ring.specs.Heads.{has_number, heads_of};
 ghost use Rattle.loop_store.specs.declared.fault.StoreFault.TheVariants.{Damaged};
 ghost use Rattle.loop_store.specs.Faults.{answers_disk, is_disk, failed_in};
 ghost use Rattle.loop_store.specs.Numbers.{numbers_in};
-ghost use Rattle.loop_store.specs.Seen.{AnswersFrame};
+ghost use Rattle.loop_store.specs.Reads.{AnswersFrame};
 
 use crate::StoreFault;
 use loop_disk::Disk;
@@ -43,9 +43,9 @@ pub(crate) fn segment_with<A: Allocator>(
 }
 
 /// Reads the frame of a number, which its segment has.
-pub(crate) fn read_held<D: Disk, A: Allocator>(
+pub(crate) fn read_held<D: Disk>(
     disk: &mut D,
-    ring: &Ring<A>,
+    ring: &Ring,
     segment: u32,
     number: u64,
     out: &mut [u8],
@@ -53,7 +53,8 @@ pub(crate) fn read_held<D: Disk, A: Allocator>(
     requires extent { (D.medium disk.old).size ≡ disk_size ring.now.geometry }
     requires segment { segment < ring.now.geometry.segments }
     requires size { length out.old ≡ frame_bytes ring.now.geometry }
-    ensures frame { (r : Recording) → (D.medium disk.old).honest → Holds ring.now.geometry r (D.medium disk.old).bytes → has_number ring.now.geometry.slots number (slice_index_or (heads_of ring.now.geometry (D.medium disk.old).bytes) segment None) ≡ true → AnswersFrame number (frame_under r.frames number) result out.new }
+    ensures frame { (r : Recording) → (D.medium disk.old).honest → Holds ring.now.geometry r (D.medium disk.old).bytes → has_number ring.now.geometry.slots number (slice_index_or (heads_of ring.now.geometry (D.medium disk.old).bytes) segment None) ≡ true
+        → AnswersFrame r number result out.new }
     ensures refusals { IfErr result (λ fault. (fault ≡ Damaged SlotHead) ⊎ (is_disk fault ≡ true)) }
     ensures stays { (D.medium disk.old).honest → Stays (D.medium disk.old) (D.medium disk.new) }
     ensures called { Called (D.medium disk.old) (D.medium disk.new) (failed_in result) }

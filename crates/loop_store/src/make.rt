@@ -10,11 +10,12 @@ ghost use Rattle.loop_store.specs.Formatted.{IsBadGeometry, IsFormatted, IsRefus
 ghost use Rattle.loop_store.specs.Seen.{StandsFor};
 
 use crate::fresh::lay_out;
+use crate::index::Index;
 use crate::{OpenRefused, Store, StoreFault};
 use loop_clips::ClipTable;
 use loop_disk::Disk;
 use loop_record::Geometry;
-use loop_ring::{Ring, SegmentTable};
+use loop_ring::{Group, Ring, SegmentTable};
 use std::alloc::Allocator;
 
 /// Whether a geometry is good, and a disk has its size.
@@ -59,7 +60,7 @@ pub fn format<D: Disk + Drop, A: Allocator + Copy>(
             disk,
         });
     };
-    let Ok(ring) = Ring::new(alloc, geometry) else {
+    let Ok(group) = Group::new(alloc, &geometry) else {
         return Err(OpenRefused {
             fault: StoreFault::NoMemory,
             disk,
@@ -68,10 +69,13 @@ pub fn format<D: Disk + Drop, A: Allocator + Copy>(
     match lay_out(&mut disk, &geometry) {
         Ok(()) => Ok(Store {
             disk,
-            ring,
-            table,
-            clips: ClipTable::empty(),
-            next: 0,
+            index: Index {
+                ring: Ring::new(geometry),
+                table,
+                clips: ClipTable::empty(),
+                next: 0,
+            },
+            group,
             must_reopen: false,
         }),
         Err(fault) => Err(OpenRefused {

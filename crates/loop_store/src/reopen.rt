@@ -9,24 +9,16 @@ ghost use Rattle.loop_ring.specs.Heads.{heads_of};
 ghost use Rattle.loop_store.specs.Faults.{is_disk, failed_in};
 ghost use Rattle.loop_store.specs.Held.{HasNoneStray};
 ghost use Rattle.loop_store.specs.Formatted.{disk_after, failed_opening};
-ghost use Rattle.loop_store.specs.Opened.{IsFitting, IsOpened, IsReady, IsRefusedOpen, IsTold, ReadsAlike, WasOrReadsAlike};
+ghost use Rattle.loop_store.specs.Opened.{IsFitting, IsOpened, IsSized, IsReady, IsRefusedOpen, IsTold, ReadsAlike, WasOrReadsAlike};
 ghost use Rattle.loop_store.specs.Recovered.{IsRecovered, Recovers};
 
+use crate::index::Index;
 use crate::recover::{Recovered, recover};
 use crate::{OpenRefused, Store, StoreFault};
 use loop_clips::ClipTable;
 use loop_disk::{Disk, DiskFault};
-use loop_ring::{Ring, SegmentTable};
-use std::alloc::{AllocError, Allocator};
-
-/// What a store remembers of the recording on its disk.
-#[derive(Drop)]
-struct Known<A: Allocator> {
-    ring: Ring<A>,
-    table: SegmentTable<A>,
-    clips: ClipTable,
-    next: u64,
-}
+use loop_ring::{Group, Ring, SegmentTable};
+use std::alloc::Allocator;
 
 /// Syncs, so that a stop leaves what a read gives, and finds what the disk's image reads as.
 fn reread<D: Disk, A: Allocator + Copy>(alloc: A, disk: &mut D) -> Result<Recovered<A>, StoreFault>
@@ -43,29 +35,28 @@ fn reread<D: Disk, A: Allocator + Copy>(alloc: A, disk: &mut D) -> Result<Recove
     recover(alloc, disk)
 }
 
-/// What a store remembers of what was found. It takes the memory of the ring's buffer, and no other.
-fn remember<A: Allocator>(alloc: A, found: Recovered<A>) -> Result<Known<A>, AllocError>
+/// The index of what was found.
+fn index_of<A: Allocator>(found: Recovered<A>) -> Index<A>
     requires good { IsTrue (is_good found.geometry) }
     requires fits { IsFitting found.geometry found.heads.items found.next }
-    ensures geometry { IfOk result (λ known. known.ring.geometry ≡ found.geometry) }
-    ensures heads { IfOk result (λ known. known.table ≡ found.heads.items) }
-    ensures clips { IfOk result (λ known. known.clips ≡ found.clips) }
-    ensures next { IfOk result (λ known. known.next ≡ found.next) }
+    ensures geometry { result.ring.geometry ≡ found.geometry }
+    ensures heads { result.table ≡ found.heads.items }
+    ensures clips { result.clips ≡ found.clips }
+    ensures next { result.next ≡ found.next }
 {
-    let ring = Ring::new(alloc, found.geometry)?;
-    Ok(Known {
-        ring,
+    Index {
+        ring: Ring::new(found.geometry),
         table: SegmentTable::of(found.heads),
         clips: ClipTable::of(found.clips),
         next: found.next,
-    })
+    }
 }
 
 /// Clears the stray gates that a stop may have left in the block of the next number. The other segments have all their
 /// frames, so that no gate of theirs can be stray.
 fn clear_newest<D: Disk, A: Allocator>(
     disk: &mut D,
-    ring: &Ring<A>,
+    ring: &Ring,
     table: &SegmentTable<A>,
     next: u64,
 ) -> Result<(), DiskFault>
@@ -87,10 +78,12 @@ fn clear_newest<D: Disk, A: Allocator>(
 }
 
 /// Finds the recording on a disk again, and makes the disk ready for a store.
-fn reopen<D: Disk, A: Allocator + Copy>(alloc: A, disk: &mut D) -> Result<Known<A>, StoreFault>
-    ensures size { IfOk result (λ known. (D.medium disk.old).size ≡ disk_size known.ring.geometry) }
-    ensures fits { IfOk result (λ known. IsFitting known.ring.geometry known.table known.next) }
-    ensures ready { (D.medium disk.old).honest → Recovers result (λ known. IsReady known.ring.geometry known.table known.clips known.next (D.medium disk.old).bytes (D.medium disk.new))
+fn reopen<D: Disk, A: Allocator + Copy>(
+    alloc: A,
+    disk: &mut D,
+) -> Result<(Index<A>, Group<A>), StoreFault>
+    ensures fits { IfOk result (λ found. IsSized found.0 found.1 (D.medium disk.old).size) }
+    ensures ready { (D.medium disk.old).honest → Recovers result (λ found. IsReady found.0.ring.geometry found.0.table found.0.clips found.0.next (D.medium disk.old).bytes (D.medium disk.new))
         (λ fault. reading (D.medium disk.old).bytes ≡ Err fault) }
     ensures moments { (D.medium disk.old).honest → LeavesOnly (D.medium disk.old) (D.medium disk.new) (WasOrReadsAlike (D.medium disk.old)) }
     ensures alike { (D.medium disk.old).honest → ReadsAlike (D.medium disk.old).bytes (D.medium disk.new).bytes }
@@ -98,9 +91,10 @@ fn reopen<D: Disk, A: Allocator + Copy>(alloc: A, disk: &mut D) -> Result<Known<
     ensures called { Called (D.medium disk.old) (D.medium disk.new) (failed_in result) }
 {
     let found = reread(alloc, disk)?;
-    let known = remember(alloc, found)?;
-    clear_newest(disk, &known.ring, &known.table, known.next)?;
-    Ok(known)
+    let group = Group::new(alloc, &found.geometry)?;
+    let index = index_of(found);
+    clear_newest(disk, &index.ring, &index.table, index.next)?;
+    Ok((index, group))
 }
 
 impl<D: Disk + Drop, A: Allocator + Copy> Store<D, A> {
@@ -108,7 +102,7 @@ impl<D: Disk + Drop, A: Allocator + Copy> Store<D, A> {
     ///
     /// First it syncs, so that a stop leaves what a read gives. Then it reads the superblock, each header, the first
     /// `HEAD_SIZE` bytes of each slot before the first closed gate of an open segment, and the clip table. Then it takes the
-    /// memory of the ring's buffer; lists of the headers and of the open segments are taken before. Last it closes the frame
+    /// memory of a group; lists of the headers and of the open segments are taken before. Last it closes the frame
     /// gates that a stop left open behind the first closed one of the newest segment: one read where there is a gate behind
     /// it, and where one is open a write and a sync.
     ///
@@ -126,12 +120,10 @@ impl<D: Disk + Drop, A: Allocator + Copy> Store<D, A> {
     {
         let mut disk = disk;
         match reopen(alloc, &mut disk) {
-            Ok(known) => Ok(Store {
+            Ok((index, group)) => Ok(Store {
                 disk,
-                ring: known.ring,
-                table: known.table,
-                clips: known.clips,
-                next: known.next,
+                index,
+                group,
                 must_reopen: false,
             }),
             Err(fault) => Err(OpenRefused { fault, disk }),

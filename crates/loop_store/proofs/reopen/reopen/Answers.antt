@@ -5,8 +5,8 @@ pub returns-in_err-found-clause-moments : goal.returns-in_err-found-clause-momen
 returns-in_err-found-clause-moments g c = λ honest.
     stays-moments _ _ (g.met.D.Disk.sound c.args.disk.now honest) (c.reread.ensures.disk honest)
 
-pub returns-in_err-known-clause-moments : goal.returns-in_err-known-clause-moments
-returns-in_err-known-clause-moments g c = λ honest.
+pub returns-in_err-group-clause-moments : goal.returns-in_err-group-clause-moments
+returns-in_err-group-clause-moments g c = λ honest.
     stays-moments _ _ (g.met.D.Disk.sound c.args.disk.now honest) (c.reread.ensures.disk honest)
 
 pub returns-in_err-clear_newest-clause-moments : goal.returns-in_err-clear_newest-clause-moments
@@ -22,10 +22,10 @@ pub returns-clause-ready : goal.returns-clause-ready
 returns-clause-ready g c = λ honest.
     let mid = c.reread.ensures.called.honest.0 honest in
     let found = c.in_ok-found.found in
-    let known = c.in_ok-known.known in
+    let index = c.index_of-index.result in
     let alike = alike-on _ _ _ (g.met.D.Disk.sound c.clear_newest.new.disk (c.clear_newest.ensures.called.honest.0 mid)) (c.reread.ensures.disk honest) (c.clear_newest.ensures.moments mid) in
-    ready-of known.ring.geometry found.geometry known.table found.heads.items known.clips found.clips known.next found.next (g.D.Disk.medium c.args.disk.now).bytes (g.D.Disk.medium c.clear_newest.new.disk)
-    c.in_ok-known.ensures.geometry c.in_ok-known.ensures.clips c.in_ok-known.ensures.next (c.in_ok-found.ensures.recovered honest) alike
+    ready-of index.ring.geometry found.geometry index.table found.heads.items index.clips found.clips index.next found.next (g.D.Disk.medium c.args.disk.now).bytes (g.D.Disk.medium c.clear_newest.new.disk)
+    c.index_of-index.ensures.geometry c.index_of-index.ensures.clips c.index_of-index.ensures.next (c.in_ok-found.ensures.recovered honest) alike
     (c.in_ok-clear_newest.ensures.heads mid) (c.in_ok-clear_newest.ensures.settled mid) (c.in_ok-clear_newest.ensures.stray mid)
 
 pub returns-clause-moments : goal.returns-clause-moments

@@ -10,7 +10,7 @@ pub returns-clause-numbers : goal.returns-clause-numbers
 returns-clause-numbers g c =
     subst (λ (v : Seen g.row.D.Denot). (r : Recording) → StandsFor g.D.Disk.medium v r → (g.D.Disk.medium v.disk).honest → c.in_ok-numbers.numbers.items ≡ map (λ f. f.0) r.frames) c.self.view_is
     (λ r stands honest.
-    let h = c.self.inside.ring.geometry in
+    let h = c.self.inside.index.ring.geometry in
     let m = stands.remembered honest in
     c.in_ok-numbers.ensures ∙ ap (λ (fs : List Found). numbers_in h fs) c.as_slice-2.ensures.value
     ∙ held-numbers h r m.image c.in_ok-segments.segments.items m.held (c.in_ok-segments.ensures.order m.image (c.as_slice.ensures ∙ m.heads_are)))

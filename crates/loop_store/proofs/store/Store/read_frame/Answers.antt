@@ -1,16 +1,20 @@
-use Rattle.std.proofs.Common.{◌≡◌, false, sym, ap, ◌∙◌}
+use Rattle.std.proofs.Common.{◌≡◌, false, Err, inl, inr, refl, sym, ap, ◌∙◌}
 use Rattle.std.proofs.lemmas.Result.{err_from_is_err_and}
-use Rattle.loop_store.proofs.Replied.{read-ok, read-err}
+use Rattle.loop_store.specs.declared.fault.StoreFault.TheVariants.{NoMemory, NotHeld}
+use Rattle.loop_store.proofs.Reading.{goes-unread}
 use Rattle.loop_store.proofs.store.Store.read_frame.Goals as goal
 
-pub returns-in_err-head-clause-answers : goal.returns-in_err-head-clause-answers
-returns-in_err-head-clause-answers g c = λ r stands honest.
+pub returns-then-not-holds : goal.returns-then-not-holds
+returns-then-not-holds g c =
     let fine : c.args.self.now.must_reopen ≡ false = sym (ap (λ v. v.must_reopen) c.self.view_is) ∙ c.if-self.false in
-    let held = sym (c.holds.ensures r stands honest) ∙ c.if-not-holds.false in
-    let p = err_from_is_err_and c.from_residual-in_err-head.result c.from_residual-in_err-head.ensures.1 in
-    rw (p.1, p.2) (read-err r c.args.self.now.must_reopen c.args.number c.in_err-head.field-0.0 c.read.new.out fine held (c.in_err-head.ensures.frame r stands fine honest))
+    goes-unread g.D.Disk.medium c.args.self.now c.args.number NotHeld (λ honest. g.met.D.Disk.sound c.args.self.now.disk honest) refl
+    (λ t stands honest. inr (inl (refl, (sym stands.must_reopen ∙ fine, sym (c.holds.ensures t.recording stands.recording honest) ∙ c.if-not-holds.true))))
+    (inr (inl refl, fine))
 
-pub returns-clause-answers : goal.returns-clause-answers
-returns-clause-answers g c = λ r stands honest.
+pub returns-in_err-bytes : goal.returns-in_err-bytes
+returns-in_err-bytes g c =
     let fine : c.args.self.now.must_reopen ≡ false = sym (ap (λ v. v.must_reopen) c.self.view_is) ∙ c.if-self.false in
-    read-ok r c.args.self.now.must_reopen c.args.number c.in_ok-bytes.bytes.len c.in_ok-head.head c.read.new.out _ fine (c.read.auto.out ∙ c.deref_mut.ensures.len) (c.in_ok-head.ensures.frame r stands fine honest)
+    let p = err_from_is_err_and c.from_residual.result c.from_residual.ensures.1 in
+    rw (p.1, p.2) (goes-unread g.D.Disk.medium c.args.self.now c.args.number NoMemory (λ honest. g.met.D.Disk.sound c.args.self.now.disk honest) refl
+    (λ t stands honest. inr (inr (inl refl, (sym stands.must_reopen ∙ fine, sym (c.holds.ensures t.recording stands.recording honest) ∙ c.if-not-holds.false))))
+    (inr (inr (inl refl), fine)))

@@ -1,0 +1,127 @@
+-- Calls of a store, one after the other.
+use Rattle.std.proofs.Common.{◌≡◌, Bool, true, false, Option, List, [], ◌∷◌, ◌++◌, map, refl, sym, ap, ◌∙◌, subst}
+use Rattle.std.proofs.lemmas.List.{append-nil, map-append}
+use Rattle.loop_disk.specs.declared.fault.DiskFault.{DiskFault}
+use Rattle.loop_disk.specs.declared.fault.Failures.{Failures}
+use Rattle.loop_disk.specs.Calls.{Called, with_failed}
+use Rattle.loop_disk.specs.Medium.{Medium, IsSound}
+use Rattle.loop_record.specs.declared.geometry.Geometry.{Geometry}
+use Rattle.loop_record.specs.Recording.{Recording, plain, ring_of}
+use Rattle.loop_record.specs.Turns.{EachIn, after_all}
+use Rattle.loop_record.proofs.Turned.{after-behind, each-behind, told-behind}
+use Rattle.loop_store.specs.Calls.{AreAnswered, Call, IsAllowed, IsAnswered, Outline, StoreState, after, after_calls, begun, begun_in, failed_for, made, made_in, outline_after}
+use Rattle.loop_store.specs.Goes.{CalledEach, Goes, Stands, outline_of, with_each}
+use Rattle.loop_store.specs.Seen.{Seen}
+use Rattle.loop_store.specs.Steps.{LeavesSteps}
+use Rattle.loop_store.proofs.Leaves.{leaves-joined, leaves-none, leaves-same}
+use Rattle.loop_store.proofs.Modelled.{fine-all, idle-all, recording-after}
+
+-- ---- the disk
+
+with_each-behind : (xs ys : List (Option DiskFault)) (before : Failures) → with_each (xs ++ ys) before ≡ with_each ys (with_each xs before)
+with_each-behind [] ys before = refl
+with_each-behind (x ∷ xs) ys before = with_each-behind xs ys (with_failed x before)
+
+called-none : (m : Medium) → CalledEach m m []
+called-none m = record { size = refl; honest = (λ h. h, λ h. h); failures = refl }
+
+pub called-one : (old new : Medium) (failed : Option DiskFault) → Called old new failed → CalledEach old new (failed ∷ [])
+called-one old new failed called = record { size = called.size; honest = called.honest; failures = called.failures }
+
+called-joined : (old mid new : Medium) (xs ys : List (Option DiskFault)) → CalledEach old mid xs → CalledEach mid new ys → CalledEach old new (xs ++ ys)
+called-joined old mid new xs ys first second = record {
+  size = second.size ∙ first.size;
+  honest = (λ h. second.honest.0 (first.honest.0 h), λ h. first.honest.1 (second.honest.1 h));
+  failures = second.failures ∙ ap (with_each ys) first.failures ∙ sym (with_each-behind xs ys old.failures);
+}
+
+-- ---- calls
+
+-- no call
+pub goes-none : {D : Type 0} (medium : D → Medium) (store : Seen D) → ((medium store.disk).honest → IsSound (medium store.disk)) → Goes medium store store []
+goes-none medium store sound = record {
+  answers = λ s stands now. tt;
+  stands = λ s stands now. stands;
+  leaves = λ s stands now fine.
+      let still : store.must_reopen ≡ false = stands.must_reopen ∙ fine in
+      leaves-none store.geometry s.recording (medium store.disk) (sound now) (stands.recording.settled still now) (stands.recording.held still now);
+  idle = λ must. refl;
+  allowed = tt;
+  outline = refl;
+  geometry = refl;
+  called = called-none (medium store.disk);
+}
+
+-- One call, by what it says of its own steps.
+pub record GoesOnce {D : Type 0} (medium : D → Medium) (old new : Seen D) (c : Call) : Type 0 where
+  pub answers : (s : StoreState) → Stands medium old s → (medium old.disk).honest → IsAnswered old.geometry s c
+  pub stands : (s : StoreState) → Stands medium old s → (medium old.disk).honest → Stands medium new (after old.geometry s c)
+  pub leaves : (s : StoreState) → Stands medium old s → (medium old.disk).honest → s.must_reopen ≡ false
+      → LeavesSteps old.geometry s.recording (made old.geometry s c) (begun old.geometry s c) (medium old.disk) (medium new.disk)
+  pub idle : old.must_reopen ≡ true → new ≡ old
+  pub allowed : IsAllowed old.geometry (outline_of old) c
+  pub outline : outline_of new ≡ outline_after (outline_of old) c
+  pub geometry : new.geometry ≡ old.geometry
+  pub called : Called (medium old.disk) (medium new.disk) (failed_for c)
+
+pub goes-once : {D : Type 0} (medium : D → Medium) (old new : Seen D) (c : Call) → GoesOnce medium old new c → Goes medium old new (c ∷ [])
+goes-once medium old new c one = record {
+  answers = λ s stands now. (one.answers s stands now, tt);
+  stands = one.stands;
+  leaves = λ s stands now fine.
+      let g = old.geometry in
+      leaves-same g s.recording (made g s c) (made g s c ++ []) (begun g s c) (begun g s c ++ []) (medium old.disk) (medium new.disk) (sym (append-nil (made g s c))) (sym (append-nil (begun g s c))) (one.leaves s stands now fine);
+  idle = one.idle;
+  allowed = (one.allowed, tt);
+  outline = one.outline;
+  geometry = one.geometry;
+  called = called-one (medium old.disk) (medium new.disk) (failed_for c) one.called;
+}
+
+-- Calls, and calls behind them.
+pub goes-joined : {D : Type 0} (medium : D → Medium) (old mid new : Seen D) (xs ys : List Call) → Goes medium old mid xs → Goes medium mid new ys → Goes medium old new (xs ++ ys)
+goes-joined {D} medium old mid new xs ys first second = record {
+  answers = λ s stands now. each-behind (after g) (IsAnswered g) s xs ys (first.answers s stands now) (later s stands now);
+  stands = λ s stands now.
+      subst (λ (t : StoreState). Stands medium new t) (sym (after-behind (after g) s xs ys))
+      (subst (λ (h : Geometry). Stands medium new (after_calls h (mid_state s) ys)) first.geometry (second.stands (mid_state s) (first.stands s stands now) (first.called.honest.0 now)));
+  leaves = λ s stands now fine.
+      leaves-same g s.recording (made_in g s xs ++ made_in g (mid_state s) ys) (made_in g s (xs ++ ys)) (begun_in g s xs ++ begun_in g (mid_state s) ys) (begun_in g s (xs ++ ys)) (medium old.disk) (medium new.disk)
+      (sym (told-behind (after g) (made g) s xs ys)) (sym (told-behind (after g) (begun g) s xs ys)) (go s stands now fine (mid_state s).must_reopen refl);
+  idle = λ must. let same = first.idle must in second.idle (ap (λ (t : Seen D). t.must_reopen) same ∙ must) ∙ same;
+  allowed =
+      each-behind outline_after (IsAllowed g) (outline_of old) xs ys first.allowed
+      (subst (λ (o : Outline). EachIn outline_after (IsAllowed g) o ys) first.outline (subst (λ (h : Geometry). EachIn outline_after (IsAllowed h) (outline_of mid) ys) first.geometry second.allowed));
+  outline = second.outline ∙ ap (λ (o : Outline). after_all outline_after o ys) first.outline ∙ sym (after-behind outline_after (outline_of old) xs ys);
+  geometry = second.geometry ∙ first.geometry;
+  called =
+      subst (λ (l : List (Option DiskFault)). CalledEach (medium old.disk) (medium new.disk) l) (sym (map-append failed_for xs ys))
+      (called-joined (medium old.disk) (medium mid.disk) (medium new.disk) (map failed_for xs) (map failed_for ys) first.called second.called);
+}
+  where
+    g : Geometry
+    g = old.geometry
+
+    mid_state : StoreState → StoreState
+    mid_state s = after_calls g s xs
+
+    later : (s : StoreState) → Stands medium old s → (medium old.disk).honest → AreAnswered g (mid_state s) ys
+    later s stands now = subst (λ (h : Geometry). AreAnswered h (mid_state s) ys) first.geometry (second.answers (mid_state s) (first.stands s stands now) (first.called.honest.0 now))
+
+    go : (s : StoreState) → Stands medium old s → (medium old.disk).honest → s.must_reopen ≡ false → (b : Bool) → (mid_state s).must_reopen ≡ b
+        → LeavesSteps g s.recording (made_in g s xs ++ made_in g (mid_state s) ys) (begun_in g s xs ++ begun_in g (mid_state s) ys) (medium old.disk) (medium new.disk)
+    go s stands now fine true must =
+        let none = idle-all g (mid_state s) ys must (later s stands now) in
+        let there = first.stands s stands now in
+        let same : new ≡ mid = second.idle (there.must_reopen ∙ must) in
+        subst (λ (t : Seen D). LeavesSteps g s.recording (made_in g s xs ++ made_in g (mid_state s) ys) (begun_in g s xs ++ begun_in g (mid_state s) ys) (medium old.disk) (medium t.disk)) (sym same)
+        (leaves-same g s.recording (made_in g s xs) (made_in g s xs ++ made_in g (mid_state s) ys) (begun_in g s xs) (begun_in g s xs ++ begun_in g (mid_state s) ys) (medium old.disk) (medium mid.disk)
+        (sym (ap (λ l. made_in g s xs ++ l) none.made ∙ append-nil (made_in g s xs))) (sym (ap (λ l. begun_in g s xs ++ l) none.begun ∙ append-nil (begun_in g s xs))) (first.leaves s stands now fine))
+    go s stands now fine false still =
+        let none = (fine-all g s xs still).none in
+        let one : LeavesSteps g s.recording (made_in g s xs) [] (medium old.disk) (medium mid.disk) = subst (λ l. LeavesSteps g s.recording (made_in g s xs) l (medium old.disk) (medium mid.disk)) none (first.leaves s stands now fine) in
+        let two : LeavesSteps g (plain (ring_of g) s.recording (made_in g s xs)) (made_in g (mid_state s) ys) (begun_in g (mid_state s) ys) (medium mid.disk) (medium new.disk) =
+        subst (λ (r : Recording). LeavesSteps g r (made_in g (mid_state s) ys) (begun_in g (mid_state s) ys) (medium mid.disk) (medium new.disk)) (recording-after g s xs)
+        (subst (λ (h : Geometry). LeavesSteps h (mid_state s).recording (made_in h (mid_state s) ys) (begun_in h (mid_state s) ys) (medium mid.disk) (medium new.disk)) first.geometry (second.leaves (mid_state s) (first.stands s stands now) (first.called.honest.0 now) still)) in
+        leaves-same g s.recording (made_in g s xs ++ made_in g (mid_state s) ys) (made_in g s xs ++ made_in g (mid_state s) ys) (begun_in g (mid_state s) ys) (begun_in g s xs ++ begun_in g (mid_state s) ys) (medium old.disk) (medium new.disk) refl
+        (sym (ap (λ l. l ++ begun_in g (mid_state s) ys) none)) (leaves-joined g s.recording (made_in g s xs) (made_in g (mid_state s) ys) (begun_in g (mid_state s) ys) (medium old.disk) (medium mid.disk) (medium new.disk) one two)

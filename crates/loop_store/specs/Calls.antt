@@ -1,0 +1,139 @@
+-- The calls of a store with their answers, and what they make of a recording: the model of the store.
+use Rattle.std.specs.Prelude.{◌≡◌, ◌≢◌, ◌⊎◌, ℕ, ◌+◌, Bool, true, false, ◌||◌, Option, Some, None, Result, Ok, Err, List, ◌∷◌, [], length}
+use Rattle.loop_disk.specs.declared.fault.DiskFault.{DiskFault}
+use Rattle.loop_record.specs.declared.damage.Damage.TheVariants.{SlotHead}
+use Rattle.loop_record.specs.declared.frame.FrameHead.{FrameHead}
+use Rattle.loop_record.specs.declared.geometry.Geometry.{Geometry}
+use Rattle.loop_record.specs.Recording.{Picture, Recording, Step, frame_under, head, holds, last_number, plain, ring_of, steps}
+use Rattle.loop_record.specs.Turns.{after_all, told_in, EachIn}
+use Rattle.loop_store.specs.declared.fault.StoreFault.{StoreFault}
+use Rattle.loop_store.specs.declared.fault.StoreFault.TheVariants.{AllLocked, Damaged, NoMemory, MustReopen, NotHeld, NumbersSpent}
+use Rattle.loop_store.specs.Faults.{answers_disk, failed_in, is_disk}
+use Rattle.loop_store.specs.Steps.{if_answered, if_failed, steps_or_none}
+
+-- a call and its answer: an append of a group, and a read of a number with the head and the bytes that it gave
+pub data Call : Type 0 where
+  appended : List Picture → Result ℕ StoreFault → Call
+  was_read : ℕ → Result (FrameHead × List ℕ) StoreFault → Call
+
+-- what a read into lent memory answers
+abbrev pub read_with : Result FrameHead StoreFault → List ℕ → Result (FrameHead × List ℕ) StoreFault
+read_with (Ok h) out = Ok (h, out)
+read_with (Err fault) out = Err fault
+
+-- what is recorded, and whether a call that writes has failed
+pub record StoreState : Type 0 where
+  pub recording : Recording
+  pub must_reopen : Bool
+
+-- ---- the steps of a call
+
+-- the steps that an append is asked for
+abbrev pub asked : Geometry → Recording → List Picture → List Step
+asked g r group = steps_or_none (steps (ring_of g) r group)
+
+-- the steps that a call made, as it answered
+abbrev pub made : Geometry → StoreState → Call → List Step
+made g s (appended group result) = if_answered result (asked g s.recording group)
+made g s (was_read number result) = []
+
+-- the steps that it began, and of which a beginning may stand
+abbrev pub begun : Geometry → StoreState → Call → List Step
+begun g s (appended group result) = if_failed result (asked g s.recording group)
+begun g s (was_read number result) = []
+
+-- ---- the state after a call
+
+-- the disk failed in a call that writes
+abbrev pub has_failed : Call → Bool
+has_failed (appended group result) = answers_disk result
+has_failed (was_read number result) = false
+
+abbrev pub after : Geometry → StoreState → Call → StoreState
+after g s call = record {
+  recording = plain (ring_of g) s.recording (made g s call);
+  must_reopen = s.must_reopen || has_failed call;
+}
+
+-- ---- the answers
+
+-- why an append is refused: it must be reopened, or otherwise no number is left, or otherwise no block may go that has to, or otherwise
+-- the disk failed
+abbrev pub RefusesAppend : Geometry → StoreState → List Picture → StoreFault → Type 0
+RefusesAppend g s group fault =
+    (fault ≡ MustReopen) × (s.must_reopen ≡ true)
+    ⊎ ((fault ≡ NumbersSpent) × ((s.must_reopen ≡ false) × (s.recording.next ≡ last_number (ring_of g)))
+    ⊎ ((fault ≡ AllLocked) × ((s.must_reopen ≡ false) × ((s.recording.next ≢ last_number (ring_of g)) × (steps (ring_of g) s.recording group ≡ None)))
+    ⊎ (is_disk fault ≡ true) × ((s.must_reopen ≡ false) × (steps (ring_of g) s.recording group ≢ None))))
+
+-- why a read is refused: it must be reopened, or otherwise the number isn't held, or otherwise memory was refused or the disk failed
+abbrev pub RefusesRead : StoreState → ℕ → StoreFault → Type 0
+RefusesRead s number fault =
+    (fault ≡ MustReopen) × (s.must_reopen ≡ true)
+    ⊎ ((fault ≡ NotHeld) × ((s.must_reopen ≡ false) × (holds s.recording number ≡ false))
+    ⊎ ((fault ≡ NoMemory) ⊎ (is_disk fault ≡ true)) × ((s.must_reopen ≡ false) × (holds s.recording number ≡ true)))
+
+-- the frame of a number, with this head and these bytes
+pub record IsFrame (r : Recording) (number : ℕ) (h : FrameHead) (bytes : List ℕ) : Type 0 where
+  pub picture : Picture
+  pub there : frame_under r.frames number ≡ Some picture
+  pub head_is : h ≡ head number picture
+  pub bytes_are : bytes ≡ picture.bytes
+
+-- a call was answered so
+abbrev pub IsAnswered : Geometry → StoreState → Call → Type 0
+IsAnswered g s (appended group (Ok number)) = (s.must_reopen ≡ false) × ((steps (ring_of g) s.recording group ≢ None) × (number ≡ s.recording.next))
+IsAnswered g s (appended group (Err fault)) = RefusesAppend g s group fault
+IsAnswered g s (was_read number (Ok x)) = (s.must_reopen ≡ false) × IsFrame s.recording number x.0 x.1
+IsAnswered g s (was_read number (Err fault)) = RefusesRead s number fault
+
+-- ---- lists of calls
+
+-- the state after calls
+abbrev pub after_calls : Geometry → StoreState → List Call → StoreState
+after_calls g s calls = after_all (after g) s calls
+
+-- each was answered so at its point
+abbrev pub AreAnswered : Geometry → StoreState → List Call → Type 0
+AreAnswered g s calls = EachIn (after g) (IsAnswered g) s calls
+
+-- the steps that were made, in order
+abbrev pub made_in : Geometry → StoreState → List Call → List Step
+made_in g s calls = told_in (after g) (made g) s calls
+
+-- the steps that were begun behind them
+abbrev pub begun_in : Geometry → StoreState → List Call → List Step
+begun_in g s calls = told_in (after g) (begun g) s calls
+
+-- ---- what is known of every disk, honest or not
+
+-- the number that comes next, and whether a call that writes has failed
+pub record Outline : Type 0 where
+  pub next : ℕ
+  pub must_reopen : Bool
+
+-- how many frames were stored
+abbrev pub count_stored : Call → ℕ
+count_stored (appended group (Ok number)) = length group
+count_stored (appended group (Err fault)) = 0
+count_stored (was_read number result) = 0
+
+abbrev pub outline_after : Outline → Call → Outline
+outline_after o call = record { next = o.next + count_stored call; must_reopen = o.must_reopen || has_failed call }
+
+-- the answer is one of those that the call may give there
+abbrev pub IsAllowed : Geometry → Outline → Call → Type 0
+IsAllowed g o (appended group (Ok number)) = (o.must_reopen ≡ false) × ((o.next ≢ last_number (ring_of g)) × (number ≡ o.next))
+IsAllowed g o (appended group (Err fault)) =
+    (fault ≡ MustReopen) × (o.must_reopen ≡ true)
+    ⊎ ((fault ≡ NumbersSpent) × ((o.must_reopen ≡ false) × (o.next ≡ last_number (ring_of g)))
+    ⊎ ((fault ≡ AllLocked) ⊎ (is_disk fault ≡ true)) × ((o.must_reopen ≡ false) × (o.next ≢ last_number (ring_of g))))
+IsAllowed g o (was_read number (Ok x)) = o.must_reopen ≡ false
+IsAllowed g o (was_read number (Err fault)) =
+    (fault ≡ MustReopen) × (o.must_reopen ≡ true)
+    ⊎ ((fault ≡ NotHeld) ⊎ ((fault ≡ NoMemory) ⊎ ((fault ≡ Damaged SlotHead) ⊎ (is_disk fault ≡ true)))) × (o.must_reopen ≡ false)
+
+-- the call of the disk that failed, if the answer says that one did
+abbrev pub failed_for : Call → Option DiskFault
+failed_for (appended group result) = failed_in result
+failed_for (was_read number result) = failed_in result

@@ -1,0 +1,46 @@
+-- What calls, one after the other, make of a store and leave on its disk.
+use Rattle.std.specs.Prelude.{◌≡◌, ◌↔◌, true, false, Option, List, [], ◌∷◌, map}
+use Rattle.loop_disk.specs.declared.fault.DiskFault.{DiskFault}
+use Rattle.loop_disk.specs.declared.fault.Failures.{Failures}
+use Rattle.loop_disk.specs.Calls.{with_failed}
+use Rattle.loop_disk.specs.Medium.{Medium}
+use Rattle.loop_record.specs.Turns.{after_all, EachIn}
+use Rattle.loop_store.specs.Calls.{AreAnswered, Call, IsAllowed, Outline, StoreState, after_calls, begun_in, failed_for, made_in, outline_after}
+use Rattle.loop_store.specs.Seen.{Seen, StandsFor}
+use Rattle.loop_store.specs.Steps.{LeavesSteps}
+
+-- the failures with each of these
+abbrev pub with_each : List (Option DiskFault) → Failures → Failures
+with_each [] failures = failures
+with_each (failed ∷ more) failures = with_each more (with_failed failed failures)
+
+-- what a run of calls keeps of a disk, where these failed
+pub record CalledEach (old new : Medium) (failed : List (Option DiskFault)) : Type 0 where
+  pub size : new.size ≡ old.size
+  pub honest : old.honest ↔ new.honest
+  pub failures : new.failures ≡ with_each failed old.failures
+
+-- the store stands for a state
+pub record Stands {D : Type 0} (medium : D → Medium) (store : Seen D) (s : StoreState) : Type 0 where
+  pub recording : StandsFor medium store s.recording
+  pub must_reopen : store.must_reopen ≡ s.must_reopen
+
+-- what is known of every disk
+abbrev pub outline_of : {D : Type 0} → Seen D → Outline
+outline_of store = record { next = store.next; must_reopen = store.must_reopen }
+
+-- The first three are said of each state that the store stood for, where its disk is honest; the others of every disk.
+pub record Goes {D : Type 0} (medium : D → Medium) (old new : Seen D) (calls : List Call) : Type 0 where
+  -- each answer is the model's
+  pub answers : (s : StoreState) → Stands medium old s → (medium old.disk).honest → AreAnswered old.geometry s calls
+  -- the store stands for the state after them
+  pub stands : (s : StoreState) → Stands medium old s → (medium old.disk).honest → Stands medium new (after_calls old.geometry s calls)
+  -- whatever the moment of a crash, the image reads as the recording after a beginning of the steps, and at the end after all that were made
+  pub leaves : (s : StoreState) → Stands medium old s → (medium old.disk).honest → s.must_reopen ≡ false
+      → LeavesSteps old.geometry s.recording (made_in old.geometry s calls) (begun_in old.geometry s calls) (medium old.disk) (medium new.disk)
+  -- where the store must be reopened, nothing is moved
+  pub idle : old.must_reopen ≡ true → new ≡ old
+  pub allowed : EachIn outline_after (IsAllowed old.geometry) (outline_of old) calls
+  pub outline : outline_of new ≡ after_all outline_after (outline_of old) calls
+  pub geometry : new.geometry ≡ old.geometry
+  pub called : CalledEach (medium old.disk) (medium new.disk) (map failed_for calls)

@@ -1,0 +1,58 @@
+//! The append of a group.
+
+ghost use Rattle.std.specs.Prelude.{◌≡◌, ◌+◌, ◌%◌, ◌≤◌, ◌∷◌, [], length};
+ghost use Rattle.loop_record.specs.Geometry.{frame_bytes};
+ghost use Rattle.loop_store.specs.Calls.{appended};
+ghost use Rattle.loop_store.specs.Goes.{Goes};
+ghost use Rattle.loop_store.specs.Seen.{IsKept, Refused, seen_with};
+
+use crate::StoreFault;
+use crate::grow::append_group;
+use crate::index::{Index, note};
+use loop_disk::Disk;
+use loop_ring::Group;
+use std::alloc::Allocator;
+
+/// Stores the frames of a group behind the others, all or none, and answers the number of the first, which is the group's.
+///
+/// `MustReopen`, then `NumbersSpent`, then `AllLocked`, as `Store::append` has them; after `Disk` the store must be reopened.
+pub(crate) fn put<D: Disk, A: Allocator>(
+    disk: &mut D,
+    index: &mut Index<A>,
+    must_reopen: &mut bool,
+    group: &Group<A>,
+) -> Result<u64, StoreFault>
+    requires kept { IsKept D.medium index.old.ring.geometry disk.old index.old.next index.old.table index.old.clips must_reopen.old }
+    requires some { 1 ≤ length group.now.frames }
+    requires room { index.old.next % index.old.ring.geometry.slots + length group.now.frames ≤ index.old.ring.geometry.slots }
+    requires size { group.now.size ≡ frame_bytes index.old.ring.geometry }
+    requires first { group.now.first ≡ index.old.next }
+    ensures kept { IsKept D.medium index.new.ring.geometry disk.new index.new.next index.new.table index.new.clips must_reopen.new }
+    ensures goes { Goes D.medium (seen_with disk.old index.old must_reopen.old) (seen_with disk.new index.new must_reopen.new)
+        (appended group.now.frames result ∷ []) }
+    ensures refused { Refused (seen_with disk.old index.old must_reopen.old) (seen_with disk.new index.new must_reopen.new) result }
+{
+    if *must_reopen {
+        return Err(StoreFault::MustReopen);
+    }
+    let place = index.place()?;
+    match append_group(disk, &index.ring, place, group) {
+        Ok(()) => {
+            let number = index.next;
+            let count = group.len();
+            note(
+                &mut index.table,
+                &index.ring.geometry,
+                place.segment(),
+                number,
+                count as u32,
+            );
+            index.next = number + count as u64;
+            Ok(number)
+        }
+        Err(fault) => {
+            *must_reopen = true;
+            Err(StoreFault::Disk(fault))
+        }
+    }
+}
