@@ -50,10 +50,10 @@ impl<D: Disk> Disk for Bare<D> {
 }
 
 // The ring of the geometry above.
-fn ring(alloc: Global) -> Result<Ring, AllocError>
-    ensures { IfOk result (λ ring. ring.geometry ≡ FOUR) }
+fn ring() -> Ring
+    ensures { result.geometry ≡ FOUR }
 {
-    Ring::new(alloc, FOUR)
+    Ring::new(FOUR)
 }
 
 // The disk of 0x5A with segment 0 for block 0, these frame gates of it, and frame 3 in slot 3.
@@ -104,7 +104,7 @@ fn clears(
     alloc: Global,
     (before, frames, calls, after): ([u8; 4], u32, u64, [u8; 4]),
 ) -> Result<(), Fail> {
-    let ring = ring(alloc)?;
+    let ring = ring();
     let expected = image(alloc, after)?;
     let mut disk = Bare(FuseDisk::new(MemDisk::of(image(alloc, before)?), calls));
     assert!(rt; frames <= 4);
@@ -123,7 +123,7 @@ fn clears_in_part(
     alloc: Global,
     (call, keep, fault, after): (u64, usize, DiskFault, [u8; 4]),
 ) -> Result<(), Fail> {
-    let ring = ring(alloc)?;
+    let ring = ring();
     let expected = image(alloc, after)?;
     let before = image(alloc, [0xA5, 0x07, 0xA5, 0x01])?;
     let mut disk = Bare(OnceDisk::torn(MemDisk::of(before), call, keep));
@@ -158,7 +158,7 @@ fn read(
     requires at { change.0 < 3936 }
     requires out { length out.old ≡ 12 }
 {
-    let ring = ring(alloc)?;
+    let ring = ring();
     let mut image = image(alloc, [OPEN; 4])?;
     let (at, byte) = change;
     image[at] = byte;
