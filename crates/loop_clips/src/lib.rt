@@ -10,6 +10,3 @@ mod table;
 
 pub use clip::Clip;
 pub use table::{CLIPS, ClipTable};
-
-#[cfg(test)]
-mod tests;

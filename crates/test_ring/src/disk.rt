@@ -1,0 +1,202 @@
+//! Calls of a ring over images.
+
+ghost use Rattle.std.specs.Prelude.{◌≡◌, ◌+◌, ◌<◌, ◌≤◌, IfErr, IfOk, OnOk, length, vec_len};
+ghost use Rattle.loop_disk.specs.declared.fault.DiskFault.TheVariants.{Read, Write, Sync};
+ghost use Rattle.loop_disk.specs.Medium.{piece};
+ghost use Rattle.loop_disk.specs.Calls.{Called, Stays, Writes, Syncs, failed_call};
+
+use loop_disk::{Disk, DiskFault, FuseDisk, MemDisk, OnceDisk};
+use loop_record::{Damage, FrameHead, Geometry, OPEN, PixelFormat};
+use loop_ring::{Ring, SlotFault};
+use std::alloc::{AllocError, Global};
+use std::process::Abort;
+use std::test::Fail;
+
+/// Two segments with four slots each, of frames of 12 bytes. The segments begin at 2,560 and 3,248, and the disk has 3,936 bytes.
+const FOUR: Geometry = Geometry {
+    width: 4,
+    height: 2,
+    format: PixelFormat::Ym12,
+    rate_num: 25,
+    rate_den: 1,
+    segments: 2,
+    slots: 4,
+};
+
+/// A disk that claims nothing of its bytes.
+#[derive(Drop)]
+struct Bare<D>(D);
+
+impl<D: Disk> Disk for Bare<D> {
+    ghost medium = { λ disk. record (D.medium disk.0) { honest = ⊥ } };
+
+    ghost sound = { λ disk honest. absurd honest };
+
+    fn size(&self) -> u64 {
+        self.0.size()
+    }
+
+    fn read(&mut self, at: u64, buf: &mut [u8]) -> Result<(), DiskFault> {
+        self.0.read(at, buf)
+    }
+
+    fn write_at(&mut self, at: u64, bytes: &[u8]) -> Result<(), DiskFault> {
+        self.0.write_at(at, bytes)
+    }
+
+    fn sync(&mut self) -> Result<(), DiskFault> {
+        self.0.sync()
+    }
+}
+
+// The ring of the geometry above.
+fn ring() -> Ring
+    ensures { result.geometry ≡ FOUR }
+{
+    Ring::new(FOUR)
+}
+
+// The disk of 0x5A with segment 0 for block 0, these frame gates of it, and frame 3 in slot 3.
+fn image(alloc: Global, gates: [u8; 4]) -> Result<Vec<u8>, AllocError>
+    ensures { IfOk result (λ image. vec_len image ≡ 3936) }
+{
+    let mut image = vec![in alloc; 0x5A; 3936]?;
+    image[2560..3072].fill(0);
+    image[2560] = OPEN;
+    image[2816..2820].copy_from_slice(&gates);
+    image[3204..3248].copy_from_slice(
+        b"\x03\0\0\0\0\0\0\0\x07\0\0\0\0\x20\0\0\xc0\xd4\x01\0\0\0\0\0\x0c\0\0\0\0\0\0\0\x03\x04\x05\x06\x07\x08\x09\x0a\x0b\x0c\x0d\x0e",
+    );
+    Ok(image)
+}
+
+// Clears the stray gates of segment 0.
+fn clear<D: Disk>(ring: &Ring, disk: &mut Bare<D>, frames: u32) -> Result<(), DiskFault>
+    requires ring { ring.now.geometry ≡ FOUR }
+    requires size { (D.medium disk.old.0).size ≡ 3936 }
+    requires frames { frames ≤ 4 }
+{
+    ring.clear_stray(disk, 0, frames)
+}
+
+// The frame gates of a segment, how many of its frames are whole, how many calls are made, and the gates afterwards.
+const CLEARED: [([u8; 4], u32, u64, [u8; 4]); 6] = [
+    ([0xA5, 0x07, 0xA5, 0x00], 1, 3, [0xA5, 0x07, 0x00, 0x00]),
+    ([0xA5, 0x07, 0x01, 0xA5], 1, 3, [0xA5, 0x07, 0x00, 0x00]),
+    ([0x07, 0xA5, 0xA5, 0xA5], 0, 3, [0x07, 0x00, 0x00, 0x00]),
+    ([0xA5, 0x07, 0x01, 0x02], 1, 1, [0xA5, 0x07, 0x01, 0x02]),
+    ([0xA5, 0xA5, 0xA5, 0x07], 3, 0, [0xA5, 0xA5, 0xA5, 0x07]),
+    ([0xA5, 0xA5, 0xA5, 0xA5], 4, 0, [0xA5, 0xA5, 0xA5, 0xA5]),
+];
+
+// The number of the call that fails, how many bytes of it are written if it is a write, its fault, and the gates that are
+// left of 0xA5, 0x07, 0xA5, 0x01.
+const UNCLEARED: [(u64, usize, DiskFault, [u8; 4]); 4] = [
+    (0, 0, DiskFault::Read, [0xA5, 0x07, 0xA5, 0x01]),
+    (1, 0, DiskFault::Write, [0xA5, 0x07, 0xA5, 0x01]),
+    (1, 1, DiskFault::Write, [0xA5, 0x07, 0x00, 0x01]),
+    (2, 0, DiskFault::Sync, [0xA5, 0x07, 0x00, 0x00]),
+];
+
+// Clears the stray gates of an image, in so many calls of its disk.
+fn clears(
+    rt: &impl Abort,
+    alloc: Global,
+    (before, frames, calls, after): ([u8; 4], u32, u64, [u8; 4]),
+) -> Result<(), Fail> {
+    let ring = ring();
+    let expected = image(alloc, after)?;
+    let mut disk = Bare(FuseDisk::new(MemDisk::of(image(alloc, before)?), calls));
+    assert!(rt; frames <= 4);
+    assert_eq!(rt; clear(&ring, &mut disk, frames), Ok(()), "{before:?}");
+    assert_eq!(rt; disk.0.left, 0, "{before:?}");
+    assert!(rt;
+        disk.0.inner.bytes().iter().eq(expected.iter()),
+        "{before:?}"
+    );
+    Ok(())
+}
+
+// Fails one call of clearing, a write torn.
+fn clears_in_part(
+    rt: &impl Abort,
+    alloc: Global,
+    (call, keep, fault, after): (u64, usize, DiskFault, [u8; 4]),
+) -> Result<(), Fail> {
+    let ring = ring();
+    let expected = image(alloc, after)?;
+    let before = image(alloc, [0xA5, 0x07, 0xA5, 0x01])?;
+    let mut disk = Bare(OnceDisk::torn(MemDisk::of(before), call, keep));
+    assert_eq!(rt; clear(&ring, &mut disk, 1), Err(fault), "call {call}");
+    assert!(rt;
+        disk.0.inner.bytes().iter().eq(expected.iter()),
+        "call {call}"
+    );
+    Ok(())
+}
+
+#[test]
+fn stray_gates_are_cleared_and_no_others(rt: HostRuntime) -> Result<(), Fail> {
+    let alloc = rt.alloc();
+    for row in CLEARED {
+        clears(&rt, alloc, row)?;
+    }
+    for row in UNCLEARED {
+        clears_in_part(&rt, alloc, row)?;
+    }
+    Ok(())
+}
+
+// Reads slot 3 of segment 0 of an image with a change, on a disk that passes so many calls.
+fn read(
+    alloc: Global,
+    calls: u64,
+    change: (usize, u8),
+    number: u64,
+    out: &mut [u8],
+) -> Result<Result<FrameHead, SlotFault>, AllocError>
+    requires at { change.0 < 3936 }
+    requires out { length out.old ≡ 12 }
+{
+    let ring = ring();
+    let mut image = image(alloc, [OPEN; 4])?;
+    let (at, byte) = change;
+    image[at] = byte;
+    let mut disk = Bare(FuseDisk::new(MemDisk::of(image), calls));
+    Ok(ring.read_slot(&mut disk, 0, 3, number, out))
+}
+
+#[test]
+fn a_slot_is_read_under_its_number_alone(rt: HostRuntime) -> Result<(), Fail> {
+    let alloc = rt.alloc();
+    let head = FrameHead {
+        number: 3,
+        sequence: 7,
+        flags: 0x2000,
+        timestamp: 120_000,
+    };
+    let damaged = Err(SlotFault::Damaged(Damage::SlotHead));
+    let failed = Err(SlotFault::Disk(DiskFault::Read));
+    // How many calls pass, a change, the number that is asked for, and the answer. The slot's first byte is its number's, and
+    // the one at 3,228 its length's; a gate isn't looked at.
+    let rows = [
+        (2, (2819, 0u8), 3u64, Ok(head)),
+        (2, (3236, 3), 3, Ok(head)),
+        (1, (0, 0), 2, damaged),
+        (1, (3204, 4), 3, damaged),
+        (1, (3211, 1), 3, damaged),
+        (1, (3228, 11), 3, damaged),
+        (0, (0, 0), 3, failed),
+        (1, (0, 0), 3, failed),
+    ];
+    for (calls, (at, byte), number, expected) in rows {
+        let mut out = [0; 12];
+        assert!(rt; at < 3936);
+        let answer = read(alloc, calls, (at, byte), number, &mut out)?;
+        assert_eq!(rt; answer, expected, "{at}");
+        if expected.is_ok() {
+            assert_eq!(rt; out, [3, 4, 5, 6, 7, 8, 9, 10, 11, 12, 13, 14]);
+        }
+    }
+    Ok(())
+}
