@@ -1,0 +1,3 @@
+pub mod Names
+pub mod Attached
+pub mod Read

@@ -1,0 +1,1 @@
+use Rattle.loop_ioctl.proofs.fds.give_all.Goals as goal

@@ -1,0 +1,4 @@
+pub mod Types
+pub mod Names
+pub mod Attached
+pub mod Calls
