@@ -1,0 +1,5 @@
+use Rattle.loop_vb2.proofs.Ordered.{dequeued_in_order}
+use Rattle.loop_vb2.proofs.laws.buffers_are_dequeued_in_order.Goals as goal
+
+pub returns : goal.returns
+returns c = dequeued_in_order

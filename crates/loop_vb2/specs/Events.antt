@@ -1,0 +1,124 @@
+-- A queue's life as a list of events, each with its answer: which answers the model gives, and the state after them.
+use Rattle.std.specs.Prelude.{◌≡◌, ◌⊎◌, ℕ, Bool, true, false, ◌==◌, List, [], ◌∷◌, Option, Some, None, option_map, Result, Ok, Err, slice_get}
+use Rattle.loop_plane.specs.Plane.{Plane}
+use Rattle.loop_plane.specs.declared.memory.Memory.{Memory}
+use Rattle.loop_record.specs.Turns.{after_all, EachIn}
+use Rattle.loop_vb2.specs.declared.buffer.Buffer.{Buffer}
+use Rattle.loop_vb2.specs.declared.buffer.BufferInfo.{BufferInfo}
+use Rattle.loop_vb2.specs.declared.buffer.Dequeued.{Dequeued}
+use Rattle.loop_vb2.specs.declared.buffer.Stamp.{Stamp}
+use Rattle.loop_vb2.specs.declared.planes.PlaneSet.{PlaneSet}
+use Rattle.loop_vb2.specs.declared.reason.Errno.{Errno}
+use Rattle.loop_vb2.specs.declared.reason.Reason.{Reason}
+use Rattle.loop_vb2.specs.declared.reason.Reason.TheVariants.{NoMemory}
+use Rattle.loop_vb2.specs.Answers.{IsAnswer, IsInfo}
+use Rattle.loop_vb2.specs.Buffers.{mapped_as, emptied}
+use Rattle.loop_vb2.specs.Checks.{queue_refusal, prepare_refusal, dequeue_refusal, stream_on_refusal, query_refusal, map_refusal, unmap_refusal, take_refusal, end_refusal, request_refusal}
+use Rattle.loop_vb2.specs.Effects.{queued, prepared, dequeued, first_ended, streaming, stopped_state, completed, failed, touched, fatal_state, seen_state}
+use Rattle.loop_vb2.specs.Errnos.{errno}
+use Rattle.loop_vb2.specs.Requests.{grants_or_none, left_in, requested}
+use Rattle.loop_vb2.specs.State.{QueueState, Lined, StandsFor}
+use Rattle.loop_vb2.specs.Steps.{Passes, Fails}
+
+-- what a request is granted: a number of buffers, and the planes that lay in the old ones
+pub record Grant : Type 0 where
+  pub count : ℕ
+  pub left : List (PlaneSet Plane)
+
+-- an event and its answer; where nothing else is answered, that is the refusal or None
+pub data Event : Type 0 where
+  -- the application's: the ioctls by their names, and planes taken out of a buffer
+  reqbufs : ℕ → Memory → List (PlaneSet Plane) → Result Grant Errno → Event
+  prepare_buf : ℕ → Memory → Option (PlaneSet Plane) → Option Errno → Event
+  qbuf : ℕ → Memory → Option (PlaneSet Plane) → Option Errno → Event
+  dqbuf : Result (Dequeued Plane) Errno → Event
+  streamon : Option Errno → Event
+  streamoff : Event
+  querybuf : ℕ → Result BufferInfo Errno → Event
+  mmap : ℕ → Option Errno → Event
+  munmap : ℕ → Option Errno → Event
+  take_planes : ℕ → Result (PlaneSet Plane) Errno → Event
+  -- the device's
+  complete : ℕ → Stamp → List ℕ → Option Errno → Event
+  fail : ℕ → Stamp → Option Errno → Event
+  fatal : Event
+  take_fresh : Bool → Event
+
+-- a refusal leaves the state
+abbrev pub unless : Option Errno → QueueState → QueueState → QueueState
+unless None s t = t
+unless (Some e) s t = s
+
+-- the state after an event
+abbrev pub after : QueueState → Event → QueueState
+after s (reqbufs count kind sets (Ok g)) = requested count kind sets s
+after s (reqbufs count kind sets (Err e)) = s
+after s (prepare_buf index kind given refusal) = unless refusal s (prepared index given s)
+after s (qbuf index kind given refusal) = unless refusal s (queued index given s)
+after s (dqbuf (Ok d)) = dequeued d.index s
+after s (dqbuf (Err e)) = s
+after s (streamon refusal) = unless refusal s (streaming s)
+after s streamoff = stopped_state s
+after s (querybuf index answer) = s
+after s (mmap index refusal) = unless refusal s (touched (mapped_as true) index s)
+after s (munmap index refusal) = unless refusal s (touched (mapped_as false) index s)
+after s (take_planes index (Ok set)) = touched emptied index s
+after s (take_planes index (Err e)) = s
+after s (complete index stamp bytes refusal) = unless refusal s (completed index stamp bytes s)
+after s (fail index stamp refusal) = unless refusal s (failed index stamp s)
+after s fatal = fatal_state s
+after s (take_fresh fresh) = seen_state s
+
+-- refused with the errno of the first check that fails, and not refused where none fails
+abbrev pub IsRefusal : Option Reason → Option Errno → Type 0
+IsRefusal reason refusal = option_map errno reason ≡ refusal
+
+-- the answer is one that the model gives in this state
+abbrev pub IsAnswered : QueueState → Event → Type 0
+IsAnswered s (reqbufs count kind sets (Ok g)) =
+    Passes (request_refusal count kind sets s.body) × (g.count ≡ grants_or_none s.body.min_queued count) × (g.left ≡ left_in s.body.kind s.body.buffers)
+IsAnswered s (reqbufs count kind sets (Err e)) =
+    Fails (request_refusal count kind sets s.body) e ⊎ (Passes (request_refusal count kind sets s.body) × (e ≡ errno NoMemory))
+IsAnswered s (prepare_buf index kind given refusal) = IsRefusal (prepare_refusal index kind given s.body) refusal
+IsAnswered s (qbuf index kind given refusal) = IsRefusal (queue_refusal index kind given s.body) refusal
+IsAnswered s (dqbuf (Ok d)) =
+    Passes (dequeue_refusal s.body) × (first_ended s ≡ Some d.index)
+    × ((b : Buffer Plane) × (slice_get s.body.buffers d.index ≡ Some b) × IsAnswer s.body.kind b d)
+IsAnswered s (dqbuf (Err e)) = Fails (dequeue_refusal s.body) e
+IsAnswered s (streamon refusal) = IsRefusal (stream_on_refusal s.body) refusal
+IsAnswered s streamoff = Unit {0}
+IsAnswered s (querybuf index (Ok info)) =
+    Passes (query_refusal index s.body) × ((b : Buffer Plane) × (slice_get s.body.buffers index ≡ Some b) × IsInfo b info)
+IsAnswered s (querybuf index (Err e)) = Fails (query_refusal index s.body) e
+IsAnswered s (mmap index refusal) = IsRefusal (map_refusal index s.body) refusal
+IsAnswered s (munmap index refusal) = IsRefusal (unmap_refusal index s.body) refusal
+IsAnswered s (take_planes index (Ok set)) =
+    Passes (take_refusal index s.body) × ((b : Buffer Plane) × (slice_get s.body.buffers index ≡ Some b) × (b.planes ≡ Some set))
+IsAnswered s (take_planes index (Err e)) = Fails (take_refusal index s.body) e
+IsAnswered s (complete index stamp bytes refusal) = IsRefusal (end_refusal index s.body) refusal
+IsAnswered s (fail index stamp refusal) = IsRefusal (end_refusal index s.body) refusal
+IsAnswered s fatal = Unit {0}
+IsAnswered s (take_fresh fresh) = fresh ≡ s.body.fresh
+
+-- from each state that the queue stands for, each event is answered so, and the queue stands for the state after them
+abbrev pub Goes : {P : Type 0} → (P → Plane) → Lined P → Lined P → List Event → Type 0
+Goes meaning before now events = (s : QueueState) → StandsFor meaning before s → EachIn after IsAnswered s events × StandsFor meaning now (after_all after s events)
+
+-- ---- what events say of the order of frames
+
+-- the buffer that the device ended by the event
+abbrev pub ended_by : Event → List ℕ
+ended_by (complete index stamp bytes None) = index ∷ []
+ended_by (fail index stamp None) = index ∷ []
+ended_by _ = []
+
+-- the buffer that the application got by the event
+abbrev pub dequeued_by : Event → List ℕ
+dequeued_by (dqbuf (Ok d)) = d.index ∷ []
+dequeued_by _ = []
+
+-- the event stops the stream: STREAMOFF, or REQBUFS 0
+abbrev pub stops : Event → Bool
+stops streamoff = true
+stops (reqbufs count kind sets (Ok g)) = count == 0
+stops _ = false
