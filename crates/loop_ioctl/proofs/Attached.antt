@@ -57,6 +57,11 @@ out_first : (a b n : ℕ) → a ≡ 0 → b + n ≡ (a + n) + b
 out_first a b n e = omega arith
 
 module _ {T : Type 0} where
+  -- one list and nothing behind it
+  pub last_none : (vs : List (ℕ × T)) → vs ++ [] ≡ vs
+  last_none [] = refl
+  last_none (v ∷ vs) = ap (λ l. v ∷ l) (last_none vs)
+
   pub times-append : (fd : ℕ) (vs ws : List (ℕ × T)) → times fd (vs ++ ws) ≡ times fd vs + times fd ws
   times-append fd [] ws = sym (none_first (times fd ws))
   times-append fd (v ∷ vs) ws = moved (cond (v.0 == fd) 1 0) (times fd (vs ++ ws)) (times fd vs) (times fd ws) (times-append fd vs ws)
@@ -130,7 +135,7 @@ module _ {T : Type 0} where
   is_here n name value (inl e) h = e
   is_here n name value (inr e) h = let f : name ≡ Some None = e.1 in absurd (cc)
 
-  once_same : (n m : ℕ) (a b : Option (Option T)) → m ≡ n → b ≡ a → IsOnce n a → IsOnce m b
+  pub once_same : (n m : ℕ) (a b : Option (Option T)) → m ≡ n → b ≡ a → IsOnce n a → IsOnce m b
   once_same n m a b e f (inl h) = inl (e ∙ h)
   once_same n m a b e f (inr h) = inr (e ∙ h.0, f ∙ h.1)
 
@@ -139,7 +144,7 @@ module _ {T : Type 0} where
       λ (x : ℕ). elim (cases_eq x fd) [
         | inl e ↦ inr (ap (λ t. n x + (cond t 1 0 + 0)) (tested fd x (sym e)) ∙ one_here (n x) (is_here (n x) (before x) value (once x) (ap before e ∙ h)), renamed_here fd (Some None) before x e)
         | inr e ↦ once_same (n x) (n x + times x ((fd, value) ∷ [])) (before x) (renamed fd (Some None) before x)
-          (ap (λ t. n x + (cond t 1 0 + 0)) (differ fd x (λ q. e (sym q))) ∙ none_here (n x)) (renamed_other fd (Some None) before x e) (once x)
+            (ap (λ t. n x + (cond t 1 0 + 0)) (differ fd x (λ q. e (sym q))) ∙ none_here (n x)) (renamed_other fd (Some None) before x e) (once x)
       ]
 
   name_once : (n : ℕ → ℕ) (before : Names T) (fd : ℕ) (name : Option (Option T)) → before fd ≡ name → fd_refusal name ≡ None → AreOnce n before → AreOnce (λ x. n x + times x (in_place fd (value_of name))) (renamed fd (Some None) before)
@@ -164,8 +169,8 @@ module _ {T : Type 0} where
       let second : AreOnce (λ x. (n x + times x v0) + times x v1) n2 = place_once (λ x. n x + times x v0) n1 (nat_lt 1 named.count) (number_at named.fds 1) p.1 first in
       let third : AreOnce (λ x. ((n x + times x v0) + times x v1) + times x v2) (set_taken named before) = place_once (λ x. (n x + times x v0) + times x v1) n2 (nat_lt 2 named.count) (number_at named.fds 2) p.2 second in
       λ (x : ℕ). once_same (((n x + times x v0) + times x v1) + times x v2) (n x + times x (v2 ++ (v1 ++ v0))) (set_taken named before x) (set_taken named before x)
-        (ap (λ t. n x + t) (times-append x v2 (v1 ++ v0) ∙ ap (λ t. times x v2 + t) (times-append x v1 v0)) ∙ regrouped (n x) (times x v0) (times x v1) (times x v2))
-        refl (third x)
+      (ap (λ t. n x + t) (times-append x v2 (v1 ++ v0) ∙ ap (λ t. times x v2 + t) (times-append x v1 v0)) ∙ regrouped (n x) (times x v0) (times x v1) (times x v2))
+      refl (third x)
 
   -- values that are there are away, and once they are given back the rest is as it was
   pub record IsLetOut (vs : List (ℕ × T)) (n : ℕ → ℕ) (before : Names T) : Type 0 where
@@ -185,7 +190,7 @@ module _ {T : Type 0} where
       λ (x : ℕ). elim (cases_eq x v.0) [
         | inl e ↦ inl (ap (λ y. n y + times y vs) e ∙ away.1)
         | inr e ↦ once_same (n x + (cond (v.0 == x) 1 0 + times x vs)) (n x + times x vs) (before x) (renamed v.0 (Some (Some v.1)) before x)
-          (ap (λ t. n x + t) (sym (ap (λ t. cond t 1 0 + times x vs) (differ v.0 x (λ q. e (sym q))) ∙ none_first (times x vs)))) (renamed_other v.0 (Some (Some v.1)) before x e) (once x)
+            (ap (λ t. n x + t) (sym (ap (λ t. cond t 1 0 + times x vs) (differ v.0 x (λ q. e (sym q))) ∙ none_first (times x vs)))) (renamed_other v.0 (Some (Some v.1)) before x e) (once x)
       ] in
       let rest : IsLetOut vs n (renamed v.0 (Some (Some v.1)) before) = given_once vs n (renamed v.0 (Some (Some v.1)) before) next in
       record { away = (away.0, rest.away); once = rest.once }

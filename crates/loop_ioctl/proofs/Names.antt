@@ -128,32 +128,35 @@ module _ {T : Type 0} where
       let f2 = number_at named.fds 2 in
       let n1 = first_taken named (names_in a) in
       let n2 = second_taken named (names_in a) in
-      let e2 : names_in c ≡ n2 = second.2 ∙ ap (place_taken d1 f1) first.2 in
-      (refusal_none (place_refusal (nat_lt 0 named.count) (number_at named.fds 0) (names_in a)) (place_refusal d1 f1 n1) (place_refusal d2 f2 n2) first.0
-        (sym (ap (place_refusal d1 f1) first.2) ∙ second.0)
-        (sym (ap (place_refusal d2 f2) e2) ∙ third.0),
-      (λ i. record {
-        count = named.count;
-        planes = record { y = first.1 i; cb = (second.1 ∙ ap (place_value d1 f1) first.2) i; cr = (third.1 ∙ ap (place_value d2 f2) e2) i };
-        fds = named.fds;
-      }),
-      third.2 ∙ ap (place_taken d2 f2) e2)
+      let e2 : names_in c ≡ n2 = second.2 ∙ ap (place_taken d1 f1) first.2 in (
+        refusal_none (place_refusal (nat_lt 0 named.count) (number_at named.fds 0) (names_in a)) (place_refusal d1 f1 n1) (place_refusal d2 f2 n2) first.0
+            (sym (ap (place_refusal d1 f1) first.2) ∙ second.0)
+            (sym (ap (place_refusal d2 f2) e2) ∙ third.0),
+        (λ i. record {
+          count = named.count;
+          planes = record { y = first.1 i; cb = (second.1 ∙ ap (place_value d1 f1) first.2) i; cr = (third.1 ∙ ap (place_value d2 f2) e2) i };
+          fds = named.fds;
+        }),
+        third.2 ∙ ap (place_taken d2 f2) e2,
+      )
 
   pub set_fails_first : (named : PlaneFds) (reason : Reason) (a b : Fds T) → TakesPlace {T = T} (nat_lt 0 named.count) (number_at named.fds 0) (Err reason) a b → TakesSet {T = T} named (Err reason) a b
   set_fails_first named reason a b first =
       let n1 = first_taken named (names_in a) in
-      let n2 = second_taken named (names_in a) in
-      (ap (λ x. or_else x (or_else (place_refusal (nat_lt 1 named.count) (number_at named.fds 1) n1) (place_refusal (nat_lt 2 named.count) (number_at named.fds 2) n2))) first.0,
-      same_values a b (ap names_in first.1))
+      let n2 = second_taken named (names_in a) in (
+        ap (λ x. or_else x (or_else (place_refusal (nat_lt 1 named.count) (number_at named.fds 1) n1) (place_refusal (nat_lt 2 named.count) (number_at named.fds 2) n2))) first.0,
+        same_values a b (ap names_in first.1),
+      )
 
   pub set_fails_second : (named : PlaneFds) (reason : Reason) (y : Option T) (a b c d : Fds T) → TakesPlace (nat_lt 0 named.count) (number_at named.fds 0) (Ok y) a b → TakesPlace {T = T} (nat_lt 1 named.count) (number_at named.fds 1) (Err reason) b c → GivesBack (in_place (number_at named.fds 0) y) c d → TakesSet {T = T} named (Err reason) a d
   set_fails_second named reason y a b c d first second gave =
       let d1 = nat_lt 1 named.count in
       let f1 = number_at named.fds 1 in
-      let last = place_refusal (nat_lt 2 named.count) (number_at named.fds 2) (second_taken named (names_in a)) in
-      (ap (λ x. or_else x (or_else (place_refusal d1 f1 (first_taken named (names_in a))) last)) first.0
-      ∙ ap (λ x. or_else x last) (sym (ap (place_refusal d1 f1) first.2) ∙ second.0),
-      same_values a d (undone (nat_lt 0 named.count) (number_at named.fds 0) y a b c d first (ap names_in second.1) gave))
+      let last = place_refusal (nat_lt 2 named.count) (number_at named.fds 2) (second_taken named (names_in a)) in (
+        ap (λ x. or_else x (or_else (place_refusal d1 f1 (first_taken named (names_in a))) last)) first.0
+            ∙ ap (λ x. or_else x last) (sym (ap (place_refusal d1 f1) first.2) ∙ second.0),
+        same_values a d (undone (nat_lt 0 named.count) (number_at named.fds 0) y a b c d first (ap names_in second.1) gave),
+      )
 
   pub set_fails_third : (named : PlaneFds) (reason : Reason) (y cb : Option T) (a b c d e f : Fds T) → TakesPlace (nat_lt 0 named.count) (number_at named.fds 0) (Ok y) a b → TakesPlace (nat_lt 1 named.count) (number_at named.fds 1) (Ok cb) b c → TakesPlace {T = T} (nat_lt 2 named.count) (number_at named.fds 2) (Err reason) c d → GivesBack (in_place (number_at named.fds 1) cb) d e → GivesBack (in_place (number_at named.fds 0) y) e f → TakesSet {T = T} named (Err reason) a f
   set_fails_third named reason y cb a b c d e f first second third gave more =
@@ -162,11 +165,12 @@ module _ {T : Type 0} where
       let d2 = nat_lt 2 named.count in
       let f2 = number_at named.fds 2 in
       let e2 : names_in c ≡ second_taken named (names_in a) = second.2 ∙ ap (place_taken d1 f1) first.2 in
-      let last = place_refusal d2 f2 (second_taken named (names_in a)) in
-      (ap (λ x. or_else x (or_else (place_refusal d1 f1 (first_taken named (names_in a))) last)) first.0
-      ∙ (ap (λ x. or_else x last) (sym (ap (place_refusal d1 f1) first.2) ∙ second.0)
-      ∙ (sym (ap (place_refusal d2 f2) e2) ∙ third.0)),
-      same_values a f (undone (nat_lt 0 named.count) (number_at named.fds 0) y a b e f first (undone d1 f1 cb b c d e second (ap names_in third.1) gave) more))
+      let last = place_refusal d2 f2 (second_taken named (names_in a)) in (
+        ap (λ x. or_else x (or_else (place_refusal d1 f1 (first_taken named (names_in a))) last)) first.0
+            ∙ (ap (λ x. or_else x last) (sym (ap (place_refusal d1 f1) first.2) ∙ second.0)
+            ∙ (sym (ap (place_refusal d2 f2) e2) ∙ third.0)),
+        same_values a f (undone (nat_lt 0 named.count) (number_at named.fds 0) y a b e f first (undone d1 f1 cb b c d e second (ap names_in third.1) gave) more),
+      )
 
   -- ---- values given back
 

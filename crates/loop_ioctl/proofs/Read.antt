@@ -55,8 +55,8 @@ module _ {P : Type 0} (m : P → Plane) where
       let d2 = nat_lt 2 named.count in
       let f2 = number_at named.fds 2 in
       λ i. or_else (place_refusal_read (nat_lt 0 named.count) (number_at named.fds 0) before i)
-        (or_else ((ap (place_refusal d1 f1) (first_read named before) ∙ place_refusal_read d1 f1 (first_taken named before)) i)
-        ((ap (place_refusal d2 f2) (second_read named before) ∙ place_refusal_read d2 f2 (second_taken named before)) i))
+      (or_else ((ap (place_refusal d1 f1) (first_read named before) ∙ place_refusal_read d1 f1 (first_taken named before)) i)
+      ((ap (place_refusal d2 f2) (second_read named before) ∙ place_refusal_read d2 f2 (second_taken named before)) i))
 
   pub set_named_read : (named : PlaneFds) (before : Names P) → set_named named (read_names m before) ≡ read_set m (set_named named before)
   set_named_read named before =

@@ -89,7 +89,6 @@ module _ {P : Type 0} (meaning : P → Plane) where
     names = set_taken named j.names;
   }
 
-
 -- ---- DQBUF and REQBUFS
 
 -- the planes in the buffer of an index
@@ -129,6 +128,17 @@ replaced count kind sets j = record {
 abbrev pub IsFrame : {P : Type 0} → (P → Plane) → Memory → Buffer Plane → Dequeued P → Type 0
 IsFrame meaning kind b answer = IsAnswer kind b (record (read_answer meaning answer) { planes = handed kind b.planes })
 
+-- the answer to DQBUF tells of the buffer that ended first; DMA-BUF planes have gone back to their fds
+abbrev pub TellsFrame : {P : Type 0} → (P → Plane) → IoctlState → Dequeued P → Type 0
+TellsFrame meaning j answer = (first_ended j.queue ≡ Some answer.index)
+    × ((b : Buffer Plane) × (slice_get j.queue.body.buffers answer.index ≡ Some b) × IsFrame meaning j.queue.body.kind b answer
+    × (read_given meaning answer.planes ≡ handed_out None j.queue.body.kind b.planes))
+
+-- the answer to REQBUFS tells how many buffers there are, and hands out the planes of the application's memory
+abbrev pub TellsGrant : {P A : Type 0} → (P → Plane) → ℕ → IoctlState → Granted P A → Type 0
+TellsGrant meaning count j g =
+    (g.count ≡ grants_or_none j.queue.body.min_queued count) × (map (read_set meaning) g.left.items ≡ handed_out [] j.queue.body.kind (held j.queue.body.buffers))
+
 -- ---- any ioctl
 
 module _ {P A : Type 0} where
@@ -141,6 +151,14 @@ module _ {P A : Type 0} where
   abbrev pub supply_given : Ioctl P A → List (PlaneSet P)
   supply_given (call.ReqBufs type count kind supply) = supply.items
   supply_given c = []
+
+  -- the buffer type comes first
+  abbrev pub type_refusal : Ioctl P A → IoctlState → Option Reason
+  type_refusal c j = cond (same_type (named_type c) (type_of j.queue.body.format)) None (Some BadType)
+
+  -- a refusal hands these planes and this supply back
+  abbrev pub HandsBack : Option (PlaneSet P) → List (PlaneSet P) → Refused P A → Type 0
+  HandsBack planes supply r = (r.planes ≡ planes) × (r.supply.items ≡ supply)
 
   -- REQBUFS may want memory that it doesn't get
   abbrev pub WantsMemory : Ioctl P A → Type 0
@@ -160,10 +178,6 @@ module _ {P A : Type 0} (meaning : P → Plane) where
   call_refusal (call.Mmap type index) j = map_refusal index j.queue.body
   call_refusal (call.Munmap type index) j = unmap_refusal index j.queue.body
 
-  -- the buffer type comes first
-  abbrev pub type_refusal : Ioctl P A → IoctlState → Option Reason
-  type_refusal c j = cond (same_type (named_type c) (type_of j.queue.body.format)) None (Some BadType)
-
   abbrev pub refusal : Ioctl P A → IoctlState → Option Reason
   refusal c j = or_else (type_refusal c j) (call_refusal c j)
 
@@ -181,14 +195,11 @@ module _ {P A : Type 0} (meaning : P → Plane) where
 
   -- the reply, where it isn't refused
   abbrev pub IsReply : Ioctl P A → IoctlState → IoctlReply P A → Type 0
-  IsReply (call.ReqBufs type count kind supply) j (reply.Granted g) =
-      (g.count ≡ grants_or_none j.queue.body.min_queued count) × (map (read_set meaning) g.left.items ≡ handed_out [] j.queue.body.kind (held j.queue.body.buffers))
+  IsReply (call.ReqBufs type count kind supply) j (reply.Granted g) = TellsGrant meaning count j g
   IsReply (call.QueryBuf type index) j (reply.Info info) = (b : Buffer Plane) × (slice_get j.queue.body.buffers index ≡ Some b) × IsInfo b info
   IsReply (call.PrepareBuf type index given) j reply.Done = Unit {0}
   IsReply (call.QBuf type index given) j reply.Done = Unit {0}
-  IsReply (call.DqBuf type) j (reply.Dequeued answer) = (first_ended j.queue ≡ Some answer.index)
-      × ((b : Buffer Plane) × (slice_get j.queue.body.buffers answer.index ≡ Some b) × IsFrame meaning j.queue.body.kind b answer
-          × (read_given meaning answer.planes ≡ handed_out None j.queue.body.kind b.planes))
+  IsReply (call.DqBuf type) j (reply.Dequeued answer) = TellsFrame meaning j answer
   IsReply (call.StreamOn type) j reply.Done = Unit {0}
   IsReply (call.StreamOff type) j reply.Done = Unit {0}
   IsReply (call.Mmap type index) j reply.Done = Unit {0}
@@ -196,13 +207,16 @@ module _ {P A : Type 0} (meaning : P → Plane) where
   IsReply c j r = ⊥
 
   -- the errno of a refusal: that of the first check that fails, or want of memory where none does
-  abbrev pub IsErrno : Ioctl P A → IoctlState → Errno → Type 0
-  IsErrno c j e = (option_map errno (refusal c j) ≡ Some e) ⊎ ((refusal c j ≡ None) × (WantsMemory c × (e ≡ errno NoMemory)))
+  abbrev pub IsErrno : Ioctl P A → Option Reason → Errno → Type 0
+  IsErrno c why e = (option_map errno why ≡ Some e) ⊎ ((why ≡ None) × (WantsMemory c × (e ≡ errno NoMemory)))
 
-  -- how it is answered: a refusal hands back what the call brought
+  -- it is answered so, where this is why it is to be refused: a refusal hands back what the call brought
+  abbrev pub IsAnsweredFor : Ioctl P A → IoctlState → Option Reason → Result (IoctlReply P A) (Refused P A) → Type 0
+  IsAnsweredFor c j why (Ok r) = (why ≡ None) × IsReply c j r
+  IsAnsweredFor c j why (Err r) = IsErrno c why r.errno × HandsBack (planes_given c) (supply_given c) r
+
   abbrev pub IsAnswered : Ioctl P A → IoctlState → Result (IoctlReply P A) (Refused P A) → Type 0
-  IsAnswered c j (Ok r) = (refusal c j ≡ None) × IsReply c j r
-  IsAnswered c j (Err r) = IsErrno c j r.errno × ((r.planes ≡ planes_given c) × (r.supply.items ≡ supply_given c))
+  IsAnswered c j result = IsAnsweredFor c j (refusal c j) result
 
   -- the state after it: a refused call changes nothing
   abbrev pub after : Ioctl P A → IoctlState → Result (IoctlReply P A) (Refused P A) → IoctlState

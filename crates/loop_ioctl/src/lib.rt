@@ -2,7 +2,12 @@
 #![tactic(auto)]
 
 mod call;
+mod dispatch;
+mod events;
 mod fds;
+pub mod laws;
 mod put;
 
 pub use call::{BufferMemory, BufferType, Ioctl, IoctlReply, PlaneFds};
+pub use dispatch::apply;
+pub use events::{QueueEvent, QueueReply, are_whole, run_events};

@@ -1,0 +1,11 @@
+//! What follows from the definitions. Each function does nothing: its contract is the law.
+
+ghost use Rattle.loop_ioctl.specs.Events.{RunsJoin};
+
+use loop_plane::PlaneMemory;
+use std::alloc::Allocator;
+
+/// Two runs of events, one after the other, are the run of the joined list.
+pub fn runs_join<P: PlaneMemory, A: Allocator>()
+    ensures { RunsJoin A P.plane }
+{}
