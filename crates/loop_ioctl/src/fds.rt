@@ -83,11 +83,11 @@ pub(crate) fn take_set<P: Drop, A: Allocator>(
 pub(crate) fn give_set<P: Drop, A: Allocator>(table: &mut FdTable<P, A>, set: PlaneSet<P>)
     ensures { GivesBack (values_in set) table.old table.new }
 {
-    let fds = set.fds;
+    let set_fds = set.fds;
     let Planes { y, cb, cr } = set.planes;
-    give_place(table, fds[2], cr);
-    give_place(table, fds[1], cb);
-    give_place(table, fds[0], y);
+    give_place(table, set_fds[2], cr);
+    give_place(table, set_fds[1], cb);
+    give_place(table, set_fds[0], y);
 }
 
 /// Gives sets back, each plane under its fd.
