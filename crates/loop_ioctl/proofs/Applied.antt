@@ -59,7 +59,7 @@ module _ {P A : Type 0} (m : P → Plane) where
   pub of_type : (c : Ioctl P A) (result : Result (IoctlReply P A) (Refused P A)) (q q' : Lined P) (t t' : Fds P) → same_type (named_type c) (type_of q.body.format) ≡ true → AppliesTyped m c result q t q' t' → Applies m c result q t q' t'
   of_type c result q q' t t' same then j stands =
       let passes : type_refusal c j ≡ None =
-      ap (λ f. cond (same_type (named_type c) (type_of f)) None (Some BadType)) (sym (ap (λ b. b.format) stands.queue.body)) ∙ ap (λ x. cond x None (Some BadType)) same in
+      ap (λ f. cond (same_type (named_type c) (type_of f)) None (Some BadType)) (sym (ap (λ b. b.format) stands.queue.shown.body)) ∙ ap (λ x. cond x None (Some BadType)) same in
       let h = then j stands in
       (subst (λ r. IsAnsweredFor m c j (or_else r (call_refusal m c j)) result) (sym passes) h.0, h.1)
 
@@ -67,7 +67,7 @@ module _ {P A : Type 0} (m : P → Plane) where
   pub of_other_type : (c : Ioctl P A) (r : Refused P A) (q : Lined P) (t : Fds P) → same_type (named_type c) (type_of q.body.format) ≡ false → r.errno ≡ errno BadType → HandsBack (planes_given c) (supply_given c) r → Applies m c (Err r) q t q t
   of_other_type c r q t other is back j stands =
       let fails : type_refusal c j ≡ Some BadType =
-      ap (λ f. cond (same_type (named_type c) (type_of f)) None (Some BadType)) (sym (ap (λ b. b.format) stands.queue.body)) ∙ ap (λ x. cond x None (Some BadType)) other in
+      ap (λ f. cond (same_type (named_type c) (type_of f)) None (Some BadType)) (sym (ap (λ b. b.format) stands.queue.shown.body)) ∙ ap (λ x. cond x None (Some BadType)) other in
       ((inl (ap (λ x. option_map errno (or_else x (call_refusal m c j))) fails ∙ ap Some (sym is)), back), stands)
 
   -- ---- calls that answer nothing

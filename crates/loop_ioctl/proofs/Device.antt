@@ -11,7 +11,7 @@ use Rattle.loop_vb2.specs.declared.reason.Reason.{Reason}
 use Rattle.loop_vb2.specs.Buffers.{completed_with, failed_with}
 use Rattle.loop_vb2.specs.Checks.{end_refusal}
 use Rattle.loop_vb2.specs.Effects.{completed, failed, fatal_state}
-use Rattle.loop_vb2.specs.Planes.{number_at, slot_filled, set_filled, frame_size}
+use Rattle.loop_vb2.specs.Planes.{number_at, slot_filled, set_by, frame_size}
 use Rattle.loop_vb2.specs.State.{Body, QueueState, Lined, StandsFor}
 use Rattle.loop_vb2.specs.Steps.{Steps, Does, Completes, FailsFrame, EndsFatally}
 use Rattle.loop_ioctl.specs.declared.events.QueueEvent.TheVariants as event
@@ -35,7 +35,7 @@ last_fds : (fd f : ℕ) (p : Option Plane) (bytes : List ℕ) → times fd (in_p
 last_fds fd f None bytes = refl
 last_fds fd f (Some p) bytes = refl
 
-filled_fds : (shape : Shape) (bytes : List ℕ) (planes : Option (PlaneSet Plane)) (fd : ℕ) → in_buffer fd (option_map (set_filled shape bytes) planes) ≡ in_buffer fd planes
+filled_fds : (shape : Shape) (bytes : List ℕ) (planes : Option (PlaneSet Plane)) (fd : ℕ) → in_buffer fd (option_map (set_by slot_filled shape bytes) planes) ≡ in_buffer fd planes
 filled_fds shape bytes None fd = refl
 filled_fds shape bytes (Some set) fd =
     let b0 = take (number_at shape.sizes 0) bytes in
@@ -43,7 +43,7 @@ filled_fds shape bytes (Some set) fd =
     let b2 = take (number_at shape.sizes 2) (drop (number_at shape.sizes 0 + number_at shape.sizes 1) bytes) in
     let f0 = number_at set.fds 0 in
     let f1 = number_at set.fds 1 in
-    ap (times fd) (last_none (values_in (set_filled shape bytes set)))
+    ap (times fd) (last_none (values_in (set_by slot_filled shape bytes set)))
     ∙ (slot_fds fd (number_at set.fds 2) set.planes.cr b2 (in_place f1 (slot_filled set.planes.cb b1) ++ in_place f0 (slot_filled set.planes.y b0)) (in_place f1 set.planes.cb ++ in_place f0 set.planes.y)
     (slot_fds fd f1 set.planes.cb b1 (in_place f0 (slot_filled set.planes.y b0)) (in_place f0 set.planes.y) (last_fds fd f0 set.planes.y b0))
     ∙ sym (ap (times fd) (last_none (values_in set))))

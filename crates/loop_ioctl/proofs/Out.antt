@@ -106,7 +106,7 @@ module _ {P : Type 0} (m : P → Plane) where
   lets_one_out A answer told kind q q' a b is step tells lets j stands =
       let t = step j.queue stands.queue in
       let s = j.queue in
-      let k : kind ≡ s.body.kind = is ∙ ap (λ x. x.kind) stands.queue.body in
+      let k : kind ≡ s.body.kind = is ∙ ap (λ x. x.kind) stands.queue.shown.body in
       let buffer = t.1.2.0 in
       let planes : planes_at s.body.buffers answer.index ≡ buffer.planes = planes_got s.body.buffers answer.index buffer t.1.2.1 in
       let hs = option_to_list (planes_at s.body.buffers answer.index) in
@@ -178,7 +178,7 @@ module _ {P A : Type 0} (m : P → Plane) where
       let t = step j.queue stands.queue in
       let s = j.queue in
       let sets = map (read_set m) supply in
-      let k : own ≡ s.body.kind = is ∙ ap (λ x. x.kind) stands.queue.body in
+      let k : own ≡ s.body.kind = is ∙ ap (λ x. x.kind) stands.queue.shown.body in
       let lets_here : LetsOut s.body.kind g.left.items a b = subst (λ x. LetsOut x g.left.items a b) k lets in
       let l : IsLeft m s.body.kind (held s.body.buffers) (λ x. 0) j.names b =
       left m s.body.kind g.left.items (held s.body.buffers) (λ x. 0) a b j.names stands.names lets_here (λ (e : s.body.kind ≡ DmaBuf). t.1.2 ∙ left_all s.body.kind s.body.buffers e) (old_once s.body.buffers s.body.kind j.names stands.linked) in

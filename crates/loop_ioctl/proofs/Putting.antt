@@ -191,7 +191,7 @@ module _ {P : Type 0} (m : P → Plane) where
 
   early_read : (q : Lined P) (table : Fds P) (index : ℕ) (j : IoctlState) → Stands m q table j → early_refusal index j.queue.body ≡ early_refusal index q.body
   early_read q table index j stands =
-      ap (early_refusal index) (sym stands.queue.body)
+      ap (early_refusal index) (sym stands.queue.shown.body)
       ∙ ap (λ n. cond (nat_le n index) (Some BadIndex) (cond (not (same_memory q.body.kind DmaBuf)) (Some BadMemory) None)) (length_read q.body.buffers)
 
   set_read : (q : Lined P) (table : Fds P) (named : PlaneFds) (j : IoctlState) → Stands m q table j → set_refusal named j.names ≡ set_refusal named (names_in table)

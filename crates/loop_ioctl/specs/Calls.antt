@@ -227,3 +227,8 @@ module _ {P A : Type 0} (meaning : P → Plane) where
   abbrev pub Applies : Ioctl P A → Result (IoctlReply P A) (Refused P A) → Lined P → Fds P → Lined P → Fds P → Type 0
   Applies c result queue table new_queue new_table =
       (j : IoctlState) → Stands meaning queue table j → IsAnswered c j result × Stands meaning new_queue new_table (after c j result)
+
+-- A queue without buffers and any table stand for the state in which each fd names what it does.
+abbrev pub NewQueuesStand : {P : Type 0} → (P → Plane) → Type 0
+NewQueuesStand {P} meaning = (code : Lined P) (table : Fds P) (s : QueueState) → StandsFor meaning code s → s.body.buffers ≡ []
+    → Stands meaning code table (record { queue = s; names = read_names meaning (names_in table) })

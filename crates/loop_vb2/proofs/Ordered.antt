@@ -20,7 +20,7 @@ use Rattle.loop_vb2.specs.Checks.{queue_refusal, prepare_refusal, end_refusal, r
 use Rattle.loop_vb2.specs.Effects.{awake, device_runs, settled, with_buffer, body_streaming, body_stopped, first_ended, ended, dequeued, touched}
 use Rattle.loop_vb2.specs.Requests.{grants_or_none, requested}
 use Rattle.loop_vb2.specs.State.{Body, QueueState, Lined, lined, in_step, InStep, Shows}
-use Rattle.loop_vb2.specs.Events.{Event, Grant, IsAnswered, IsRefusal, after, dequeued_by, ended_by, stops, reqbufs, prepare_buf, qbuf, dqbuf, streamon, streamoff, querybuf, mmap, munmap, take_planes, complete, fail, fatal, take_fresh}
+use Rattle.loop_vb2.specs.Events.{Event, Grant, IsAnswered, IsRefusal, after, dequeued_by, ended_by, stops, reqbufs, prepare_buf, qbuf, dqbuf, streamon, streamoff, querybuf, mmap, munmap, take_planes, copy_plane, complete, fail, fatal, take_fresh}
 use Rattle.loop_vb2.specs.Laws.{DequeuedInOrder}
 use Rattle.loop_vb2.proofs.InStep.{step_stopped, idle_fits, none_are_active}
 use Rattle.loop_vb2.proofs.Kept.{dequeued_idle, prepared_state}
@@ -29,7 +29,8 @@ use Rattle.loop_vb2.proofs.RequestSteps.{shows_requested}
 use Rattle.loop_vb2.proofs.Requested.{new_state}
 use Rattle.loop_vb2.proofs.Shown.{shows_queued, shows_ended, shows_touched, shows_kept, shows_dequeued, shows_streaming, first_is_taken}
 use Rattle.loop_vb2.proofs.States.{state_at-map}
-use Rattle.loop_vb2.proofs.Steps.{queue_within, queue_idle, prepare_within, prepare_dequeued, end_within, end_active, passed_here}
+use Rattle.loop_vb2.proofs.Steps.{queue_within, queue_idle, prepare_within, prepare_dequeued, end_within, end_active}
+use Rattle.loop_vb2.proofs.Passing.{passed_here}
 
 -- a state with the buffers that were ended and not yet dequeued, in their order; while streaming is off there are none
 record Runs (s : QueueState) (line : List ℕ) : Type 0 where
@@ -91,6 +92,7 @@ runs_stopped s (querybuf index answer) e = absurd (cc)
 runs_stopped s (mmap index refusal) e = absurd (cc)
 runs_stopped s (munmap index refusal) e = absurd (cc)
 runs_stopped s (take_planes index answer) e = absurd (cc)
+runs_stopped s (copy_plane index plane at count answer) e = absurd (cc)
 runs_stopped s (complete index stamp bytes refusal) e = absurd (cc)
 runs_stopped s (fail index stamp refusal) e = absurd (cc)
 runs_stopped s fatal e = absurd (cc)
@@ -214,6 +216,7 @@ next s (munmap index None) line r on a = record { rest = line; runs = next_kept 
 next s (munmap index (Some x)) line r on a = record { rest = line; runs = r; joined = append-nil line }
 next s (take_planes index (Ok set)) line r on a = record { rest = line; runs = next_kept s emptied index line (λ b. refl) r; joined = append-nil line }
 next s (take_planes index (Err x)) line r on a = record { rest = line; runs = r; joined = append-nil line }
+next s (copy_plane index plane at count answer) line r on a = record { rest = line; runs = r; joined = append-nil line }
 next s (complete index stamp bytes None) line r on a =
     record { rest = line ++ index ∷ []; runs = next_ended s (completed_with s.body.shape stamp bytes) Done index line (λ b. refl) refl refl r (not_refused (end_refusal index s.body) a); joined = refl }
 next s (complete index stamp bytes (Some x)) line r on a = record { rest = line; runs = r; joined = append-nil line }

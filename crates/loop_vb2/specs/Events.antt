@@ -1,5 +1,5 @@
 -- A queue's life as a list of events, each with its answer: which answers the model gives, and the state after them.
-use Rattle.std.specs.Prelude.{◌≡◌, ◌⊎◌, ℕ, Bool, true, false, ◌==◌, List, [], ◌∷◌, Option, Some, None, option_map, Result, Ok, Err, slice_get}
+use Rattle.std.specs.Prelude.{◌≡◌, ◌⊎◌, ℕ, Bool, true, false, ◌==◌, List, [], ◌∷◌, Option, Some, None, option_map, map, Result, Ok, Err, take, drop, slice_get}
 use Rattle.loop_plane.specs.Plane.{Plane}
 use Rattle.loop_plane.specs.declared.memory.Memory.{Memory}
 use Rattle.loop_record.specs.Turns.{after_all, EachIn}
@@ -11,14 +11,17 @@ use Rattle.loop_vb2.specs.declared.planes.PlaneSet.{PlaneSet}
 use Rattle.loop_vb2.specs.declared.reason.Errno.{Errno}
 use Rattle.loop_vb2.specs.declared.reason.Reason.{Reason}
 use Rattle.loop_vb2.specs.declared.reason.Reason.TheVariants.{NoMemory}
+use Rattle.loop_vb2.specs.declared.reason.Refused.{Refused}
+use Rattle.loop_vb2.specs.declared.request.Granted.{Granted}
 use Rattle.loop_vb2.specs.Answers.{IsAnswer, IsInfo}
-use Rattle.loop_vb2.specs.Buffers.{mapped_as, emptied}
-use Rattle.loop_vb2.specs.Checks.{queue_refusal, prepare_refusal, dequeue_refusal, stream_on_refusal, query_refusal, map_refusal, unmap_refusal, take_refusal, end_refusal, request_refusal}
+use Rattle.loop_vb2.specs.Buffers.{mapped_as, emptied, bytes_at}
+use Rattle.loop_vb2.specs.Checks.{queue_refusal, prepare_refusal, dequeue_refusal, stream_on_refusal, query_refusal, map_refusal, unmap_refusal, take_refusal, copy_refusal, end_refusal, request_refusal}
 use Rattle.loop_vb2.specs.Effects.{queued, prepared, dequeued, first_ended, streaming, stopped_state, completed, failed, touched, fatal_state, seen_state}
 use Rattle.loop_vb2.specs.Errnos.{errno}
 use Rattle.loop_vb2.specs.Requests.{grants_or_none, left_in, requested}
 use Rattle.loop_vb2.specs.State.{QueueState, Lined, StandsFor}
-use Rattle.loop_vb2.specs.Steps.{Passes, Fails}
+use Rattle.loop_vb2.specs.Steps.{Passes, Fails, read_answer}
+use Rattle.loop_vb2.specs.Planes.{read_set}
 
 -- what a request is granted: a number of buffers, and the planes that lay in the old ones
 pub record Grant : Type 0 where
@@ -27,7 +30,7 @@ pub record Grant : Type 0 where
 
 -- an event and its answer; where nothing else is answered, that is the refusal or None
 pub data Event : Type 0 where
-  -- the application's: the ioctls by their names, and planes taken out of a buffer
+  -- the application's: the ioctls by their names, planes taken out of a buffer, and bytes copied out of one of its planes, from a place on
   reqbufs : ℕ → Memory → List (PlaneSet Plane) → Result Grant Errno → Event
   prepare_buf : ℕ → Memory → Option (PlaneSet Plane) → Option Errno → Event
   qbuf : ℕ → Memory → Option (PlaneSet Plane) → Option Errno → Event
@@ -38,6 +41,7 @@ pub data Event : Type 0 where
   mmap : ℕ → Option Errno → Event
   munmap : ℕ → Option Errno → Event
   take_planes : ℕ → Result (PlaneSet Plane) Errno → Event
+  copy_plane : ℕ → ℕ → ℕ → ℕ → Result (List ℕ) Errno → Event
   -- the device's
   complete : ℕ → Stamp → List ℕ → Option Errno → Event
   fail : ℕ → Stamp → Option Errno → Event
@@ -64,6 +68,7 @@ after s (mmap index refusal) = unless refusal s (touched (mapped_as true) index 
 after s (munmap index refusal) = unless refusal s (touched (mapped_as false) index s)
 after s (take_planes index (Ok set)) = touched emptied index s
 after s (take_planes index (Err e)) = s
+after s (copy_plane index plane at count answer) = s
 after s (complete index stamp bytes refusal) = unless refusal s (completed index stamp bytes s)
 after s (fail index stamp refusal) = unless refusal s (failed index stamp s)
 after s fatal = fatal_state s
@@ -95,6 +100,9 @@ IsAnswered s (munmap index refusal) = IsRefusal (unmap_refusal index s.body) ref
 IsAnswered s (take_planes index (Ok set)) =
     Passes (take_refusal index s.body) × ((b : Buffer Plane) × (slice_get s.body.buffers index ≡ Some b) × (b.planes ≡ Some set))
 IsAnswered s (take_planes index (Err e)) = Fails (take_refusal index s.body) e
+IsAnswered s (copy_plane index plane at count (Ok bytes)) =
+    Passes (copy_refusal index plane at count s.body) × (bytes ≡ take count (drop at (bytes_at s.body.buffers index plane)))
+IsAnswered s (copy_plane index plane at count (Err e)) = Fails (copy_refusal index plane at count s.body) e
 IsAnswered s (complete index stamp bytes refusal) = IsRefusal (end_refusal index s.body) refusal
 IsAnswered s (fail index stamp refusal) = IsRefusal (end_refusal index s.body) refusal
 IsAnswered s fatal = Unit {0}
@@ -103,6 +111,37 @@ IsAnswered s (take_fresh fresh) = fresh ≡ s.body.fresh
 -- from each state that the queue stands for, each event is answered so, and the queue stands for the state after them
 abbrev pub Goes : {P : Type 0} → (P → Plane) → Lined P → Lined P → List Event → Type 0
 Goes meaning before now events = (s : QueueState) → StandsFor meaning before s → EachIn after IsAnswered s events × StandsFor meaning now (after_all after s events)
+
+-- ---- the answer of a call, as its event has it
+
+-- a call that answers nothing but its refusal
+abbrev pub refusal_of : {U : Type 0} → Result U Errno → Option Errno
+refusal_of (Ok _) = None
+refusal_of (Err e) = Some e
+
+module _ {P : Type 0} where
+  -- a call that is given planes
+  abbrev pub refusal_in : {U A : Type 0} → Result U (Refused P A) → Option Errno
+  refusal_in (Ok _) = None
+  refusal_in (Err r) = Some r.errno
+
+  -- REQBUFS, DQBUF, and planes taken out, each plane read as what it means
+  abbrev pub read_grant : {A : Type 0} → (P → Plane) → Result (Granted P A) (Refused P A) → Result Grant Errno
+  read_grant meaning (Ok g) = Ok (record { count = g.count; left = map (read_set meaning) g.left.items })
+  read_grant meaning (Err r) = Err r.errno
+
+  abbrev pub read_frame : (P → Plane) → Result (Dequeued P) Errno → Result (Dequeued Plane) Errno
+  read_frame meaning (Ok d) = Ok (read_answer meaning d)
+  read_frame meaning (Err e) = Err e
+
+  abbrev pub read_taken : (P → Plane) → Result (PlaneSet P) Errno → Result (PlaneSet Plane) Errno
+  read_taken meaning (Ok set) = Ok (read_set meaning set)
+  read_taken meaning (Err e) = Err e
+
+-- bytes copied out
+abbrev pub read_copy : {U : Type 0} → List ℕ → Result U Errno → Result (List ℕ) Errno
+read_copy out (Ok _) = Ok out
+read_copy out (Err e) = Err e
 
 -- ---- what events say of the order of frames
 

@@ -8,7 +8,8 @@
 //! - `queue` has the buffers and what each event makes of them; `application` and `device` the calls of either side,
 //!   `request` that of the memory, `create` and `facts` a new queue and what it is; `checks` says why a call is refused;
 //! - `buffer`, `state`, `flags`: one buffer; `planes`: its memory; `reason`: refusals with their errnos;
-//! - `line`: buffers in order, by links between 32 places.
+//! - `line`: buffers in order, by links between 32 places;
+//! - `laws`: what follows from the definitions, over every list of events (`specs/Events`).
 #![tactic(auto)]
 
 mod application;
