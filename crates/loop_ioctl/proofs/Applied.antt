@@ -1,5 +1,5 @@
 -- Each ioctl is a step of queue and table.
-use Rattle.std.proofs.Common.{◌≡◌, ℕ, Bool, true, false, not, cond, List, [], ◌∷◌, map, Option, Some, None, option_map, Ok, Err, refl, sym, ◌∙◌, ap, subst, arith, ◌⊎◌, inl, inr}
+use Rattle.std.proofs.Common.{◌≡◌, ℕ, Bool, true, false, cond, List, [], map, Option, Some, None, option_map, Ok, Err, refl, sym, ◌∙◌, ap, subst, ◌⊎◌, inl, inr}
 use Rattle.std.specs.Prelude.{Result, IfErr, IfOk}
 use Rattle.std.specs.Prelude.{Vec}
 use Rattle.loop_plane.specs.Plane.{Plane}
@@ -27,8 +27,8 @@ use Rattle.loop_ioctl.specs.declared.put.Use.TheVariants.{Prepare, Queue}
 use Rattle.loop_ioctl.specs.Types.{named_type, type_of, same_type}
 use Rattle.loop_ioctl.specs.Names.{Names, or_else}
 use Rattle.loop_ioctl.specs.Attached.{IsLinked}
-use Rattle.loop_ioctl.specs.Calls.{IoctlState, Stands, planes_of, put_refusal, put_in, HandsBack, planes_given, supply_given, call_refusal, type_refusal, refusal, done, IsReply, IsErrno, IsAnsweredFor, IsAnswered, after, Applies}
-use Rattle.loop_ioctl.specs.Parts.{either, JudgedBack, Puts, Plain, TurnsOn, TurnsOff, MapsAt, UnmapsAt, Asks, LetsOneOut, Replaces, AppliesTyped}
+use Rattle.loop_ioctl.specs.Calls.{IoctlState, Stands, planes_of, HandsBack, planes_given, supply_given, call_refusal, type_refusal, done, IsReply, IsAnsweredFor, after, Applies}
+use Rattle.loop_ioctl.specs.Parts.{Puts, Plain, TurnsOn, TurnsOff, MapsAt, UnmapsAt, Asks, LetsOneOut, Replaces, AppliesTyped}
 use Rattle.loop_ioctl.proofs.Attached.{kept_changed, kept_mapped, in_buffers}
 use Rattle.loop_ioctl.proofs.Putting.{settled_fds, settled_kind, still_linked, moves, stays}
 

@@ -1,19 +1,15 @@
 -- Each fd that a queue holds is attached, and is there once: what takes planes in and lets them out keeps this.
-use Rattle.std.proofs.Common.{◌≡◌, ℕ, zero, suc, ◌+◌, ◌<◌, ◌==◌, Bool, true, false, nat_lt, cond, List, [], ◌∷◌, ◌++◌, length, map, Option, Some, None, option_map, refl, sym, ◌∙◌, ap, subst, arith, ◌⊎◌, inl, inr}
+use Rattle.std.proofs.Common.{◌≡◌, ℕ, zero, suc, ◌+◌, ◌<◌, ◌==◌, Bool, true, false, nat_lt, cond, List, [], ◌∷◌, ◌++◌, length, map, Option, Some, None, refl, sym, ◌∙◌, ap, subst, arith, inl, inr}
 use Rattle.std.specs.Prelude.{is_some, option_to_list}
 use Rattle.std.proofs.lemmas.Bool.{cases_eq}
-use Rattle.loop_plane.specs.Plane.{Plane}
-use Rattle.loop_plane.specs.declared.memory.Memory.{Memory}
-use Rattle.loop_plane.specs.declared.memory.Memory.TheVariants.{Mmap, UserPtr, DmaBuf}
 use Rattle.loop_vb2.specs.declared.buffer.Buffer.{Buffer}
 use Rattle.loop_vb2.specs.declared.planes.PlaneSet.{PlaneSet}
-use Rattle.loop_vb2.specs.declared.reason.Reason.{Reason}
 use Rattle.loop_vb2.specs.Buffers.{changed, holds_at}
 use Rattle.loop_vb2.specs.Planes.{number_at}
 use Rattle.loop_vb2.specs.Requests.{held}
 use Rattle.loop_ioctl.specs.declared.call.PlaneFds.{PlaneFds}
 use Rattle.loop_ioctl.specs.Names.{Names, renamed, fd_refusal, value_of, place_refusal, place_value, place_taken, first_taken, second_taken, set_taken, set_refusal, set_named, in_place, values_in, values_of, given_back, AreAway}
-use Rattle.loop_ioctl.specs.Attached.{times, values_held, IsOnce}
+use Rattle.loop_ioctl.specs.Attached.{times, IsOnce}
 use Rattle.loop_ioctl.specs.Calls.{planes_at}
 use Rattle.loop_ioctl.proofs.Names.{tested, differ, renamed_here, renamed_other, set_passed}
 

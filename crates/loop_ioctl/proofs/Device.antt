@@ -1,5 +1,5 @@
 -- The device's calls, of queue and table.
-use Rattle.std.proofs.Common.{◌≡◌, ℕ, ◌+◌, true, length, List, [], ◌∷◌, ◌++◌, Option, Some, None, option_map, take, drop, Ok, Err, refl, sym, ◌∙◌, ap, subst, arith}
+use Rattle.std.proofs.Common.{◌≡◌, ℕ, ◌+◌, true, length, List, ◌++◌, Option, Some, None, option_map, take, drop, Ok, Err, refl, sym, ◌∙◌, ap, subst, arith}
 use Rattle.std.specs.Prelude.{Result, Vec}
 use Rattle.loop_plane.specs.Plane.{Plane}
 use Rattle.loop_plane.specs.Fds.{Fds}
@@ -12,7 +12,7 @@ use Rattle.loop_vb2.specs.Buffers.{completed_with, failed_with}
 use Rattle.loop_vb2.specs.Checks.{end_refusal}
 use Rattle.loop_vb2.specs.Effects.{completed, failed, fatal_state}
 use Rattle.loop_vb2.specs.Planes.{number_at, slot_filled, set_by, frame_size}
-use Rattle.loop_vb2.specs.State.{Body, QueueState, Lined, StandsFor}
+use Rattle.loop_vb2.specs.State.{QueueState, Lined, StandsFor}
 use Rattle.loop_vb2.specs.Steps.{Steps, Does, Completes, FailsFrame, EndsFatally}
 use Rattle.loop_ioctl.specs.declared.events.QueueEvent.TheVariants as event
 use Rattle.loop_ioctl.specs.declared.events.QueueReply.TheVariants as answer
@@ -23,7 +23,7 @@ use Rattle.loop_ioctl.specs.Parts.{Judged, either}
 use Rattle.loop_ioctl.specs.Events.{with_queue, is_whole, Reacts}
 use Rattle.loop_ioctl.specs.declared.events.QueueEvent.{QueueEvent}
 use Rattle.std.proofs.lemmas.Bool.{eqb-true}
-use Rattle.loop_ioctl.proofs.Attached.{in_buffer, in_buffers, kept_changed, last_none}
+use Rattle.loop_ioctl.proofs.Attached.{in_buffer, kept_changed, last_none}
 use Rattle.loop_ioctl.proofs.Putting.{still_linked, moves, stays}
 
 -- a plane filled has the fd that it had

@@ -1,5 +1,5 @@
 -- Names taken and given back.
-use Rattle.std.proofs.Common.{◌≡◌, ℕ, ◌==◌, Bool, true, false, nat_lt, cond, List, [], ◌∷◌, ◌++◌, Option, Some, None, option_map, map, Ok, Err, refl, sym, ◌∙◌, ap, subst, arith, ◌⊎◌, inl, inr}
+use Rattle.std.proofs.Common.{◌≡◌, ℕ, ◌==◌, Bool, true, false, nat_lt, cond, List, [], ◌∷◌, ◌++◌, Option, Some, None, Ok, Err, refl, sym, ◌∙◌, ap, subst, arith, inl, inr}
 use Rattle.std.proofs.lemmas.Bool.{cases_eq}
 use Rattle.std.proofs.lemmas.Bool.Decides.{nat_tests}
 use Rattle.slab.specs.Slab.{get, Updates, SameValues}
@@ -11,7 +11,7 @@ use Rattle.loop_vb2.specs.declared.planes.PlaneSet.{PlaneSet}
 use Rattle.loop_vb2.specs.declared.reason.Reason.{Reason}
 use Rattle.loop_vb2.specs.Planes.{number_at}
 use Rattle.loop_ioctl.specs.declared.call.PlaneFds.{PlaneFds}
-use Rattle.loop_ioctl.specs.Names.{Names, or_else, reason_of, names_in, renamed, fd_refusal, value_of, place_refusal, place_value, place_taken, first_taken, second_taken, set_taken, set_refusal, set_named, in_place, values_in, values_of, given_back, TakesPlace, TakesSet, AreAway, GivesBack}
+use Rattle.loop_ioctl.specs.Names.{Names, or_else, reason_of, names_in, renamed, fd_refusal, value_of, place_refusal, place_value, place_taken, first_taken, second_taken, set_taken, set_refusal, set_named, in_place, values_in, given_back, TakesPlace, TakesSet, AreAway, GivesBack}
 
 -- functions that agree everywhere are one
 pub ext : {A B : Type 0} {f g : A → B} → ((x : A) → f x ≡ g x) → f ≡ g

@@ -1,6 +1,6 @@
 -- Planes that leave a queue: DQBUF and REQBUFS, of queue and table.
-use Rattle.std.proofs.Common.{◌≡◌, ℕ, zero, suc, ◌+◌, ◌==◌, Bool, true, false, not, ◌||◌, ◌&&◌, nat_lt, cond, List, [], ◌∷◌, length, map, replicate, Option, Some, None, option_map, Ok, Err, refl, sym, ◌∙◌, ap, subst, arith, ◌⊎◌, inl, inr}
-use Rattle.std.specs.Prelude.{Result, option_to_list, slice_get}
+use Rattle.std.proofs.Common.{◌≡◌, ℕ, zero, suc, ◌+◌, ◌==◌, Bool, true, false, not, ◌&&◌, nat_lt, cond, List, [], ◌∷◌, length, map, replicate, Option, Some, None, option_map, Ok, Err, refl, sym, ◌∙◌, ap, subst, arith, ◌⊎◌, inl}
+use Rattle.std.specs.Prelude.{option_to_list, slice_get}
 use Rattle.std.specs.List.{list_all, list_any}
 use Rattle.std.proofs.lemmas.Bool.{eqb-true}
 use Rattle.loop_plane.specs.Plane.{Plane}
@@ -11,26 +11,23 @@ use Rattle.loop_vb2.specs.declared.buffer.Buffer.{Buffer}
 use Rattle.loop_vb2.specs.declared.buffer.Dequeued.{Dequeued}
 use Rattle.loop_vb2.specs.declared.planes.PlaneSet.{PlaneSet}
 use Rattle.loop_vb2.specs.declared.reason.Errno.{Errno}
-use Rattle.loop_vb2.specs.declared.reason.Reason.{Reason}
 use Rattle.loop_vb2.specs.declared.reason.Reason.TheVariants.{Streaming, Mapped, BadSupply, NoMemory}
 use Rattle.loop_vb2.specs.declared.reason.Refused.{Refused}
 use Rattle.loop_vb2.specs.declared.request.Granted.{Granted}
-use Rattle.loop_vb2.specs.Answers.{IsAnswer}
 use Rattle.loop_vb2.specs.Buffers.{changed, handed, dequeued_from}
-use Rattle.loop_vb2.specs.Checks.{is_supply, granted, serves, request_refusal, dequeue_refusal}
-use Rattle.loop_vb2.specs.Effects.{first_ended, dequeued}
+use Rattle.loop_vb2.specs.Checks.{is_supply, granted, serves, request_refusal}
+use Rattle.loop_vb2.specs.Effects.{dequeued}
 use Rattle.loop_vb2.specs.Errnos.{errno}
 use Rattle.loop_vb2.specs.Planes.{read_set}
 use Rattle.loop_vb2.specs.Requests.{grants_or_none, new_buffer, new_buffers, held, left_in, body_requested, requested}
-use Rattle.loop_vb2.specs.State.{Body, QueueState, Lined, StandsFor}
-use Rattle.loop_vb2.specs.Steps.{Steps, read_given, read_answer, Dequeues, Requests}
-use Rattle.loop_ioctl.specs.declared.call.IoctlReply.{IoctlReply}
+use Rattle.loop_vb2.specs.State.{Body, Lined, StandsFor}
+use Rattle.loop_vb2.specs.Steps.{Steps, read_given, Dequeues, Requests}
 use Rattle.loop_ioctl.specs.declared.call.IoctlReply.TheVariants as reply
 use Rattle.loop_ioctl.specs.Names.{Names, names_in, values_in, values_of, given_back, AreAway, GivesBack}
 use Rattle.loop_ioctl.specs.Attached.{times, values_held, IsOnce, IsLinked}
-use Rattle.loop_ioctl.specs.Calls.{IoctlState, Stands, read_names, planes_at, names_left, handed_out, taken_out, replaced, IsFrame, TellsFrame, TellsGrant}
-use Rattle.loop_ioctl.specs.Parts.{either, LetsOut, LetsOneOut, Replaces}
-use Rattle.loop_ioctl.proofs.Attached.{in_buffer, in_buffers, let_out, last_none, AreOnce, once_same, IsLetOut, given_once, in_more}
+use Rattle.loop_ioctl.specs.Calls.{IoctlState, Stands, read_names, planes_at, names_left, handed_out, taken_out, TellsFrame}
+use Rattle.loop_ioctl.specs.Parts.{LetsOut, LetsOneOut, Replaces}
+use Rattle.loop_ioctl.proofs.Attached.{in_buffers, let_out, last_none, AreOnce, once_same, IsLetOut, given_once, in_more}
 use Rattle.loop_ioctl.proofs.Read.{read_value, values_of_read, back_read, away_read}
 use Rattle.loop_ioctl.proofs.Putting.{stays, passed_here, passed_on, true_of}
 

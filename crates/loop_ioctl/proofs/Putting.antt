@@ -1,6 +1,6 @@
 -- QBUF and PREPARE_BUF, of queue and table.
-use Rattle.std.proofs.Common.{◌≡◌, ℕ, suc, ◌+◌, ◌<◌, Bool, true, false, not, ◌||◌, nat_le, cond, List, [], ◌∷◌, length, map, Option, Some, None, option_map, Ok, Err, refl, sym, ◌∙◌, ap, subst, arith, ◌⊎◌, inl, inr}
-use Rattle.std.specs.Prelude.{Result, OnErr, is_some}
+use Rattle.std.proofs.Common.{◌≡◌, ℕ, suc, ◌+◌, ◌<◌, Bool, true, false, not, ◌||◌, nat_le, cond, List, [], ◌∷◌, length, map, Option, Some, None, option_map, Ok, Err, refl, sym, ◌∙◌, ap, subst, arith, inl}
+use Rattle.std.specs.Prelude.{Result, OnErr}
 use Rattle.std.proofs.lemmas.Bool.Decides.{nat_tests}
 use Rattle.slab.specs.Slab.{SameValues}
 use Rattle.loop_plane.specs.Plane.{Plane}
@@ -14,23 +14,22 @@ use Rattle.loop_vb2.specs.declared.reason.Reason.{Reason}
 use Rattle.loop_vb2.specs.declared.reason.Reason.TheVariants.{BadIndex, BadMemory, BadPlanes}
 use Rattle.loop_vb2.specs.declared.reason.Refused.{Refused}
 use Rattle.loop_vb2.specs.Errnos.{errno}
-use Rattle.loop_vb2.specs.Planes.{read_set, same_memory, misfits, are_kind, has_count}
-use Rattle.loop_vb2.specs.Buffers.{changed, holds_at, woken, queued_with, prepared_with, read_buffer}
+use Rattle.loop_vb2.specs.Planes.{read_set, same_memory, are_kind, has_count}
+use Rattle.loop_vb2.specs.Buffers.{holds_at, woken, queued_with, prepared_with, read_buffer}
 use Rattle.loop_vb2.specs.Checks.{first_of, prepare_late_checks, queue_late_checks}
-use Rattle.loop_vb2.specs.Effects.{device_runs, awake, settled, with_buffer, queued, prepared}
-use Rattle.loop_vb2.specs.State.{Body, QueueState, Lined, StandsFor, read_body}
+use Rattle.loop_vb2.specs.Effects.{device_runs, awake, settled, with_buffer}
+use Rattle.loop_vb2.specs.State.{Body, QueueState, Lined, StandsFor}
 use Rattle.loop_vb2.specs.Steps.{Steps, read_given}
-use Rattle.loop_ioctl.specs.declared.call.BufferMemory.{BufferMemory}
 use Rattle.loop_ioctl.specs.declared.call.BufferMemory.TheVariants as memory
 use Rattle.loop_ioctl.specs.declared.call.PlaneFds.{PlaneFds}
 use Rattle.loop_ioctl.specs.declared.put.Use.{Use}
 use Rattle.loop_ioctl.specs.declared.put.Use.TheVariants.{Prepare, Queue}
-use Rattle.loop_ioctl.specs.Names.{Names, names_in, or_else, set_refusal, set_named, set_taken, values_in, values_of, GivesBack, GivesIfRefused, TakesSet}
+use Rattle.loop_ioctl.specs.Names.{Names, names_in, or_else, set_refusal, set_named, set_taken, values_in, GivesIfRefused, TakesSet}
 use Rattle.loop_ioctl.specs.Attached.{times, values_held, IsOnce, IsLinked}
-use Rattle.loop_ioctl.specs.Calls.{IoctlState, Stands, read_names, early_refusal, use_refusal, used, put_refusal, put_in}
-use Rattle.loop_ioctl.specs.Parts.{Uses, UsesSet, either, Judged, JudgedBack, PutsNamed, Puts}
+use Rattle.loop_ioctl.specs.Calls.{IoctlState, Stands, read_names, early_refusal, use_refusal, used, put_refusal}
+use Rattle.loop_ioctl.specs.Parts.{Uses, UsesSet, either, JudgedBack, PutsNamed, Puts}
 use Rattle.loop_ioctl.proofs.Names.{same_names, same_values, set_undone}
-use Rattle.loop_ioctl.proofs.Attached.{in_buffer, in_buffers, Keeps, kept_changed, kept_mapped, added, AreOnce, once_same, set_once, last_none}
+use Rattle.loop_ioctl.proofs.Attached.{in_buffer, in_buffers, kept_changed, kept_mapped, added, AreOnce, once_same, set_once, last_none}
 use Rattle.loop_ioctl.proofs.Read.{set_refusal_read, set_named_read, set_taken_read}
 
 -- ---- checks that have passed

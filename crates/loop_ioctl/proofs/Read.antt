@@ -1,9 +1,7 @@
 -- Names and sets, each plane read as what it means: reading commutes with what is done to them.
-use Rattle.std.proofs.Common.{◌≡◌, ℕ, ◌==◌, Bool, true, false, nat_lt, cond, List, [], ◌∷◌, ◌++◌, map, Option, Some, None, option_map, refl, sym, ◌∙◌, ap, subst, arith}
-use Rattle.std.specs.Prelude.{option_to_list}
+use Rattle.std.proofs.Common.{◌≡◌, ℕ, ◌==◌, Bool, true, false, nat_lt, cond, List, [], ◌∷◌, ◌++◌, map, Option, Some, None, option_map, refl, sym, ◌∙◌, ap, subst}
 use Rattle.loop_plane.specs.Plane.{Plane}
 use Rattle.loop_vb2.specs.declared.planes.PlaneSet.{PlaneSet}
-use Rattle.loop_vb2.specs.declared.reason.Reason.{Reason}
 use Rattle.loop_vb2.specs.Planes.{number_at, read_set}
 use Rattle.loop_ioctl.specs.declared.call.PlaneFds.{PlaneFds}
 use Rattle.loop_ioctl.specs.Names.{Names, or_else, renamed, fd_refusal, value_of, place_refusal, place_value, place_taken, first_taken, second_taken, set_taken, set_refusal, set_named, in_place, values_in, values_of, given_back, AreAway}

@@ -1,11 +1,10 @@
 -- What an ioctl makes of a queue and the names of fds, and how it is answered.
-use Rattle.std.specs.Prelude.{◌≡◌, ◌⊎◌, ℕ, zero, suc, Bool, true, false, not, nat_le, cond, List, [], ◌∷◌, length, map, Option, Some, None, option_map, option_to_list, Result, Ok, Err, slice_get}
+use Rattle.std.specs.Prelude.{◌≡◌, ◌⊎◌, ℕ, zero, suc, true, false, not, nat_le, cond, List, [], ◌∷◌, length, map, Option, Some, None, option_map, option_to_list, Result, Ok, Err, slice_get}
 use Rattle.loop_plane.specs.Plane.{Plane}
 use Rattle.loop_plane.specs.Fds.{Fds}
 use Rattle.loop_plane.specs.declared.memory.Memory.{Memory}
 use Rattle.loop_plane.specs.declared.memory.Memory.TheVariants.{Mmap, UserPtr, DmaBuf}
 use Rattle.loop_vb2.specs.declared.buffer.Buffer.{Buffer}
-use Rattle.loop_vb2.specs.declared.buffer.BufferInfo.{BufferInfo}
 use Rattle.loop_vb2.specs.declared.buffer.Dequeued.{Dequeued}
 use Rattle.loop_vb2.specs.declared.planes.PlaneSet.{PlaneSet}
 use Rattle.loop_vb2.specs.declared.reason.Errno.{Errno}

@@ -1,5 +1,5 @@
 -- Lists of events of application and device, each with its reply.
-use Rattle.std.specs.Prelude.{◌≡◌, ℕ, Bool, true, ◌&&◌, ◌==◌, length, List, [], ◌∷◌, ◌++◌, Result, Ok, Err}
+use Rattle.std.specs.Prelude.{◌≡◌, Bool, true, ◌&&◌, ◌==◌, length, List, [], ◌∷◌, ◌++◌}
 use Rattle.loop_plane.specs.Plane.{Plane}
 use Rattle.loop_plane.specs.Fds.{Fds}
 use Rattle.loop_record.specs.Turns.{after_all, EachIn}

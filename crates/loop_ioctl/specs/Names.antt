@@ -1,11 +1,10 @@
 -- What fds name, and the planes of a set that are taken from them and given back.
-use Rattle.std.specs.Prelude.{◌≡◌, ℕ, Bool, cond, ◌==◌, nat_lt, List, [], ◌∷◌, ◌++◌, Option, Some, None, option_map, Result, Ok, Err}
+use Rattle.std.specs.Prelude.{◌≡◌, ℕ, Bool, cond, ◌==◌, nat_lt, List, [], ◌∷◌, ◌++◌, Option, Some, None, Result, Ok, Err}
 use Rattle.slab.specs.Slab.{SameValues}
 use Rattle.loop_plane.specs.Fds.{Fds, names}
 use Rattle.loop_plane.specs.declared.table.FdFault.{FdFault}
 use Rattle.loop_plane.specs.declared.table.FdFault.TheVariants as fault
 use Rattle.loop_vb2.specs.declared.planes.PlaneSet.{PlaneSet}
-use Rattle.loop_vb2.specs.declared.planes.Planes.{Planes}
 use Rattle.loop_vb2.specs.declared.reason.Reason.{Reason}
 use Rattle.loop_vb2.specs.declared.reason.Reason.TheVariants.{NoSuchFd, FdAttached}
 use Rattle.loop_vb2.specs.Planes.{number_at}

@@ -1,4 +1,4 @@
-use Rattle.std.proofs.Common.{◌≡◌, true, subst, sym, ap, Err, rules}
+use Rattle.std.proofs.Common.{◌≡◌, true, subst, sym, Err, rules}
 use Rattle.loop_ioctl.specs.Names.{TakesPlace}
 use Rattle.loop_ioctl.proofs.Names.{took_some, took_fails}
 use Rattle.loop_ioctl.proofs.fds.take_place.Goals as goal

@@ -1,7 +1,7 @@
-use Rattle.std.proofs.Common.{sym, ap, subst, ◌∙◌, Some, Err}
+use Rattle.std.proofs.Common.{sym, ap, subst, ◌∙◌, Err}
 use Rattle.loop_ioctl.specs.declared.call.BufferMemory.TheVariants as memory
 use Rattle.loop_ioctl.specs.Parts.{Puts}
-use Rattle.loop_ioctl.proofs.Putting.{puts_mmap, puts_user, puts_held, named_refused}
+use Rattle.loop_ioctl.proofs.Putting.{puts_user, puts_held, named_refused}
 use Rattle.loop_ioctl.proofs.put.put_memory.Goals as goal
 
 pub returns-in-UserPtr-clause-step : goal.returns-in-UserPtr-clause-step

@@ -1,1 +1,0 @@
-use Rattle.loop_ioctl.proofs.fds.give_all.Goals as goal
