@@ -4,7 +4,6 @@ use crate::session::Session;
 use crate::simulate::simulate;
 use loop_budget::Budget;
 use loop_record::{Geometry, PixelFormat};
-use loop_store::StoreFault;
 use std::alloc::{AllocError, Allocator, Global};
 use std::io;
 use std::io::{Error, ErrorKind, Read, Write};
@@ -337,12 +336,10 @@ fn printed<A: Allocator + Copy>(
     Ok((status, out, err))
 }
 
-// Whether it is printed that there is no memory for the format, and then no store. A disk in memory fails where its record
-// can't grow.
+// Whether it is printed that there is no memory for the format, and then no store.
 fn is_refused_format(out: &[u8]) -> bool {
     let none = b"refused 4 NotFormatted\nrefused 4 NotFormatted\nrefused 4 NotFormatted\n";
-    let begins = out.starts_with(b"refused 1 NoMemory\n") || out.starts_with(b"refused 2 Disk\n");
-    begins && out.ends_with(none)
+    out.starts_with(b"refused 1 NoMemory\n") && out.ends_with(none)
 }
 
 #[test]
@@ -385,7 +382,7 @@ fn want_of_memory_is_a_refusal_of_its_line(rt: HostRuntime) -> Result<(), Fail> 
 }
 
 #[test]
-fn a_store_that_failed_is_opened_again(rt: HostRuntime) -> Result<(), Fail> {
+fn stores_and_reads_take_no_memory(rt: HostRuntime) -> Result<(), Fail> {
     let budget = Budget::new(rt.alloc());
     budget.allow(1000);
     let geometry = Geometry {
@@ -399,25 +396,13 @@ fn a_store_that_failed_is_opened_again(rt: HostRuntime) -> Result<(), Fail> {
     };
     let mut session = Session::format(&budget, geometry)?;
     budget.allow(0);
-    let mut stored = 0;
-    let mut refused = None;
-    for _ in 0..1000 {
-        match session.store_next() {
-            Ok(_) => stored = session.next(),
-            Err(fault) => {
-                refused = Some(fault.number());
-                break;
-            }
-        }
+    for number in 0..1000 {
+        assert_eq!(rt; session.store_next(), Ok(number));
     }
-    assert_eq!(rt; refused, Some(2));
-    assert_eq!(rt; session.store_next(), Err(StoreFault::MustReopen));
+    let head = session.read(999)?;
+    assert_eq!(rt; u64::from(head.sequence), 999);
     budget.allow(1000);
     let mut session = session.reopen(&budget)?;
-    assert!(rt; session.next() == stored);
-    // The refused frame wasn't accepted, so it is made again.
-    assert_eq!(rt; session.store_next(), Ok(stored));
-    let head = session.read(stored)?;
-    assert_eq!(rt; u64::from(head.sequence), stored);
+    assert_eq!(rt; session.store_next(), Ok(1000));
     Ok(())
 }
