@@ -27,6 +27,7 @@ The program prints a line for each list. A reply is `ok`, or `n` with the buffer
 errno, whether planes come back and how many sets of the supply do. After `|` stand flags, state and used bytes of the buffers 0 to
 2, which of the fds 0 and 1 aren't attached, whether the device has started and the buffer that has been active longest.
 """
+import copy
 import itertools
 import random
 import subprocess
@@ -38,10 +39,11 @@ FLAGS = {"Dequeued": 0, "Prepared": 0x400, "Queued": 0x2, "Active": 0x2, "Done":
 OWNER = {"Dequeued": "application", "Active": "device", "Prepared": "queue", "Queued": "queue", "Done": "queue", "Error": "queue"}
 MAPPED, ERROR, MONOTONIC = 0x1, 0x40, 0x2000
 ENDED = ("Done", "Error")
+# What can change a queue of two buffers, for each kind of memory: the lists of at most five events are made of these.
 SHORT = {
-    "m": "q0 q1 p0 d0 +0 -0 c0 c1 f0 x0 m0 u0 r0 s1 s2".split(),
-    "u": "Q0 Q1 q0 q1 P0 d0 +0 -0 c0 c1 f0 x0 r0 r2".split(),
-    "d": "Q0 R0 Q1 R1 q0 P0 d0 +0 -0 c0 c1 f1 x0 r2".split(),
+    "m": "q0 q1 p0 p1 d0 +0 -0 c0 c1 f0 f1 x0 m0 m1 u0 u1 r0 s1 s2".split(),
+    "u": "q0 q1 p0 p1 Q0 Q1 P0 P1 d0 +0 -0 c0 c1 f0 f1 x0 r0 r1 r2".split(),
+    "d": "q0 q1 p0 p1 Q0 Q1 R0 R1 P0 P1 d0 +0 -0 c0 c1 f0 f1 x0 r0 r1 r2".split(),
 }
 ALL = (
     "q0 q1 q2 p0 p1 p2 Q0 Q1 Q2 P0 P1 R0 R1 S0 T0 T1 K0 d0 +0 -0 m0 m1 m2 u0 u1 u2 ?0 ?1 ?2 r0 r1 r2 s0 s1 s2 t0 "
@@ -82,6 +84,12 @@ class Model:
         self.attached = {0: False, 1: False}
         self.streaming = self.started = self.fatal = False
         self.clock = 0
+        self.number, self.said = 0, ""
+
+    def copy(self):
+        other = copy.copy(self)
+        other.buffers, other.attached = [copy.copy(buffer) for buffer in self.buffers], dict(self.attached)
+        return other
 
     def tick(self):
         self.clock += 1
@@ -161,11 +169,11 @@ class Model:
         self.buffers = [Buffer("mmap" if self.kind == "m" else None) for _ in range(grants)]
         return f"n{grants}:{left}"
 
-    def end(self, index, state, used, sequence):
+    def end(self, index, state, used):
         """The device has filled an active buffer, or gives it up."""
         first_of((2, lambda: index >= len(self.buffers)), (18, lambda: self.buffers[index].state != "Active"))
         buffer = self.buffers[index]
-        buffer.state, buffer.used, buffer.sequence, buffer.ended_as = state, used, sequence, self.tick()
+        buffer.state, buffer.used, buffer.sequence, buffer.ended_as = state, used, self.number, self.tick()
         return "ok"
 
     def stream_on(self):
@@ -190,7 +198,7 @@ class Model:
         first_of((2, lambda: index >= len(self.buffers)))
         return f"I{self.buffers[index].shown()}:{self.buffers[index].used}"
 
-    def event(self, letter, digit, number):
+    def event(self, letter, digit):
         """The reply to an event, or Refused."""
         if letter in "qp":
             return self.put(digit, letter == "p", self.kind, None)
@@ -199,7 +207,7 @@ class Model:
         if letter in "rs":
             return self.request(digit, digit if letter == "s" else 0)
         if letter in "cf":
-            return self.end(digit, "Done" if letter == "c" else "Error", int(letter == "c"), number)
+            return self.end(digit, "Done" if letter == "c" else "Error", int(letter == "c"))
         if letter in "mu?":
             return {"m": self.map, "u": self.unmap, "?": self.query}[letter](digit)
         if letter == "d":
@@ -238,10 +246,10 @@ class Model:
         waiting = [buffer.queued_as for buffer in self.buffers if buffer.state in ("Queued", "Active")]
         assert len(set(ended)) == len(ended) and len(set(waiting)) == len(waiting)
 
-    def reply(self, letter, digit, number):
+    def reply(self, letter, digit):
         """The text of the reply; planes and supply of a refused call come back."""
         try:
-            return self.event(letter, digit, number)
+            return self.event(letter, digit)
         except Refused as refused:
             reason = refused.args[0]
             back = int(letter in "TK" or (letter in "QPRS" and self.kind != "d"))
@@ -255,43 +263,50 @@ class Model:
         longest = self.buffers.index(min(active, key=lambda one: one.queued_as)) if active else "none"
         return f"{' '.join(shown)} {int(self.started)} {longest}"
 
+    def run(self, events):
+        """Runs events, and notes their replies."""
+        for at in range(0, len(events), 2):
+            self.said += " " + self.reply(events[at], int(events[at + 1]))
+            self.number += 1
+            self.check()
+        return self
 
-def told(line):
-    """The line that the rules say of a list."""
-    model, said = Model(line[0]), []
-    for number, at in enumerate(range(1, len(line), 2)):
-        said.append(" " + model.reply(line[at], int(line[at + 1]), number))
-        model.check()
-    return f"{''.join(said)} | {model.state()}"
+    def told(self):
+        """The line that the rules say of the events so far."""
+        return f"{self.said} | {self.state()}"
 
 
 def every(events, most, kinds):
-    """Every list of at most so many events."""
+    """Every list of at most so many events, with its line. What lists share but for the last event is run once."""
     for kind in kinds:
-        for length in range(most + 1):
-            for some in itertools.product(events(kind), repeat=length):
-                yield kind + "".join(some)
+        yield kind, Model(kind).told()
+        for length in range(most):
+            for first in map("".join, itertools.product(events(kind), repeat=length)):
+                begun = Model(kind).run(first)
+                for last in events(kind):
+                    yield kind + first + last, begun.copy().run(last).told()
 
 
 def some(count, seed):
-    """Random lists; each draws from a part of the letters, so that some lists stay clear of what ends a stream."""
+    """Random lists with their lines; each draws from a part of the letters, so that some lists stay clear of what ends a stream."""
     chance = random.Random(seed)
     for _ in range(count):
         events = OFTEN + chance.sample(ALL, chance.randrange(1, len(ALL) + 1))
-        yield chance.choice("mud") + "".join(chance.choices(events, k=chance.randrange(1001)))
+        kind, line = chance.choice("mud"), "".join(chance.choices(events, k=chance.randrange(1001)))
+        yield kind + line, Model(kind).run(line).told()
 
 
 def compare(program, lists, batch=20000):
     """Runs the program on the lists, so many at a time. How many were compared, and how many events they had."""
     count = events = 0
-    while lines := list(itertools.islice(lists, batch)):
-        run = subprocess.run([program], input="\n".join(lines) + "\n", capture_output=True, text=True, check=True)
-        answers = run.stdout.splitlines()
-        for line, answer in itertools.zip_longest(lines, answers):
-            if line is None or answer != told(line):
-                print(f"list    {line}\nprogram {answer}\nrules   {line and told(line)}")
+    while told := list(itertools.islice(lists, batch)):
+        text = "".join(line + "\n" for line, _ in told)
+        answers = subprocess.run([program], input=text, capture_output=True, text=True, check=True).stdout.splitlines()
+        for (line, rules), answer in itertools.zip_longest(told, answers, fillvalue=("", "")):
+            if answer != rules:
+                print(f"list    {line}\nprogram {answer}\nrules   {rules}")
                 sys.exit(1)
-        count, events = count + len(lines), events + sum(len(line) // 2 for line in lines)
+        count, events = count + len(told), events + sum(len(line) // 2 for line, _ in told)
     return count, events
 
 
