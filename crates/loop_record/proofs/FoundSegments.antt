@@ -8,19 +8,16 @@ use Rattle.std.specs.List.{list_any, position_or_len, range_with_len, enumerate_
 use Rattle.loop_record.specs.declared.clip.Span.{Span}
 use Rattle.loop_record.specs.declared.damage.Damage.{Damage}
 use Rattle.loop_record.specs.declared.damage.Damage.TheVariants.{DiskSize, BlockTooHigh, RepeatedBlock, ClosedGate, SlotHead, ClipRange}
-use Rattle.loop_record.specs.declared.damage.ImageFault.{ImageFault}
-use Rattle.loop_record.specs.declared.damage.ImageFault.TheVariants.{NoMemory, Layout}
 use Rattle.loop_record.specs.declared.damage.LayoutFault.{LayoutFault}
 use Rattle.loop_record.specs.declared.damage.LayoutFault.TheVariants.{Damaged}
 use Rattle.loop_record.specs.declared.frame.FrameHead.{FrameHead}
 use Rattle.loop_record.specs.declared.geometry.Geometry.{Geometry}
-use Rattle.loop_record.specs.declared.frame.Numbered.{Numbered}
 use Rattle.loop_record.specs.declared.image.Found.{Found}
 use Rattle.loop_record.specs.declared.segment.SegmentHead.{SegmentHead}
 use Rattle.loop_record.specs.Geometry.{frame_bytes, segment_at, segment_size, slot_at, disk_size}
 use Rattle.loop_record.specs.Layout.{Slot, Segment, slot_head, is_open, is_slot_of, is_too_high, slot_in, segment_in, whole_frames, entry_at, clip_in, geometry_in, header_at, checked_header}
 use Rattle.loop_record.specs.Reading.{reading, Contents, Holds, contents, with_geometry, shown, checked, recording_of, is_bad_clip, has_bad_clip, parts_of, opened, by_block, in_place, repeats, lacks_frame, hold_from, is_bad_slot, is_high, next_after, all_frames}
-use Rattle.loop_record.specs.Plain.{numbered, segment_of, segments_of, found_of, found_at, held_clip, lacks_number, table_clips, with_segment, Reads, IsIn, AreIn, IsSomeHigh, IsFrameIn}
+use Rattle.loop_record.specs.Plain.{segment_of, segments_of, found_of, found_at, held_clip, lacks_number, table_clips, with_segment, IsIn, AreIn, IsSomeHigh}
 use Rattle.loop_record.proofs.Fresh.{header_at-slice, slot_in-slice, entry_at-slice}
 use Rattle.std.proofs.Math.Nat.{mul-le-mul_right, add-mul}
 use Rattle.loop_record.proofs.Framing.{prefix_range-le, slot_within}
@@ -108,41 +105,6 @@ slots-hold g image j i first held one =
     let end : first + length (read_slots g image j i) ≡ first + i = ap (λ (k : ℕ). first + k) (length-read_slots g image j i) in
     ap (hold_from (frame_bytes g) first) (read_slots-split g image j i 1) ∙ hold_from-append (frame_bytes g) first (read_slots g image j i) (s ∷ []) (first + i) end ∙ (λ k. held k && (one k && true))
 
--- the slots so far, and one more that holds its frame
-pub slots-more : {A : Type 0} (g : Geometry) (image : List ℕ) (j i first : ℕ) (kept : List (ℕ × Picture)) (x : Numbered A) (old new pushed : List (Numbered A))
-    → hold_from (frame_bytes g) first (read_slots g image j i) ≡ true → numbered old ≡ kept ++ enumerate_from first (map (λ t. t.picture) (read_slots g image j i))
-    → IsFrameIn (frame_bytes g) (first + i) (slot_in (frame_bytes g) image (slot_at g j i)) x → pushed ≡ old ++ x ∷ []
-    → (hold_from (frame_bytes g) first (read_slots g image j (i + 1)) ≡ true) × (numbered pushed ≡ kept ++ enumerate_from first (map (λ t. t.picture) (read_slots g image j (i + 1))))
-slots-more {A} g image j i first kept x old new pushed held so_far is e = (holds, frames)
-  where
-    s : Slot
-    s = slot_in (frame_bytes g) image (slot_at g j i)
-
-    split : read_slots g image j (i + 1) ≡ read_slots g image j i ++ s ∷ []
-    split = read_slots-split g image j i 1
-
-    holds : hold_from (frame_bytes g) first (read_slots g image j (i + 1)) ≡ true
-    holds = slots-hold g image j i first held is.holds
-
-    pics : map (λ t. t.picture) (read_slots g image j (i + 1)) ≡ map (λ t. t.picture) (read_slots g image j i) ++ s.picture ∷ []
-    pics = ap (map (λ t. t.picture)) split ∙ map-append (λ t. t.picture) (read_slots g image j i) (s ∷ [])
-
-    size : first + length (map (λ t. t.picture) (read_slots g image j i)) ≡ first + i
-    size = ap (λ (k : ℕ). first + k) (length-map (read_slots g image j i) (λ t. t.picture) ∙ length-read_slots g image j i)
-
-    pair : ℕ → Picture → ℕ × Picture
-    pair n q = (n, q)
-
-    one : pair x.number (picture x.frame) ≡ pair (first + i) s.picture
-    one = λ k. pair (is.number_is k) (is.picture_is k)
-
-    frames : numbered pushed ≡ kept ++ enumerate_from first (map (λ t. t.picture) (read_slots g image j (i + 1)))
-    frames =
-        ap (λ (xs : List (Numbered A)). numbered xs) e ∙ map-append (λ (y : Numbered A). (y.number, picture y.frame)) old (x ∷ [])
-        ∙ (λ k. so_far k ++ one k ∷ [])
-        ∙ append_assoc kept (enumerate_from first (map (λ t. t.picture) (read_slots g image j i))) ((first + i, s.picture) ∷ [])
-        ∙ ap (λ (fs : List (ℕ × Picture)). kept ++ fs) (sym (ap (enumerate_from first) pics ∙ enumerate-append first (first + i) (map (λ t. t.picture) (read_slots g image j i)) (s.picture ∷ []) size))
-
 -- a slot that holds another frame makes its segment a bad one
 pub slots-bad : (g : Geometry) (image : List ℕ) (f : Found) (i : ℕ) → i < f.frames → is_slot_of (frame_bytes g) (f.block * g.slots + i) (slot_in (frame_bytes g) image (slot_at g f.segment i)) ≡ false → is_bad_slot g (segment_of g image f) ≡ true
 slots-bad g image f i l fails =
@@ -168,13 +130,6 @@ slots-bad g image f i l fails =
     split =
         let count : f.frames ≡ i + suc (f.frames - i - 1) = omega (arith, l) in
         ap (read_slots g image f.segment) count ∙ read_slots-split g image f.segment i (suc (f.frames - i - 1))
-
--- a slot, cut out of its image, holds what it holds in it
-pub slot-cut : (n at : ℕ) (image cut : List ℕ) → at + 32 + n ≤ length image → cut ≡ slice_range image at (at + 32 + n) → (length cut - 32 ≡ n) × (slot_in (length cut - 32) cut 0 ≡ slot_in n image at)
-slot-cut n at image cut room is = (size, ap (λ (k : ℕ). slot_in k cut 0) size ∙ ap (λ (c : List ℕ). slot_in n c 0) is ∙ slot_in-slice n at image)
-  where
-    size : length cut - 32 ≡ n
-    size = omega (arith, ap (λ (c : List ℕ). length c) is, length-take (at + 32 + n - at) (drop at image), length-drop at image, room)
 
 -- ---- what was found
 
@@ -302,10 +257,6 @@ some-high g image j l high = any-by_block (is_high g) (opened (parts_of g image)
 
 -- ---- answers that stand for a fault
 
-pub Reads-err : {T U : Type 0} (e : ImageFault) (P : T → Type 0) (P' : U → Type 0) (Q Q' : LayoutFault → Type 0) → ((f : LayoutFault) → Q f → Q' f) → Reads (let r : Result T ImageFault = Err e in r) P Q → Reads (let r : Result U ImageFault = Err e in r) P' Q'
-Reads-err NoMemory P P' Q Q' h x = tt
-Reads-err (Layout f) P P' Q Q' h x = h f x
-
 pub slot-wrong : (n number : ℕ) (s : Slot) (d : Damage) → (let r : Result FrameHead Damage = Err d in r) ≡ slot_head n number s → (Damaged d ≡ Damaged SlotHead) × (is_slot_of n number s ≡ false)
 slot-wrong n number s d e = go (is_slot_of n number s) refl e
   where
@@ -326,33 +277,6 @@ slot-room g image j i l k size =
     let le : (j + 1) * segment_size g ≤ g.segments * segment_size g = mul-le-mul_right (segment_size g) (omega (arith, l)) in
     let split : (j + 1) * segment_size g ≡ j * segment_size g + segment_size g = omega (arith, add-mul j 1 (segment_size g)) in
     omega (arith, within, le, split, size)
-
--- what was read of a cut slot, said of its image
-pub frame-is : {A : Type 0} (n at first i number : ℕ) (image cut : List ℕ) (x : Numbered A) → at + 32 + n ≤ length image → cut ≡ slice_range image at (at + 32 + n) → number ≡ first + i
-    → IsFrameIn (length cut - 32) number (slot_in (length cut - 32) cut 0) x → IsFrameIn n (first + i) (slot_in n image at) x
-frame-is n at first i number image cut x room is counted f =
-    let k = slot-cut n at image cut room is in
-    record {
-      holds = sym (λ q. is_slot_of (k.0 q) (counted q) (k.1 q)) ∙ f.holds;
-      number_is = f.number_is ∙ counted;
-      picture_is = f.picture_is ∙ ap (λ (s : Slot). s.picture) k.1;
-    }
-
-pub segment-wrong : {T U : Type 0} (g : Geometry) (image cut : List ℕ) (f : Found) (i number : ℕ) (e : ImageFault) (P : T → Type 0) (P' : U → Type 0)
-    → f.segment < g.segments → i < g.slots → length image ≡ disk_size g → cut ≡ slice_range image (slot_at g f.segment i) (slot_at g f.segment i + 32 + frame_bytes g) → number ≡ f.block * g.slots + i → i < f.frames
-    → Reads (let r : Result T ImageFault = Err e in r) P (λ fault. (fault ≡ Damaged SlotHead) × (is_slot_of (length cut - 32) number (slot_in (length cut - 32) cut 0) ≡ false))
-    → Reads (let r : Result U ImageFault = Err e in r) P' (λ fault. (fault ≡ Damaged SlotHead) × (is_bad_slot g (segment_of g image f) ≡ true))
-segment-wrong g image cut f i number e P P' l k size is counted few x =
-    let n = frame_bytes g in
-    let at = slot_at g f.segment i in
-    let c = slot-cut n at image cut (slot-room g image f.segment i l k size) is in
-    Reads-err e P P' (λ fault. (fault ≡ Damaged SlotHead) × (is_slot_of (length cut - 32) number (slot_in (length cut - 32) cut 0) ≡ false)) (λ fault. (fault ≡ Damaged SlotHead) × (is_bad_slot g (segment_of g image f) ≡ true))
-    (λ fault q. (q.0, slots-bad g image f i few (sym (λ t. is_slot_of (c.0 t) (counted t) (c.1 t)) ∙ q.1))) x
-
-pub Reads-weaker : {T : Type 0} (r : Result T ImageFault) (P P' : T → Type 0) (Q Q' : LayoutFault → Type 0) → ((x : T) → P x → P' x) → ((f : LayoutFault) → Q f → Q' f) → Reads r P Q → Reads r P' Q'
-Reads-weaker (Ok x) P P' Q Q' p q h = p x h
-Reads-weaker (Err NoMemory) P P' Q Q' p q h = tt
-Reads-weaker (Err (Layout f)) P P' Q Q' p q h = q f h
 
 pub AreIn-last : (g : Geometry) (xs : List Found) (x : Found) → AreIn g (xs ++ x ∷ []) → IsIn g x
 AreIn-last g [] x h = h.0
@@ -540,13 +464,6 @@ pub record AreFull (g : Geometry) (image : List ℕ) (fs xs : List Found) : Type
 abbrev pub fault_is : LayoutFault → Result Contents LayoutFault
 fault_is f = Err f
 
-pub read-bad_slot : {T U : Type 0} (g : Geometry) (image : List ℕ) (fs xs : List Found) (e : ImageFault) (P : T → Type 0) (P' : U → Type 0) → AreFull g image fs xs
-    → Reads (let r : Result T ImageFault = Err e in r) P (λ fault. (fault ≡ Damaged SlotHead) × (list_any (is_bad_slot g) (segments_of g image xs) ≡ true))
-    → Reads (let r : Result U ImageFault = Err e in r) P' (λ fault. reading image ≡ Err fault)
-read-bad_slot g image fs xs e P P' a x =
-    Reads-err e P P' (λ fault. (fault ≡ Damaged SlotHead) × (list_any (is_bad_slot g) (segments_of g image xs) ≡ true)) (λ fault. reading image ≡ Err fault)
-    (λ fault q. reading-bad_slot g image (segments_of g image xs) (found-read g image fs xs a.found) (found-low g image fs xs a.found) a.single a.full q.1 ∙ ap fault_is (sym q.0)) x
-
 whole-so : (g : Geometry) (image : List ℕ) (fs xs : List Found) → AreFull g image fs xs → list_any (is_bad_slot g) (segments_of g image xs) ≡ false → IsSoundSo g image (segments_of g image xs)
 whole-so g image fs xs a right = record { read = found-read g image fs xs a.found; low = found-low g image fs xs a.found; single = a.single; full = a.full; right = right }
 
@@ -564,10 +481,6 @@ pub read-all : (g : Geometry) (image : List ℕ) (fs xs : List Found) (next : �
 read-all g image fs xs next frames clips a right are after clips_are good =
     reading-all g image (segments_of g image xs) (whole-so g image fs xs a right) (sym (ap (λ (q : List (ℕ × Picture)). some_bad q (clips_in image)) are) ∙ good)
     ∙ (λ i. Ok (record { geometry = g; recording = record { next = sym after i; frames = sym are i; clips = sym clips_are i } }))
-
--- the frames that were read into an empty list
-pub read-into : {A : Type 0} (g : Geometry) (ss : List Segment) (old new xs : List (Numbered A)) → old ≡ [] → numbered new ≡ numbered old ++ all_frames g ss → xs ≡ new → numbered xs ≡ all_frames g ss
-read-into {A} g ss old new xs none are same = ap (λ (ys : List (Numbered A)). numbered ys) same ∙ are ∙ ap (λ (ys : List (Numbered A)). numbered ys ++ all_frames g ss) none
 
 pub good-frames : (image : List ℕ) (fs gs : List (ℕ × Picture)) → gs ≡ fs → some_bad fs (clips_in image) ≡ false → some_bad gs (clips_in image) ≡ false
 good-frames image fs gs e good = ap (λ (q : List (ℕ × Picture)). some_bad q (clips_in image)) e ∙ good

@@ -1,51 +1,21 @@
--- The plain recorder as a program's value, and what its calls do to it.
-use Rattle.std.specs.Prelude.{◌≡◌, ◌<◌, ◌≤◌, ℕ, ◌+◌, ◌-◌, ◌*◌, ◌/◌, ◌%◌, ◌==◌, ◌||◌, Bool, true, false, not, [], ◌∷◌, IsTrue, ◌&&◌, nat_le, nat_lt, if◌then◌else◌, Option, Some, None, Result, Ok, Err, List, map}
+-- Frames without where their bytes lie, and what the headers and the clip table of an image say together.
+use Rattle.std.specs.Prelude.{◌<◌, ◌≤◌, ◌≡◌, ℕ, ◌+◌, ◌-◌, ◌*◌, ◌/◌, ◌%◌, ◌==◌, ◌||◌, Bool, true, false, not, [], ◌∷◌, ◌&&◌, nat_lt, if◌then◌else◌, Option, Some, None, Result, Ok, Err, List, map}
 use Rattle.std.specs.List.{list_all, list_any, range_with_len}
 use Rattle.loop_record.specs.declared.clip.Span.{Span}
 use Rattle.loop_record.specs.declared.frame.Frame.{Frame}
-use Rattle.loop_record.specs.declared.frame.Numbered.{Numbered}
 use Rattle.loop_record.specs.declared.damage.Damage.{Damage}
 use Rattle.loop_record.specs.declared.damage.Damage.TheVariants.{ClipRange}
-use Rattle.loop_record.specs.declared.damage.ImageFault.{ImageFault}
-use Rattle.loop_record.specs.declared.damage.ImageFault.TheVariants.{NoMemory, Layout}
-use Rattle.loop_record.specs.declared.damage.LayoutFault.{LayoutFault}
 use Rattle.loop_record.specs.declared.geometry.Geometry.{Geometry}
 use Rattle.loop_record.specs.declared.image.Found.{Found}
-use Rattle.loop_record.specs.declared.plain.AppendFault.{AppendFault}
 use Rattle.loop_record.specs.declared.segment.SegmentHead.{SegmentHead}
-use Rattle.loop_record.specs.Geometry.{is_good, frame_bytes, segment_at, slot_at}
-use Rattle.loop_record.specs.Recording.{Picture, Recording, Step, store, recycle, free_id, holds_all, picture, ring_of, after, IsWellFormed}
-use Rattle.loop_record.specs.Layout.{Slot, Segment, slot_in, is_slot_of, is_too_high, header_at, checked_header, entry_at}
-use Rattle.loop_record.specs.Reading.{Contents, in_place, is_high}
+use Rattle.loop_record.specs.Geometry.{frame_bytes, segment_at, slot_at}
+use Rattle.loop_record.specs.Recording.{Picture, picture}
+use Rattle.loop_record.specs.Layout.{Segment, checked_header, entry_at, header_at, is_too_high, slot_in}
+use Rattle.loop_record.specs.Reading.{in_place, is_high}
 
--- frames with their numbers, without where their bytes lie in memory
-abbrev pub numbered : {A : Type 0} → List (Numbered A) → List (ℕ × Picture)
-numbered frames = map (λ f. (f.number, picture f.frame)) frames
-
--- the same of frames that have no number yet
+-- frames without where their bytes lie in memory
 abbrev pub pictures : {A : Type 0} → List (Frame A) → List Picture
 pictures frames = map picture frames
-
--- the contents after a step
-abbrev pub stepped : Contents → Step → Contents
-stepped c step = record c { recording = after (ring_of c.geometry) c.recording step }
-
--- the steps of an append, by what it does first
-abbrev pub append_steps : Result (Option ℕ) AppendFault → List Picture → Option (List Step)
-append_steps (Ok None) group = Some (map store group)
-append_steps (Ok (Some b)) group = Some (recycle b ∷ map store group)
-append_steps (Err fault) group = None
-
--- the id that a clip gets, if it may be locked
-abbrev pub lock_id : Recording → Span → Option ℕ
-lock_id r s = if nat_le s.from s.to && holds_all r s && nat_lt (free_id r) 64 then Some (free_id r) else None
-
--- a good geometry and a well-formed recording
-pub record IsSound (c : Contents) : Type 0 where
-  pub good : IsTrue (is_good c.geometry)
-  pub form : IsWellFormed c.recording
-
--- ---- an image that is read
 
 -- the segment whose header was found open
 abbrev pub segment_of : Geometry → List ℕ → Found → Segment
@@ -54,12 +24,6 @@ segment_of g image f = record { block = f.block; slots = map (λ i. slot_in (fra
 -- those segments
 abbrev pub segments_of : Geometry → List ℕ → List Found → List Segment
 segments_of g image fs = map (segment_of g image) fs
-
--- the answer is as the first says, or the fault as the second, or memory was refused
-abbrev pub Reads : {T : Type 0} → Result T ImageFault → (T → Type 0) → (LayoutFault → Type 0) → Type 0
-Reads (Ok x) P Q = P x
-Reads (Err NoMemory) P Q = Unit {0}
-Reads (Err (Layout fault)) P Q = Q fault
 
 -- the segment that a header says, if it is open and its block isn't too high
 abbrev pub found_of : ℕ → Result (Option SegmentHead) Damage → Result (Option Found) Damage
@@ -91,12 +55,6 @@ IsSomeHigh g (Some s) = is_high g s ≡ true
 abbrev pub with_segment : Option Segment → List Segment → List Segment
 with_segment None ss = ss
 with_segment (Some s) ss = in_place s ss
-
--- the frame of a slot, with its number
-pub record IsFrameIn {A : Type 0} (n number : ℕ) (s : Slot) (x : Numbered A) : Type 0 where
-  pub holds : is_slot_of n number s ≡ true
-  pub number_is : x.number ≡ number
-  pub picture_is : picture x.frame ≡ s.picture
 
 -- a found segment has the frame of that number
 abbrev pub has_number : Geometry → ℕ → Found → Bool

@@ -9,3 +9,4 @@ pub mod Committing
 pub mod SlotReads
 pub mod Frames
 pub mod Clearing
+pub mod Least

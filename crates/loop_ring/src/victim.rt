@@ -4,7 +4,7 @@ ghost use Rattle.std.specs.List.{filter_map, reduce};
 ghost use Rattle.loop_record.specs.Geometry.{is_good};
 ghost use Rattle.loop_record.specs.Reading.{Holds};
 ghost use Rattle.loop_record.specs.Recording.{Recording, ring_of, victim};
-ghost use Rattle.loop_ring.specs.Heads.{IsPlaceOf, going_block, held_block, heads_of};
+ghost use Rattle.loop_ring.specs.Heads.{IsPlaceOf, going_block, held_block, heads_of, is_below, with_least};
 
 use crate::SegmentTable;
 use loop_record::{Geometry, SegmentHead, Span, may_go};
@@ -59,21 +59,38 @@ fn newest_block(heads: &[Option<SegmentHead>]) -> Option<u64>
     heads.iter().filter_map(|head| held_block(*head)).max()
 }
 
-// The block of a segment that is open and has a whole frame, if that block may go.
-fn going_block(
+// Whether a block is below another one, if that is there.
+fn is_below(block: u64, other: Option<u64>) -> bool
+    ensures { result ≡ is_below block other }
+{
+    match other {
+        Some(other) => block < other,
+        None => true,
+    }
+}
+
+// The lesser of the least block so far and that of one segment more, if that one has a whole frame and its block may go. Whether a
+// clip meets a block is asked only of a lesser one: with many clips that is most of the work.
+fn lesser(
     geometry: &Geometry,
     clips: &[Option<Span>],
     newest: u64,
+    least: Option<u64>,
     head: Option<SegmentHead>,
 ) -> Option<u64>
     requires { IsTrue (is_good geometry.now) }
-    ensures { result ≡ going_block (ring_of geometry.now) clips.now newest head }
+    ensures { result ≡ with_least least (going_block (ring_of geometry.now) clips.now newest head) }
 {
-    let head = head?;
-    if head.frames > 0 && may_go(geometry, clips, newest, head.block) {
-        Some(head.block)
+    let Some(block) = held_block(head) else {
+        return least;
+    };
+    if !is_below(block, least) {
+        return least;
+    }
+    if may_go(geometry, clips, newest, block) {
+        Some(block)
     } else {
-        None
+        least
     }
 }
 
@@ -87,8 +104,9 @@ fn oldest_block(
     requires { IsTrue (is_good geometry.now) }
     ensures { result ≡ reduce min (filter_map (going_block (ring_of geometry.now) clips.now newest) heads.now) }
 {
-    heads
-        .iter()
-        .filter_map(|head| going_block(geometry, clips, newest, *head))
-        .min()
+    let mut least = None;
+    for head in heads {
+        least = lesser(geometry, clips, newest, least, *head);
+    }
+    least
 }

@@ -25,7 +25,9 @@ pub fn format_and_append<D: Disk + Drop, A: Allocator + Copy>(
     requires room { length frames.now ≤ geometry.slots }
     requires sizes { All (λ frame. length frame.bytes.items ≡ frame_bytes geometry) frames.now }
     ensures { (D.medium disk).honest → IfOk result (λ store. Stands D.medium store (record {
-        recording = plain (ring_of geometry) empty (asked geometry empty (pictures frames.now)); must_reopen = false })) }
+      recording = plain (ring_of geometry) empty (asked geometry empty (pictures frames.now));
+      must_reopen = false;
+    })) }
 {
     match format(alloc, disk, geometry) {
         Err(OpenRefused { fault, disk: _ }) => Err(fault),

@@ -1,6 +1,6 @@
-use Rattle.std.proofs.Common.{◌≡◌, ◌+◌, ◌*◌, ◌<◌, ◌≤◌, length, refl, sym, ap, ◌∙◌, subst, arith}
-use Rattle.loop_ring.specs.Groups.{Grouped, frames_in}
-use Rattle.loop_ring.proofs.Staging.{frames-length, gained-frames, gained-kept}
+use Rattle.std.proofs.Common.{length, sym, ap, ◌∙◌}
+use Rattle.loop_ring.specs.Groups.{Grouped}
+use Rattle.loop_ring.proofs.Staging.{frames-length}
 use Rattle.loop_ring.proofs.group.Group.len.Goals as goal
 
 pub returns-clause-count : goal.returns-clause-count

@@ -1,8 +1,7 @@
-use Rattle.std.proofs.Common.{◌≡◌, ℕ, ◌+◌, ◌*◌, ◌<◌, ◌≤◌, List, [], ◌∷◌, ◌++◌, length, refl, sym, ap, ◌∙◌, subst, arith}
-use Rattle.loop_record.specs.Recording.{Picture, picture}
-use Rattle.loop_ring.specs.Groups.{Grouped, frames_in}
-use Rattle.loop_ring.specs.Writes.{slots_in, slots_of}
-use Rattle.loop_ring.proofs.Staging.{Gains, frames-length, gained-frames, gained-kept, slot-room}
+use Rattle.std.proofs.Common.{◌≡◌, [], ◌∷◌, ◌++◌, length, sym, ap, ◌∙◌, arith}
+use Rattle.loop_record.specs.Recording.{picture}
+use Rattle.loop_ring.specs.Groups.{Grouped}
+use Rattle.loop_ring.proofs.Staging.{frames-length, gained-frames, gained-kept, slot-room}
 use Rattle.loop_ring.proofs.group.Group.push.Goals as goal
 
 pub overflow_add-self-inside : goal.overflow_add-self-inside

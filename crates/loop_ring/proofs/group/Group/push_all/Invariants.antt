@@ -1,6 +1,5 @@
 use Rattle.std.proofs.Common.{◌≡◌, ◌++◌, take}
 use Rattle.loop_record.specs.Plain.{pictures}
-use Rattle.loop_ring.specs.Groups.{Grouped}
 use Rattle.loop_ring.proofs.group.Group.push_all.Given as goal
 
 -- the frames so far are there, behind those from before, and nothing else is another

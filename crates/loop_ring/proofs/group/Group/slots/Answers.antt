@@ -1,8 +1,7 @@
-use Rattle.std.proofs.Common.{◌≡◌, ℕ, ◌+◌, ◌*◌, ◌<◌, ◌≤◌, List, length, refl, sym, ap, ◌∙◌, subst, arith}
-use Rattle.loop_record.specs.Recording.{Picture, picture}
+use Rattle.std.proofs.Common.{◌≡◌, ℕ, ◌+◌, ◌*◌, List, length, sym, ap, ◌∙◌, subst}
 use Rattle.loop_ring.specs.Groups.{Grouped, frames_in}
 use Rattle.loop_ring.specs.Writes.{slots_in, slots_of}
-use Rattle.loop_ring.proofs.Staging.{Gains, frames-length, gained-frames, gained-kept, slot-room}
+use Rattle.loop_ring.proofs.Staging.{frames-length}
 use Rattle.loop_ring.proofs.group.Group.slots.Goals as goal
 
 pub returns-clause-size : goal.returns-clause-size

@@ -1,5 +1,3 @@
-use Rattle.std.proofs.Common.{length, subst, sym}
-use Rattle.loop_ring.specs.Writes.{IsGroup}
 use Rattle.loop_ring.proofs.Committing.{is_group}
 use Rattle.loop_ring.proofs.ring.Ring.commit.Goals as goal
 

@@ -1,0 +1,194 @@
+-- Planes that leave a queue: DQBUF and REQBUFS, of queue and table.
+use Rattle.std.proofs.Common.{◌≡◌, ℕ, zero, suc, ◌+◌, ◌==◌, Bool, true, false, not, ◌&&◌, nat_lt, cond, List, [], ◌∷◌, length, map, replicate, Option, Some, None, option_map, Ok, Err, refl, sym, ◌∙◌, ap, subst, arith, ◌⊎◌, inl}
+use Rattle.std.specs.Prelude.{option_to_list, slice_get}
+use Rattle.std.specs.List.{list_all, list_any}
+use Rattle.std.proofs.lemmas.Bool.{eqb-true}
+use Rattle.loop_plane.specs.Plane.{Plane}
+use Rattle.loop_plane.specs.Fds.{Fds}
+use Rattle.loop_plane.specs.declared.memory.Memory.{Memory}
+use Rattle.loop_plane.specs.declared.memory.Memory.TheVariants.{Mmap, UserPtr, DmaBuf}
+use Rattle.loop_vb2.specs.declared.buffer.Buffer.{Buffer}
+use Rattle.loop_vb2.specs.declared.buffer.Dequeued.{Dequeued}
+use Rattle.loop_vb2.specs.declared.planes.PlaneSet.{PlaneSet}
+use Rattle.loop_vb2.specs.declared.reason.Errno.{Errno}
+use Rattle.loop_vb2.specs.declared.reason.Reason.TheVariants.{Streaming, Mapped, BadSupply, NoMemory}
+use Rattle.loop_vb2.specs.declared.reason.Refused.{Refused}
+use Rattle.loop_vb2.specs.declared.request.Granted.{Granted}
+use Rattle.loop_vb2.specs.Buffers.{changed, handed, dequeued_from}
+use Rattle.loop_vb2.specs.Checks.{is_supply, granted, serves, request_refusal}
+use Rattle.loop_vb2.specs.Effects.{dequeued}
+use Rattle.loop_vb2.specs.Errnos.{errno}
+use Rattle.loop_vb2.specs.Planes.{read_set}
+use Rattle.loop_vb2.specs.Requests.{grants_or_none, new_buffer, new_buffers, held, left_in, body_requested, requested}
+use Rattle.loop_vb2.specs.State.{Body, Lined, StandsFor}
+use Rattle.loop_vb2.specs.Steps.{Steps, read_given, Dequeues, Requests}
+use Rattle.loop_ioctl.specs.declared.call.IoctlReply.TheVariants as reply
+use Rattle.loop_ioctl.specs.Names.{Names, names_in, values_in, values_of, given_back, AreAway, GivesBack}
+use Rattle.loop_ioctl.specs.Attached.{times, values_held, IsOnce, IsLinked}
+use Rattle.loop_ioctl.specs.Calls.{IoctlState, Stands, read_names, planes_at, names_left, handed_out, taken_out, TellsFrame}
+use Rattle.loop_ioctl.specs.Parts.{LetsOut, LetsOneOut, Replaces}
+use Rattle.loop_ioctl.proofs.Attached.{in_buffers, let_out, last_none, AreOnce, once_same, IsLetOut, given_once, in_more}
+use Rattle.loop_ioctl.proofs.Read.{read_value, values_of_read, back_read, away_read}
+use Rattle.loop_ioctl.proofs.Putting.{stays, passed_here, passed_on, true_of}
+
+pub gives_one : {T : Type 0} (set : PlaneSet T) (before after : Fds T) → GivesBack (values_in set) before after → GivesBack (values_of (set ∷ [])) before after
+gives_one set before after h = subst (λ vs. GivesBack vs before after) (sym (last_none (values_in set))) h
+
+-- the names, and the counts that are left
+record IsLeft {P : Type 0} (m : P → Plane) (kind : Memory) (sets : List (PlaneSet Plane)) (n : ℕ → ℕ) (before : Names Plane) (after : Fds P) : Type 0 where
+  names : names_left kind sets before ≡ read_names m (names_in after)
+  once : kind ≡ DmaBuf → AreOnce n (names_left kind sets before)
+
+module _ {P : Type 0} (m : P → Plane) where
+  dma_left : (sets : List (PlaneSet P)) (hs : List (PlaneSet Plane)) (n : ℕ → ℕ) (a b : Fds P) (before : Names Plane) → before ≡ read_names m (names_in a) → GivesBack (values_of sets) a b → map (read_set m) sets ≡ hs → AreOnce (λ x. n x + times x (values_of hs)) before → IsLeft m DmaBuf hs n before b
+  dma_left sets hs n a b before is gives read once =
+      let vs : values_of hs ≡ map (read_value m) (values_of sets) = ap values_of (sym read) ∙ values_of_read m sets in
+      let out : IsLetOut (values_of hs) n before = given_once (values_of hs) n before once in
+      let away : AreAway (map (read_value m) (values_of sets)) (read_names m (names_in a)) = subst (λ l. AreAway l (read_names m (names_in a))) vs (subst (λ x. AreAway (values_of hs) x) is out.away) in
+      record {
+        names = ap (given_back (values_of hs)) is
+            ∙ (ap (λ l. given_back l (read_names m (names_in a))) vs
+            ∙ (back_read m (values_of sets) (names_in a) ∙ ap (read_names m) (sym (gives (away_read m (values_of sets) (names_in a) away)))));
+        once = λ _. out.once;
+      }
+
+  left : (kind : Memory) (sets : List (PlaneSet P)) (hs : List (PlaneSet Plane)) (n : ℕ → ℕ) (a b : Fds P) (before : Names Plane) → before ≡ read_names m (names_in a) → LetsOut kind sets a b → (kind ≡ DmaBuf → map (read_set m) sets ≡ hs) → (kind ≡ DmaBuf → AreOnce (λ x. n x + times x (values_of hs)) before) → IsLeft m kind hs n before b
+  left Mmap sets hs n a b before is lets read once = record { names = is ∙ ap (λ t. read_names m (names_in t)) (sym lets); once = λ e. absurd (cc) }
+  left UserPtr sets hs n a b before is lets read once = record { names = is ∙ ap (λ t. read_names m (names_in t)) (sym lets); once = λ e. absurd (cc) }
+  left DmaBuf sets hs n a b before is lets read once = dma_left sets hs n a b before is lets (read refl) (once refl)
+
+-- the fds of a queue where it has some
+linked_if : (b : Body Plane) (k : Memory) (n : Names Plane) → b.kind ≡ k → (k ≡ DmaBuf → AreOnce (λ x. in_buffers x b.buffers) n) → IsLinked b n
+linked_if b Mmap n e once = λ (fd : ℕ). subst (λ k. IsOnce (times fd (values_held k b.buffers)) (n fd)) (sym e) (inl refl)
+linked_if b UserPtr n e once = λ (fd : ℕ). subst (λ k. IsOnce (times fd (values_held k b.buffers)) (n fd)) (sym e) (inl refl)
+linked_if b DmaBuf n e once = λ (fd : ℕ). subst (λ k. IsOnce (times fd (values_held k b.buffers)) (n fd)) (sym e) (once refl fd)
+
+-- ---- DQBUF
+
+got : (x : Buffer Plane) (b : Buffer Plane) → Some x ≡ Some b → x.planes ≡ b.planes
+got x b e = let f : x ≡ b = cc in ap (λ y. y.planes) f
+
+planes_got : (bs : List (Buffer Plane)) (index : ℕ) (b : Buffer Plane) → slice_get bs index ≡ Some b → planes_at bs index ≡ b.planes
+planes_got [] index b e = absurd (cc)
+planes_got (x ∷ bs) zero b e = got x b e
+planes_got (x ∷ bs) (suc index) b e = planes_got bs index b e
+
+list_read : {P : Type 0} (m : P → Plane) (planes : Option (PlaneSet P)) → map (read_set m) (option_to_list planes) ≡ option_to_list (read_given m planes)
+list_read m None = refl
+list_read m (Some set) = refl
+
+lets_none : (kind : Memory) (b : Buffer Plane) → kind ≡ DmaBuf → (dequeued_from kind b).planes ≡ None
+lets_none Mmap b e = absurd (cc)
+lets_none UserPtr b e = refl
+lets_none DmaBuf b e = refl
+
+handed_all : (kind : Memory) (planes : Option (PlaneSet Plane)) → kind ≡ DmaBuf → handed kind planes ≡ planes
+handed_all Mmap planes e = absurd (cc)
+handed_all UserPtr planes e = refl
+handed_all DmaBuf planes e = refl
+
+-- what is handed out of planes is what they mean
+out_read : {P : Type 0} (m : P → Plane) (kind : Memory) (planes : Option (PlaneSet P)) (b : Option (PlaneSet Plane)) → read_given m planes ≡ handed kind b → read_given m (handed_out None kind planes) ≡ handed_out None kind b
+out_read m Mmap planes b e = refl
+out_read m UserPtr planes b e = e
+out_read m DmaBuf planes b e = refl
+
+out_once : (bs : List (Buffer Plane)) (kind : Memory) (index : ℕ) (before : Names Plane) → ((fd : ℕ) → IsOnce (times fd (values_held kind bs)) (before fd)) → kind ≡ DmaBuf → AreOnce (λ x. in_buffers x (changed (dequeued_from kind) index bs) + times x (values_of (option_to_list (planes_at bs index)))) before
+out_once bs kind index before linked e =
+    λ (x : ℕ). once_same (in_buffers x bs) (in_buffers x (changed (dequeued_from kind) index bs) + times x (values_of (option_to_list (planes_at bs index)))) (before x) (before x)
+    (sym (let_out (dequeued_from kind) index bs x (λ b. lets_none kind b e))) refl (subst (λ k. IsOnce (times x (values_held k bs)) (before x)) e (linked x))
+
+module _ {P : Type 0} (m : P → Plane) where
+  pub lets_one_out : (A : Type 0) (answer : Dequeued P) (told : Dequeued P) (kind : Memory) (q q' : Lined P) (a b : Fds P) → kind ≡ q.body.kind → Steps m (Dequeues m) (Ok answer) q q' → told ≡ record answer { planes = handed_out None kind answer.planes } → LetsOut kind (option_to_list answer.planes) a b → LetsOneOut {P = P} {A = A} m (Ok (reply.Dequeued told)) q a q' b
+  lets_one_out A answer told kind q q' a b is step tells lets j stands =
+      let t = step j.queue stands.queue in
+      let s = j.queue in
+      let k : kind ≡ s.body.kind = is ∙ ap (λ x. x.kind) stands.queue.shown.body in
+      let buffer = t.1.2.0 in
+      let planes : planes_at s.body.buffers answer.index ≡ buffer.planes = planes_got s.body.buffers answer.index buffer t.1.2.1 in
+      let hs = option_to_list (planes_at s.body.buffers answer.index) in
+      let n : ℕ → ℕ = λ x. in_buffers x (changed (dequeued_from s.body.kind) answer.index s.body.buffers) in
+      let lets_here : LetsOut s.body.kind (option_to_list answer.planes) a b = subst (λ x. LetsOut x (option_to_list answer.planes) a b) k lets in
+      let read : s.body.kind ≡ DmaBuf → map (read_set m) (option_to_list answer.planes) ≡ hs =
+      λ (e : s.body.kind ≡ DmaBuf). list_read m answer.planes ∙ ap option_to_list (t.1.2.2.planes ∙ (handed_all s.body.kind buffer.planes e ∙ sym planes)) in
+      let l : IsLeft m s.body.kind hs n j.names b = left m s.body.kind (option_to_list answer.planes) hs n a b j.names stands.names lets_here read (out_once s.body.buffers s.body.kind answer.index j.names stands.linked) in
+      let state : IoctlState = record { queue = dequeued answer.index s; names = names_left s.body.kind hs j.names } in
+      let now : Stands m q' b state = record { queue = subst (λ x. StandsFor m q' x) t.1.3 t.2; names = l.names; linked = linked_if (dequeued answer.index s).body s.body.kind (names_left s.body.kind hs j.names) refl l.once } in
+      let told_index : told.index ≡ answer.index = ap (λ d. d.index) tells in
+      let frame : TellsFrame m j (record answer { planes = handed_out None s.body.kind answer.planes }) =
+      (t.1.1, (buffer, t.1.2.1, record { sequence = t.1.2.2.sequence; timestamp = t.1.2.2.timestamp; flags = t.1.2.2.flags; used = t.1.2.2.used; planes = refl }, out_read m s.body.kind answer.planes buffer.planes t.1.2.2.planes)) in (
+        (t.1.0, subst (λ d. TellsFrame m j d) (sym (tells ∙ ap (λ x. record answer { planes = handed_out None x answer.planes }) k)) frame),
+        subst (λ f. Stands m q' b (taken_out f j)) (sym t.1.1) now,
+      )
+
+  pub lets_none_out : {A : Type 0} (r : Refused P A) (e : Errno) (q q' : Lined P) (table : Fds P) → r.errno ≡ e → Steps m (Dequeues m) (Err e) q q' → LetsOneOut m (Err r) q table q' table
+  lets_none_out r e q q' table is step j stands =
+      let t = step j.queue stands.queue in
+      (t.1.0 ∙ ap Some (sym is), stays m q q' table j t.0 stands t.2 t.1.1)
+
+-- ---- REQBUFS
+
+none_in_new : (count : ℕ) (fd : ℕ) → in_buffers {T = Plane} fd (replicate count (new_buffer None)) ≡ 0
+none_in_new zero fd = refl
+none_in_new (suc count) fd = in_more fd (new_buffer None) (replicate count (new_buffer None)) ∙ ap (λ n. 0 + n) (none_in_new count fd)
+
+no_sets : (sets : List (PlaneSet Plane)) → (length sets == 0) ≡ true → sets ≡ []
+no_sets [] e = refl
+no_sets (set ∷ sets) e = absurd (omega (arith, eqb-true (length (set ∷ sets)) 0 e))
+
+no_supply : (t u : Bool) (sets : List (PlaneSet Plane)) → cond (t && false) u (length sets == 0) ≡ true → sets ≡ []
+no_supply true u sets e = no_sets sets e
+no_supply false u sets e = no_sets sets e
+
+supply_passed : (a b t : Bool) → cond a (Some Streaming) (cond b (Some Mapped) (cond (not t) (Some BadSupply) None)) ≡ None → t ≡ true
+supply_passed a b t e =
+    let e1 : cond b (Some Mapped) (cond (not t) (Some BadSupply) None) ≡ None = passed_on a Streaming (cond b (Some Mapped) (cond (not t) (Some BadSupply) None)) e in
+    let e2 : cond (not t) (Some BadSupply) None ≡ None = passed_on b Mapped (cond (not t) (Some BadSupply) None) e1 in
+    true_of t (passed_here (not t) BadSupply None e2)
+
+-- a new queue of DMA-BUF memory has no planes yet
+new_once : (count : ℕ) (kind : Memory) (sets : List (PlaneSet Plane)) (b : Body Plane) (n : Names Plane) → request_refusal count kind sets b ≡ None → kind ≡ DmaBuf → AreOnce (λ x. in_buffers x (body_requested count kind sets b).buffers) n
+new_once count Mmap sets b n e k = absurd (cc)
+new_once count UserPtr sets b n e k = absurd (cc)
+new_once count DmaBuf sets b n e k =
+    let serves_it : is_supply b.shape b.min_queued count DmaBuf sets ≡ true = supply_passed (nat_lt 0 count && b.streaming) (list_any (λ x. x.mapped) b.buffers) (is_supply b.shape b.min_queued count DmaBuf sets) e in
+    let none : sets ≡ [] = no_supply (nat_lt 0 count) ((length sets == granted b.min_queued count) && list_all (serves b.shape) sets) sets serves_it in
+    λ (x : ℕ). inl (ap (λ l. in_buffers x (new_buffers (grants_or_none b.min_queued count) l)) none ∙ none_in_new (grants_or_none b.min_queued count) x)
+
+left_all : (kind : Memory) (bs : List (Buffer Plane)) → kind ≡ DmaBuf → left_in kind bs ≡ held bs
+left_all Mmap bs e = absurd (cc)
+left_all UserPtr bs e = refl
+left_all DmaBuf bs e = refl
+
+old_once : (bs : List (Buffer Plane)) (kind : Memory) (before : Names Plane) → ((fd : ℕ) → IsOnce (times fd (values_held kind bs)) (before fd)) → kind ≡ DmaBuf → AreOnce (λ x. 0 + times x (values_of (held bs))) before
+old_once bs kind before linked e =
+    λ (x : ℕ). once_same (in_buffers x bs) (0 + in_buffers x bs) (before x) (before x) (omega arith) refl (subst (λ k. IsOnce (times x (values_held k bs)) (before x)) e (linked x))
+
+out_all : {P : Type 0} (m : P → Plane) (kind : Memory) (sets : List (PlaneSet P)) (bs : List (Buffer Plane)) → map (read_set m) sets ≡ left_in kind bs → map (read_set m) (handed_out [] kind sets) ≡ handed_out [] kind (held bs)
+out_all m Mmap sets bs e = refl
+out_all m UserPtr sets bs e = e
+out_all m DmaBuf sets bs e = refl
+
+module _ {P A : Type 0} (m : P → Plane) where
+  pub replaces : (g told : Granted P A) (own kind : Memory) (count : ℕ) (supply : List (PlaneSet P)) (q q' : Lined P) (a b : Fds P) → own ≡ q.body.kind → Steps m (Requests {P = P} {A = A} m count kind (map (read_set m) supply)) (Ok g) q q' → told.count ≡ g.count → told.left.items ≡ handed_out [] own g.left.items → LetsOut own g.left.items a b → Replaces {P = P} {A = A} m count kind supply (Ok (reply.Granted told)) q a q' b
+  replaces g told own kind count supply q q' a b is step counts leaves lets j stands =
+      let t = step j.queue stands.queue in
+      let s = j.queue in
+      let sets = map (read_set m) supply in
+      let k : own ≡ s.body.kind = is ∙ ap (λ x. x.kind) stands.queue.shown.body in
+      let lets_here : LetsOut s.body.kind g.left.items a b = subst (λ x. LetsOut x g.left.items a b) k lets in
+      let l : IsLeft m s.body.kind (held s.body.buffers) (λ x. 0) j.names b =
+      left m s.body.kind g.left.items (held s.body.buffers) (λ x. 0) a b j.names stands.names lets_here (λ (e : s.body.kind ≡ DmaBuf). t.1.2 ∙ left_all s.body.kind s.body.buffers e) (old_once s.body.buffers s.body.kind j.names stands.linked) in
+      let after = names_left s.body.kind (held s.body.buffers) j.names in (
+        (t.1.0, (counts ∙ t.1.1, ap (map (read_set m)) (leaves ∙ ap (λ x. handed_out [] x g.left.items) k) ∙ out_all m s.body.kind g.left.items s.body.buffers t.1.2)),
+        record {
+          queue = subst (λ x. StandsFor m q' x) t.1.3 t.2;
+          names = l.names;
+          linked = linked_if (requested count kind sets s).body kind after refl (new_once count kind sets s.body after t.1.0);
+        },
+      )
+
+  pub replaces_not : (r r' : Refused P A) (kind : Memory) (count : ℕ) (supply : List (PlaneSet P)) (q q' : Lined P) (table : Fds P) → r'.errno ≡ r.errno → Steps m (Requests {P = P} {A = A} m count kind (map (read_set m) supply)) (Err r) q q' → Replaces {P = P} {A = A} m count kind supply (Err r') q table q' table
+  replaces_not r r' kind count supply q q' table is step j stands =
+      let t = step j.queue stands.queue in
+      (subst (λ x. (option_map errno (request_refusal count kind (map (read_set m) supply) j.queue.body) ≡ Some x) ⊎ ((request_refusal count kind (map (read_set m) supply) j.queue.body ≡ None) × (x ≡ errno NoMemory))) (sym is) t.1.0, stays m q q' table j t.0 stands t.2 t.1.1)

@@ -1,0 +1,5 @@
+use Rattle.loop_ioctl.proofs.Ran.{runs_join}
+use Rattle.loop_ioctl.proofs.laws.runs_join.Goals as goal
+
+pub returns : goal.returns
+returns g c = runs_join g.row.A.Denot g.P.PlaneMemory.plane

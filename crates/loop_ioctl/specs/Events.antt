@@ -1,0 +1,77 @@
+-- Lists of events of application and device, each with its reply.
+use Rattle.std.specs.Prelude.{◌≡◌, Bool, true, ◌&&◌, ◌==◌, length, List, [], ◌∷◌, ◌++◌}
+use Rattle.loop_plane.specs.Plane.{Plane}
+use Rattle.loop_plane.specs.Fds.{Fds}
+use Rattle.loop_record.specs.Turns.{after_all, EachIn}
+use Rattle.loop_vb2.specs.declared.planes.Shape.{Shape}
+use Rattle.loop_vb2.specs.Checks.{end_refusal}
+use Rattle.loop_vb2.specs.Effects.{completed, failed, fatal_state}
+use Rattle.loop_vb2.specs.Planes.{frame_size}
+use Rattle.loop_vb2.specs.State.{QueueState, Lined}
+use Rattle.loop_ioctl.specs.declared.events.QueueEvent.{QueueEvent}
+use Rattle.loop_ioctl.specs.declared.events.QueueEvent.TheVariants as event
+use Rattle.loop_ioctl.specs.declared.events.QueueReply.{QueueReply}
+use Rattle.loop_ioctl.specs.declared.events.QueueReply.TheVariants as answer
+use Rattle.loop_ioctl.specs.Calls.{IoctlState, Stands, IsAnswered, after}
+use Rattle.loop_ioctl.specs.Parts.{Judged, either}
+
+-- the device changes the queue alone
+abbrev pub with_queue : (QueueState → QueueState) → IoctlState → IoctlState
+with_queue change j = record j { queue = change j.queue }
+
+module _ {P A : Type 0} where
+  -- the bytes of a Complete are one whole frame
+  abbrev pub is_whole : Shape → QueueEvent P A → Bool
+  is_whole shape (event.Complete index stamp bytes) = length bytes.items == frame_size shape
+  is_whole shape (event.Ioctl call) = true
+  is_whole shape (event.Fail index stamp) = true
+  is_whole shape event.Fatal = true
+
+  -- those of each Complete are
+  abbrev pub are_whole : Shape → List (QueueEvent P A) → Bool
+  are_whole shape [] = true
+  are_whole shape (e ∷ es) = is_whole shape e && are_whole shape es
+
+  -- each event with its reply
+  abbrev pub turns : List (QueueEvent P A) → List (QueueReply P A) → List (QueueEvent P A × QueueReply P A)
+  turns [] rs = []
+  turns (e ∷ es) [] = []
+  turns (e ∷ es) (r ∷ rs) = (e, r) ∷ turns es rs
+
+module _ {P A : Type 0} (meaning : P → Plane) where
+  -- the reply is the model's
+  abbrev pub IsTold : QueueEvent P A → QueueReply P A → IoctlState → Type 0
+  IsTold (event.Ioctl call) (answer.Ioctl result) j = IsAnswered meaning call j result
+  IsTold (event.Complete index stamp bytes) (answer.Ended result) j = Judged (end_refusal index j.queue.body) result
+  IsTold (event.Fail index stamp) (answer.Ended result) j = Judged (end_refusal index j.queue.body) result
+  IsTold event.Fatal answer.Fatal j = Unit {0}
+  IsTold e r j = ⊥
+
+  -- the state after the event
+  abbrev pub state_after : QueueEvent P A → QueueReply P A → IoctlState → IoctlState
+  state_after (event.Ioctl call) (answer.Ioctl result) j = after meaning call j result
+  state_after (event.Complete index stamp bytes) (answer.Ended result) j = either result (with_queue (completed index stamp bytes.items) j) j
+  state_after (event.Fail index stamp) (answer.Ended result) j = either result (with_queue (failed index stamp) j) j
+  state_after event.Fatal answer.Fatal j = with_queue fatal_state j
+  state_after e r j = j
+
+  -- of an event and its reply as one value
+  abbrev pub IsTurn : IoctlState → QueueEvent P A × QueueReply P A → Type 0
+  IsTurn j turn = IsTold turn.0 turn.1 j
+
+  abbrev pub turned : IoctlState → QueueEvent P A × QueueReply P A → IoctlState
+  turned j turn = state_after turn.0 turn.1 j
+
+  -- one event: the reply is the model's, and queue and table stand for the state after it
+  abbrev pub Reacts : QueueEvent P A → QueueReply P A → Lined P → Fds P → Lined P → Fds P → Type 0
+  Reacts e r queue table new_queue new_table = (j : IoctlState) → Stands meaning queue table j → IsTold e r j × Stands meaning new_queue new_table (state_after e r j)
+
+  -- a list of events: there are as many replies, each is the model's at its point, and queue and table stand for the state after all
+  pub record Runs (events : List (QueueEvent P A)) (replies : List (QueueReply P A)) (queue : Lined P) (table : Fds P) (new_queue : Lined P) (new_table : Fds P) : Type 0 where
+    pub count : length replies ≡ length events
+    pub told : (j : IoctlState) → Stands meaning queue table j → EachIn turned IsTurn j (turns events replies) × Stands meaning new_queue new_table (after_all turned j (turns events replies))
+
+-- Two runs, one after the other, are the run of the joined lists.
+abbrev pub RunsJoin : {P : Type 0} → Type 0 → (P → Plane) → Type 0
+RunsJoin {P} A meaning = (es fs : List (QueueEvent P A)) (rs ss : List (QueueReply P A)) (q q' q'' : Lined P) (t t' t'' : Fds P)
+    → Runs meaning es rs q t q' t' → Runs meaning fs ss q' t' q'' t'' → Runs meaning (es ++ fs) (rs ++ ss) q t q'' t''

@@ -1,0 +1,6 @@
+pub mod Types
+pub mod Names
+pub mod Attached
+pub mod Calls
+pub mod Parts
+pub mod Events

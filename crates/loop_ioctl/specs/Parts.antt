@@ -1,0 +1,133 @@
+-- What the parts of an ioctl do. Only private functions say it.
+use Rattle.std.specs.Prelude.{◌≡◌, ◌⊎◌, ℕ, true, false, map, slice_get, List, Option, Some, None, option_map, Result, Ok, Err}
+use Rattle.loop_plane.specs.Plane.{Plane}
+use Rattle.loop_plane.specs.Fds.{Fds}
+use Rattle.loop_plane.specs.declared.memory.Memory.{Memory}
+use Rattle.loop_plane.specs.declared.memory.Memory.TheVariants.{Mmap, UserPtr, DmaBuf}
+use Rattle.loop_vb2.specs.declared.planes.PlaneSet.{PlaneSet}
+use Rattle.loop_vb2.specs.declared.reason.Errno.{Errno}
+use Rattle.loop_vb2.specs.declared.reason.Reason.{Reason}
+use Rattle.loop_vb2.specs.declared.reason.Refused.{Refused}
+use Rattle.loop_vb2.specs.declared.buffer.Buffer.{Buffer}
+use Rattle.loop_vb2.specs.declared.reason.Reason.TheVariants.{NoMemory}
+use Rattle.loop_vb2.specs.Answers.{IsInfo}
+use Rattle.loop_vb2.specs.Buffers.{mapped_as}
+use Rattle.loop_vb2.specs.Checks.{dequeue_refusal, stream_on_refusal, query_refusal, map_refusal, unmap_refusal, request_refusal}
+use Rattle.loop_vb2.specs.Effects.{first_ended, streaming, stopped_state, touched}
+use Rattle.loop_vb2.specs.Errnos.{errno}
+use Rattle.loop_vb2.specs.Planes.{read_set}
+use Rattle.loop_vb2.specs.State.{QueueState, Lined}
+use Rattle.loop_vb2.specs.Steps.{Passes, Fails, Prepares, Queues}
+use Rattle.loop_ioctl.specs.declared.call.BufferMemory.{BufferMemory}
+use Rattle.loop_ioctl.specs.declared.call.BufferMemory.TheVariants as memory
+use Rattle.loop_ioctl.specs.declared.call.PlaneFds.{PlaneFds}
+use Rattle.loop_ioctl.specs.declared.put.Use.{Use}
+use Rattle.loop_ioctl.specs.declared.put.Use.TheVariants.{Prepare, Queue}
+use Rattle.loop_ioctl.specs.Names.{values_of, GivesBack}
+use Rattle.loop_ioctl.specs.Calls.{IoctlState, Stands, use_refusal, used, put_refusal, put_in, TellsFrame, TellsGrant, taken_out, replaced, call_refusal, IsAnsweredFor, after}
+use Rattle.loop_ioctl.specs.declared.call.Ioctl.{Ioctl}
+use Rattle.loop_ioctl.specs.declared.call.IoctlReply.{IoctlReply}
+use Rattle.loop_ioctl.specs.declared.call.IoctlReply.TheVariants as reply
+
+-- PREPARE_BUF or QBUF of the queue
+abbrev pub Uses : {P U A : Type 0} → Use → ℕ → Memory → Option (PlaneSet Plane) → QueueState → Result U (Refused P A) → QueueState → Type 0
+Uses Prepare index kind given = Prepares index kind given
+Uses Queue index kind given = Queues index kind given
+
+-- one state where a call is answered, another where it is refused
+abbrev pub either : {U E S : Type 0} → Result U E → S → S → S
+either (Ok _) done left = done
+either (Err _) done left = left
+
+-- it is answered where no check fails, or has the errno of the first that does
+abbrev pub Judged : {U : Type 0} → Option Reason → Result U Errno → Type 0
+Judged why (Ok _) = why ≡ None
+Judged why (Err e) = option_map errno why ≡ Some e
+
+abbrev pub JudgedBack : {U P A : Type 0} → Option Reason → Result U (Refused P A) → Type 0
+JudgedBack why (Ok _) = why ≡ None
+JudgedBack why (Err r) = option_map errno why ≡ Some r.errno
+
+-- the same of the queue, with planes that were taken by fd
+abbrev pub UsesSet : {U : Type 0} → Use → ℕ → PlaneSet Plane → QueueState → Result U Errno → QueueState → Type 0
+UsesSet way index set s result t = Judged (use_refusal way index DmaBuf (Some set) s.body) result × (t ≡ either result (used way index (Some set) s) s)
+
+module _ {P : Type 0} (meaning : P → Plane) where
+  -- of queue and table, with planes by fd
+  abbrev pub PutsNamed : {U : Type 0} → Use → ℕ → PlaneFds → Result U Errno → Lined P → Fds P → Lined P → Fds P → Type 0
+  PutsNamed way index named result queue table new_queue new_table =
+      (j : IoctlState) → Stands meaning queue table j → Judged (put_refusal meaning way index (memory.DmaBuf (Some named)) j) result
+      × Stands meaning new_queue new_table (either result (put_in meaning way index (memory.DmaBuf (Some named)) j) j)
+
+  -- of queue and table, with whatever memory
+  abbrev pub Puts : {U A : Type 0} → Use → ℕ → BufferMemory P → Result U (Refused P A) → Lined P → Fds P → Lined P → Fds P → Type 0
+  Puts way index given result queue table new_queue new_table =
+      (j : IoctlState) → Stands meaning queue table j → JudgedBack (put_refusal meaning way index given j) result
+      × Stands meaning new_queue new_table (either result (put_in meaning way index given j) j)
+
+-- sets leave a queue of this kind: DMA-BUF planes go back to their fds
+abbrev pub LetsOut : {T : Type 0} → Memory → List (PlaneSet T) → Fds T → Fds T → Type 0
+LetsOut Mmap sets before after = after ≡ before
+LetsOut UserPtr sets before after = after ≡ before
+LetsOut DmaBuf sets before after = GivesBack (values_of sets) before after
+
+module _ {P A : Type 0} where
+  -- a call that answers nothing but its refusal: where it passes, the queue is in this state
+  abbrev pub Plain : (QueueState → Option Reason) → (QueueState → QueueState) → QueueState → Result (IoctlReply P A) (Refused P A) → QueueState → Type 0
+  Plain why effect s (Ok reply.Done) t = Passes (why s) × (t ≡ effect s)
+  Plain why effect s (Ok (reply.Granted g)) t = ⊥
+  Plain why effect s (Ok (reply.Info info)) t = ⊥
+  Plain why effect s (Ok (reply.Dequeued d)) t = ⊥
+  Plain why effect s (Err r) t = Fails (why s) r.errno × (t ≡ s)
+
+  -- STREAMON, STREAMOFF, mmap, munmap
+  abbrev pub TurnsOn : QueueState → Result (IoctlReply P A) (Refused P A) → QueueState → Type 0
+  TurnsOn = Plain (λ s. stream_on_refusal s.body) streaming
+
+  abbrev pub TurnsOff : QueueState → Result (IoctlReply P A) (Refused P A) → QueueState → Type 0
+  TurnsOff = Plain (λ s. None) stopped_state
+
+  abbrev pub MapsAt : ℕ → QueueState → Result (IoctlReply P A) (Refused P A) → QueueState → Type 0
+  MapsAt index = Plain (λ s. map_refusal index s.body) (touched (mapped_as true) index)
+
+  abbrev pub UnmapsAt : ℕ → QueueState → Result (IoctlReply P A) (Refused P A) → QueueState → Type 0
+  UnmapsAt index = Plain (λ s. unmap_refusal index s.body) (touched (mapped_as false) index)
+
+  -- QUERYBUF
+  abbrev pub Asks : ℕ → QueueState → Result (IoctlReply P A) (Refused P A) → QueueState → Type 0
+  Asks index s (Ok (reply.Info info)) t = Passes (query_refusal index s.body) × ((b : Buffer Plane) × (slice_get s.body.buffers index ≡ Some b) × IsInfo b info) × (t ≡ s)
+  Asks index s (Ok (reply.Granted g)) t = ⊥
+  Asks index s (Ok (reply.Dequeued d)) t = ⊥
+  Asks index s (Ok reply.Done) t = ⊥
+  Asks index s (Err r) t = Fails (query_refusal index s.body) r.errno × (t ≡ s)
+
+  -- DQBUF
+  abbrev pub IsTakenOut : (P → Plane) → IoctlState → Result (IoctlReply P A) (Refused P A) → Type 0
+  IsTakenOut meaning j (Ok (reply.Dequeued answer)) = Passes (dequeue_refusal j.queue.body) × TellsFrame meaning j answer
+  IsTakenOut meaning j (Ok (reply.Granted g)) = ⊥
+  IsTakenOut meaning j (Ok (reply.Info info)) = ⊥
+  IsTakenOut meaning j (Ok reply.Done) = ⊥
+  IsTakenOut meaning j (Err r) = Fails (dequeue_refusal j.queue.body) r.errno
+
+  abbrev pub LetsOneOut : (P → Plane) → Result (IoctlReply P A) (Refused P A) → Lined P → Fds P → Lined P → Fds P → Type 0
+  LetsOneOut meaning result queue table new_queue new_table =
+      (j : IoctlState) → Stands meaning queue table j → IsTakenOut meaning j result × Stands meaning new_queue new_table (either result (taken_out (first_ended j.queue) j) j)
+
+  -- REQBUFS
+  abbrev pub IsReplaced : (P → Plane) → ℕ → Memory → List (PlaneSet Plane) → IoctlState → Result (IoctlReply P A) (Refused P A) → Type 0
+  IsReplaced meaning count kind sets j (Ok (reply.Granted g)) = Passes (request_refusal count kind sets j.queue.body) × TellsGrant meaning count j g
+  IsReplaced meaning count kind sets j (Ok (reply.Dequeued d)) = ⊥
+  IsReplaced meaning count kind sets j (Ok (reply.Info info)) = ⊥
+  IsReplaced meaning count kind sets j (Ok reply.Done) = ⊥
+  IsReplaced meaning count kind sets j (Err r) =
+      Fails (request_refusal count kind sets j.queue.body) r.errno ⊎ (Passes (request_refusal count kind sets j.queue.body) × (r.errno ≡ errno NoMemory))
+
+  abbrev pub Replaces : (P → Plane) → ℕ → Memory → List (PlaneSet P) → Result (IoctlReply P A) (Refused P A) → Lined P → Fds P → Lined P → Fds P → Type 0
+  Replaces meaning count kind supply result queue table new_queue new_table =
+      (j : IoctlState) → Stands meaning queue table j → IsReplaced meaning count kind (map (read_set meaning) supply) j result
+      × Stands meaning new_queue new_table (either result (replaced count kind (map (read_set meaning) supply) j) j)
+
+  -- an ioctl, whose buffer type is the queue's
+  abbrev pub AppliesTyped : (P → Plane) → Ioctl P A → Result (IoctlReply P A) (Refused P A) → Lined P → Fds P → Lined P → Fds P → Type 0
+  AppliesTyped meaning c result queue table new_queue new_table =
+      (j : IoctlState) → Stands meaning queue table j → IsAnsweredFor meaning c j (call_refusal meaning c j) result × Stands meaning new_queue new_table (after meaning c j result)

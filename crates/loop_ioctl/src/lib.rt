@@ -1,0 +1,22 @@
+//! The ioctls of a capture device: a queue of buffers, and a table in which fds name DMA-BUF planes.
+//!
+//! - `call` has what an ioctl is given and what it answers;
+//! - `dispatch` has `apply`: one ioctl is one step of queue and table, and a refused one changes neither;
+//! - `put` has QBUF and PREPARE_BUF, and `fds` how the planes of a set are taken from the table and given back;
+//! - `events` has `run_events`: ioctls and calls of the device in a list, each answered in turn;
+//! - `laws` has what follows from the definitions.
+//!
+//! Of `specs/`, `Calls` has the model of an ioctl, `Names` that of the fds, `Attached` what holds of both (each fd of a plane
+//! that a queue holds is attached, and no two are the same), and `Events` that of a list. Only private functions speak of `Parts`.
+#![tactic(auto)]
+
+mod call;
+mod dispatch;
+mod events;
+mod fds;
+pub mod laws;
+mod put;
+
+pub use call::{BufferMemory, BufferType, Ioctl, IoctlReply, PlaneFds};
+pub use dispatch::apply;
+pub use events::{QueueEvent, QueueReply, are_whole, run_events};
