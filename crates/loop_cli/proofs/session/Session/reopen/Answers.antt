@@ -24,4 +24,4 @@ equal a b same =
     λ i. record { width = width i; height = height i; format = format i; rate_num = num i; rate_den = den i; segments = segments i; slots = slots i }
 
 pub invariant_of-result-clause-stored : goal.invariant_of-result-clause-stored
-invariant_of-result-clause-stored g c = sym c.geometry.ensures ∙ equal c.geometry.result c.args.self.geometry (not-false _ (sym c.if-ne.ensures))
+invariant_of-result-clause-stored g c = sym c.geometry.ensures.geometry ∙ equal c.geometry.result c.args.self.geometry (not-false _ (sym c.if-ne.ensures))
