@@ -1,7 +1,8 @@
 //! The segments of a store's ring: on a disk, what opens one, what it gains, what closes it, and how a frame is read back;
 //! in memory, which of them is which.
 //!
-//! `ring` has the `Ring`: its geometry, and the memory in which a group's slots are put together before they are written.
+//! `ring` has the `Ring`, a store's geometry. `group` has the memory in which a group's slots are put together before they
+//! are written; a group is a value, its first number and its frames, and `Ring::commit` takes one.
 //! At no moment does a crash during one of its calls leave a segment but as it was or as was asked for, or a commit's
 //! segment with a beginning of the group: `specs/Writes` says so segment by segment, and never speaks of bytes.
 //! Each call makes at most four calls of the disk, and none of them takes memory.
