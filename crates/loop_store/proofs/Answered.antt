@@ -1,6 +1,10 @@
--- What two clauses of an answer say together.
+-- What two or three clauses of an answer say together.
 use Rattle.std.proofs.Common.{Result, Ok, Err, OnOk}
 
 pub both_ok : {T E : Type 0} {P Q R : Type 0} (r : Result T E) → (P → Q → R) → OnOk r P → OnOk r Q → OnOk r R
 both_ok (Ok x) f p q = f p q
 both_ok (Err e) f p q = tt
+
+pub all_ok : {T E : Type 0} {P Q R S : Type 0} (r : Result T E) → (P → Q → R → S) → OnOk r P → OnOk r Q → OnOk r R → OnOk r S
+all_ok (Ok x) f p q u = f p q u
+all_ok (Err e) f p q u = tt

@@ -5,9 +5,9 @@ use Rattle.std.proofs.lemmas.Bool.{cases_lt}
 use Rattle.std.proofs.lemmas.List.{length-set}
 use Rattle.std.proofs.lemmas.List.Elements.{All-set}
 use Rattle.loop_disk.specs.Medium.{Medium, IsSettled}
-use Rattle.loop_record.specs.declared.clip.Span.{Span}
 use Rattle.loop_record.specs.declared.geometry.Geometry.{Geometry}
 use Rattle.loop_record.specs.declared.segment.SegmentHead.{SegmentHead}
+use Rattle.loop_record.specs.Geometry.{disk_size}
 use Rattle.loop_record.specs.Layout.{is_too_high}
 use Rattle.loop_record.specs.Reading.{Holds}
 use Rattle.loop_record.specs.Recording.{Picture, Recording, Ring, Step, last_number, needs_recycling, plain, recycling_first, ring_of, steps, store, stores_after, victim}
@@ -15,14 +15,16 @@ use Rattle.loop_record.proofs.Decided.{differ_test, equal_test, not_below_test}
 use Rattle.loop_record.proofs.Steps.{plain-append, plain-stores}
 use Rattle.loop_ring.specs.Heads.{heads_of}
 use Rattle.loop_store.proofs.Room.{before-next}
+use Rattle.loop_store.specs.declared.index.Index.{Index}
 use Rattle.loop_store.specs.declared.place.Place.{Place}
 use Rattle.loop_store.specs.declared.place.Place.TheVariants.{Newest, Closed, Victim}
 use Rattle.loop_store.specs.Held.{HasNoneStray}
 use Rattle.loop_store.specs.declared.fault.StoreFault.{StoreFault}
 use Rattle.loop_store.specs.Places.{IsGrownAt, IsKnown, IsPlaceAt, head_after, steps_before}
-use Rattle.loop_store.specs.Recovered.{IsHeadIn, IsRecovered}
-use Rattle.loop_store.specs.Seen.{IsKept, Seen, StandsFor, Tells}
+use Rattle.loop_store.specs.Recovered.{IsFitting, IsHeadIn, IsIndexOf, IsRecovered}
+use Rattle.loop_store.specs.Seen.{IsKept, StandsFor, seen_with}
 use Rattle.loop_store.specs.Steps.{steps_or_none}
+use Rattle.loop_store.proofs.Looks.{told-by}
 
 -- ---- the steps
 
@@ -136,13 +138,13 @@ place-some g r image place at none = go place at
     go (Victim j) at = gone (needs_recycling (ring_of g) r) (victim (ring_of g) r) at.0 at.1.0 none
 
 -- the place is there for the recording that the image holds
-pub place-known : (g : Geometry) (heads : List (Option SegmentHead)) (clips : List (Option Span)) (next : ℕ) (image : List ℕ) (place : Place) → IsRecovered g heads clips next image → HasNoneStray g image
-    → ((r : Recording) (c : List ℕ) → Tells g heads clips next r c → (r.next ≢ last_number (ring_of g)) × IsPlaceAt g r c place) → IsKnown g next place image
-place-known g heads clips next image place was clean at = record {
+pub place-known : {A : Type 0} (index : Index A) (image : List ℕ) (place : Place) → IsRecovered index image → HasNoneStray index.ring.geometry image
+    → ((r : Recording) (c : List ℕ) → IsIndexOf index r c → (r.next ≢ last_number (ring_of index.ring.geometry)) × IsPlaceAt index.ring.geometry r c place) → IsKnown index.ring.geometry index.next place image
+place-known index image place was clean at = record {
   recording = was.recording;
-  held = was.held;
-  next_is = sym was.next_is;
-  is_place = (at was.recording image (record { held = was.held; next_is = was.next_is; heads_are = was.heads_are; clips_are = was.clips_are })).1;
+  held = was.known.held;
+  next_is = sym was.known.next_is;
+  is_place = (at was.recording image was.known).1;
   unstray = clean;
 }
 
@@ -162,78 +164,67 @@ pub record Grew {D : Type 0} (medium : D → Medium) (g : Geometry) (old new : D
   pub settled : (medium old).honest → IsSettled (medium new)
   pub stored : (r : Recording) → r.next ≡ next → (medium old).honest → Holds g r (medium old).bytes → Holds g (plain (ring_of g) r (steps_before g r ++ map store ps)) (medium new).bytes
 
--- the headers that are noted then
-heads-grown : (g : Geometry) (next n j : ℕ) (heads hs : List (Option SegmentHead)) (old new : List ℕ) → heads ≡ heads_of g old → hs ≡ set heads j (Some (head_after g next n)) → IsGrownAt g next n j old new → hs ≡ heads_of g new
-heads-grown g next n j heads hs old new are noted grown = noted ∙ ap (λ (l : List (Option SegmentHead)). set l j (Some (head_after g next n))) are ∙ sym grown.heads
+-- the index that is noted then
+pub record IsNotedIn {A : Type 0} (old new : Index A) (n j : ℕ) : Type 0 where
+  pub geometry : new.ring.geometry ≡ old.ring.geometry
+  pub next : new.next ≡ old.next + n
+  pub heads : new.table ≡ set old.table j (Some (head_after old.ring.geometry old.next n))
+  pub clips : new.clips ≡ old.clips
 
-pub noted-at : (g h : Geometry) (next n i j : ℕ) (heads hs : List (Option SegmentHead)) → h ≡ g → i ≡ j → hs ≡ set heads i (Some (head_after h next n)) → hs ≡ set heads j (Some (head_after g next n))
-noted-at g h next n i j heads hs same at noted = noted ∙ (λ k. set heads (at k) (Some (head_after (same k) next n)))
+pub noted-at : (g : Geometry) (next n i j : ℕ) (heads hs : List (Option SegmentHead)) → i ≡ j → hs ≡ set heads i (Some (head_after g next n)) → hs ≡ set heads j (Some (head_after g next n))
+noted-at g next n i j heads hs at noted = noted ∙ (λ k. set heads (at k) (Some (head_after g next n)))
 
-pub kept-grown : {D : Type 0} (medium : D → Medium) (g h : Geometry) (old new : D) (next n j : ℕ) (ps : List Picture) (heads hs : List (Option SegmentHead)) (clips : List (Option Span)) (must : Bool) → IsKept medium g old next heads clips must → must ≡ false
-    → h ≡ g → 1 ≤ g.slots → (medium new).size ≡ (medium old).size → next ≢ last_number (ring_of g) → next % g.slots + n ≤ g.slots → hs ≡ set heads j (Some (head_after g next n)) → Grew medium g old new next n j ps → IsKept medium h new (next + n) hs clips must
-kept-grown {D} medium g h old new next n j ps heads hs clips must kept fine same some size unspent room noted grew =
-    subst (λ (k : Geometry). IsKept medium k new (next + n) hs clips must) (sym same)
-    (record {
-      size = size ∙ kept.size;
-      few = appended-few g next n some kept.few unspent room;
-      count = ap length noted ∙ length-set heads j (Some (head_after g next n)) ∙ kept.count;
-      within = subst (All (IsHeadIn g)) (sym noted) (All-set (IsHeadIn g) heads j (Some (head_after g next n)) (room, appended-low g next some kept.few unspent) kept.within);
-      unstray = λ f now. (grew.grown (grew.back now)).unstray;
-      settled = λ f now. grew.settled (grew.back now);
-      recorded = λ f now.
-          let was = kept.recorded fine (grew.back now) in record {
-            recording = plain (ring_of g) was.recording (steps_before g was.recording ++ map store ps);
-            held = grew.stored was.recording (sym was.next_is) (grew.back now) was.held;
-            next_is = (λ i. was.next_is i + grew.count i) ∙ sym (appended-next g was.recording ps);
-            clips_are = was.clips_are ∙ sym (appended-clips g was.recording ps);
-            heads_are = heads-grown g next n j heads hs (medium old).bytes (medium new).bytes was.heads_are noted (grew.grown (grew.back now));
-          };
-    })
+-- it says all of the recording with the steps of the append
+grown-known : {D A : Type 0} (medium : D → Medium) (old new : D) (was now : Index A) (n j : ℕ) (ps : List Picture) (r : Recording) → IsNotedIn was now n j → Grew medium was.ring.geometry old new was.next n j ps → (medium old).honest → IsIndexOf was r (medium old).bytes
+    → IsIndexOf now (plain (ring_of was.ring.geometry) r (steps_before was.ring.geometry r ++ map store ps)) (medium new).bytes
+grown-known medium old new was now n j ps r noted grew honest known =
+    let g = was.ring.geometry in
+    let t = plain (ring_of g) r (steps_before g r ++ map store ps) in record {
+      held = subst (λ (h : Geometry). Holds h t (medium new).bytes) (sym noted.geometry) (grew.stored r (sym known.next_is) honest known.held);
+      next_is = noted.next ∙ (λ i. known.next_is i + grew.count i) ∙ sym (appended-next g r ps);
+      heads_are = noted.heads ∙ ap (λ (l : List (Option SegmentHead)). set l j (Some (head_after g was.next n))) known.heads_are ∙ sym (grew.grown honest).heads ∙ ap (λ (h : Geometry). heads_of h (medium new).bytes) (sym noted.geometry);
+      clips_are = noted.clips ∙ known.clips_are ∙ sym (appended-clips g r ps);
+    }
 
--- it stands for the recording with the steps of the append
-pub stands-grown : {D : Type 0} (medium : D → Medium) (old new : Seen D) (n j : ℕ) (ps : List Picture) (r : Recording) → StandsFor medium old r → old.must_reopen ≡ false → new.geometry ≡ old.geometry → new.next ≡ old.next + n
-    → new.heads ≡ set old.heads j (Some (head_after old.geometry old.next n)) → new.clips ≡ old.clips → Grew medium old.geometry old.disk new.disk old.next n j ps → StandsFor medium new (plain (ring_of old.geometry) r (steps_before old.geometry r ++ map store ps))
-stands-grown {D} medium old new n j ps r stands fine same more noted clips grew = record {
-  remembered = λ now. record { image = (medium new.disk).bytes; held = held now; next_is = next_is now; heads_are = agrees now; clips_are = clips ∙ (stands.remembered (grew.back now)).clips_are ∙ sym (appended-clips g r ps) };
-  settled = λ f now. grew.settled (grew.back now);
-  held = λ f now. held now;
-  agrees = λ f now. agrees now;
+grown-fits : {A : Type 0} (was now : Index A) (n j size : ℕ) → IsNotedIn was now n j → IsFitting was size → 1 ≤ was.ring.geometry.slots → was.next ≢ last_number (ring_of was.ring.geometry) → was.next % was.ring.geometry.slots + n ≤ was.ring.geometry.slots → IsFitting now size
+grown-fits was now n j size noted fits some unspent room =
+    let g = was.ring.geometry in
+    let few : was.next + n ≤ last_number (ring_of g) = appended-few g was.next n some fits.few unspent room in
+    let within : All (IsHeadIn g) (set was.table j (Some (head_after g was.next n))) = All-set (IsHeadIn g) was.table j (Some (head_after g was.next n)) (room, appended-low g was.next some fits.few unspent) fits.within in record {
+      size_is = fits.size_is ∙ ap disk_size (sym noted.geometry);
+      count = ap length noted.heads ∙ length-set was.table j (Some (head_after g was.next n)) ∙ fits.count ∙ ap (λ (h : Geometry). h.segments) (sym noted.geometry);
+      within = subst (λ (h : Geometry). All (IsHeadIn h) now.table) (sym noted.geometry) (subst (All (IsHeadIn g)) (sym noted.heads) within);
+      few = subst (λ (h : Geometry). now.next ≤ last_number (ring_of h)) (sym noted.geometry) (subst (λ (k : ℕ). k ≤ last_number (ring_of g)) (sym noted.next) few);
+    }
+
+pub kept-grown : {D A : Type 0} (medium : D → Medium) (old new : D) (was now : Index A) (n j : ℕ) (ps : List Picture) (must : Bool) → IsKept medium old was must → must ≡ false → IsNotedIn was now n j → 1 ≤ was.ring.geometry.slots → was.next ≢ last_number (ring_of was.ring.geometry)
+    → was.next % was.ring.geometry.slots + n ≤ was.ring.geometry.slots → (medium new).size ≡ (medium old).size → Grew medium was.ring.geometry old new was.next n j ps → IsKept medium new now must
+kept-grown medium old new was now n j ps must kept fine noted some unspent room size grew = record {
+  fits = subst (IsFitting now) (sym size) (grown-fits was now n j (medium old).size noted kept.fits some unspent room);
+  present = λ f honest.
+      let back = grew.back honest in
+      let there = (kept.present fine back).recorded in
+      let g = was.ring.geometry in record {
+        recorded = record {
+          recording = plain (ring_of g) there.recording (steps_before g there.recording ++ map store ps);
+          known = grown-known medium old new was now n j ps there.recording noted grew back there.known;
+        };
+        settled = grew.settled back;
+        unstray = subst (λ (h : Geometry). HasNoneStray h (medium new).bytes) (sym noted.geometry) (grew.grown back).unstray;
+      };
 }
-  where
-    g : Geometry
-    g = old.geometry
 
-    held : (medium new.disk).honest → Holds new.geometry (plain (ring_of g) r (steps_before g r ++ map store ps)) (medium new.disk).bytes
-    held now =
-        let back = grew.back now in
-        subst (λ (k : Geometry). Holds k (plain (ring_of g) r (steps_before g r ++ map store ps)) (medium new.disk).bytes) (sym same) (grew.stored r (sym (stands.remembered back).next_is) back (stands.held fine back))
-
-    next_is : (medium new.disk).honest → new.next ≡ (plain (ring_of g) r (steps_before g r ++ map store ps)).next
-    next_is now =
-        let was = (stands.remembered (grew.back now)).next_is in
-        more ∙ (λ i. was i + grew.count i) ∙ sym (appended-next g r ps)
-
-    agrees : (medium new.disk).honest → new.heads ≡ heads_of new.geometry (medium new.disk).bytes
-    agrees now =
-        let back = grew.back now in
-        heads-grown g old.next n j old.heads new.heads (medium old.disk).bytes (medium new.disk).bytes (stands.agrees fine back) noted (grew.grown back) ∙ ap (λ (k : Geometry). heads_of k (medium new.disk).bytes) (sym same)
-
--- these are all its steps
-pub stood-steps : {D : Type 0} (medium : D → Medium) (old new : Seen D) (r : Recording) (ps : List Picture) → ((medium new.disk).honest → (medium old.disk).honest)
-    → ((medium old.disk).honest → (r.next ≢ last_number (ring_of old.geometry)) × (recycling_first (needs_recycling (ring_of old.geometry) r) (victim (ring_of old.geometry) r) ≢ None))
-    → StandsFor medium new (plain (ring_of old.geometry) r (steps_before old.geometry r ++ map store ps)) → StandsFor medium new (plain (ring_of old.geometry) r (steps_or_none (steps (ring_of old.geometry) r ps)))
-stood-steps {D} medium old new r ps back place stands = record {
-  remembered = λ now. let m = stands.remembered now in let q = same now in record {
-    image = m.image;
-    held = subst (λ (l : List Step). Holds new.geometry (plain (ring_of old.geometry) r l) m.image) q m.held;
-    next_is = subst (λ (l : List Step). new.next ≡ (plain (ring_of old.geometry) r l).next) q m.next_is;
-    heads_are = m.heads_are;
-    clips_are = subst (λ (l : List Step). new.clips ≡ (plain (ring_of old.geometry) r l).clips) q m.clips_are;
-  };
-  settled = stands.settled;
-  held = λ fine now. subst (λ (l : List Step). Holds new.geometry (plain (ring_of old.geometry) r l) (medium new.disk).bytes) (same now) (stands.held fine now);
-  agrees = stands.agrees;
-}
-  where
-    same : (medium new.disk).honest → steps_before old.geometry r ++ map store ps ≡ steps_or_none (steps (ring_of old.geometry) r ps)
-    same now = let at = place (back now) in steps-are old.geometry r ps at.0 at.1
+-- it stands for the recording with the steps of the append, which are all that it has
+pub stands-grown : {D A : Type 0} (medium : D → Medium) (old new : D) (was now : Index A) (n j : ℕ) (ps : List Picture) (must : Bool) (r : Recording) → (medium old).honest → IsIndexOf was r (medium old).bytes → IsNotedIn was now n j → IsFitting was (medium old).size → 1 ≤ was.ring.geometry.slots
+    → was.next ≢ last_number (ring_of was.ring.geometry) → was.next % was.ring.geometry.slots + n ≤ was.ring.geometry.slots → Grew medium was.ring.geometry old new was.next n j ps → r.next ≢ last_number (ring_of was.ring.geometry)
+    → recycling_first (needs_recycling (ring_of was.ring.geometry) r) (victim (ring_of was.ring.geometry) r) ≢ None → StandsFor medium (seen_with new now must) (plain (ring_of was.ring.geometry) r (steps_or_none (steps (ring_of was.ring.geometry) r ps)))
+stands-grown {D} {A} medium old new was now n j ps must r honest known noted fits some left room grew unspent place =
+    let g = was.ring.geometry in
+    let same : steps_before g r ++ map store ps ≡ steps_or_none (steps (ring_of g) r ps) = steps-are g r ps unspent place in
+    let t : Recording = plain (ring_of g) r (steps_or_none (steps (ring_of g) r ps)) in
+    let after : IsIndexOf now t (medium new).bytes = subst (λ (l : List Step). IsIndexOf now (plain (ring_of g) r l) (medium new).bytes) same (grown-known medium old new was now n j ps r noted grew honest known) in
+    let slots : 1 ≤ now.ring.geometry.slots = subst (λ (h : Geometry). 1 ≤ h.slots) (sym noted.geometry) some in record {
+      told = λ there. told-by new now must t (medium new).bytes slots (grown-fits was now n j (medium old).size noted fits some left room).within after;
+      settled = λ fine there. grew.settled honest;
+      held = λ fine there. after.held;
+    }

@@ -6,9 +6,8 @@ use Rattle.loop_record.specs.declared.geometry.Geometry.{Geometry}
 use Rattle.loop_record.specs.Reading.{Holds}
 use Rattle.loop_record.specs.Recording.{Recording, Step, plain, ring_of}
 use Rattle.loop_record.proofs.Decided.{clash}
-use Rattle.loop_ring.specs.Heads.{heads_of}
 use Rattle.loop_store.specs.Held.{EachNow, HoldsFrom}
-use Rattle.loop_store.specs.Seen.{HasFailed, Seen, StandsFor}
+use Rattle.loop_store.specs.Seen.{HasFailed, Seen, StandsFor, Tells}
 
 -- all of some steps, with none behind them
 pub holds-all : (g : Geometry) (r : Recording) (steps more : List Step) (image : List ℕ) → Holds g (plain (ring_of g) r steps) image → HoldsFrom g r (length steps) (steps ++ more) image
@@ -25,15 +24,8 @@ each-now old new P sound run = λ c left. run.each c (sound.counts_now old.momen
 
 -- a store after a failed call stands for what it stood for
 pub failed-stands : {D : Type 0} (medium : D → Medium) (old new : Seen D) (r : Recording) → HasFailed old new → ((medium new.disk).honest → (medium old.disk).honest) → StandsFor medium old r → StandsFor medium new r
-failed-stands medium old new r failed back stands = record {
-  remembered = λ now. let m = stands.remembered (back now) in record {
-    image = m.image;
-    held = subst (λ (g : Geometry). Holds g r m.image) (sym failed.geometry) m.held;
-    next_is = failed.next ∙ m.next_is;
-    heads_are = failed.heads ∙ m.heads_are ∙ ap (λ (g : Geometry). heads_of g m.image) (sym failed.geometry);
-    clips_are = failed.clips ∙ m.clips_are;
-  };
-  settled = λ fine now. absurd (clash new.must_reopen failed.must_reopen fine);
-  held = λ fine now. absurd (clash new.must_reopen failed.must_reopen fine);
-  agrees = λ fine now. absurd (clash new.must_reopen failed.must_reopen fine);
+failed-stands {D} medium old new r failed back stands = record {
+  told = λ now. subst (λ (s : Seen D). Tells s r) (sym failed) (let told = stands.told (back now) in record { next_is = told.next_is; numbers_are = told.numbers_are; clips_are = told.clips_are });
+  settled = λ fine now. absurd (clash new.must_reopen (ap (λ (s : Seen D). s.must_reopen) failed) fine);
+  held = λ fine now. absurd (clash new.must_reopen (ap (λ (s : Seen D). s.must_reopen) failed) fine);
 }

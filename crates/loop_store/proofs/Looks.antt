@@ -1,41 +1,47 @@
 -- A call that only looks leaves the store as it was.
-use Rattle.std.proofs.Common.{◌≡◌, ◌⊎◌, inl, inr, ℕ, ◌<◌, Bool, true, false, is_some, IfErr, Option, Some, None, Result, Err, List, get_or, refl, sym, ap, ◌∙◌, subst}
-use Rattle.std.specs.List.{list_any}
+use Rattle.std.proofs.Common.{◌≡◌, ◌⊎◌, inl, inr, ℕ, ◌<◌, ◌≤◌, Bool, true, false, is_some, IfErr, Option, Some, None, Result, Ok, Err, List, get_or, refl, sym, ap, ◌∙◌, subst}
+use Rattle.std.specs.List.{All, list_any}
 use Rattle.loop_disk.specs.Calls.{Stays}
 use Rattle.loop_disk.specs.Medium.{Medium, IsSettled}
-use Rattle.loop_record.specs.declared.clip.Span.{Span}
+use Rattle.loop_record.specs.declared.damage.LayoutFault.{LayoutFault}
 use Rattle.loop_record.specs.declared.geometry.Geometry.{Geometry}
 use Rattle.loop_record.specs.declared.segment.SegmentHead.{SegmentHead}
-use Rattle.loop_record.specs.Reading.{Holds}
+use Rattle.loop_record.specs.Reading.{Contents, Holds}
 use Rattle.loop_record.specs.Recording.{Picture, Recording, holds}
 use Rattle.loop_ring.specs.Heads.{has_number, heads_of}
 use Rattle.loop_ring.proofs.Held.{held-number}
 use Rattle.loop_store.specs.Held.{HasNoneStray}
-use Rattle.loop_store.specs.Recovered.{IsRecovered}
-use Rattle.loop_store.specs.Seen.{Seen, Remembers, StandsFor, IsKept}
+use Rattle.loop_store.specs.declared.index.Index.{Index}
+use Rattle.loop_store.specs.Recovered.{IsFitting, IsHeadIn, IsIndexOf, IsRecovered}
+use Rattle.loop_store.specs.Seen.{IsKept, IsPresent, Seen, StandsFor, Tells, seen_with}
 use Rattle.loop_store.proofs.Looked.{held-slot}
+use Rattle.loop_store.proofs.Numbers.{among-under}
+
+ok-inj : (a b : Contents) → let x : Result Contents LayoutFault = Ok a in let y : Result Contents LayoutFault = Ok b in x ≡ y → a ≡ b
+ok-inj a b e = cc
 
 pub stays-settled : (old new : Medium) → Stays old new → IsSettled old → IsSettled new
 stays-settled old new stays settled = λ c left. settled c (stays.images c left) ∙ sym stays.bytes
 
-pub looked-kept : {D : Type 0} (medium : D → Medium) (g : Geometry) (old new : D) (next : ℕ) (heads : List (Option SegmentHead)) (clips : List (Option Span)) (must_reopen : Bool) → IsKept medium g old next heads clips must_reopen
-    → (medium new).size ≡ (medium old).size → ((medium new).honest → (medium old).honest) → ((medium old).honest → Stays (medium old) (medium new)) → IsKept medium g new next heads clips must_reopen
-looked-kept medium g old new next heads clips must_reopen kept size back stays = record {
-  size = size ∙ kept.size;
-  few = kept.few;
-  count = kept.count;
-  within = kept.within;
-  unstray = λ fine now. subst (λ (image : List ℕ). HasNoneStray g image) (sym (stays (back now)).bytes) (kept.unstray fine (back now));
-  settled = λ fine now. stays-settled (medium old) (medium new) (stays (back now)) (kept.settled fine (back now));
-  recorded = λ fine now. subst (λ (image : List ℕ). IsRecovered g heads clips next image) (sym (stays (back now)).bytes) (kept.recorded fine (back now));
+looked-present : {A : Type 0} (index : Index A) (old new : Medium) → Stays old new → IsPresent index old → IsPresent index new
+looked-present index old new stays present = record {
+  recorded = subst (λ (image : List ℕ). IsRecovered index image) (sym stays.bytes) present.recorded;
+  settled = stays-settled old new stays present.settled;
+  unstray = subst (λ (image : List ℕ). HasNoneStray index.ring.geometry image) (sym stays.bytes) present.unstray;
+}
+
+pub looked-kept : {D A : Type 0} (medium : D → Medium) (old new : D) (index : Index A) (must_reopen : Bool) → IsKept medium old index must_reopen → (medium new).size ≡ (medium old).size → ((medium new).honest → (medium old).honest)
+    → ((medium old).honest → Stays (medium old) (medium new)) → IsKept medium new index must_reopen
+looked-kept medium old new index must_reopen kept size back stays = record {
+  fits = subst (IsFitting index) (sym size) kept.fits;
+  present = λ fine now. looked-present index (medium old) (medium new) (stays (back now)) (kept.present fine (back now));
 }
 
 pub looked-stands : {D : Type 0} (medium : D → Medium) (old : Seen D) (disk : D) (r : Recording) → StandsFor medium old r → ((medium disk).honest → (medium old.disk).honest) → ((medium old.disk).honest → Stays (medium old.disk) (medium disk)) → StandsFor medium (record old { disk = disk }) r
 looked-stands medium old disk r stands back stays = record {
-  remembered = λ now. let m = stands.remembered (back now) in record { image = m.image; held = m.held; next_is = m.next_is; heads_are = m.heads_are; clips_are = m.clips_are };
+  told = λ now. let told = stands.told (back now) in record { next_is = told.next_is; numbers_are = told.numbers_are; clips_are = told.clips_are };
   settled = λ fine now. stays-settled (medium old.disk) (medium disk) (stays (back now)) (stands.settled fine (back now));
   held = λ fine now. subst (λ (image : List ℕ). Holds old.geometry r image) (sym (stays (back now)).bytes) (stands.held fine (back now));
-  agrees = λ fine now. stands.agrees fine (back now) ∙ ap (heads_of old.geometry) (sym (stays (back now)).bytes);
 }
 
 -- a number whose frame a segment has is held
@@ -44,6 +50,23 @@ there-held g r image heads j n held same l has =
     let at : has_number g.slots n (get_or (heads_of g image) j None) ≡ true = subst (λ (hs : List (Option SegmentHead)). has_number g.slots n (get_or hs j None) ≡ true) same has in
     ap (λ (o : Option Picture). is_some o) (held-slot g r image j n held l at).held
 
--- what the headers in memory tell of a number is what the recording says
-pub held-by : {D : Type 0} (s : Seen D) (r : Recording) (told : Bool) (n : ℕ) → Remembers s r → told ≡ list_any (has_number s.geometry.slots n) s.heads → told ≡ holds r n
-held-by s r told n m is = is ∙ ap (list_any (has_number s.geometry.slots n)) m.heads_are ∙ held-number s.geometry r m.image n m.held
+-- what a store tells is what its index says of an image
+pub told-by : {D A : Type 0} (disk : D) (index : Index A) (must_reopen : Bool) (r : Recording) (image : List ℕ) → 1 ≤ index.ring.geometry.slots → All (IsHeadIn index.ring.geometry) index.table → IsIndexOf index r image
+    → Tells (seen_with disk index must_reopen) r
+told-by disk index must_reopen r image some within known = record {
+  next_is = known.next_is;
+  numbers_are = λ n. among-under index.ring.geometry n index.table some within ∙ ap (list_any (has_number index.ring.geometry.slots n)) known.heads_are ∙ held-number index.ring.geometry r image n known.held;
+  clips_are = known.clips_are;
+}
+
+-- an image holds one recording
+one-recording : (g : Geometry) (r t : Recording) (image : List ℕ) → Holds g r image → Holds g t image → r ≡ t
+one-recording g r t image first second = ap (λ (x : Contents). x.recording) (ok-inj (record { geometry = g; recording = r }) (record { geometry = g; recording = t }) (sym first ∙ second))
+
+-- where the store needn't be reopened, its index says all of the recording that it stands for
+pub known-by : {D A : Type 0} (medium : D → Medium) (disk : D) (index : Index A) (must_reopen : Bool) (r : Recording) → IsKept medium disk index must_reopen → StandsFor medium (seen_with disk index must_reopen) r → must_reopen ≡ false → (medium disk).honest
+    → IsIndexOf index r (medium disk).bytes
+known-by medium disk index must_reopen r kept stands fine now =
+    let there = (kept.present fine now).recorded in
+    let image = (medium disk).bytes in
+    subst (λ (t : Recording). IsIndexOf index t image) (one-recording index.ring.geometry there.recording r image there.known.held (stands.held fine now)) there.known

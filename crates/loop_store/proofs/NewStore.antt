@@ -1,13 +1,11 @@
 -- A store that was just formatted.
-use Rattle.std.proofs.Common.{◌≡◌, ℕ, zero, suc, ◌+◌, ◌<◌, cond, false, IsTrue, Option, None, Some, List, ◌∷◌, length, map, replicate, refl, sym, ap, ◌∙◌, subst, arith}
+use Rattle.std.proofs.Common.{◌≡◌, ℕ, zero, suc, ◌+◌, ◌<◌, cond, false, IsTrue, Option, None, Some, List, [], ◌∷◌, length, map, replicate, refl, sym, ap, ◌∙◌, subst, arith}
 use Rattle.std.proofs.lemmas.List.{length-replicate}
 use Rattle.std.proofs.lemmas.List.Elements.{All-replicate}
 use Rattle.std.specs.List.{All, range_with_len}
 use Rattle.byteorder.specs.Endian.{little_from}
 use Rattle.loop_disk.specs.Medium.{Medium, IsSettled}
-use Rattle.loop_record.specs.declared.clip.Span.{Span}
 use Rattle.loop_record.specs.declared.geometry.Geometry.{Geometry}
-use Rattle.loop_record.specs.declared.segment.SegmentHead.{SegmentHead}
 use Rattle.loop_record.specs.Geometry.{disk_size, is_good, segment_at}
 use Rattle.loop_record.specs.Layout.{header_at, open_gates}
 use Rattle.loop_record.specs.Reading.{Holds, IsFresh}
@@ -15,8 +13,11 @@ use Rattle.loop_record.specs.Recording.{empty}
 use Rattle.loop_record.proofs.Fresh.{reading-fresh}
 use Rattle.loop_ring.specs.Heads.{heads_of}
 use Rattle.loop_ring.proofs.Bytes.{closed_none}
-use Rattle.loop_store.specs.Recovered.{IsHeadIn}
-use Rattle.loop_store.specs.Seen.{IsKept, StandsFor}
+use Rattle.loop_store.specs.declared.index.Index.{Index}
+use Rattle.loop_store.specs.Held.{HasNoneStray}
+use Rattle.loop_store.specs.Numbers.{is_among, numbers_under}
+use Rattle.loop_store.specs.Recovered.{IsHeadIn, IsIndexOf}
+use Rattle.loop_store.specs.Seen.{IsKept, StandsFor, Tells, seen_with}
 
 all-none : {X : Type 0} (f : ℕ → Option X) (lo n : ℕ) → ((j : ℕ) → j < lo + n → f j ≡ None) → map f (range_with_len lo n) ≡ replicate n None
 all-none f lo zero none = refl
@@ -29,40 +30,55 @@ fresh-heads g image fresh = all-none (λ j. header_at g image (segment_at g j)) 
     closed-head : (j : ℕ) → j < g.segments → header_at g image (segment_at g j) ≡ None
     closed-head j l = λ i. cond (fresh.segments j l i) (Some (record { block = little_from (segment_at g j + 8) 8 image; frames = open_gates g.slots image (segment_at g j + 256) })) None
 
+-- the index of what was just formatted
+pub record IsNew {A : Type 0} (index : Index A) (g : Geometry) : Type 0 where
+  pub geometry : index.ring.geometry ≡ g
+  pub next : index.next ≡ 0
+  pub closed : index.table ≡ replicate g.segments None
+  pub none : index.clips ≡ replicate 64 None
+
+fresh-known : {A : Type 0} (index : Index A) (g : Geometry) (image : List ℕ) → IsNew index g → IsTrue (is_good g) → IsFresh g image → IsIndexOf index empty image
+fresh-known index g image new good fresh = record {
+  held = subst (λ (h : Geometry). Holds h empty image) (sym new.geometry) (reading-fresh g image good fresh);
+  next_is = new.next;
+  heads_are = new.closed ∙ sym (fresh-heads g image fresh) ∙ ap (λ (h : Geometry). heads_of h image) (sym new.geometry);
+  clips_are = new.none;
+}
+
 -- the image of a disk that was formatted, with the memory of its store
-pub fresh-kept : {D : Type 0} (medium : D → Medium) (g h : Geometry) (disk : D) (heads : List (Option SegmentHead)) (clips : List (Option Span)) → h ≡ g → heads ≡ replicate g.segments None → clips ≡ replicate 64 None → IsTrue (is_good g) → (medium disk).size ≡ disk_size g
-    → ((medium disk).honest → IsSettled (medium disk)) → ((medium disk).honest → IsFresh g (medium disk).bytes) → IsKept medium h disk 0 heads clips false
-fresh-kept medium g h disk heads clips same closed none good size settled fresh =
-    subst (λ (k : Geometry). IsKept medium k disk 0 heads clips false) (sym same)
-    (record {
-      size = size;
-      few = omega arith;
-      count = ap length closed ∙ length-replicate g.segments None;
-      within = subst (All (IsHeadIn g)) (sym closed) (All-replicate (IsHeadIn g) g.segments None tt);
-      unstray = λ fine now j l there. absurd (there (closed_none g (medium disk).bytes j ((fresh now).segments j l)));
-      settled = λ fine now. settled now;
-      recorded = λ fine now. record {
-        recording = empty;
-        held = reading-fresh g (medium disk).bytes good (fresh now);
-        next_is = refl;
-        clips_are = none;
-        heads_are = closed ∙ sym (fresh-heads g (medium disk).bytes (fresh now));
-      };
-    })
+pub fresh-kept : {D A : Type 0} (medium : D → Medium) (g : Geometry) (disk : D) (index : Index A) → IsNew index g → IsTrue (is_good g) → (medium disk).size ≡ disk_size g → ((medium disk).honest → IsSettled (medium disk)) → ((medium disk).honest → IsFresh g (medium disk).bytes)
+    → IsKept medium disk index false
+fresh-kept medium g disk index new good size settled fresh = record {
+  fits = record {
+    size_is = size ∙ ap disk_size (sym new.geometry);
+    count = ap length new.closed ∙ length-replicate g.segments None ∙ ap (λ (h : Geometry). h.segments) (sym new.geometry);
+    within = subst (All (IsHeadIn index.ring.geometry)) (sym new.closed) (All-replicate (IsHeadIn index.ring.geometry) g.segments None tt);
+    few = omega (arith, new.next);
+  };
+  present = λ fine now. record {
+    recorded = record { recording = empty; known = fresh-known index g (medium disk).bytes new good (fresh now) };
+    settled = settled now;
+    unstray = subst (λ (h : Geometry). HasNoneStray h (medium disk).bytes) (sym new.geometry) (λ j l there. absurd (there (closed_none g (medium disk).bytes j ((fresh now).segments j l))));
+  };
+}
 
-pub fresh-stands : {D : Type 0} (medium : D → Medium) (g h : Geometry) (disk : D) (heads : List (Option SegmentHead)) (clips : List (Option Span)) → h ≡ g → heads ≡ replicate g.segments None → clips ≡ replicate 64 None → IsTrue (is_good g)
-    → ((medium disk).honest → IsSettled (medium disk)) → ((medium disk).honest → IsFresh g (medium disk).bytes) → StandsFor medium (record { disk = disk; geometry = h; next = 0; heads = heads; clips = clips; must_reopen = false }) empty
-fresh-stands medium g h disk heads clips same closed none good settled fresh =
-    subst (λ (k : Geometry). StandsFor medium (record { disk = disk; geometry = k; next = 0; heads = heads; clips = clips; must_reopen = false }) empty) (sym same)
-    (record {
-      remembered = λ now. record { image = (medium disk).bytes; held = held now; next_is = refl; heads_are = heads_are now; clips_are = none };
-      settled = λ fine now. settled now;
-      held = λ fine now. held now;
-      agrees = λ fine now. heads_are now;
-    })
-  where
-    held : (medium disk).honest → Holds g empty (medium disk).bytes
-    held now = reading-fresh g (medium disk).bytes good (fresh now)
+-- no segment is open
+none-under : (slots count : ℕ) → numbers_under slots (replicate count None) ≡ []
+none-under slots zero = refl
+none-under slots (suc count) = none-under slots count
 
-    heads_are : (medium disk).honest → heads ≡ heads_of g (medium disk).bytes
-    heads_are now = closed ∙ sym (fresh-heads g (medium disk).bytes (fresh now))
+-- what its store tells
+pub fresh-tells : {D A : Type 0} (g : Geometry) (disk : D) (index : Index A) → IsNew index g → Tells (seen_with disk index false) empty
+fresh-tells g disk index new = record {
+  next_is = new.next;
+  numbers_are = λ n. ap (λ (ns : List ℕ). is_among ns n) (ap (numbers_under index.ring.geometry.slots) new.closed ∙ none-under index.ring.geometry.slots g.segments);
+  clips_are = new.none;
+}
+
+pub fresh-stands : {D A : Type 0} (medium : D → Medium) (g : Geometry) (disk : D) (index : Index A) → IsNew index g → IsTrue (is_good g) → ((medium disk).honest → IsSettled (medium disk)) → ((medium disk).honest → IsFresh g (medium disk).bytes)
+    → StandsFor medium (seen_with disk index false) empty
+fresh-stands medium g disk index new good settled fresh = record {
+  told = λ now. fresh-tells g disk index new;
+  settled = λ fine now. settled now;
+  held = λ fine now. (fresh-known index g (medium disk).bytes new good (fresh now)).held;
+}

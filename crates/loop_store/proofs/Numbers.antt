@@ -1,20 +1,27 @@
 -- The numbers of held frames.
-use Rattle.std.proofs.Common.{◌≡◌, ℕ, zero, suc, ◌+◌, ◌*◌, ◌<◌, ◌≤◌, List, [], ◌∷◌, ◌++◌, get_or, length, map, take, refl, sym, ap, ◌∙◌, arith}
-use Rattle.std.proofs.Math.Nat.{add-mul}
+use Rattle.std.proofs.Common.{◌≡◌, ℕ, zero, suc, ◌+◌, ◌*◌, ◌/◌, ◌%◌, ◌<◌, ◌≤◌, Bool, true, false, ◌&&◌, eqb, leb, ltb, Option, None, Some, List, [], ◌∷◌, ◌++◌, get_or, length, map, take, refl, sym, ap, ◌∙◌, subst, arith}
+use Rattle.std.proofs.Math.Nat.{add-mul, div-eq_of_lt-le}
+use Rattle.std.proofs.lemmas.Bool.Decides.{nat_tests}
 use Rattle.std.proofs.lemmas.List.{append-nil, append_assoc, length-append, length-map, map-append, take_more}
-use Rattle.std.proofs.lemmas.Nat.{mul-le}
-use Rattle.std.specs.List.{enumerate_from, range_with_len}
+use Rattle.std.proofs.lemmas.List.Folds.{list_any-append}
+use Rattle.std.proofs.lemmas.Nat.{div-add-mod', mul-le}
+use Rattle.std.specs.List.{All, enumerate_from, list_any, range_with_len}
+use Rattle.std.specs.Prelude.{◌||◌}
 use Rattle.loop_record.specs.declared.geometry.Geometry.{Geometry}
 use Rattle.loop_record.specs.declared.image.Found.{Found}
+use Rattle.loop_record.specs.declared.segment.SegmentHead.{SegmentHead}
 use Rattle.loop_record.specs.Geometry.{frame_bytes, slot_at}
 use Rattle.loop_record.specs.Layout.{Segment, slot_in}
 use Rattle.loop_record.specs.Plain.{AreIn, IsIn, segment_of, segments_of}
 use Rattle.loop_record.specs.Reading.{Holds, all_frames, by_block, frames_of, opened, parts_of}
 use Rattle.loop_record.specs.Recording.{Picture, Recording}
+use Rattle.loop_record.proofs.Decided.{at_most, at_most_test, both, equal, equal_test}
 use Rattle.loop_record.proofs.Gates.{range_append}
 use Rattle.loop_record.proofs.Readings.{length-range}
+use Rattle.loop_ring.specs.Heads.{has_number}
 use Rattle.loop_ring.proofs.Held.{sorted}
-use Rattle.loop_store.specs.Numbers.{numbers_in}
+use Rattle.loop_store.specs.Numbers.{is_among, numbers_in, numbers_under}
+use Rattle.loop_store.specs.Recovered.{IsHeadIn}
 
 enumerated : (n : ℕ) (ps : List Picture) → map (λ f. f.0) (enumerate_from n ps) ≡ range_with_len n (length ps)
 enumerated n [] = refl
@@ -75,3 +82,54 @@ room-for slots k count have frames room l few in_slots enough =
     let one : (k + 1) * slots ≡ k * slots + slots = omega (arith, add-mul k 1 slots) in
     let all : (k + 1) * slots ≤ count * slots = mul-le (k + 1) slots count slots (omega (arith, l)) (omega arith) in
     omega (arith, one, all, few, in_slots, enough)
+
+-- ---- the numbers that headers name
+
+below : (m n : ℕ) → ltb m n ≡ true → m < n
+below m n e = at_most (suc m) n e
+
+below_test : (m n : ℕ) → m < n → ltb m n ≡ true
+below_test m n l = at_most_test (suc m) n l
+
+same-test : (a b : Bool) → (a ≡ true → b ≡ true) → (b ≡ true → a ≡ true) → a ≡ b
+same-test true b there back = sym (there refl)
+same-test false true there back = back refl
+same-test false false there back = refl
+
+-- a number is among those of a range where it lies between its ends
+among-range : (n a count : ℕ) → is_among (range_with_len a count) n ≡ (leb a n && ltb n (a + count))
+among-range n a zero = same-test false (leb a n && ltb n (a + 0)) (λ e. absurd cc) (λ e. absurd (let t = both (leb a n) (ltb n (a + 0)) e in omega (arith, at_most a n t.0, below n (a + 0) t.1)))
+among-range n a (suc count) = ap (λ (t : Bool). eqb a n || t) (among-range n (a + 1) count) ∙ grind (arith, nat_tests)
+
+-- so it is with the numbers of a block's frames
+among-block : (n slots b frames : ℕ) → 1 ≤ slots → frames ≤ slots → is_among (range_with_len (b * slots) frames) n ≡ (eqb b (n / slots) && ltb (n % slots) frames)
+among-block n slots b frames some few = among-range n (b * slots) frames ∙ same-test (leb (b * slots) n && ltb n (b * slots + frames)) (eqb b (n / slots) && ltb (n % slots) frames) there back
+  where
+    split : n / slots * slots + n % slots ≡ n
+    split = div-add-mod' n slots
+
+    there : (leb (b * slots) n && ltb n (b * slots + frames)) ≡ true → (eqb b (n / slots) && ltb (n % slots) frames) ≡ true
+    there e =
+        let t = both (leb (b * slots) n) (ltb n (b * slots + frames)) e in
+        let low : b * slots ≤ n = at_most (b * slots) n t.0 in
+        let high : n < b * slots + frames = below n (b * slots + frames) t.1 in
+        let one : (b + 1) * slots ≡ b * slots + 1 * slots = add-mul b 1 slots in
+        let is : n / slots ≡ b = div-eq_of_lt-le slots low (omega (arith, one, high, few)) in
+        let rest : b * slots + n % slots ≡ n = subst (λ (k : ℕ). k * slots + n % slots ≡ n) is split in
+        (λ i. equal_test b (n / slots) (sym is) i && ltb (n % slots) frames) ∙ below_test (n % slots) frames (omega (arith, rest, high))
+
+    back : (eqb b (n / slots) && ltb (n % slots) frames) ≡ true → (leb (b * slots) n && ltb n (b * slots + frames)) ≡ true
+    back e =
+        let t = both (eqb b (n / slots)) (ltb (n % slots) frames) e in
+        let is : b ≡ n / slots = equal b (n / slots) t.0 in
+        let less : n % slots < frames = below (n % slots) frames t.1 in
+        let rest : b * slots + n % slots ≡ n = subst (λ (k : ℕ). k * slots + n % slots ≡ n) (sym is) split in
+        (λ i. at_most_test (b * slots) n (omega (arith, rest)) i && ltb n (b * slots + frames)) ∙ below_test n (b * slots + frames) (omega (arith, rest, less))
+
+-- a number is among those that headers name where a segment has its frame
+pub among-under : (g : Geometry) (n : ℕ) (heads : List (Option SegmentHead)) → 1 ≤ g.slots → All (IsHeadIn g) heads → is_among (numbers_under g.slots heads) n ≡ list_any (has_number g.slots n) heads
+among-under g n [] some all = refl
+among-under g n (None ∷ heads) some all = among-under g n heads some (λ k d l. all (suc k) d (omega (arith, l)))
+among-under g n (Some head ∷ heads) some all =
+    list_any-append (λ m. eqb m n) (range_with_len (head.block * g.slots) head.frames) (numbers_under g.slots heads)
+    ∙ (λ i. among-block n g.slots head.block head.frames some (all 0 None (omega arith)).0 i || among-under g n heads some (λ k d l. all (suc k) d (omega (arith, l))) i)

@@ -16,7 +16,7 @@ use Rattle.loop_store.specs.Faults.{failed_by, is_disk}
 use Rattle.loop_store.specs.Goes.{Goes, Stands, outline_of}
 use Rattle.loop_store.specs.Held.{HoldsFrom, HoldsSome}
 use Rattle.loop_store.specs.Places.{RefusesPlace}
-use Rattle.loop_store.specs.Seen.{HasFailed, Seen, StandsFor, Tells}
+use Rattle.loop_store.specs.Seen.{HasFailed, Seen, StandsFor}
 use Rattle.loop_store.specs.Steps.{LeavesSteps}
 use Rattle.loop_store.proofs.Appended.{place-none}
 use Rattle.loop_store.proofs.Asked.{each-now, failed-stands, holds-all}
@@ -57,8 +57,8 @@ put-refused {D} medium s ps fault sound quiet none answers allowed = goes-once m
 -- where there is no place
 pub place-refused : {D : Type 0} (medium : D → Medium) (s : Seen D) (ps : List Picture) (fault : StoreFault) → ((medium s.disk).honest → IsSound (medium s.disk)) → s.must_reopen ≡ false → (fault ≡ NumbersSpent) ⊎ (fault ≡ AllLocked)
     → (fault ≡ NumbersSpent → s.next ≡ last_number (ring_of s.geometry)) → (fault ≡ AllLocked → s.next ≢ last_number (ring_of s.geometry))
-    → ((r : Recording) (image : List ℕ) → Tells s.geometry s.heads s.clips s.next r image → RefusesPlace s.geometry r fault) → Goes medium s s (appended ps (Err fault) ∷ [])
-place-refused {D} medium s ps fault sound fine either spent unspent told = put-refused medium s ps fault sound (quiet either) (none either) answers (allowed either)
+    → ((r : Recording) → StandsFor medium s r → (medium s.disk).honest → RefusesPlace s.geometry r fault) → Goes medium s s (appended ps (Err fault) ∷ [])
+place-refused {D} medium s ps fault sound fine either spent unspent known = put-refused medium s ps fault sound (quiet either) (none either) answers (allowed either)
   where
     quiet : (fault ≡ NumbersSpent) ⊎ (fault ≡ AllLocked) → is_disk fault ≡ false
     quiet (inl e) = ap is_disk e
@@ -77,9 +77,7 @@ place-refused {D} medium s ps fault sound fine either spent unspent told = put-r
     refuses t still (inr x) = inr (inr (inl (x.0, (still, (x.1.0, place-none s.geometry t.recording ps x.1.1)))))
 
     answers : (t : StoreState) → Stands medium s t → (medium s.disk).honest → RefusesAppend s.geometry t ps fault
-    answers t stands now =
-        let m = stands.recording.remembered now in
-        refuses t (sym stands.must_reopen ∙ fine) (told t.recording m.image (record { held = m.held; next_is = m.next_is; heads_are = m.heads_are; clips_are = m.clips_are }))
+    answers t stands now = refuses t (sym stands.must_reopen ∙ fine) (known t.recording stands.recording now)
 
 -- ---- stored
 
@@ -104,7 +102,7 @@ pub record Stored {D : Type 0} (medium : D → Medium) (old new : Seen D) (ps : 
 
 pub put-stored : {D : Type 0} (medium : D → Medium) (old new : Seen D) (ps : List Picture) → Stored medium old new ps → Goes medium old new (appended ps (Ok old.next) ∷ [])
 put-stored {D} medium old new ps stored = goes-once medium old new (appended ps (Ok old.next)) (record {
-  answers = λ s stands now. (sym stands.must_reopen ∙ stored.fine, (stored.some s.recording stands.recording now, (stands.recording.remembered now).next_is));
+  answers = λ s stands now. (sym stands.must_reopen ∙ stored.fine, (stored.some s.recording stands.recording now, (stands.recording.told now).next_is));
   stands = λ s stands now. record {
     recording = stored.stands s.recording stands.recording now;
     must_reopen = stored.still ∙ sym (or-false s.must_reopen ∙ sym stands.must_reopen ∙ stored.fine);
@@ -139,7 +137,7 @@ put-failed {D} medium old new ps fault failed = goes-once medium old new (append
   answers = λ s stands now. inr (inr (inr (refl, (sym stands.must_reopen ∙ failed.fine, failed.some s.recording stands.recording now))));
   stands = λ s stands now. record {
     recording = failed-stands medium old new s.recording failed.has_failed failed.called.honest.1 stands.recording;
-    must_reopen = failed.has_failed.must_reopen ∙ sym (or-true s.must_reopen);
+    must_reopen = ap (λ (x : Seen D). x.must_reopen) failed.has_failed ∙ sym (or-true s.must_reopen);
   };
   leaves = λ s stands now fine.
       let run = failed.moments s.recording stands.recording now in record {
@@ -150,7 +148,7 @@ put-failed {D} medium old new ps fault failed = goes-once medium old new (append
   allowed = inr (inr (inr refl, (failed.fine, failed.unspent)));
   outline =
       let zero : old.next ≡ old.next + 0 = omega arith in
-      λ i. record { next = (failed.has_failed.next ∙ zero) i; must_reopen = (failed.has_failed.must_reopen ∙ sym (or-true old.must_reopen)) i };
-  geometry = failed.has_failed.geometry;
+      λ i. record { next = (ap (λ (x : Seen D). x.next) failed.has_failed ∙ zero) i; must_reopen = (ap (λ (x : Seen D). x.must_reopen) failed.has_failed ∙ sym (or-true old.must_reopen)) i };
+  geometry = ap (λ (x : Seen D). x.geometry) failed.has_failed;
   called = failed.called;
 })

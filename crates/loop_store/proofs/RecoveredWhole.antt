@@ -1,6 +1,6 @@
 -- What the parts of a disk, read one after the other, say of its image.
-use Rattle.std.proofs.Common.{◌≡◌, ℕ, Bool, true, false, Option, Ok, Err, List, length, refl, sym, ap, ◌∙◌}
-use Rattle.std.specs.List.{list_any}
+use Rattle.std.proofs.Common.{◌≡◌, ℕ, ◌≤◌, Bool, true, false, Option, Ok, Err, List, length, refl, sym, ap, ◌∙◌, subst}
+use Rattle.std.specs.List.{All, list_any}
 use Rattle.loop_record.specs.declared.clip.Span.{Span}
 use Rattle.loop_record.specs.declared.damage.Damage.{Damage}
 use Rattle.loop_record.specs.declared.damage.LayoutFault.{LayoutFault}
@@ -10,10 +10,12 @@ use Rattle.loop_record.specs.declared.segment.SegmentHead.{SegmentHead}
 use Rattle.loop_record.specs.Geometry.{disk_size}
 use Rattle.loop_record.specs.Layout.{geometry_in}
 use Rattle.loop_record.specs.Plain.{segments_of}
-use Rattle.loop_record.specs.Reading.{all_frames, by_block, is_bad_slot, is_high, lacks_frame, next_after, opened, parts_of, reading, repeats}
+use Rattle.loop_record.specs.Reading.{Holds, all_frames, by_block, is_bad_slot, is_high, lacks_frame, next_after, opened, parts_of, reading, repeats}
+use Rattle.loop_record.specs.Recording.{Recording, last_number, ring_of}
 use Rattle.loop_record.proofs.FoundSegments.{AreFull, IsFoundIn, fault-of, found-low, found-read, read-all, read-bad_clip, reading-bad_slot, reading-high}
 use Rattle.loop_ring.specs.Heads.{heads_of}
-use Rattle.loop_store.specs.Recovered.{IsRecovered, clips_of, some_bad_clip}
+use Rattle.loop_store.specs.declared.index.Index.{Index}
+use Rattle.loop_store.specs.Recovered.{IsFitting, IsHeadIn, IsRecovered, clips_of, some_bad_clip}
 
 -- the segments that were found, once none repeats a block and none but the last lacks a frame
 pub full : (g : Geometry) (image : List ℕ) (fs xs : List Found) (twice lacks : Bool) → IsFoundIn g image fs xs → twice ≡ repeats (segments_of g image xs) → twice ≡ false → lacks ≡ lacks_frame g (segments_of g image xs) → lacks ≡ false → AreFull g image fs xs
@@ -37,17 +39,37 @@ refused-clip g image mid last fs xs fault a same right same' q =
     let bad = ap (λ (c : List ℕ). some_bad_clip g c xs) (sym same') ∙ q.1 in
     read-bad_clip g image fs xs (all_frames g (segments_of g image xs)) Damage.ClipRange a sound refl refl bad ∙ fault-of (sym q.0)
 
+-- the index of what was found says so
+pub record IsOf {A : Type 0} (index : Index A) (g : Geometry) (heads : List (Option SegmentHead)) (clips : List (Option Span)) (next : ℕ) : Type 0 where
+  pub geometry : index.ring.geometry ≡ g
+  pub heads_are : index.table ≡ heads
+  pub clips_are : index.clips ≡ clips
+  pub next_is : index.next ≡ next
+
 -- nothing is refused
-pub recovered : (g : Geometry) (image mid last : List ℕ) (fs xs : List Found) (heads : List (Option SegmentHead)) (clips : List (Option Span)) (next : ℕ) → AreFull g image fs xs → mid ≡ image → list_any (is_bad_slot g) (segments_of g mid xs) ≡ false → last ≡ image
-    → (clips ≡ clips_of last) × (some_bad_clip g last xs ≡ false) → next ≡ next_after g (segments_of g image xs) → heads ≡ heads_of g image → IsRecovered g heads clips next image
-recovered g image mid last fs xs heads clips next a same right same' q after are =
+pub recovered : {A : Type 0} (index : Index A) (g : Geometry) (image mid last : List ℕ) (fs xs : List Found) (heads : List (Option SegmentHead)) (clips : List (Option Span)) (next : ℕ) → IsOf index g heads clips next → AreFull g image fs xs → mid ≡ image
+    → list_any (is_bad_slot g) (segments_of g mid xs) ≡ false → last ≡ image → (clips ≡ clips_of last) × (some_bad_clip g last xs ≡ false) → next ≡ next_after g (segments_of g image xs) → heads ≡ heads_of g image → IsRecovered index image
+recovered index g image mid last fs xs heads clips next is a same right same' q after are =
     let sound = ap (λ (c : List ℕ). list_any (is_bad_slot g) (segments_of g c xs)) (sym same) ∙ right in
     let good = ap (λ (c : List ℕ). some_bad_clip g c xs) (sym same') ∙ q.1 in
     let frames = all_frames g (segments_of g image xs) in
+    let r : Recording = record { next = next; frames = frames; clips = clips } in
     record {
-      recording = record { next = next; frames = frames; clips = clips };
-      held = read-all g image fs xs next frames clips a sound refl after (q.0 ∙ ap clips_of same') good;
-      next_is = refl;
-      clips_are = refl;
-      heads_are = are;
+      recording = r;
+      known = record {
+        held = subst (λ (h : Geometry). Holds h r image) (sym is.geometry) (read-all g image fs xs next frames clips a sound refl after (q.0 ∙ ap clips_of same') good);
+        next_is = is.next_is;
+        heads_are = is.heads_are ∙ are ∙ ap (λ (h : Geometry). heads_of h image) (sym is.geometry);
+        clips_are = is.clips_are;
+      };
     }
+
+-- and it fits the disk
+pub fitting : {A : Type 0} (index : Index A) (g : Geometry) (heads : List (Option SegmentHead)) (clips : List (Option Span)) (next size : ℕ) → IsOf index g heads clips next → size ≡ disk_size g → length heads ≡ g.segments → All (IsHeadIn g) heads → next ≤ last_number (ring_of g)
+    → IsFitting index size
+fitting index g heads clips next size is size_is count within few = record {
+  size_is = size_is ∙ ap disk_size (sym is.geometry);
+  count = ap length is.heads_are ∙ count ∙ ap (λ (h : Geometry). h.segments) (sym is.geometry);
+  within = subst (λ (h : Geometry). All (IsHeadIn h) index.table) (sym is.geometry) (subst (All (IsHeadIn g)) (sym is.heads_are) within);
+  few = subst (λ (h : Geometry). index.next ≤ last_number (ring_of h)) (sym is.geometry) (subst (λ (n : ℕ). n ≤ last_number (ring_of g)) (sym is.next_is) few);
+}

@@ -5,7 +5,7 @@ use Rattle.std.proofs.lemmas.Nat.{le-div}
 use Rattle.std.proofs.lemmas.Bool.{cases_lt}
 use Rattle.std.proofs.lemmas.List.{length-map, set-get_or}
 use Rattle.std.proofs.lemmas.List.Folds.{list_any_at}
-use Rattle.std.specs.List.{list_any, position, range_with_len}
+use Rattle.std.specs.List.{All, list_any, position, range_with_len}
 use Rattle.loop_disk.specs.Calls.{Stays}
 use Rattle.loop_disk.specs.Medium.{Medium, IsSettled, IsSound, LeavesOnly}
 use Rattle.loop_disk.proofs.Moments.{goes_on, joined, started, weaker}
@@ -29,8 +29,11 @@ use Rattle.loop_ring.specs.Heads.{heads_of, is_of}
 use Rattle.loop_ring.specs.Writes.{HasNoStray}
 use Rattle.loop_ring.proofs.Heads.{head_of, head-there, heads-length, heads-shown, newest-found, one-entry, position-none}
 use Rattle.loop_store.specs.Held.{HasNoneStray}
-use Rattle.loop_store.specs.Opened.{IsReady, IsTold, ReadsAlike, WasOrReadsAlike}
-use Rattle.loop_store.specs.Recovered.{IsRecovered}
+use Rattle.loop_store.specs.declared.index.Index.{Index}
+use Rattle.loop_store.specs.Opened.{IsOpened, ReadsAlike, WasOrReadsAlike}
+use Rattle.loop_store.specs.Recovered.{IsHeadIn, IsRecovered}
+use Rattle.loop_store.specs.Seen.{IsPresent, seen_with}
+use Rattle.loop_store.proofs.Looks.{told-by}
 use Rattle.loop_store.proofs.Placing.{found-of}
 
 -- ---- the next number
@@ -172,41 +175,54 @@ alike-on old mid new sound stays run = left-now mid new (ReadsAlike mid.bytes) s
 
 -- ---- the segment of the next number
 
--- where memory finds it, so does the image
-pub told-place : (g : Geometry) (heads : List (Option SegmentHead)) (next slots : ℕ) (image : List ℕ) (found result : Option ℕ) (told : IsTold g heads next image) → slots ≡ g.slots → found ≡ result → found ≡ position (is_of (next / slots)) heads
-    → position (is_of (told.recording.next / g.slots)) (heads_of g image) ≡ result
-told-place g heads next slots image found result told same answered said = found-of g told.recording image heads next slots found result told.heads_are (sym told.next_is) same answered said
+-- where the index finds it, so does the image
+pub found-place : {A : Type 0} (index : Index A) (slots : ℕ) (image : List ℕ) (found result : Option ℕ) (told : IsRecovered index image) → slots ≡ index.ring.geometry.slots → found ≡ result → found ≡ position (is_of (index.next / slots)) index.table
+    → position (is_of (told.recording.next / index.ring.geometry.slots)) (heads_of index.ring.geometry image) ≡ result
+found-place index slots image found result told same answered said =
+    found-of index.ring.geometry told.recording image index.table index.next slots found result told.known.heads_are (sym told.known.next_is) same answered said
 
-pub told-whole : (g : Geometry) (heads : List (Option SegmentHead)) (next slots j : ℕ) (image : List ℕ) (told : IsTold g heads next image) → slots ≡ g.slots → position (is_of (told.recording.next / g.slots)) (heads_of g image) ≡ Some j → whole_frames g image j ≡ next % slots
-told-whole g heads next slots j image told same found = (newest-found g told.recording image j told.held found).whole ∙ (λ i. sym told.next_is i % sym same i)
+-- the segment that was found has all the frames before the next number
+pub found-whole : {A : Type 0} (index : Index A) (slots j : ℕ) (image : List ℕ) (told : IsRecovered index image) → slots ≡ index.ring.geometry.slots
+    → position (is_of (told.recording.next / index.ring.geometry.slots)) (heads_of index.ring.geometry image) ≡ Some j → whole_frames index.ring.geometry image j ≡ index.next % slots
+found-whole index slots j image told same found = (newest-found index.ring.geometry told.recording image j told.known.held found).whole ∙ (λ i. sym told.known.next_is i % sym same i)
 
-pub told-alike : (g : Geometry) (heads : List (Option SegmentHead)) (next j : ℕ) (old new : List ℕ) (told : IsTold g heads next old) → position (is_of (told.recording.next / g.slots)) (heads_of g old) ≡ Some j → ShowsSegment g j (segment_in g old j) old new → ReadsAlike old new
-told-alike g heads next j old new told found shows = alike-same g told.recording j old new told.held (newest-found g told.recording old j told.held found).within shows
+-- an image that shows that segment alike reads alike
+pub found-alike : {A : Type 0} (index : Index A) (j : ℕ) (old new : List ℕ) (told : IsRecovered index old) → position (is_of (told.recording.next / index.ring.geometry.slots)) (heads_of index.ring.geometry old) ≡ Some j
+    → ShowsSegment index.ring.geometry j (segment_in index.ring.geometry old j) old new → ReadsAlike old new
+found-alike index j old new told found shows =
+    alike-same index.ring.geometry told.recording j old new told.known.held (newest-found index.ring.geometry told.recording old j told.known.held found).within shows
 
-pub told-heads : (g : Geometry) (heads : List (Option SegmentHead)) (next j : ℕ) (old new : List ℕ) (told : IsTold g heads next old) → position (is_of (told.recording.next / g.slots)) (heads_of g old) ≡ Some j → ShowsSegment g j (segment_in g old j) old new → heads ≡ heads_of g new
-told-heads g heads next j old new told found shows = told.heads_are ∙ sym (heads-same g told.recording j old new told.held (newest-found g told.recording old j told.held found).within shows)
-
-pub told-unstray : (g : Geometry) (heads : List (Option SegmentHead)) (next j : ℕ) (old new : List ℕ) (told : IsTold g heads next old) → position (is_of (told.recording.next / g.slots)) (heads_of g old) ≡ Some j → ShowsSegment g j (segment_in g old j) old new → HasNoStray g j new
-    → HasNoneStray g new
-told-unstray g heads next j old new told found shows clean =
+-- and with no stray gate in it, it is present
+pub found-present : {A : Type 0} (index : Index A) (j : ℕ) (old : List ℕ) (now : Medium) (told : IsRecovered index old) → position (is_of (told.recording.next / index.ring.geometry.slots)) (heads_of index.ring.geometry old) ≡ Some j
+    → ShowsSegment index.ring.geometry j (segment_in index.ring.geometry old j) old now.bytes → HasNoStray index.ring.geometry j now.bytes → IsSettled now → IsPresent index now
+found-present index j old now told found shows clean settled =
+    let g = index.ring.geometry in
     let r = told.recording in
-    let within = (newest-found g r old j told.held found).within in
-    let held : Holds g r new = reading-same g r old new j told.held within shows in
-    unstray-found g r new j held (ap (λ (hs : List (Option SegmentHead)). position (is_of (r.next / g.slots)) hs) (heads-same g r j old new told.held within shows) ∙ found) clean
-
--- ---- the whole
-
-pub ready-of : (g h : Geometry) (heads hs : List (Option SegmentHead)) (clips cs : List (Option Span)) (next n : ℕ) (before : List ℕ) (now : Medium) → g ≡ h → clips ≡ cs → next ≡ n → IsRecovered h hs cs n before → ReadsAlike before now.bytes
-    → heads ≡ heads_of g now.bytes → IsSettled now → HasNoneStray g now.bytes → IsReady g heads clips next before now
-ready-of g h heads hs clips cs next n before now gs clips_is next_is was alike heads_are settled unstray =
-    let held : Holds g was.recording before = subst (λ (x : Geometry). Holds x was.recording before) (sym gs) was.held in
+    let within = (newest-found g r old j told.known.held found).within in
+    let same = heads-same g r j old now.bytes told.known.held within shows in
+    let held : Holds g r now.bytes = reading-same g r old now.bytes j told.known.held within shows in
     record {
-      recording = was.recording;
-      was = held;
-      held = alike ∙ held;
-      next_is = next_is ∙ was.next_is;
-      clips_are = clips_is ∙ was.clips_are;
-      heads_are = heads_are;
+      recorded = record {
+        recording = r;
+        known = record { held = held; next_is = told.known.next_is; heads_are = told.known.heads_are ∙ sym same; clips_are = told.known.clips_are };
+      };
       settled = settled;
-      unstray = unstray;
+      unstray = unstray-found g r now.bytes j held (ap (λ (hs : List (Option SegmentHead)). position (is_of (r.next / g.slots)) hs) same ∙ found) clean;
+    }
+
+-- ---- the store
+
+-- a store whose disk holds a recording, and reads as an image did, was opened on that image
+pub present-opened : {D A : Type 0} (medium : D → Medium) (disk : D) (index : Index A) (before : List ℕ) → 1 ≤ index.ring.geometry.slots → All (IsHeadIn index.ring.geometry) index.table → IsPresent index (medium disk) → ReadsAlike before (medium disk).bytes
+    → IsOpened medium before (seen_with disk index false)
+present-opened medium disk index before some within present alike =
+    let r = present.recorded.recording in
+    let known = present.recorded.known in record {
+      recording = r;
+      held = sym alike ∙ known.held;
+      stands = record {
+        told = λ now. told-by disk index false r (medium disk).bytes some within known;
+        settled = λ fine now. present.settled;
+        held = λ fine now. known.held;
+      };
     }

@@ -1,5 +1,5 @@
 -- What formatting leaves of a disk.
-use Rattle.std.specs.Prelude.{◌≡◌, ◌⊎◌, ℕ, ◌<◌, Bool, true, false, Option, None, replicate, Result, Ok, Err, List, length, drop, slice_range}
+use Rattle.std.specs.Prelude.{◌≡◌, ◌⊎◌, ℕ, ◌<◌, Bool, true, false, Option, None, Result, Ok, Err, List, length, drop, slice_range}
 use Rattle.loop_disk.specs.declared.fault.DiskFault.{DiskFault}
 use Rattle.loop_disk.specs.Medium.{Medium}
 use Rattle.loop_record.specs.declared.damage.LayoutFault.TheVariants.{NotFormatted}
@@ -11,7 +11,7 @@ use Rattle.loop_record.specs.Recording.{empty}
 use Rattle.loop_store.specs.declared.fault.OpenRefused.{OpenRefused}
 use Rattle.loop_store.specs.declared.fault.StoreFault.TheVariants.{BadGeometry, NoMemory}
 use Rattle.loop_store.specs.Faults.{failed_by, is_disk}
-use Rattle.loop_store.specs.Seen.{Seen}
+use Rattle.loop_store.specs.Seen.{Seen, Tells}
 
 -- the superblock's gate is closed
 abbrev pub IsClosed : List ℕ → Type 0
@@ -54,9 +54,7 @@ IsRefusedFormat refused = (refused.fault ≡ BadGeometry) ⊎ ((refused.fault �
 -- a store of this geometry with nothing stored
 pub record IsFormatted {D : Type 0} (g : Geometry) (store : Seen D) : Type 0 where
   pub geometry : store.geometry ≡ g
-  pub next : store.next ≡ 0
-  pub heads : store.heads ≡ replicate g.segments None
-  pub clips : store.clips ≡ replicate 64 None
+  pub tells : Tells store empty
   pub must_reopen : store.must_reopen ≡ false
 
 -- the disk, in the store or handed back

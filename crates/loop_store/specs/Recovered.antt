@@ -1,17 +1,19 @@
 -- What is found on a disk again, and in which order damage is answered.
-use Rattle.std.specs.Prelude.{◌≡◌, ℕ, ◌≤◌, Bool, false, Option, Some, None, Result, Ok, Err, List, map}
+use Rattle.std.specs.Prelude.{◌≡◌, ℕ, ◌≤◌, Bool, false, Option, Some, None, Result, Ok, Err, List, All, length, map}
 use Rattle.std.specs.List.{list_any, range_with_len}
 use Rattle.loop_record.specs.declared.clip.Span.{Span}
 use Rattle.loop_record.specs.declared.damage.LayoutFault.{LayoutFault}
 use Rattle.loop_record.specs.declared.geometry.Geometry.{Geometry}
 use Rattle.loop_record.specs.declared.image.Found.{Found}
 use Rattle.loop_record.specs.declared.segment.SegmentHead.{SegmentHead}
+use Rattle.loop_record.specs.Geometry.{disk_size}
 use Rattle.loop_record.specs.Layout.{Segment, clip_in, is_too_high}
 use Rattle.loop_record.specs.Plain.{segment_of, segments_of}
 use Rattle.loop_record.specs.Reading.{Holds, all_frames, is_bad_clip}
-use Rattle.loop_record.specs.Recording.{Recording, empty}
+use Rattle.loop_record.specs.Recording.{Recording, empty, last_number, ring_of}
 use Rattle.loop_ring.specs.Heads.{heads_of}
 use Rattle.loop_store.specs.declared.fault.StoreFault.{StoreFault}
+use Rattle.loop_store.specs.declared.index.Index.{Index}
 
 -- the refusal that stands for the layout's
 abbrev pub refusal : LayoutFault → StoreFault
@@ -55,10 +57,21 @@ some_bad_clip g image fs = list_any (is_bad_clip (record empty { frames = all_fr
 
 -- ---- the whole
 
--- the image holds a recording of this geometry with these clips and this next number, and its segments have these heads
-pub record IsRecovered (g : Geometry) (heads : List (Option SegmentHead)) (clips : List (Option Span)) (next : ℕ) (image : List ℕ) : Type 0 where
+-- an image holds the recording, and the index says what the image says
+pub record IsIndexOf {A : Type 0} (index : Index A) (r : Recording) (image : List ℕ) : Type 0 where
+  pub held : Holds index.ring.geometry r image
+  pub next_is : index.next ≡ r.next
+  pub heads_are : index.table ≡ heads_of index.ring.geometry image
+  pub clips_are : index.clips ≡ r.clips
+
+-- the image holds a recording, and the index says what the image says
+pub record IsRecovered {A : Type 0} (index : Index A) (image : List ℕ) : Type 0 where
   pub recording : Recording
-  pub held : Holds g recording image
-  pub next_is : next ≡ recording.next
-  pub clips_are : clips ≡ recording.clips
-  pub heads_are : heads ≡ heads_of g image
+  pub known : IsIndexOf index recording image
+
+-- whatever a disk of this size holds, there is a header for each segment, each may stand there, and no block of the numbers below the next one is too high
+pub record IsFitting {A : Type 0} (index : Index A) (size : ℕ) : Type 0 where
+  pub size_is : size ≡ disk_size index.ring.geometry
+  pub count : length index.table ≡ index.ring.geometry.segments
+  pub within : All (IsHeadIn index.ring.geometry) index.table
+  pub few : index.next ≤ last_number (ring_of index.ring.geometry)

@@ -4,12 +4,12 @@ ghost use Rattle.std.specs.Prelude.{◌≡◌, ◌⊎◌, ◌+◌, ◌%◌, ◌<
 ghost use Rattle.loop_record.specs.Geometry.{is_good};
 ghost use Rattle.loop_record.specs.Recording.{Recording, last_number, ring_of};
 ghost use Rattle.loop_store.specs.Places.{AnswersPlace, head_after, segment_of};
-ghost use Rattle.loop_store.specs.Seen.{Tells};
+ghost use Rattle.loop_store.specs.Recovered.{IsIndexOf};
 
 use crate::StoreFault;
 use crate::place::{Place, place_of};
 use loop_clips::ClipTable;
-use loop_record::{Geometry, SegmentHead};
+use loop_record::{Geometry, SegmentHead, Span};
 use loop_ring::{Ring, SegmentTable};
 use std::alloc::Allocator;
 
@@ -34,6 +34,28 @@ fn last_number(geometry: &Geometry) -> u64
     slots * (NUMBERS / slots)
 }
 
+/// The index of what was found on a disk.
+pub(crate) fn index_of<A: Allocator>(
+    geometry: Geometry,
+    heads: Vec<Option<SegmentHead>, A>,
+    clips: [Option<Span>; 64],
+    next: u64,
+) -> Index<A>
+    requires good { IsTrue (is_good geometry) }
+    requires count { length heads.items ≡ geometry.segments }
+    ensures geometry { result.ring.geometry ≡ geometry }
+    ensures heads { result.table ≡ heads.items }
+    ensures clips { result.clips ≡ clips }
+    ensures next { result.next ≡ next }
+{
+    Index {
+        ring: Ring::new(geometry),
+        table: SegmentTable::of(heads),
+        clips: ClipTable::of(clips),
+        next,
+    }
+}
+
 impl<A: Allocator> Index<A> {
     /// Where the next frames go. `NumbersSpent` where no number is left; otherwise `AllLocked` where a block has to be recycled
     /// first and none may go.
@@ -42,7 +64,7 @@ impl<A: Allocator> Index<A> {
         ensures within { IfOk result (λ place. segment_of place < self.now.ring.geometry.segments) }
         ensures refusals { IfErr result (λ fault. (fault ≡ StoreFault.NumbersSpent) ⊎ (fault ≡ StoreFault.AllLocked)) }
         ensures spent { (result ≡ Err StoreFault.NumbersSpent) ↔ (self.now.next ≡ last_number (ring_of self.now.ring.geometry)) }
-        ensures answers { (r : Recording) (image : List ℕ) → Tells self.now.ring.geometry self.now.table self.now.clips self.now.next r image
+        ensures answers { (r : Recording) (image : List ℕ) → IsIndexOf self.now r image
             → AnswersPlace self.now.ring.geometry r image result }
     {
         let geometry = &self.ring.geometry;

@@ -22,12 +22,12 @@ pub(crate) fn put<D: Disk, A: Allocator>(
     must_reopen: &mut bool,
     group: &Group<A>,
 ) -> Result<u64, StoreFault>
-    requires kept { IsKept D.medium index.old.ring.geometry disk.old index.old.next index.old.table index.old.clips must_reopen.old }
+    requires kept { IsKept D.medium disk.old index.old must_reopen.old }
     requires some { 1 ≤ length group.now.frames }
     requires room { index.old.next % index.old.ring.geometry.slots + length group.now.frames ≤ index.old.ring.geometry.slots }
     requires size { group.now.size ≡ frame_bytes index.old.ring.geometry }
     requires first { group.now.first ≡ index.old.next }
-    ensures kept { IsKept D.medium index.new.ring.geometry disk.new index.new.next index.new.table index.new.clips must_reopen.new }
+    ensures kept { IsKept D.medium disk.new index.new must_reopen.new }
     ensures goes { Goes D.medium (seen_with disk.old index.old must_reopen.old) (seen_with disk.new index.new must_reopen.new)
         (appended group.now.frames result ∷ []) }
     ensures refused { Refused (seen_with disk.old index.old must_reopen.old) (seen_with disk.new index.new must_reopen.new) result }

@@ -1,31 +1,26 @@
 //! Finds the recording on a disk again.
 
-ghost use Rattle.std.specs.Prelude.{◌≡◌, ◌↔◌, Err, IfErr, IfOk, IsTrue, OnOk, false, length};
+ghost use Rattle.std.specs.Prelude.{◌≡◌, Err, IfErr, IfOk, OnOk, false};
 ghost use Rattle.loop_disk.specs.Calls.{Called, Stays, failed_call};
 ghost use Rattle.loop_disk.specs.Medium.{IsSettled, LeavesOnly};
-ghost use Rattle.loop_record.specs.Geometry.{disk_size, is_good};
 ghost use Rattle.loop_record.specs.Reading.{reading};
-ghost use Rattle.loop_ring.specs.Heads.{heads_of};
 ghost use Rattle.loop_store.specs.Faults.{is_disk, failed_in};
-ghost use Rattle.loop_store.specs.Held.{HasNoneStray};
 ghost use Rattle.loop_store.specs.Formatted.{disk_after, failed_opening};
-ghost use Rattle.loop_store.specs.Opened.{IsFitting, IsOpened, IsSized, IsReady, IsRefusedOpen, IsTold, ReadsAlike, WasOrReadsAlike};
-ghost use Rattle.loop_store.specs.Recovered.{IsRecovered, Recovers};
+ghost use Rattle.loop_store.specs.Opened.{IsOpened, IsRefusedOpen, ReadsAlike, WasOrReadsAlike};
+ghost use Rattle.loop_store.specs.Recovered.{IsFitting, IsRecovered, Recovers};
+ghost use Rattle.loop_store.specs.Seen.{IsGroupFor, IsPresent};
 
 use crate::index::Index;
-use crate::recover::{Recovered, recover};
+use crate::recover::recover;
 use crate::{OpenRefused, Store, StoreFault};
-use loop_clips::ClipTable;
 use loop_disk::{Disk, DiskFault};
-use loop_ring::{Group, Ring, SegmentTable};
+use loop_ring::Group;
 use std::alloc::Allocator;
 
 /// Syncs, so that a stop leaves what a read gives, and finds what the disk's image reads as.
-fn reread<D: Disk, A: Allocator + Copy>(alloc: A, disk: &mut D) -> Result<Recovered<A>, StoreFault>
-    ensures good { IfOk result (λ found. IsTrue (is_good found.geometry)) }
-    ensures size { IfOk result (λ found. (D.medium disk.old).size ≡ disk_size found.geometry) }
-    ensures fits { IfOk result (λ found. IsFitting found.geometry found.heads.items found.next) }
-    ensures recovered { (D.medium disk.old).honest → Recovers result (λ found. IsRecovered found.geometry found.heads.items found.clips found.next (D.medium disk.old).bytes)
+fn reread<D: Disk, A: Allocator + Copy>(alloc: A, disk: &mut D) -> Result<Index<A>, StoreFault>
+    ensures fits { IfOk result (λ index. IsFitting index (D.medium disk.old).size) }
+    ensures recovered { (D.medium disk.old).honest → Recovers result (λ index. IsRecovered index (D.medium disk.old).bytes)
         (λ fault. reading (D.medium disk.old).bytes ≡ Err fault) }
     ensures disk { (D.medium disk.old).honest → Stays (D.medium disk.old) (D.medium disk.new) }
     ensures settled { (D.medium disk.old).honest → IfOk result (λ _. IsSettled (D.medium disk.new)) }
@@ -35,44 +30,22 @@ fn reread<D: Disk, A: Allocator + Copy>(alloc: A, disk: &mut D) -> Result<Recove
     recover(alloc, disk)
 }
 
-/// The index of what was found.
-fn index_of<A: Allocator>(found: Recovered<A>) -> Index<A>
-    requires good { IsTrue (is_good found.geometry) }
-    requires fits { IsFitting found.geometry found.heads.items found.next }
-    ensures geometry { result.ring.geometry ≡ found.geometry }
-    ensures heads { result.table ≡ found.heads.items }
-    ensures clips { result.clips ≡ found.clips }
-    ensures next { result.next ≡ found.next }
-{
-    Index {
-        ring: Ring::new(found.geometry),
-        table: SegmentTable::of(found.heads),
-        clips: ClipTable::of(found.clips),
-        next: found.next,
-    }
-}
-
 /// Clears the stray gates that a stop may have left in the block of the next number. The other segments have all their
 /// frames, so that no gate of theirs can be stray.
-fn clear_newest<D: Disk, A: Allocator>(
-    disk: &mut D,
-    ring: &Ring,
-    table: &SegmentTable<A>,
-    next: u64,
-) -> Result<(), DiskFault>
-    requires extent { (D.medium disk.old).size ≡ disk_size ring.now.geometry }
-    requires count { length table.now ≡ ring.now.geometry.segments }
+fn clear_newest<D: Disk, A: Allocator>(disk: &mut D, index: &Index<A>) -> Result<(), DiskFault>
+    requires fits { IsFitting index.now (D.medium disk.old).size }
     requires settled { (D.medium disk.old).honest → IsSettled (D.medium disk.old) }
-    requires told { (D.medium disk.old).honest → IsTold ring.now.geometry table.now next (D.medium disk.old).bytes }
-    ensures moments { (D.medium disk.old).honest → LeavesOnly (D.medium disk.old) (D.medium disk.new) (ReadsAlike (D.medium disk.old).bytes) }
-    ensures heads { (D.medium disk.old).honest → OnOk result (table.now ≡ heads_of ring.now.geometry (D.medium disk.new).bytes) }
-    ensures stray { (D.medium disk.old).honest → OnOk result (HasNoneStray ring.now.geometry (D.medium disk.new).bytes) }
-    ensures settled { (D.medium disk.old).honest → OnOk result (IsSettled (D.medium disk.new)) }
+    requires told { (D.medium disk.old).honest → IsRecovered index.now (D.medium disk.old).bytes }
+    ensures moments { (D.medium disk.old).honest
+        → LeavesOnly (D.medium disk.old) (D.medium disk.new) (ReadsAlike (D.medium disk.old).bytes) }
+    ensures present { (D.medium disk.old).honest → OnOk result (IsPresent index.now (D.medium disk.new)) }
     ensures called { Called (D.medium disk.old) (D.medium disk.new) (failed_call result) }
 {
-    let slots = u64::from(ring.geometry.slots);
-    match table.find(next / slots) {
-        Some(segment) => ring.clear_stray(disk, segment, (next % slots) as u32),
+    let slots = u64::from(index.ring.geometry.slots);
+    match index.table.find(index.next / slots) {
+        Some(segment) => index
+            .ring
+            .clear_stray(disk, segment, (index.next % slots) as u32),
         None => Ok(()),
     }
 }
@@ -82,18 +55,19 @@ fn reopen<D: Disk, A: Allocator + Copy>(
     alloc: A,
     disk: &mut D,
 ) -> Result<(Index<A>, Group<A>), StoreFault>
-    ensures fits { IfOk result (λ found. IsSized found.0 found.1 (D.medium disk.old).size) }
-    ensures ready { (D.medium disk.old).honest → Recovers result (λ found. IsReady found.0.ring.geometry found.0.table found.0.clips found.0.next (D.medium disk.old).bytes (D.medium disk.new))
+    ensures fits { IfOk result (λ found. IsFitting found.0 (D.medium disk.new).size × IsGroupFor found.0 found.1) }
+    ensures present { (D.medium disk.old).honest → Recovers result (λ found. IsPresent found.0 (D.medium disk.new))
         (λ fault. reading (D.medium disk.old).bytes ≡ Err fault) }
-    ensures moments { (D.medium disk.old).honest → LeavesOnly (D.medium disk.old) (D.medium disk.new) (WasOrReadsAlike (D.medium disk.old)) }
+    ensures moments { (D.medium disk.old).honest
+        → LeavesOnly (D.medium disk.old) (D.medium disk.new) (WasOrReadsAlike (D.medium disk.old)) }
     ensures alike { (D.medium disk.old).honest → ReadsAlike (D.medium disk.old).bytes (D.medium disk.new).bytes }
-    ensures stays { (D.medium disk.old).honest → IfErr result (λ fault. is_disk fault ≡ false → Stays (D.medium disk.old) (D.medium disk.new)) }
+    ensures stays { (D.medium disk.old).honest
+        → IfErr result (λ fault. is_disk fault ≡ false → Stays (D.medium disk.old) (D.medium disk.new)) }
     ensures called { Called (D.medium disk.old) (D.medium disk.new) (failed_in result) }
 {
-    let found = reread(alloc, disk)?;
-    let group = Group::new(alloc, &found.geometry)?;
-    let index = index_of(found);
-    clear_newest(disk, &index.ring, &index.table, index.next)?;
+    let index = reread(alloc, disk)?;
+    let group = Group::new(alloc, &index.ring.geometry)?;
+    clear_newest(disk, &index)?;
     Ok((index, group))
 }
 

@@ -4,10 +4,11 @@ ghost use Rattle.std.specs.Prelude.{◌≡◌, ◌≢◌, ◌+◌, ◌-◌, ◌%
 ghost use Rattle.loop_disk.specs.Calls.{Stays};
 ghost use Rattle.loop_record.specs.Geometry.{frame_bytes, is_good};
 ghost use Rattle.loop_record.specs.Plain.{pictures};
-ghost use Rattle.loop_record.specs.Recording.{Recording, holds, picture, ring_of, room};
+ghost use Rattle.loop_record.specs.Recording.{Recording, picture, ring_of, room};
 ghost use Rattle.loop_store.specs.Calls.{appended, read_with, was_read};
 ghost use Rattle.loop_store.specs.Goes.{Goes};
-ghost use Rattle.loop_store.specs.Seen.{IsStore, Refused, Seen, StandsFor, seen_with};
+ghost use Rattle.loop_store.specs.Numbers.{is_among};
+ghost use Rattle.loop_store.specs.Seen.{IsGroupFor, IsKept, Refused, Seen, StandsFor, seen_with};
 
 use crate::StoreFault;
 use crate::found::in_order;
@@ -34,7 +35,7 @@ impl<D: Disk + Drop, A: Allocator> Model for Store<D, A> {
 
     ghost view = { λ s. seen_with s.disk s.index s.must_reopen };
 
-    ghost invariant = { λ s. IsStore D.medium s.disk s.index s.must_reopen s.group };
+    ghost invariant = { λ s. IsKept D.medium s.disk s.index s.must_reopen × IsGroupFor s.index s.group };
 }
 
 impl<D: Disk + Drop, A: Allocator> Store<D, A> {
@@ -71,7 +72,7 @@ impl<D: Disk + Drop, A: Allocator> Store<D, A> {
 
     /// Whether a frame has this number.
     pub fn holds(&self, number: u64) -> bool
-        ensures { (r : Recording) → StandsFor D.medium self.now r → (D.medium self.now.disk).honest → result ≡ holds r number }
+        ensures { result ≡ is_among self.now.numbers number }
     {
         self.index
             .table

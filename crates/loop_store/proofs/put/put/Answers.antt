@@ -1,15 +1,17 @@
-use Rattle.std.proofs.Common.{◌≡◌, ◌≢◌, ◌+◌, ℕ, Result, Ok, Err, List, [], ◌∷◌, length, refl, sym, ap, ◌∙◌, subst, arith}
+use Rattle.std.proofs.Common.{◌≡◌, ◌≢◌, ◌+◌, ◌%◌, ◌≤◌, ℕ, Result, Ok, Err, List, [], ◌∷◌, length, refl, sym, ap, ◌∙◌, subst, arith}
 use Rattle.std.proofs.lemmas.Result.{err_from_is_err_and}
-use Rattle.loop_disk.specs.Medium.{LeavesOnly}
-use Rattle.loop_record.specs.Recording.{Recording, Step, last_number, ring_of}
+use Rattle.loop_disk.specs.Medium.{LeavesOnly, Medium}
+use Rattle.loop_record.specs.declared.geometry.Geometry.{Geometry}
+use Rattle.loop_record.specs.Recording.{Picture, Step, last_number, ring_of}
 use Rattle.loop_record.proofs.Bounds.{limits}
 use Rattle.loop_store.specs.declared.fault.StoreFault.{StoreFault}
 use Rattle.loop_store.specs.declared.fault.StoreFault.TheVariants.{AllLocked, NumbersSpent}
 use Rattle.loop_store.specs.declared.place.Place.{Place}
 use Rattle.loop_store.specs.Held.{HoldsSome}
 use Rattle.loop_store.specs.Places.{IsKnown, segment_of}
-use Rattle.loop_store.specs.Seen.{Seen, StandsFor, seen_with}
-use Rattle.loop_store.proofs.Appended.{Grew, kept-grown, noted-at, place-known, place-some, stands-grown, steps-are, steps-some, stood-steps}
+use Rattle.loop_store.specs.Seen.{seen_with}
+use Rattle.loop_store.proofs.Appended.{Grew, kept-grown, noted-at, place-known, place-some, stands-grown, steps-are, steps-some}
+use Rattle.loop_store.proofs.Looks.{known-by}
 use Rattle.loop_store.proofs.Putting.{place-refused, put-failed, put-stored}
 use Rattle.loop_store.proofs.put.put.Goals as goal
 
@@ -24,40 +26,48 @@ as_err fault is = cc
 
 pub returns-in_err-place-clause-goes : goal.returns-in_err-place-clause-goes
 returns-in_err-place-clause-goes g c =
+    let i = c.args.index.now in
     let fault = c.in_err-place.field-0.0 in
+    let medium = g.D.Disk.medium in
     let p = err_from_is_err_and c.from_residual.result c.from_residual.ensures.1 in
-    rw (p.1, p.2) (place-refused g.D.Disk.medium (seen_with c.args.disk.now c.args.index.now c.args.must_reopen.now) c.args.group.now.frames fault (λ honest. g.met.D.Disk.sound c.args.disk.now honest) c.if-must_reopen.false c.in_err-place.ensures.refusals
-    (λ is. c.in_err-place.ensures.spent.0 (as_err fault is)) (λ is same. not-locked fault is (c.in_err-place.ensures.spent.1 same)) c.in_err-place.ensures.answers)
+    rw (p.1, p.2) (place-refused medium (seen_with c.args.disk.now i c.args.must_reopen.now) c.args.group.now.frames fault (λ honest. g.met.D.Disk.sound c.args.disk.now honest) c.if-must_reopen.false c.in_err-place.ensures.refusals
+    (λ is. c.in_err-place.ensures.spent.0 (as_err fault is)) (λ is same. not-locked fault is (c.in_err-place.ensures.spent.1 same))
+    (λ r stands honest. c.in_err-place.ensures.answers r (medium c.args.disk.now).bytes (known-by medium c.args.disk.now i c.args.must_reopen.now r c.requires.kept stands c.if-must_reopen.false honest)))
 
 pub append_group-requires-clause-settled : goal.append_group-requires-clause-settled
-append_group-requires-clause-settled g c = λ honest. c.requires.kept.settled c.if-must_reopen.false honest
+append_group-requires-clause-settled g c = λ honest. (c.requires.kept.present c.if-must_reopen.false honest).settled
 
 pub append_group-requires-clause-known : goal.append_group-requires-clause-known
 append_group-requires-clause-known g c = λ honest.
     let i = c.args.index.now in
+    let present = c.requires.kept.present c.if-must_reopen.false honest in
     subst (λ (n : ℕ). IsKnown i.ring.geometry n c.in_ok-place.place (g.D.Disk.medium c.args.disk.now).bytes) (sym c.requires.first)
-    (place-known i.ring.geometry i.table i.clips i.next (g.D.Disk.medium c.args.disk.now).bytes c.in_ok-place.place (c.requires.kept.recorded c.if-must_reopen.false honest) (c.requires.kept.unstray c.if-must_reopen.false honest) c.in_ok-place.ensures.answers)
+    (place-known i (g.D.Disk.medium c.args.disk.now).bytes c.in_ok-place.place present.recorded present.unstray c.in_ok-place.ensures.answers)
+
+-- what the group has grown to, by the count that the index takes
+grew-by : {D : Type 0} (medium : D → Medium) (g : Geometry) (old new : D) (first next n j : ℕ) (ps : List Picture) → first ≡ next → n ≡ length ps → Grew medium g old new first (length ps) j ps → Grew medium g old new next n j ps
+grew-by medium g old new first next n j ps same count grew =
+    subst (λ (k : ℕ). Grew medium g old new k n j ps) same (subst (λ (k : ℕ). Grew medium g old new first k j ps) (sym count) grew)
 
 pub returns-in-Ok-clause-kept : goal.returns-in-Ok-clause-kept
 returns-in-Ok-clause-kept g c =
     let i = c.args.index.now in
+    let h = i.ring.geometry in
     let ps = c.args.group.now.frames in
     let j = segment_of c.in_ok-place.place in
     let n = c.len-count.result in
-    let first : Grew g.D.Disk.medium i.ring.geometry c.args.disk.now c.append_group.new.disk c.args.group.now.first (length ps) j ps = record {
+    let medium = g.D.Disk.medium in
+    let first : Grew medium h c.args.disk.now c.append_group.new.disk c.args.group.now.first (length ps) j ps = record {
       back = c.append_group.ensures.called.honest.1;
       count = refl;
       grown = c.in-Ok.ensures.grown;
       settled = c.in-Ok.ensures.settled;
       stored = c.in-Ok.ensures.stored;
     } in
-    let grew : Grew g.D.Disk.medium i.ring.geometry c.args.disk.now c.append_group.new.disk i.next n j ps =
-    subst (λ (k : ℕ). Grew g.D.Disk.medium i.ring.geometry c.args.disk.now c.append_group.new.disk k n j ps) c.requires.first
-    (subst (λ (k : ℕ). Grew g.D.Disk.medium i.ring.geometry c.args.disk.now c.append_group.new.disk c.args.group.now.first k j ps) (sym c.len-count.ensures.count) first) in
-    kept-grown g.D.Disk.medium i.ring.geometry i.ring.geometry c.args.disk.now c.append_group.new.disk i.next n j ps i.table c.note.new.table i.clips c.args.must_reopen.now
-    c.requires.kept c.if-must_reopen.false refl (limits i.ring.geometry i.ring.good).slots.0 c.append_group.ensures.called.size
-    (λ same. not-refused c.in_ok-place.place (c.in_ok-place.ensures.spent.1 same)) (omega (arith, c.requires.room, c.len-count.ensures.count))
-    (noted-at i.ring.geometry i.ring.geometry i.next n c.segment.result j i.table c.note.new.table refl c.segment.ensures c.note.ensures) grew
+    let grew = grew-by medium h c.args.disk.now c.append_group.new.disk c.args.group.now.first i.next n j ps c.requires.first c.len-count.ensures.count first in
+    let heads = noted-at h i.next n c.segment.result j i.table c.note.new.table c.segment.ensures c.note.ensures in
+    kept-grown medium c.args.disk.now c.append_group.new.disk i _ n j ps c.args.must_reopen.now c.requires.kept c.if-must_reopen.false (record { geometry = refl; next = refl; heads = heads; clips = refl }) (limits h i.ring.good).slots.0
+    (λ same. not-refused c.in_ok-place.place (c.in_ok-place.ensures.spent.1 same)) (omega (arith, c.requires.room, c.len-count.ensures.count)) c.append_group.ensures.called.size grew
 
 pub returns-in-Ok-clause-goes : goal.returns-in-Ok-clause-goes
 returns-in-Ok-clause-goes g c =
@@ -67,8 +77,10 @@ returns-in-Ok-clause-goes g c =
     let j = segment_of c.in_ok-place.place in
     let n = c.len-count.result in
     let medium = g.D.Disk.medium in
-    let old : Seen g.row.D.Denot = seen_with c.args.disk.now i c.args.must_reopen.now in
-    let new : Seen g.row.D.Denot = record { disk = c.append_group.new.disk; geometry = h; next = i.next + n; heads = c.note.new.table; clips = i.clips; must_reopen = c.args.must_reopen.now } in
+    let must = c.args.must_reopen.now in
+    let fine = c.if-must_reopen.false in
+    let some = (limits h i.ring.good).slots.0 in
+    let unspent : i.next ≢ last_number (ring_of h) = λ same. not-refused c.in_ok-place.place (c.in_ok-place.ensures.spent.1 same) in
     let first : Grew medium h c.args.disk.now c.append_group.new.disk c.args.group.now.first (length ps) j ps = record {
       back = c.append_group.ensures.called.honest.1;
       count = refl;
@@ -76,30 +88,29 @@ returns-in-Ok-clause-goes g c =
       settled = c.in-Ok.ensures.settled;
       stored = c.in-Ok.ensures.stored;
     } in
-    let grew : Grew medium h c.args.disk.now c.append_group.new.disk i.next n j ps =
-    subst (λ (k : ℕ). Grew medium h c.args.disk.now c.append_group.new.disk k n j ps) c.requires.first
-    (subst (λ (k : ℕ). Grew medium h c.args.disk.now c.append_group.new.disk c.args.group.now.first k j ps) (sym c.len-count.ensures.count) first) in
-    let noted = noted-at h h i.next n c.segment.result j i.table c.note.new.table refl c.segment.ensures c.note.ensures in
-    put-stored medium old new ps (record {
-      fine = c.if-must_reopen.false;
-      still = c.if-must_reopen.false;
-      unspent = λ same. not-refused c.in_ok-place.place (c.in_ok-place.ensures.spent.1 same);
+    let grew = grew-by medium h c.args.disk.now c.append_group.new.disk c.args.group.now.first i.next n j ps c.requires.first c.len-count.ensures.count first in
+    let heads = noted-at h i.next n c.segment.result j i.table c.note.new.table c.segment.ensures c.note.ensures in
+    let room : i.next % h.slots + n ≤ h.slots = omega (arith, c.requires.room, c.len-count.ensures.count) in
+    put-stored medium (seen_with c.args.disk.now i must) _ ps (record {
+      fine = fine;
+      still = fine;
+      unspent = unspent;
       next = ap (λ (k : ℕ). i.next + k) c.len-count.ensures.count;
       geometry = refl;
       called = c.in-Ok.ensures.called;
       some = λ r stands honest.
-          let m = stands.remembered honest in
-          let at = c.in_ok-place.ensures.answers r m.image (record { held = m.held; next_is = m.next_is; heads_are = m.heads_are; clips_are = m.clips_are }) in
-          steps-some h r ps at.0 (place-some h r m.image c.in_ok-place.place at.1);
+          let known = known-by medium c.args.disk.now i must r c.requires.kept stands fine honest in
+          let at = c.in_ok-place.ensures.answers r (medium c.args.disk.now).bytes known in
+          steps-some h r ps at.0 (place-some h r (medium c.args.disk.now).bytes c.in_ok-place.place at.1);
       moments = λ r stands honest.
-          let m = stands.remembered honest in
-          let at = c.in_ok-place.ensures.answers r m.image (record { held = m.held; next_is = m.next_is; heads_are = m.heads_are; clips_are = m.clips_are }) in
-          subst (λ (l : List Step). LeavesOnly (medium c.args.disk.now) (medium c.append_group.new.disk) (HoldsSome h r l)) (steps-are h r ps at.0 (place-some h r m.image c.in_ok-place.place at.1))
-          (c.append_group.ensures.moments r (sym m.next_is ∙ sym c.requires.first) honest (stands.held c.if-must_reopen.false honest));
+          let known = known-by medium c.args.disk.now i must r c.requires.kept stands fine honest in
+          let at = c.in_ok-place.ensures.answers r (medium c.args.disk.now).bytes known in
+          subst (λ (l : List Step). LeavesOnly (medium c.args.disk.now) (medium c.append_group.new.disk) (HoldsSome h r l)) (steps-are h r ps at.0 (place-some h r (medium c.args.disk.now).bytes c.in_ok-place.place at.1))
+          (c.append_group.ensures.moments r (sym known.next_is ∙ sym c.requires.first) honest known.held);
       stands = λ r stands honest.
-          let m = stands.remembered honest in
-          let at = c.in_ok-place.ensures.answers r m.image (record { held = m.held; next_is = m.next_is; heads_are = m.heads_are; clips_are = m.clips_are }) in
-          stood-steps medium old new r ps (λ now. c.append_group.ensures.called.honest.1 now) (λ now. (at.0, place-some h r m.image c.in_ok-place.place at.1)) (stands-grown medium old new n j ps r stands c.if-must_reopen.false refl refl noted refl grew);
+          let known = known-by medium c.args.disk.now i must r c.requires.kept stands fine honest in
+          let at = c.in_ok-place.ensures.answers r (medium c.args.disk.now).bytes known in
+          stands-grown medium c.args.disk.now c.append_group.new.disk i (record { ring = i.ring; table = c.note.new.table; clips = i.clips; next = i.next + n }) n j ps must r honest known (record { geometry = refl; next = refl; heads = heads; clips = refl }) c.requires.kept.fits some unspent room grew at.0 (place-some h r (medium c.args.disk.now).bytes c.in_ok-place.place at.1);
     })
 
 pub returns-in-Err-clause-goes : goal.returns-in-Err-clause-goes
@@ -108,19 +119,20 @@ returns-in-Err-clause-goes g c =
     let h = i.ring.geometry in
     let ps = c.args.group.now.frames in
     let medium = g.D.Disk.medium in
-    put-failed medium (seen_with c.args.disk.now i c.args.must_reopen.now) _ ps c.in-Err.fault (record {
+    let must = c.args.must_reopen.now in
+    put-failed medium (seen_with c.args.disk.now i must) _ ps c.in-Err.fault (record {
       fine = c.if-must_reopen.false;
       unspent = λ same. not-refused c.in_ok-place.place (c.in_ok-place.ensures.spent.1 same);
-      has_failed = record { geometry = refl; next = refl; heads = refl; clips = refl; must_reopen = refl };
+      has_failed = refl;
       called = c.in-Err.ensures.called;
       sound = λ now. g.met.D.Disk.sound c.append_group.new.disk now;
       some = λ r stands honest.
-          let m = stands.remembered honest in
-          let at = c.in_ok-place.ensures.answers r m.image (record { held = m.held; next_is = m.next_is; heads_are = m.heads_are; clips_are = m.clips_are }) in
-          steps-some h r ps at.0 (place-some h r m.image c.in_ok-place.place at.1);
+          let known = known-by medium c.args.disk.now i must r c.requires.kept stands c.if-must_reopen.false honest in
+          let at = c.in_ok-place.ensures.answers r (medium c.args.disk.now).bytes known in
+          steps-some h r ps at.0 (place-some h r (medium c.args.disk.now).bytes c.in_ok-place.place at.1);
       moments = λ r stands honest.
-          let m = stands.remembered honest in
-          let at = c.in_ok-place.ensures.answers r m.image (record { held = m.held; next_is = m.next_is; heads_are = m.heads_are; clips_are = m.clips_are }) in
-          subst (λ (l : List Step). LeavesOnly (medium c.args.disk.now) (medium c.append_group.new.disk) (HoldsSome h r l)) (steps-are h r ps at.0 (place-some h r m.image c.in_ok-place.place at.1))
-          (c.append_group.ensures.moments r (sym m.next_is ∙ sym c.requires.first) honest (stands.held c.if-must_reopen.false honest));
+          let known = known-by medium c.args.disk.now i must r c.requires.kept stands c.if-must_reopen.false honest in
+          let at = c.in_ok-place.ensures.answers r (medium c.args.disk.now).bytes known in
+          subst (λ (l : List Step). LeavesOnly (medium c.args.disk.now) (medium c.append_group.new.disk) (HoldsSome h r l)) (steps-are h r ps at.0 (place-some h r (medium c.args.disk.now).bytes c.in_ok-place.place at.1))
+          (c.append_group.ensures.moments r (sym known.next_is ∙ sym c.requires.first) honest known.held);
     })

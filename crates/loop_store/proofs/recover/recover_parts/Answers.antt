@@ -5,7 +5,7 @@ use Rattle.loop_record.proofs.Bounds.{limits}
 use Rattle.loop_record.proofs.FoundSegments.{AreFull, IsFoundIn, read-lacks, read-repeats}
 use Rattle.loop_ring.proofs.SlotReads.{stays_on}
 use Rattle.loop_store.proofs.RecoveredParts.{recovers-on}
-use Rattle.loop_store.proofs.RecoveredWhole.{full, recovered, refused-clip, refused-head, refused-slot}
+use Rattle.loop_store.proofs.RecoveredWhole.{fitting, full, recovered, refused-clip, refused-head, refused-slot}
 use Rattle.loop_store.proofs.Reopened.{next-few}
 use Rattle.loop_store.proofs.recover.recover_parts.Goals as goal
 
@@ -109,7 +109,7 @@ returns-clause-recovered g c = λ honest.
     let second = c.read_heads.ensures.called.honest.0 honest in
     let checked = c.in_ok-check_slots.ensures.disk second in
     let third = c.check_slots.ensures.called.honest.0 second in
-    recovered h image _ _ fs xs c.in_ok-heads.heads.items c.in_ok-clips.clips c.next_after-next.result all first.bytes (c.in_ok-check_slots.ensures.slots second) (checked.bytes ∙ first.bytes) (c.in_ok-clips.ensures.clips third) (c.next_after-next.ensures image) (c.in_ok-heads.ensures.heads honest)
+    recovered c.index_of.result h image _ _ fs xs c.in_ok-heads.heads.items c.in_ok-clips.clips c.next_after-next.result (record { geometry = c.index_of.ensures.geometry; heads_are = c.index_of.ensures.heads; clips_are = c.index_of.ensures.clips; next_is = c.index_of.ensures.next }) all first.bytes (c.in_ok-check_slots.ensures.slots second) (checked.bytes ∙ first.bytes) (c.in_ok-clips.ensures.clips third) (c.next_after-next.ensures image) (c.in_ok-heads.ensures.heads honest)
 
 pub returns-clause-disk : goal.returns-clause-disk
 returns-clause-disk g c = λ honest.
@@ -120,8 +120,7 @@ pub returns-clause-fits : goal.returns-clause-fits
 returns-clause-fits g c =
     let h = c.args.geometry in
     let xs = c.as_slice-open.result.now in
-    let within = subst (AreIn h) (sym c.as_slice-open.ensures.value) c.in_ok-segments.ensures.within in record {
-      count = c.in_ok-heads.ensures.count;
-      within = c.in_ok-heads.ensures.within;
-      few = subst (λ (n : ℕ). n ≤ last_number (ring_of h)) (sym (c.next_after-next.ensures [])) (next-few h [] xs (limits h c.requires.good).slots.0 within);
-    }
+    let within = subst (AreIn h) (sym c.as_slice-open.ensures.value) c.in_ok-segments.ensures.within in
+    fitting c.index_of.result h c.in_ok-heads.heads.items c.in_ok-clips.clips c.next_after-next.result (g.D.Disk.medium c.args.disk.now).size
+    (record { geometry = c.index_of.ensures.geometry; heads_are = c.index_of.ensures.heads; clips_are = c.index_of.ensures.clips; next_is = c.index_of.ensures.next }) c.requires.size c.in_ok-heads.ensures.count c.in_ok-heads.ensures.within
+    (subst (λ (n : ℕ). n ≤ last_number (ring_of h)) (sym (c.next_after-next.ensures [])) (next-few h [] xs (limits h c.requires.good).slots.0 within))

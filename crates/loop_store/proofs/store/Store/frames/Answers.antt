@@ -3,6 +3,7 @@ use Rattle.loop_record.specs.declared.image.Found.{Found}
 use Rattle.loop_record.specs.Recording.{Recording}
 use Rattle.loop_store.specs.Numbers.{numbers_in}
 use Rattle.loop_store.specs.Seen.{Seen, StandsFor}
+use Rattle.loop_store.proofs.Looks.{known-by}
 use Rattle.loop_store.proofs.Numbers.{held-numbers}
 use Rattle.loop_store.proofs.store.Store.frames.Goals as goal
 
@@ -10,7 +11,8 @@ pub returns-clause-numbers : goal.returns-clause-numbers
 returns-clause-numbers g c =
     subst (λ (v : Seen g.row.D.Denot). (r : Recording) → StandsFor g.D.Disk.medium v r → (g.D.Disk.medium v.disk).honest → c.in_ok-numbers.numbers.items ≡ map (λ f. f.0) r.frames) c.self.view_is
     (λ r stands honest.
-    let h = c.self.inside.index.ring.geometry in
-    let m = stands.remembered honest in
+    let s = c.self.inside in
+    let h = s.index.ring.geometry in
+    let known = known-by g.D.Disk.medium s.disk s.index s.must_reopen r c.self.invariant.0 stands c.if-self.false honest in
     c.in_ok-numbers.ensures ∙ ap (λ (fs : List Found). numbers_in h fs) c.as_slice-2.ensures.value
-    ∙ held-numbers h r m.image c.in_ok-segments.segments.items m.held (c.in_ok-segments.ensures.order m.image (c.as_slice.ensures ∙ m.heads_are)))
+    ∙ held-numbers h r (g.D.Disk.medium s.disk).bytes c.in_ok-segments.segments.items known.held (c.in_ok-segments.ensures.order (g.D.Disk.medium s.disk).bytes (c.as_slice.ensures ∙ known.heads_are)))

@@ -1,10 +1,13 @@
-use Rattle.std.proofs.Common.{◌≡◌, subst}
-use Rattle.loop_record.specs.Recording.{Recording, holds}
-use Rattle.loop_store.specs.Seen.{Seen, StandsFor}
-use Rattle.loop_store.proofs.Looks.{held-by}
+use Rattle.std.proofs.Common.{◌≡◌, sym, ◌∙◌, subst}
+use Rattle.loop_record.proofs.Bounds.{limits}
+use Rattle.loop_store.specs.Numbers.{is_among}
+use Rattle.loop_store.specs.Seen.{Seen}
+use Rattle.loop_store.proofs.Numbers.{among-under}
 use Rattle.loop_store.proofs.store.Store.holds.Goals as goal
 
 pub returns : goal.returns
 returns g c =
-    subst (λ (v : Seen g.row.D.Denot). (r : Recording) → StandsFor g.D.Disk.medium v r → (g.D.Disk.medium v.disk).honest → c.holds.result ≡ holds r c.args.number) c.self.view_is
-    (λ r stands honest. held-by _ r c.holds.result c.args.number (stands.remembered honest) c.holds.ensures)
+    let i = c.self.inside.index in
+    let h = i.ring.geometry in
+    subst (λ (v : Seen g.row.D.Denot). c.holds.result ≡ is_among v.numbers c.args.number) c.self.view_is
+    (c.holds.ensures ∙ sym (among-under h c.args.number i.table (limits h i.ring.good).slots.0 c.self.invariant.0.fits.within))

@@ -1,24 +1,15 @@
-use Rattle.std.proofs.Common.{◌∙◌}
+use Rattle.loop_record.proofs.Bounds.{limits}
+use Rattle.loop_store.proofs.Reopened.{present-opened}
 use Rattle.loop_store.proofs.store.Store.open.Goals as goal
 
 pub invariant_of-result : goal.invariant_of-result
-invariant_of-result g c = record {
-  kept = record {
-    size = c.reopen.ensures.called.size ∙ c.in-Ok.ensures.fits.size_is;
-    few = c.in-Ok.ensures.fits.fits.few;
-    count = c.in-Ok.ensures.fits.fits.count;
-    within = c.in-Ok.ensures.fits.fits.within;
-    unstray = λ fine honest. (c.in-Ok.ensures.ready (c.reopen.ensures.called.honest.1 honest)).unstray;
-    settled = λ fine honest. (c.in-Ok.ensures.ready (c.reopen.ensures.called.honest.1 honest)).settled;
-    recorded = λ fine honest.
-        let ready = c.in-Ok.ensures.ready (c.reopen.ensures.called.honest.1 honest) in record {
-          recording = ready.recording;
-          held = ready.held;
-          next_is = ready.next_is;
-          clips_are = ready.clips_are;
-          heads_are = ready.heads_are;
-        };
-  };
-  group_size = c.in-Ok.ensures.fits.group_size;
-  group_limit = c.in-Ok.ensures.fits.group_limit;
-}
+invariant_of-result g c =
+    (record {
+      fits = c.in-Ok.ensures.fits.0;
+      present = λ fine honest. c.in-Ok.ensures.present (c.reopen.ensures.called.honest.1 honest);
+    }, c.in-Ok.ensures.fits.1)
+
+pub returns-in-Ok-clause-opened : goal.returns-in-Ok-clause-opened
+returns-in-Ok-clause-opened g c = λ honest.
+    let index = c.in-Ok.index in
+    present-opened g.D.Disk.medium c.reopen.new.disk index (g.D.Disk.medium c.args.disk).bytes (limits index.ring.geometry index.ring.good).slots.0 c.in-Ok.ensures.fits.0.within (c.in-Ok.ensures.present honest) (c.reopen.ensures.alike honest)

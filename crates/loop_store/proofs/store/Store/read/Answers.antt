@@ -6,16 +6,13 @@ use Rattle.loop_store.specs.declared.fault.StoreFault.TheVariants.{NotHeld}
 use Rattle.loop_store.specs.Calls.{read_with, was_read}
 use Rattle.loop_store.specs.Goes.{Goes, outline_of}
 use Rattle.loop_store.specs.Seen.{Seen, seen_with}
-use Rattle.loop_store.proofs.Looks.{looked-kept}
+use Rattle.loop_store.proofs.Looks.{known-by, looked-kept}
 use Rattle.loop_store.proofs.Reading.{goes-looked, goes-unread, read-allowed, read-answered, read-failed}
 use Rattle.loop_store.proofs.store.Store.read.Goals as goal
 
 pub invariant_of-self : goal.invariant_of-self
-invariant_of-self g c = record {
-  kept = looked-kept g.D.Disk.medium _ _ _ _ _ _ _ c.self.invariant.kept c.read_held.ensures.called.size c.read_held.ensures.called.honest.1 c.read_held.ensures.stays;
-  group_size = c.self.invariant.group_size;
-  group_limit = c.self.invariant.group_limit;
-}
+invariant_of-self g c =
+    (looked-kept g.D.Disk.medium _ _ _ _ c.self.invariant.0 c.read_held.ensures.called.size c.read_held.ensures.called.honest.1 c.read_held.ensures.stays, c.self.invariant.1)
 
 pub returns-in-Some-clause-goes : goal.returns-in-Some-clause-goes
 returns-in-Some-clause-goes g c =
@@ -26,7 +23,8 @@ returns-in-Some-clause-goes g c =
     (goes-looked medium old c.read_held.new.disk c.args.number (read_with c.read_held.result c.read_held.new.out) (λ honest. g.met.D.Disk.sound s.disk honest)
     (record {
       answers = λ t stands honest.
-          let has = subst (λ (hs : List (Option SegmentHead)). has_number s.index.ring.geometry.slots c.args.number (get_or hs c.in-Some.segment None) ≡ true) (stands.recording.agrees c.if-self.false honest) c.in-Some.ensures.there in
+          let known = known-by medium s.disk s.index s.must_reopen t.recording c.self.invariant.0 stands.recording c.if-self.false honest in
+          let has = subst (λ (hs : List (Option SegmentHead)). has_number s.index.ring.geometry.slots c.args.number (get_or hs c.in-Some.segment None) ≡ true) known.heads_are c.in-Some.ensures.there in
           read-answered s.index.ring.geometry t c.args.number c.read_held.result c.read_held.new.out (sym stands.must_reopen ∙ c.if-self.false) (c.read_held.ensures.frame t.recording honest (stands.recording.held c.if-self.false honest) has);
       allowed = read-allowed s.index.ring.geometry (outline_of old) c.args.number c.read_held.result c.read_held.new.out c.if-self.false c.read_held.ensures.refusals;
       stays = c.read_held.ensures.stays;
@@ -41,6 +39,6 @@ returns-in-None-clause-goes g c =
     subst (λ (v : Seen g.row.D.Denot). Goes medium v v (was_read c.args.number (Err NotHeld) ∷ [])) c.self.view_is
     (goes-unread medium (seen_with s.disk s.index s.must_reopen) c.args.number NotHeld (λ honest. g.met.D.Disk.sound s.disk honest) refl
     (λ t stands honest.
-    let m = stands.recording.remembered honest in
-    inr (inl (refl, (sym stands.must_reopen ∙ c.if-self.false, c.in-None.ensures.missing t.recording m.image m.held m.heads_are))))
+    let known = known-by medium s.disk s.index s.must_reopen t.recording c.self.invariant.0 stands.recording c.if-self.false honest in
+    inr (inl (refl, (sym stands.must_reopen ∙ c.if-self.false, c.in-None.ensures.missing t.recording (medium s.disk).bytes known.held known.heads_are))))
     (inr (inl refl, c.if-self.false)))

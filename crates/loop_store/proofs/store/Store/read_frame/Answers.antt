@@ -8,7 +8,7 @@ pub returns-then-not-holds : goal.returns-then-not-holds
 returns-then-not-holds g c =
     let fine : c.args.self.now.must_reopen ≡ false = sym (ap (λ v. v.must_reopen) c.self.view_is) ∙ c.if-self.false in
     goes-unread g.D.Disk.medium c.args.self.now c.args.number NotHeld (λ honest. g.met.D.Disk.sound c.args.self.now.disk honest) refl
-    (λ t stands honest. inr (inl (refl, (sym stands.must_reopen ∙ fine, sym (c.holds.ensures t.recording stands.recording honest) ∙ c.if-not-holds.true))))
+    (λ t stands honest. inr (inl (refl, (sym stands.must_reopen ∙ fine, sym ((stands.recording.told honest).numbers_are c.args.number) ∙ sym c.holds.ensures ∙ c.if-not-holds.true))))
     (inr (inl refl, fine))
 
 pub returns-in_err-bytes : goal.returns-in_err-bytes
@@ -16,5 +16,5 @@ returns-in_err-bytes g c =
     let fine : c.args.self.now.must_reopen ≡ false = sym (ap (λ v. v.must_reopen) c.self.view_is) ∙ c.if-self.false in
     let p = err_from_is_err_and c.from_residual.result c.from_residual.ensures.1 in
     rw (p.1, p.2) (goes-unread g.D.Disk.medium c.args.self.now c.args.number NoMemory (λ honest. g.met.D.Disk.sound c.args.self.now.disk honest) refl
-    (λ t stands honest. inr (inr (inl refl, (sym stands.must_reopen ∙ fine, sym (c.holds.ensures t.recording stands.recording honest) ∙ c.if-not-holds.false))))
+    (λ t stands honest. inr (inr (inl refl, (sym stands.must_reopen ∙ fine, sym ((stands.recording.told honest).numbers_are c.args.number) ∙ sym c.holds.ensures ∙ c.if-not-holds.false))))
     (inr (inr (inl refl), fine)))
