@@ -1,5 +1,5 @@
 -- What a disk's images hold after a call, and a store after one that failed.
-use Rattle.std.proofs.Common.{◌≡◌, ◌++◌, ℕ, false, true, refl, List, length, sym, ap, ◌∙◌, subst, arith}
+use Rattle.std.proofs.Common.{◌++◌, ℕ, refl, List, length, sym, ap, subst, arith}
 use Rattle.std.proofs.lemmas.List.{length-append, take_at}
 use Rattle.loop_disk.specs.Medium.{Medium, IsSound, LeavesOnly}
 use Rattle.loop_record.specs.declared.geometry.Geometry.{Geometry}

@@ -1,11 +1,11 @@
 -- A store whose disk crashed, and is opened again.
-use Rattle.std.proofs.Common.{◌≡◌, ◌⊎◌, inl, inr, ℕ, Bool, true, false, Result, Ok, Err, List, [], refl, sym, ap, ◌∙◌, subst}
+use Rattle.std.proofs.Common.{◌≡◌, ◌⊎◌, inl, inr, ℕ, true, false, Result, Ok, Err, List, sym, ap, ◌∙◌, subst}
 use Rattle.loop_disk.specs.Medium.{Medium}
 use Rattle.loop_record.specs.declared.damage.LayoutFault.{LayoutFault}
 use Rattle.loop_record.specs.declared.frame.FrameHead.{FrameHead}
 use Rattle.loop_record.specs.declared.geometry.Geometry.{Geometry}
 use Rattle.loop_record.specs.Reading.{Contents, Holds}
-use Rattle.loop_record.specs.Recording.{Recording, holds}
+use Rattle.loop_record.specs.Recording.{holds}
 use Rattle.loop_record.proofs.Decided.{clash}
 use Rattle.loop_store.specs.declared.fault.StoreFault.{StoreFault}
 use Rattle.loop_store.specs.declared.fault.StoreFault.TheVariants.{NoMemory}

@@ -14,7 +14,7 @@ use Rattle.loop_record.specs.declared.segment.SegmentHead.{SegmentHead}
 use Rattle.loop_record.specs.Geometry.{frame_bytes}
 use Rattle.loop_record.specs.Layout.{Slot, is_slot_of, segment_in, slot_head, whole_frames}
 use Rattle.loop_record.specs.Reading.{Holds}
-use Rattle.loop_record.specs.Recording.{Picture, Recording, frame_under, head, holds}
+use Rattle.loop_record.specs.Recording.{Picture, Recording, head, holds}
 use Rattle.loop_record.proofs.Decided.{both, clash, equal, equal_test, untrue}
 use Rattle.loop_record.proofs.Readings.{whole-length}
 use Rattle.loop_record.proofs.Slots.{IsSlotOf, reading-slot}

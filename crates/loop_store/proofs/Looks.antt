@@ -1,5 +1,5 @@
 -- A call that only looks leaves the store as it was.
-use Rattle.std.proofs.Common.{◌≡◌, ◌⊎◌, inl, inr, ℕ, ◌<◌, ◌≤◌, Bool, true, false, is_some, IfErr, Option, Some, None, Result, Ok, Err, List, get_or, refl, sym, ap, ◌∙◌, subst}
+use Rattle.std.proofs.Common.{◌≡◌, ℕ, ◌<◌, ◌≤◌, Bool, true, false, is_some, Option, None, Result, Ok, List, get_or, sym, ap, ◌∙◌, subst}
 use Rattle.std.specs.List.{All, list_any}
 use Rattle.loop_disk.specs.Calls.{Stays}
 use Rattle.loop_disk.specs.Medium.{Medium, IsSettled}

@@ -1,5 +1,5 @@
 -- A group that was appended, or wasn't.
-use Rattle.std.proofs.Common.{◌≡◌, ◌≢◌, ◌⊎◌, inl, inr, ℕ, ◌+◌, Bool, true, false, Option, None, Some, Result, Ok, Err, List, [], ◌∷◌, ◌++◌, length, if◌then◌else◌, refl, sym, ap, ◌∙◌, subst, arith}
+use Rattle.std.proofs.Common.{◌≡◌, ◌≢◌, ◌⊎◌, inl, inr, ℕ, ◌+◌, Bool, true, false, Option, None, Some, Ok, Err, List, [], ◌∷◌, ◌++◌, length, if◌then◌else◌, refl, sym, ap, ◌∙◌, subst, arith}
 use Rattle.std.proofs.lemmas.List.{append-nil}
 use Rattle.std.specs.Prelude.{◌||◌}
 use Rattle.loop_disk.specs.declared.fault.DiskFault.{DiskFault}
@@ -11,7 +11,7 @@ use Rattle.loop_record.proofs.Decided.{clash}
 use Rattle.loop_record.specs.Recording.{Picture, Recording, Step, last_number, plain, ring_of, steps}
 use Rattle.loop_store.specs.declared.fault.StoreFault.{StoreFault}
 use Rattle.loop_store.specs.declared.fault.StoreFault.TheVariants.{AllLocked, Disk, NumbersSpent}
-use Rattle.loop_store.specs.Calls.{IsAllowed, IsAnswered, Outline, RefusesAppend, StoreState, appended, asked}
+use Rattle.loop_store.specs.Calls.{IsAllowed, RefusesAppend, StoreState, appended, asked}
 use Rattle.loop_store.specs.Faults.{failed_by, is_disk}
 use Rattle.loop_store.specs.Goes.{Goes, Stands, outline_of}
 use Rattle.loop_store.specs.Held.{HoldsFrom, HoldsSome}

@@ -7,7 +7,6 @@ use Rattle.loop_disk.specs.Medium.{Medium, IsSound}
 use Rattle.loop_record.specs.declared.damage.Damage.TheVariants.{SlotHead}
 use Rattle.loop_record.specs.declared.geometry.Geometry.{Geometry}
 use Rattle.loop_record.specs.declared.frame.FrameHead.{FrameHead}
-use Rattle.loop_record.specs.Recording.{Recording}
 use Rattle.loop_store.specs.declared.fault.StoreFault.{StoreFault}
 use Rattle.loop_store.specs.declared.fault.StoreFault.TheVariants.{Damaged}
 use Rattle.loop_store.specs.Calls.{IsAllowed, IsAnswered, Outline, RefusesRead, StoreState, read_with, was_read}

@@ -1,5 +1,5 @@
 -- What formatting leaves of a disk.
-use Rattle.std.specs.Prelude.{◌≡◌, ◌⊎◌, ℕ, ◌<◌, Bool, true, false, Option, None, Result, Ok, Err, List, length, drop, slice_range}
+use Rattle.std.specs.Prelude.{◌≡◌, ◌⊎◌, ℕ, ◌<◌, true, false, Option, None, Result, Ok, Err, List, length, drop, slice_range}
 use Rattle.loop_disk.specs.declared.fault.DiskFault.{DiskFault}
 use Rattle.loop_disk.specs.Medium.{Medium}
 use Rattle.loop_record.specs.declared.damage.LayoutFault.TheVariants.{NotFormatted}

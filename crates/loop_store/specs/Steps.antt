@@ -1,5 +1,5 @@
 -- The steps of a call, and what it may leave of them.
-use Rattle.std.specs.Prelude.{Bool, Option, Some, None, Result, Ok, Err, List, [], ◌++◌, length, if◌then◌else◌}
+use Rattle.std.specs.Prelude.{Option, Some, None, Result, Ok, Err, List, [], ◌++◌, length, if◌then◌else◌}
 use Rattle.loop_disk.specs.Medium.{Medium, LeavesOnly}
 use Rattle.loop_record.specs.declared.geometry.Geometry.{Geometry}
 use Rattle.loop_record.specs.Recording.{Recording, Step}

@@ -9,8 +9,8 @@ ghost use Rattle.loop_store.specs.Faults.{failed_in};
 ghost use Rattle.loop_store.specs.Recovered.{IsFitting, IsRecovered, Recovers};
 
 use crate::StoreFault;
-use crate::index::{Index, index_of};
 use crate::found::{check_slots, in_order, read_geometry, read_heads, read_table};
+use crate::index::{Index, index_of};
 use loop_disk::Disk;
 use loop_record::{Damage, Geometry, lacks_frame, next_after, repeats};
 use std::alloc::Allocator;

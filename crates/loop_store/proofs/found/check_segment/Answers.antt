@@ -1,4 +1,4 @@
-use Rattle.std.proofs.Common.{None, ℕ, ◌*◌, ◌+◌, ap, ◌∙◌, arith}
+use Rattle.std.proofs.Common.{None, ℕ, ◌*◌, ◌+◌, ap, arith}
 use Rattle.loop_disk.proofs.Moments.{called_on}
 use Rattle.loop_ring.proofs.SlotReads.{stays_on}
 use Rattle.loop_store.proofs.RecoveredParts.{recovers-on, slots-wrong, slots-right}

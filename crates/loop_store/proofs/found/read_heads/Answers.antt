@@ -1,4 +1,4 @@
-use Rattle.std.proofs.Common.{None, sym, subst, ◌∙◌, arith}
+use Rattle.std.proofs.Common.{None, sym, subst, arith}
 use Rattle.std.specs.List.{All}
 use Rattle.std.proofs.lemmas.List.Elements.{All-push}
 use Rattle.loop_disk.proofs.Moments.{called_on}

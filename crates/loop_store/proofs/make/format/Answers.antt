@@ -12,13 +12,14 @@ invariant_of-result g c =
     let h = c.args.geometry in
     let fits = both (is_good h) (eqb (g.D.Disk.medium c.args.disk).size (disk_size h)) (sym c.fits.ensures ∙ c.if-not-fits.false) in
     let index : Index g.row.A.Denot = record { ring = c.new-in-Ok-lay_out.result; table = c.in-Ok.table; clips = c.empty.result; next = 0 } in
-    let new : IsNew index h = record { geometry = c.new-in-Ok-lay_out.ensures; next = refl; closed = c.in-Ok.ensures; none = c.empty.ensures } in
-    (fresh-kept g.D.Disk.medium h c.lay_out.new.disk index new fits.0 (c.lay_out.ensures.called.size ∙ equal _ _ fits.1)
-      (λ now. c.in-Ok-lay_out.ensures.settled (c.lay_out.ensures.called.honest.1 now)) (λ now. c.in-Ok-lay_out.ensures.fresh (c.lay_out.ensures.called.honest.1 now)),
+    let new : IsNew index h = record { geometry = c.new-in-Ok-lay_out.ensures; next = refl; closed = c.in-Ok.ensures; none = c.empty.ensures } in (
+      fresh-kept g.D.Disk.medium h c.lay_out.new.disk index new fits.0 (c.lay_out.ensures.called.size ∙ equal _ _ fits.1)
+          (λ now. c.in-Ok-lay_out.ensures.settled (c.lay_out.ensures.called.honest.1 now)) (λ now. c.in-Ok-lay_out.ensures.fresh (c.lay_out.ensures.called.honest.1 now)),
       record {
         size_is = ap (λ (x : Grouped). x.size) c.in-Ok-new.ensures ∙ ap frame_bytes (sym c.new-in-Ok-lay_out.ensures);
         limit_is = ap (λ (x : Grouped). x.limit) c.in-Ok-new.ensures ∙ ap (λ (x : Geometry). min 8 x.slots) (sym c.new-in-Ok-lay_out.ensures);
-      })
+      },
+    )
 
 pub returns-in-Ok-lay_out-clause-formatted : goal.returns-in-Ok-lay_out-clause-formatted
 returns-in-Ok-lay_out-clause-formatted g c =

@@ -1,4 +1,4 @@
-use Rattle.std.proofs.Common.{◌≡◌, ◌≢◌, inr, refl, sym, ◌∙◌}
+use Rattle.std.proofs.Common.{◌≢◌, inr, refl, sym, ◌∙◌}
 use Rattle.loop_record.specs.Recording.{last_number, ring_of}
 use Rattle.loop_store.proofs.index.Index.place.Goals as goal
 

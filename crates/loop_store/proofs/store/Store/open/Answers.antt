@@ -3,11 +3,13 @@ use Rattle.loop_store.proofs.Reopened.{present-opened}
 use Rattle.loop_store.proofs.store.Store.open.Goals as goal
 
 pub invariant_of-result : goal.invariant_of-result
-invariant_of-result g c =
-    (record {
-      fits = c.in-Ok.ensures.fits.0;
-      present = λ fine honest. c.in-Ok.ensures.present (c.reopen.ensures.called.honest.1 honest);
-    }, c.in-Ok.ensures.fits.1)
+invariant_of-result g c = (
+  record {
+    fits = c.in-Ok.ensures.fits.0;
+    present = λ fine honest. c.in-Ok.ensures.present (c.reopen.ensures.called.honest.1 honest);
+  },
+  c.in-Ok.ensures.fits.1,
+)
 
 pub returns-in-Ok-clause-opened : goal.returns-in-Ok-clause-opened
 returns-in-Ok-clause-opened g c = λ honest.

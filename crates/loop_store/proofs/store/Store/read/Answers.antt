@@ -1,4 +1,4 @@
-use Rattle.std.proofs.Common.{◌≡◌, true, false, None, Option, Err, List, [], ◌∷◌, inl, inr, get_or, refl, sym, ◌∙◌, subst}
+use Rattle.std.proofs.Common.{◌≡◌, true, None, Option, Err, List, [], ◌∷◌, inl, inr, get_or, refl, sym, ◌∙◌, subst}
 use Rattle.loop_record.specs.declared.segment.SegmentHead.{SegmentHead}
 use Rattle.loop_record.proofs.Decided.{clash}
 use Rattle.loop_ring.specs.Heads.{has_number}

@@ -1,4 +1,4 @@
-use Rattle.std.proofs.Common.{◌≡◌, List, get_or, refl, sym, ◌∙◌, subst, arith}
+use Rattle.std.proofs.Common.{get_or, refl, sym, ◌∙◌, subst, arith}
 use Rattle.loop_record.specs.declared.geometry.Geometry.{Geometry}
 use Rattle.loop_store.specs.declared.command.Command.{Command}
 use Rattle.loop_store.specs.Runs.{IsOfSize}
