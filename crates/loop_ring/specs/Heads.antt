@@ -1,6 +1,6 @@
 -- The segments of a store as their headers say, in the order in which they lie on the disk.
-use Rattle.std.specs.Prelude.{◌≡◌, ℕ, ◌/◌, ◌%◌, Bool, true, false, not, ◌&&◌, ◌==◌, nat_lt, min, if◌then◌else◌, Option, None, Some, List, map, slice_index_or}
-use Rattle.std.specs.List.{list_any, range_with_len}
+use Rattle.std.specs.Prelude.{◌≡◌, ℕ, ◌/◌, ◌%◌, Bool, true, false, not, ◌&&◌, ◌==◌, nat_lt, max, min, if◌then◌else◌, Option, None, Some, List, map, slice_index_or}
+use Rattle.std.specs.List.{filter_map, list_any, range_with_len, reduce}
 use Rattle.loop_record.specs.declared.clip.Span.{Span}
 use Rattle.loop_record.specs.declared.geometry.Geometry.{Geometry}
 use Rattle.loop_record.specs.declared.segment.SegmentHead.{SegmentHead}
@@ -40,6 +40,15 @@ is_going ring clips newest block = not (block == newest) && not (list_any (meets
 abbrev pub going_block : Ring → List (Option Span) → ℕ → Option SegmentHead → Option ℕ
 going_block ring clips newest None = None
 going_block ring clips newest (Some head) = if nat_lt 0 head.frames && is_going ring clips newest head.block then Some head.block else None
+
+-- the least block that may go, where this is the newest block, if there is one
+abbrev pub least_going : Ring → List (Option Span) → List (Option SegmentHead) → Option ℕ → Option ℕ
+least_going ring clips heads None = None
+least_going ring clips heads (Some newest) = reduce min (filter_map (going_block ring clips newest) heads)
+
+-- the block that goes when room is needed, by the headers and the clips alone
+abbrev pub going_first : Ring → List (Option Span) → List (Option SegmentHead) → Option ℕ
+going_first ring clips heads = least_going ring clips heads (reduce max (filter_map held_block heads))
 
 -- the lesser of two blocks, if they are there
 abbrev pub with_least : Option ℕ → Option ℕ → Option ℕ

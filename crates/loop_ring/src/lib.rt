@@ -23,4 +23,4 @@ pub use fault::SlotFault;
 pub use group::{Group, MAX_GROUP};
 pub use ring::Ring;
 pub use table::SegmentTable;
-pub use victim::{victim_block, victim_segment};
+pub use victim::victim_block;

@@ -1,10 +1,10 @@
 // Which block goes when room is needed, by the segments and the clips of a store.
-ghost use Rattle.std.specs.Prelude.{◌≡◌, ◌<◌, ℕ, List, IfSome, IsTrue, length, max, min};
+ghost use Rattle.std.specs.Prelude.{◌≡◌, ℕ, List, IsTrue, max, min};
 ghost use Rattle.std.specs.List.{filter_map, reduce};
 ghost use Rattle.loop_record.specs.Geometry.{is_good};
 ghost use Rattle.loop_record.specs.Reading.{Holds};
 ghost use Rattle.loop_record.specs.Recording.{Recording, ring_of, victim};
-ghost use Rattle.loop_ring.specs.Heads.{IsPlaceOf, going_block, held_block, heads_of, is_below, with_least};
+ghost use Rattle.loop_ring.specs.Heads.{going_block, going_first, held_block, heads_of, is_below, with_least};
 
 use crate::SegmentTable;
 use loop_record::{Geometry, SegmentHead, Span, may_go};
@@ -18,28 +18,13 @@ pub fn victim_block<A: Allocator>(
     clips: &[Option<Span>],
 ) -> Option<u64>
     requires { IsTrue (is_good geometry.now) }
-    ensures { (r : Recording) (image : List ℕ) → Holds geometry.now r image → table.now ≡ heads_of geometry.now image → clips.now ≡ r.clips
-        → result ≡ victim (ring_of geometry.now) r }
+    ensures first { result ≡ going_first (ring_of geometry.now) clips.now table.now }
+    ensures victim { (r : Recording) (image : List ℕ) → Holds geometry.now r image
+        → table.now ≡ heads_of geometry.now image → clips.now ≡ r.clips → result ≡ victim (ring_of geometry.now) r }
 {
     let heads = table.as_slice();
     let newest = newest_block(heads)?;
     oldest_block(geometry, heads, clips, newest)
-}
-
-/// The segment of the block that goes when room is needed, as `victim_block` answers it, or nothing where no block may go. It
-/// takes no memory.
-pub fn victim_segment<A: Allocator>(
-    geometry: &Geometry,
-    table: &SegmentTable<A>,
-    clips: &[Option<Span>],
-) -> Option<u32>
-    requires { IsTrue (is_good geometry.now) }
-    ensures within { IfSome result (λ segment. segment < length table.now) }
-    ensures place { (r : Recording) (image : List ℕ) → Holds geometry.now r image → table.now ≡ heads_of geometry.now image → clips.now ≡ r.clips
-        → IsPlaceOf table.now (victim (ring_of geometry.now) r) result }
-{
-    let block = victim_block(geometry, table, clips)?;
-    table.find(block)
 }
 
 // The block of a segment that is open and has a whole frame.
