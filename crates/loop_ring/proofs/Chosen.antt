@@ -327,7 +327,7 @@ first-grown ring clips heads j old new l there block some more =
     let held : held_block (Some new) ≡ held_block (get_or heads j None) =
     ap (λ (t : Bool). cond t (Some new.block) None) lit' ∙ ap (λ (n : ℕ). Some n) block ∙ sym (ap (λ (t : Bool). cond t (Some old.block) None) lit) ∙ sym (ap held_block there) in
     let going : (newest : ℕ) → going_block ring clips newest (Some new) ≡ going_block ring clips newest (get_or heads j None) = λ newest.
-        (λ i. cond (lit' i && is_going ring clips newest (block i)) (Some (block i)) None) ∙ sym (λ i. cond (lit i && is_going ring clips newest old.block) (Some old.block) None) ∙ sym (ap (going_block ring clips newest) there) in
+    (λ i. cond (lit' i && is_going ring clips newest (block i)) (Some (block i)) None) ∙ sym (λ i. cond (lit i && is_going ring clips newest old.block) (Some old.block) None) ∙ sym (ap (going_block ring clips newest) there) in
     let pick : (o : Option ℕ) → least_going ring clips (set heads j (Some new)) o ≡ least_going ring clips heads o = same-least ring clips heads (set heads j (Some new)) (λ newest. filter_map-set (going_block ring clips newest) heads j (Some new) None l (going newest)) in
     ap (λ (bs : List ℕ). least_going ring clips (set heads j (Some new)) (reduce max bs)) (filter_map-set held_block heads j (Some new) None l held) ∙ pick (reduce max (filter_map held_block heads))
   where

@@ -1,26 +1,29 @@
 -- The store after an append.
-use Rattle.std.proofs.Common.{◌≡◌, ◌≢◌, ◌⊎◌, inl, inr, ℕ, ◌+◌, ◌*◌, ◌/◌, ◌%◌, ◌^◌, ◌<◌, ◌≤◌, Bool, true, false, cond, eqb, Option, Some, None, All, List, ◌++◌, length, set, map, refl, sym, ap, ◌∙◌, subst, arith}
+use Rattle.std.proofs.Common.{◌≡◌, ◌≢◌, ◌⊎◌, inl, inr, ℕ, ◌+◌, ◌*◌, ◌/◌, ◌%◌, ◌^◌, ◌<◌, ◌≤◌, Bool, true, false, ◌&&◌, cond, eqb, ltb, Option, Some, None, All, List, ◌++◌, length, get_or, set, map, refl, sym, ap, ◌∙◌, subst, arith}
 use Rattle.std.proofs.Math.Nat.{add-mul, div-add-mod', mod-lt, mul-le-mul_right, mul_comm}
 use Rattle.std.proofs.lemmas.Bool.{cases_lt}
 use Rattle.std.proofs.lemmas.List.{length-set}
 use Rattle.std.proofs.lemmas.List.Elements.{All-set}
 use Rattle.loop_disk.specs.Medium.{Medium, IsSettled}
+use Rattle.loop_record.specs.declared.clip.Span.{Span}
 use Rattle.loop_record.specs.declared.geometry.Geometry.{Geometry}
 use Rattle.loop_record.specs.declared.segment.SegmentHead.{SegmentHead}
 use Rattle.loop_record.specs.Geometry.{disk_size}
 use Rattle.loop_record.specs.Layout.{is_too_high}
 use Rattle.loop_record.specs.Reading.{Holds}
 use Rattle.loop_record.specs.Recording.{Picture, Recording, Ring, Step, last_number, needs_recycling, plain, recycling_first, ring_of, steps, store, stores_after, victim}
-use Rattle.loop_record.proofs.Decided.{differ_test, equal_test, not_below_test}
+use Rattle.loop_record.proofs.Decided.{at_most, both, differ_test, equal, equal_test, not_below_test}
 use Rattle.loop_record.proofs.Steps.{plain-append, plain-stores}
-use Rattle.loop_ring.specs.Heads.{heads_of}
+use Rattle.loop_ring.specs.Heads.{going_first, has_frame, heads_of, is_of}
+use Rattle.loop_ring.proofs.Chosen.{first-grown}
 use Rattle.loop_store.proofs.Room.{before-next}
+use Rattle.loop_ring.specs.declared.ring.Ring.{Ring as LoopRing}
 use Rattle.loop_store.specs.declared.index.Index.{Index}
 use Rattle.loop_store.specs.declared.place.Place.{Place}
 use Rattle.loop_store.specs.declared.place.Place.TheVariants.{Newest, Closed, Victim}
 use Rattle.loop_store.specs.Held.{HasNoneStray}
-use Rattle.loop_store.specs.Places.{IsGrownAt, IsKnown, IsPlaceAt, head_after, steps_before}
-use Rattle.loop_store.specs.Recovered.{IsFitting, IsHeadIn, IsIndexOf, IsRecovered}
+use Rattle.loop_store.specs.Places.{IsGrownAt, IsKnown, IsPlaceAt, steps_before}
+use Rattle.loop_store.specs.Recovered.{IsHeadIn, IsIndex, IsIndexOf, IsNoted, IsRecovered, head_after}
 use Rattle.loop_store.specs.Seen.{IsKept, StandsFor, seen_with}
 use Rattle.loop_store.specs.Steps.{steps_or_none}
 use Rattle.loop_store.proofs.Looks.{told-by}
@@ -163,43 +166,40 @@ pub record Grew {D : Type 0} (medium : D → Medium) (g : Geometry) (old new : D
   pub settled : (medium old).honest → IsSettled (medium new)
   pub stored : (r : Recording) → r.next ≡ next → (medium old).honest → Holds g r (medium old).bytes → Holds g (plain (ring_of g) r (steps_before g r ++ map store ps)) (medium new).bytes
 
--- the index that is noted then
-pub record IsNotedIn {A : Type 0} (old new : Index A) (n j : ℕ) : Type 0 where
-  pub geometry : new.ring.geometry ≡ old.ring.geometry
-  pub next : new.next ≡ old.next + n
-  pub heads : new.table ≡ set old.table j (Some (head_after old.ring.geometry old.next n))
-  pub clips : new.clips ≡ old.clips
-
-pub noted-at : (g : Geometry) (next n i j : ℕ) (heads hs : List (Option SegmentHead)) → i ≡ j → hs ≡ set heads i (Some (head_after g next n)) → hs ≡ set heads j (Some (head_after g next n))
-noted-at g next n i j heads hs at noted = noted ∙ (λ k. set heads (at k) (Some (head_after g next n)))
+pub noted-at : {A : Type 0} (old new : Index A) (i j n : ℕ) → i ≡ j → IsNoted old new i n → IsNoted old new j n
+noted-at old new i j n at noted = subst (λ (k : ℕ). IsNoted old new k n) at noted
 
 -- it says all of the recording with the steps of the append
-grown-known : {D A : Type 0} (medium : D → Medium) (old new : D) (was now : Index A) (n j : ℕ) (ps : List Picture) (r : Recording) → IsNotedIn was now n j → Grew medium was.ring.geometry old new was.next n j ps → (medium old).honest → IsIndexOf was r (medium old).bytes
+grown-known : {D A : Type 0} (medium : D → Medium) (old new : D) (was now : Index A) (n j : ℕ) (ps : List Picture) (r : Recording) → IsNoted was now j n → Grew medium was.ring.geometry old new was.next n j ps → (medium old).honest → IsIndexOf was r (medium old).bytes
     → IsIndexOf now (plain (ring_of was.ring.geometry) r (steps_before was.ring.geometry r ++ map store ps)) (medium new).bytes
 grown-known medium old new was now n j ps r noted grew honest known =
     let g = was.ring.geometry in
     let t = plain (ring_of g) r (steps_before g r ++ map store ps) in record {
-      held = subst (λ (h : Geometry). Holds h t (medium new).bytes) (sym noted.geometry) (grew.stored r (sym known.next_is) honest known.held);
+      held = subst (λ (h : Geometry). Holds h t (medium new).bytes) (sym (ap (λ (x : LoopRing). x.geometry) noted.ring)) (grew.stored r (sym known.next_is) honest known.held);
       next_is = noted.next ∙ (λ i. known.next_is i + grew.count i) ∙ sym (appended-next g r ps);
-      heads_are = noted.heads ∙ ap (λ (l : List (Option SegmentHead)). set l j (Some (head_after g was.next n))) known.heads_are ∙ sym (grew.grown honest).heads ∙ ap (λ (h : Geometry). heads_of h (medium new).bytes) (sym noted.geometry);
+      heads_are = noted.heads ∙ ap (λ (l : List (Option SegmentHead)). set l j (Some (head_after g was.next n))) known.heads_are ∙ sym (grew.grown honest).heads ∙ ap (λ (h : Geometry). heads_of h (medium new).bytes) (sym (ap (λ (x : LoopRing). x.geometry) noted.ring));
       clips_are = noted.clips ∙ known.clips_are ∙ sym (appended-clips g r ps);
     }
 
-grown-fits : {A : Type 0} (was now : Index A) (n j size : ℕ) → IsNotedIn was now n j → IsFitting was size → 1 ≤ was.ring.geometry.slots → was.next ≢ last_number (ring_of was.ring.geometry) → was.next % was.ring.geometry.slots + n ≤ was.ring.geometry.slots → IsFitting now size
-grown-fits was now n j size noted fits some unspent room =
+grown-index : {A : Type 0} (was now : Index A) (n j : ℕ) → IsNoted was now j n → IsIndex was → 1 ≤ was.ring.geometry.slots → was.next ≢ last_number (ring_of was.ring.geometry) → was.next % was.ring.geometry.slots + n ≤ was.ring.geometry.slots → IsIndex now
+grown-index was now n j noted whole some unspent room =
     let g = was.ring.geometry in
-    let few : was.next + n ≤ last_number (ring_of g) = appended-few g was.next n some fits.few unspent room in
-    let within : All (IsHeadIn g) (set was.table j (Some (head_after g was.next n))) = All-set (IsHeadIn g) was.table j (Some (head_after g was.next n)) (room, appended-low g was.next some fits.few unspent) fits.within in record {
-      size_is = fits.size_is ∙ ap disk_size (sym noted.geometry);
-      count = ap length noted.heads ∙ length-set was.table j (Some (head_after g was.next n)) ∙ fits.count ∙ ap (λ (h : Geometry). h.segments) (sym noted.geometry);
-      within = subst (λ (h : Geometry). All (IsHeadIn h) now.table) (sym noted.geometry) (subst (All (IsHeadIn g)) (sym noted.heads) within);
-      few = subst (λ (h : Geometry). now.next ≤ last_number (ring_of h)) (sym noted.geometry) (subst (λ (k : ℕ). k ≤ last_number (ring_of g)) (sym noted.next) few);
+    let same : now.ring.geometry ≡ g = ap (λ (x : LoopRing). x.geometry) noted.ring in
+    let few : was.next + n ≤ last_number (ring_of g) = appended-few g was.next n some whole.few unspent room in
+    let within : All (IsHeadIn g) (set was.table j (Some (head_after g was.next n))) = All-set (IsHeadIn g) was.table j (Some (head_after g was.next n)) (room, appended-low g was.next some whole.few unspent) whole.within in record {
+      count = ap length noted.heads ∙ length-set was.table j (Some (head_after g was.next n)) ∙ whole.count ∙ ap (λ (h : Geometry). h.segments) (sym same);
+      within = subst (λ (h : Geometry). All (IsHeadIn h) now.table) (sym same) (subst (All (IsHeadIn g)) (sym noted.heads) within);
+      few = subst (λ (h : Geometry). now.next ≤ last_number (ring_of h)) (sym same) (subst (λ (k : ℕ). k ≤ last_number (ring_of g)) (sym noted.next) few);
+      victim_is = noted.victim ∙ (λ i. going_first (ring_of (sym same i)) (sym noted.clips i) now.table);
     }
 
-pub kept-grown : {D A : Type 0} (medium : D → Medium) (old new : D) (was now : Index A) (n j : ℕ) (ps : List Picture) (must : Bool) → IsKept medium old was must → must ≡ false → IsNotedIn was now n j → 1 ≤ was.ring.geometry.slots → was.next ≢ last_number (ring_of was.ring.geometry)
+pub kept-grown : {D A : Type 0} (medium : D → Medium) (old new : D) (was now : Index A) (n j : ℕ) (ps : List Picture) (must : Bool) → IsKept medium old was must → must ≡ false → IsNoted was now j n → 1 ≤ was.ring.geometry.slots → was.next ≢ last_number (ring_of was.ring.geometry)
     → was.next % was.ring.geometry.slots + n ≤ was.ring.geometry.slots → (medium new).size ≡ (medium old).size → Grew medium was.ring.geometry old new was.next n j ps → IsKept medium new now must
 kept-grown medium old new was now n j ps must kept fine noted some unspent room size grew = record {
-  fits = subst (IsFitting now) (sym size) (grown-fits was now n j (medium old).size noted kept.fits some unspent room);
+  fits = record {
+    size_is = size ∙ kept.fits.size_is ∙ ap disk_size (sym (ap (λ (x : LoopRing). x.geometry) noted.ring));
+    whole = grown-index was now n j noted kept.fits.whole some unspent room;
+  };
   present = λ f honest.
       let back = grew.back honest in
       let there = (kept.present fine back).recorded in
@@ -209,21 +209,31 @@ kept-grown medium old new was now n j ps must kept fine noted some unspent room 
           known = grown-known medium old new was now n j ps there.recording noted grew back there.known;
         };
         settled = grew.settled back;
-        unstray = subst (λ (h : Geometry). HasNoneStray h (medium new).bytes) (sym noted.geometry) (grew.grown back).unstray;
+        unstray = subst (λ (h : Geometry). HasNoneStray h (medium new).bytes) (sym (ap (λ (x : LoopRing). x.geometry) noted.ring)) (grew.grown back).unstray;
       };
 }
 
 -- it stands for the recording with the steps of the append, which are all that it has
-pub stands-grown : {D A : Type 0} (medium : D → Medium) (old new : D) (was now : Index A) (n j : ℕ) (ps : List Picture) (must : Bool) (r : Recording) → (medium old).honest → IsIndexOf was r (medium old).bytes → IsNotedIn was now n j → IsFitting was (medium old).size → 1 ≤ was.ring.geometry.slots
+pub stands-grown : {D A : Type 0} (medium : D → Medium) (old new : D) (was now : Index A) (n j : ℕ) (ps : List Picture) (must : Bool) (r : Recording) → (medium old).honest → IsIndexOf was r (medium old).bytes → IsNoted was now j n → IsIndex was → 1 ≤ was.ring.geometry.slots
     → was.next ≢ last_number (ring_of was.ring.geometry) → was.next % was.ring.geometry.slots + n ≤ was.ring.geometry.slots → Grew medium was.ring.geometry old new was.next n j ps → r.next ≢ last_number (ring_of was.ring.geometry)
     → recycling_first (needs_recycling (ring_of was.ring.geometry) r) (victim (ring_of was.ring.geometry) r) ≢ None → StandsFor medium (seen_with new now must) (plain (ring_of was.ring.geometry) r (steps_or_none (steps (ring_of was.ring.geometry) r ps)))
-stands-grown {D} {A} medium old new was now n j ps must r honest known noted fits some left room grew unspent place =
+stands-grown {D} {A} medium old new was now n j ps must r honest known noted whole some left room grew unspent place =
     let g = was.ring.geometry in
     let same : steps_before g r ++ map store ps ≡ steps_or_none (steps (ring_of g) r ps) = steps-are g r ps unspent place in
     let t : Recording = plain (ring_of g) r (steps_or_none (steps (ring_of g) r ps)) in
     let after : IsIndexOf now t (medium new).bytes = subst (λ (l : List Step). IsIndexOf now (plain (ring_of g) r l) (medium new).bytes) same (grown-known medium old new was now n j ps r noted grew honest known) in
-    let slots : 1 ≤ now.ring.geometry.slots = subst (λ (h : Geometry). 1 ≤ h.slots) (sym noted.geometry) some in record {
-      told = λ there. told-by new now must t (medium new).bytes slots (grown-fits was now n j (medium old).size noted fits some left room).within after;
+    let slots : 1 ≤ now.ring.geometry.slots = subst (λ (h : Geometry). 1 ≤ h.slots) (sym (ap (λ (x : LoopRing). x.geometry) noted.ring)) some in record {
+      told = λ there. told-by new now must t (medium new).bytes slots (grown-index was now n j noted whole some left room).within after;
       settled = λ fine there. grew.settled honest;
       held = λ fine there. after.held;
     }
+
+-- ---- the victim that is kept
+
+-- where a segment had a frame of a block, and has more of them now, the same block goes
+pub victim-kept : (ring : Ring) (clips : List (Option Span)) (heads hs : List (Option SegmentHead)) (j block frames : ℕ) (before : Option SegmentHead) (kept : Option ℕ) → kept ≡ going_first ring clips heads → j < length heads → before ≡ get_or heads j None → (is_of block before && has_frame before) ≡ true
+    → 0 < frames → hs ≡ set heads j (Some (record { block = block; frames = frames })) → kept ≡ going_first ring clips hs
+victim-kept ring clips heads hs j block frames None kept is l there had some noted = absurd cc
+victim-kept ring clips heads hs j block frames (Some old) kept is l there had some noted =
+    let t = both (eqb old.block block) (ltb 0 old.frames) had in
+    is ∙ sym (first-grown ring clips heads j old (record { block = block; frames = frames }) l (sym there) (sym (equal old.block block t.0)) (at_most 1 old.frames t.1) some) ∙ ap (going_first ring clips) (sym noted)

@@ -9,10 +9,11 @@ use Rattle.loop_record.specs.declared.geometry.Geometry.{Geometry}
 use Rattle.loop_record.specs.Geometry.{disk_size, is_good, segment_at}
 use Rattle.loop_record.specs.Layout.{header_at, open_gates}
 use Rattle.loop_record.specs.Reading.{Holds, IsFresh}
-use Rattle.loop_record.specs.Recording.{empty}
+use Rattle.loop_record.specs.Recording.{empty, ring_of}
 use Rattle.loop_record.proofs.Fresh.{reading-fresh}
-use Rattle.loop_ring.specs.Heads.{heads_of}
+use Rattle.loop_ring.specs.Heads.{going_first, heads_of}
 use Rattle.loop_ring.proofs.Bytes.{closed_none}
+use Rattle.loop_ring.proofs.Chosen.{first-none}
 use Rattle.loop_store.specs.declared.index.Index.{Index}
 use Rattle.loop_store.specs.Held.{HasNoneStray}
 use Rattle.loop_store.specs.Numbers.{is_among, numbers_under}
@@ -36,6 +37,7 @@ pub record IsNew {A : Type 0} (index : Index A) (g : Geometry) : Type 0 where
   pub next : index.next ≡ 0
   pub closed : index.table ≡ replicate g.segments None
   pub none : index.clips ≡ replicate 64 None
+  pub no_victim : index.victim ≡ None
 
 fresh-known : {A : Type 0} (index : Index A) (g : Geometry) (image : List ℕ) → IsNew index g → IsTrue (is_good g) → IsFresh g image → IsIndexOf index empty image
 fresh-known index g image new good fresh = record {
@@ -51,9 +53,12 @@ pub fresh-kept : {D A : Type 0} (medium : D → Medium) (g : Geometry) (disk : D
 fresh-kept medium g disk index new good size settled fresh = record {
   fits = record {
     size_is = size ∙ ap disk_size (sym new.geometry);
-    count = ap length new.closed ∙ length-replicate g.segments None ∙ ap (λ (h : Geometry). h.segments) (sym new.geometry);
-    within = subst (All (IsHeadIn index.ring.geometry)) (sym new.closed) (All-replicate (IsHeadIn index.ring.geometry) g.segments None tt);
-    few = omega (arith, new.next);
+    whole = record {
+      count = ap length new.closed ∙ length-replicate g.segments None ∙ ap (λ (h : Geometry). h.segments) (sym new.geometry);
+      within = subst (All (IsHeadIn index.ring.geometry)) (sym new.closed) (All-replicate (IsHeadIn index.ring.geometry) g.segments None tt);
+      few = omega (arith, new.next);
+      victim_is = new.no_victim ∙ sym (first-none (ring_of index.ring.geometry) index.clips g.segments) ∙ ap (going_first (ring_of index.ring.geometry) index.clips) (sym new.closed);
+    };
   };
   present = λ fine now. record {
     recorded = record { recording = empty; known = fresh-known index g (medium disk).bytes new good (fresh now) };

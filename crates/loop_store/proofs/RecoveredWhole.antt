@@ -13,9 +13,9 @@ use Rattle.loop_record.specs.Plain.{segments_of}
 use Rattle.loop_record.specs.Reading.{Holds, all_frames, by_block, is_bad_slot, is_high, lacks_frame, next_after, opened, parts_of, reading, repeats}
 use Rattle.loop_record.specs.Recording.{Recording, last_number, ring_of}
 use Rattle.loop_record.proofs.FoundSegments.{AreFull, IsFoundIn, fault-of, found-low, found-read, read-all, read-bad_clip, reading-bad_slot, reading-high}
-use Rattle.loop_ring.specs.Heads.{heads_of}
+use Rattle.loop_ring.specs.Heads.{going_first, heads_of}
 use Rattle.loop_store.specs.declared.index.Index.{Index}
-use Rattle.loop_store.specs.Recovered.{IsFitting, IsHeadIn, IsRecovered, clips_of, some_bad_clip}
+use Rattle.loop_store.specs.Recovered.{IsFitting, IsHeadIn, IsOf, IsRecovered, clips_of, some_bad_clip}
 
 -- the segments that were found, once none repeats a block and none but the last lacks a frame
 pub full : (g : Geometry) (image : List ℕ) (fs xs : List Found) (twice lacks : Bool) → IsFoundIn g image fs xs → twice ≡ repeats (segments_of g image xs) → twice ≡ false → lacks ≡ lacks_frame g (segments_of g image xs) → lacks ≡ false → AreFull g image fs xs
@@ -38,13 +38,6 @@ refused-clip g image mid last fs xs fault a same right same' q =
     let sound = ap (λ (c : List ℕ). list_any (is_bad_slot g) (segments_of g c xs)) (sym same) ∙ right in
     let bad = ap (λ (c : List ℕ). some_bad_clip g c xs) (sym same') ∙ q.1 in
     read-bad_clip g image fs xs (all_frames g (segments_of g image xs)) Damage.ClipRange a sound refl refl bad ∙ fault-of (sym q.0)
-
--- the index of what was found says so
-pub record IsOf {A : Type 0} (index : Index A) (g : Geometry) (heads : List (Option SegmentHead)) (clips : List (Option Span)) (next : ℕ) : Type 0 where
-  pub geometry : index.ring.geometry ≡ g
-  pub heads_are : index.table ≡ heads
-  pub clips_are : index.clips ≡ clips
-  pub next_is : index.next ≡ next
 
 -- nothing is refused
 pub recovered : {A : Type 0} (index : Index A) (g : Geometry) (image mid last : List ℕ) (fs xs : List Found) (heads : List (Option SegmentHead)) (clips : List (Option Span)) (next : ℕ) → IsOf index g heads clips next → AreFull g image fs xs → mid ≡ image
@@ -69,7 +62,10 @@ pub fitting : {A : Type 0} (index : Index A) (g : Geometry) (heads : List (Optio
     → IsFitting index size
 fitting index g heads clips next size is size_is count within few = record {
   size_is = size_is ∙ ap disk_size (sym is.geometry);
-  count = ap length is.heads_are ∙ count ∙ ap (λ (h : Geometry). h.segments) (sym is.geometry);
-  within = subst (λ (h : Geometry). All (IsHeadIn h) index.table) (sym is.geometry) (subst (All (IsHeadIn g)) (sym is.heads_are) within);
-  few = subst (λ (h : Geometry). index.next ≤ last_number (ring_of h)) (sym is.geometry) (subst (λ (n : ℕ). n ≤ last_number (ring_of g)) (sym is.next_is) few);
+  whole = record {
+    count = ap length is.heads_are ∙ count ∙ ap (λ (h : Geometry). h.segments) (sym is.geometry);
+    within = subst (λ (h : Geometry). All (IsHeadIn h) index.table) (sym is.geometry) (subst (All (IsHeadIn g)) (sym is.heads_are) within);
+    few = subst (λ (h : Geometry). index.next ≤ last_number (ring_of h)) (sym is.geometry) (subst (λ (n : ℕ). n ≤ last_number (ring_of g)) (sym is.next_is) few);
+    victim_is = is.victim_is ∙ (λ i. going_first (ring_of (sym is.geometry i)) (sym is.clips_are i) (sym is.heads_are i));
+  };
 }

@@ -1,5 +1,5 @@
 -- Where an append goes.
-use Rattle.std.specs.Prelude.{◌≡◌, ◌≢◌, ◌⊎◌, ℕ, ◌+◌, ◌/◌, ◌%◌, ◌==◌, false, true, Result, Ok, Err, Option, Some, None, List, slice_index_or, slice_set}
+use Rattle.std.specs.Prelude.{◌≡◌, ◌≢◌, ◌⊎◌, ℕ, ◌/◌, ◌%◌, ◌==◌, false, true, Result, Ok, Err, Option, Some, None, List, slice_index_or, slice_set}
 use Rattle.std.specs.List.{list_any}
 use Rattle.loop_record.specs.declared.geometry.Geometry.{Geometry}
 use Rattle.loop_record.specs.declared.segment.SegmentHead.{SegmentHead}
@@ -12,6 +12,7 @@ use Rattle.loop_store.specs.declared.fault.StoreFault.TheVariants.{AllLocked, Nu
 use Rattle.loop_store.specs.declared.place.Place.{Place}
 use Rattle.loop_store.specs.declared.place.Place.TheVariants.{Newest, Closed, Victim}
 use Rattle.loop_store.specs.Held.{HasNoneStray, IsFreeFor}
+use Rattle.loop_store.specs.Recovered.{head_after}
 use Rattle.loop_store.specs.Steps.{steps_or_none}
 
 -- the segment of a place
@@ -62,10 +63,6 @@ steps_before g r = steps_or_none (recycling_first (needs_recycling (ring_of g) r
 -- the header of the segment at a place, before the frames are stored
 abbrev pub head_at : Geometry → ℕ → SegmentHead
 head_at g next = record { block = next / g.slots; frames = next % g.slots }
-
--- the header of that segment when so many frames of the block are stored from the next number on
-abbrev pub head_after : Geometry → ℕ → ℕ → SegmentHead
-head_after g next count = record { block = next / g.slots; frames = next % g.slots + count }
 
 -- the segments' headers are the old ones, but that segment j has begun the block of the next number, with the frames before it; and no stray gate is there
 pub record IsBegunAt (g : Geometry) (next j : ℕ) (old new : List ℕ) : Type 0 where

@@ -1,5 +1,5 @@
 -- What is found on a disk again, and in which order damage is answered.
-use Rattle.std.specs.Prelude.{◌≡◌, ℕ, ◌≤◌, Bool, false, Option, Some, None, Result, Ok, Err, List, All, length, map}
+use Rattle.std.specs.Prelude.{◌≡◌, ℕ, ◌+◌, ◌/◌, ◌%◌, ◌≤◌, Bool, false, Option, Some, None, Result, Ok, Err, List, All, length, map, slice_set}
 use Rattle.std.specs.List.{list_any, range_with_len}
 use Rattle.loop_record.specs.declared.clip.Span.{Span}
 use Rattle.loop_record.specs.declared.damage.LayoutFault.{LayoutFault}
@@ -11,7 +11,7 @@ use Rattle.loop_record.specs.Layout.{Segment, clip_in, is_too_high}
 use Rattle.loop_record.specs.Plain.{segment_of, segments_of}
 use Rattle.loop_record.specs.Reading.{Holds, all_frames, is_bad_clip}
 use Rattle.loop_record.specs.Recording.{Recording, empty, last_number, ring_of}
-use Rattle.loop_ring.specs.Heads.{heads_of}
+use Rattle.loop_ring.specs.Heads.{going_first, heads_of}
 use Rattle.loop_store.specs.declared.fault.StoreFault.{StoreFault}
 use Rattle.loop_store.specs.declared.index.Index.{Index}
 
@@ -64,14 +64,41 @@ pub record IsIndexOf {A : Type 0} (index : Index A) (r : Recording) (image : Lis
   pub heads_are : index.table ≡ heads_of index.ring.geometry image
   pub clips_are : index.clips ≡ r.clips
 
+-- the index of a geometry, headers and clips, and of a next number
+pub record IsOf {A : Type 0} (index : Index A) (g : Geometry) (heads : List (Option SegmentHead)) (clips : List (Option Span)) (next : ℕ) : Type 0 where
+  pub geometry : index.ring.geometry ≡ g
+  pub heads_are : index.table ≡ heads
+  pub clips_are : index.clips ≡ clips
+  pub next_is : index.next ≡ next
+  pub victim_is : index.victim ≡ going_first (ring_of g) clips heads
+
 -- the image holds a recording, and the index says what the image says
 pub record IsRecovered {A : Type 0} (index : Index A) (image : List ℕ) : Type 0 where
   pub recording : Recording
   pub known : IsIndexOf index recording image
 
--- whatever a disk of this size holds, there is a header for each segment, each may stand there, and no block of the numbers below the next one is too high
-pub record IsFitting {A : Type 0} (index : Index A) (size : ℕ) : Type 0 where
-  pub size_is : size ≡ disk_size index.ring.geometry
+-- whatever a disk holds: there is a header for each segment, each may stand there, no block of the numbers below the next one is too high, and the block that is kept as the victim is that of the headers and the clips
+pub record IsIndex {A : Type 0} (index : Index A) : Type 0 where
   pub count : length index.table ≡ index.ring.geometry.segments
   pub within : All (IsHeadIn index.ring.geometry) index.table
   pub few : index.next ≤ last_number (ring_of index.ring.geometry)
+  pub victim_is : index.victim ≡ going_first (ring_of index.ring.geometry) index.clips index.table
+
+-- so it is, of a disk of this size
+pub record IsFitting {A : Type 0} (index : Index A) (size : ℕ) : Type 0 where
+  pub size_is : size ≡ disk_size index.ring.geometry
+  pub whole : IsIndex index
+
+-- ---- what an append notes
+
+-- the header of a segment, when so many frames of its block are stored from the next number on
+abbrev pub head_after : Geometry → ℕ → ℕ → SegmentHead
+head_after g next count = record { block = next / g.slots; frames = next % g.slots + count }
+
+-- segment j has so many frames of the block of the next number from there on
+pub record IsNoted {A : Type 0} (old new : Index A) (j count : ℕ) : Type 0 where
+  pub ring : new.ring ≡ old.ring
+  pub next : new.next ≡ old.next + count
+  pub heads : new.table ≡ slice_set old.table j (Some (head_after old.ring.geometry old.next count))
+  pub clips : new.clips ≡ old.clips
+  pub victim : new.victim ≡ going_first (ring_of old.ring.geometry) old.clips new.table

@@ -1,25 +1,29 @@
 //! What is known in memory of the recording on a disk.
 
-ghost use Rattle.std.specs.Prelude.{◌≡◌, ◌⊎◌, ◌+◌, ◌%◌, ◌<◌, ◌≤◌, ◌↔◌, ℕ, Err, IfErr, IfOk, IsTrue, List, Some, length, slice_set};
+ghost use Rattle.std.specs.Prelude.{◌≡◌, ◌≢◌, ◌⊎◌, ◌&&◌, ◌+◌, ◌/◌, ◌%◌, ◌<◌, ◌≤◌, ◌↔◌, ℕ, Err, IfErr, IfOk, IfSome, IsTrue, List, None, length};
+ghost use Rattle.std.specs.List.{position};
 ghost use Rattle.loop_record.specs.Geometry.{is_good};
-ghost use Rattle.loop_record.specs.Recording.{Recording, last_number, ring_of};
-ghost use Rattle.loop_store.specs.Places.{AnswersPlace, head_after, segment_of};
-ghost use Rattle.loop_store.specs.Recovered.{IsIndexOf};
+ghost use Rattle.loop_record.specs.Recording.{Recording, last_number, ring_of, victim};
+ghost use Rattle.loop_ring.specs.Heads.{IsPlaceOf, going_first, has_frame, heads_of, is_of};
+ghost use Rattle.loop_store.specs.Places.{AnswersPlace, IsPlace, segment_of};
+ghost use Rattle.loop_store.specs.Recovered.{IsIndex, IsIndexOf, IsNoted, IsOf};
 
 use crate::StoreFault;
-use crate::place::{Place, place_of};
+use crate::place::Place;
 use loop_clips::ClipTable;
 use loop_record::{Geometry, SegmentHead, Span};
-use loop_ring::{Ring, SegmentTable};
+use loop_ring::{Ring, SegmentTable, victim_block};
 use std::alloc::Allocator;
 
-/// The geometry, what the header of each segment says, the clip of each id, and the number that the next frame gets.
+/// The geometry, what the header of each segment says, the clip of each id, the number that the next frame gets, and the block
+/// that goes when room is needed.
 #[derive(Drop)]
 pub(crate) struct Index<A: Allocator> {
     pub(crate) ring: Ring,
     pub(crate) table: SegmentTable<A>,
     pub(crate) clips: ClipTable,
     pub(crate) next: u64,
+    pub(crate) victim: Option<u64>,
 }
 
 /// No frame has this number or one above it.
@@ -34,6 +38,13 @@ fn last_number(geometry: &Geometry) -> u64
     slots * (NUMBERS / slots)
 }
 
+/// Whether a segment has a frame of a block.
+fn has_frame_of(head: Option<SegmentHead>, block: u64) -> bool
+    ensures { result ≡ (is_of block head && has_frame head) }
+{
+    head.is_some_and(|head| head.block == block && head.frames > 0)
+}
+
 /// The index of what was found on a disk.
 pub(crate) fn index_of<A: Allocator>(
     geometry: Geometry,
@@ -43,60 +54,121 @@ pub(crate) fn index_of<A: Allocator>(
 ) -> Index<A>
     requires good { IsTrue (is_good geometry) }
     requires count { length heads.items ≡ geometry.segments }
-    ensures geometry { result.ring.geometry ≡ geometry }
-    ensures heads { result.table ≡ heads.items }
-    ensures clips { result.clips ≡ clips }
-    ensures next { result.next ≡ next }
+    ensures { IsOf result geometry heads.items clips next }
 {
+    let table = SegmentTable::of(heads);
+    let clips = ClipTable::of(clips);
+    let victim = victim_block(&geometry, &table, clips.as_slice());
     Index {
         ring: Ring::new(geometry),
-        table: SegmentTable::of(heads),
-        clips: ClipTable::of(clips),
+        table,
+        clips,
         next,
+        victim,
     }
 }
 
 impl<A: Allocator> Index<A> {
+    /// The segment that holds a block, if one does.
+    pub(crate) fn find(&self, block: u64) -> Option<u32>
+        ensures place { result ≡ position (is_of block) self.now.table }
+        ensures within { IfSome result (λ segment. segment < length self.now.table) }
+    {
+        self.table.find(block)
+    }
+
+    /// The segment of the block that goes when room is needed, or nothing where no block may go.
+    fn victim_segment(&self) -> Option<u32>
+        requires { IsIndex self.now }
+        ensures within { IfSome result (λ segment. segment < length self.now.table) }
+        ensures place { (r : Recording) (image : List ℕ) → IsIndexOf self.now r image
+            → IsPlaceOf self.now.table (victim (ring_of self.now.ring.geometry) r) result }
+    {
+        let block = self.victim?;
+        self.find(block)
+    }
+
+    /// Where a block begins that no segment has: in the closed segment of least number, or in the victim's where each segment
+    /// has a frame. Nothing where there is no victim then.
+    fn place_of_new(&self) -> Option<Place>
+        requires { IsIndex self.now }
+        ensures within { IfSome result (λ place. segment_of place < self.now.ring.geometry.segments) }
+        ensures place { (r : Recording) (image : List ℕ) → IsIndexOf self.now r image
+            → r.next ≢ last_number (ring_of self.now.ring.geometry)
+            → position (is_of (r.next / self.now.ring.geometry.slots)) (heads_of self.now.ring.geometry image) ≡ None
+            → IsPlace self.now.ring.geometry r image result }
+    {
+        if self.table.held_blocks() == self.ring.geometry.segments {
+            return match self.victim_segment() {
+                Some(segment) => Some(Place::Victim(segment)),
+                None => None,
+            };
+        }
+        match self.table.first_closed() {
+            Some(segment) => Some(Place::Closed(segment)),
+            None => None,
+        }
+    }
+
+    /// Where the next frames go, where a number is left. Nothing where a block has to be recycled first and none may go.
+    fn place_of_next(&self) -> Option<Place>
+        requires { IsIndex self.now }
+        ensures within { IfSome result (λ place. segment_of place < self.now.ring.geometry.segments) }
+        ensures place { (r : Recording) (image : List ℕ) → IsIndexOf self.now r image
+            → r.next ≢ last_number (ring_of self.now.ring.geometry) → IsPlace self.now.ring.geometry r image result }
+    {
+        match self.find(self.next / u64::from(self.ring.geometry.slots)) {
+            Some(segment) => Some(Place::Newest(segment)),
+            None => self.place_of_new(),
+        }
+    }
+
     /// Where the next frames go. `NumbersSpent` where no number is left; otherwise `AllLocked` where a block has to be recycled
     /// first and none may go.
     pub(crate) fn place(&self) -> Result<Place, StoreFault>
-        requires { length self.now.table ≡ self.now.ring.geometry.segments }
+        requires { IsIndex self.now }
         ensures within { IfOk result (λ place. segment_of place < self.now.ring.geometry.segments) }
         ensures refusals { IfErr result (λ fault. (fault ≡ StoreFault.NumbersSpent) ⊎ (fault ≡ StoreFault.AllLocked)) }
         ensures spent { (result ≡ Err StoreFault.NumbersSpent) ↔ (self.now.next ≡ last_number (ring_of self.now.ring.geometry)) }
         ensures answers { (r : Recording) (image : List ℕ) → IsIndexOf self.now r image
             → AnswersPlace self.now.ring.geometry r image result }
     {
-        let geometry = &self.ring.geometry;
-        if self.next == last_number(geometry) {
+        if self.next == last_number(&self.ring.geometry) {
             return Err(StoreFault::NumbersSpent);
         }
-        match place_of(geometry, &self.table, &self.clips, self.next) {
+        match self.place_of_next() {
             Some(place) => Ok(place),
             None => Err(StoreFault::AllLocked),
         }
     }
-}
 
-/// Notes that a segment has the block of the next number, the frames before it and so many from it on.
-pub(crate) fn note<A: Allocator>(
-    table: &mut SegmentTable<A>,
-    geometry: &Geometry,
-    segment: u32,
-    next: u64,
-    count: u32,
-)
-    requires good { IsTrue (is_good geometry.now) }
-    requires segment { segment < length table.old }
-    requires room { next % geometry.now.slots + count ≤ geometry.now.slots }
-    ensures { table.new ≡ slice_set table.old segment (Some (head_after geometry.now next count)) }
-{
-    let slots = u64::from(geometry.slots);
-    table.set(
-        segment,
-        Some(SegmentHead {
-            block: next / slots,
-            frames: (next % slots) as u32 + count,
-        }),
-    );
+    /// Notes that a segment has the block of the next number, the frames before it and so many from it on. A block that had a
+    /// frame there leaves the victim as it is; only another one has it looked for.
+    pub(crate) fn note(&mut self, segment: u32, count: u32)
+        requires index { IsIndex self.old }
+        requires segment { segment < length self.old.table }
+        requires some { 1 ≤ count }
+        requires room { self.old.next % self.old.ring.geometry.slots + count ≤ self.old.ring.geometry.slots }
+        ensures { IsNoted self.old self.new segment count }
+    {
+        let slots = u64::from(self.ring.geometry.slots);
+        let block = self.next / slots;
+        let frames = (self.next % slots) as u32 + count;
+        let grows = has_frame_of(self.table.get(segment), block);
+        self.table.set(segment, Some(SegmentHead { block, frames }));
+        self.victim = self.victim_after(grows);
+        self.next += u64::from(count);
+    }
+
+    /// The block that goes when room is needed, once a segment's header has changed: the one that is kept where a block only
+    /// grows.
+    fn victim_after(&self, grows: bool) -> Option<u64>
+        requires { IsTrue grows → self.now.victim ≡ going_first (ring_of self.now.ring.geometry) self.now.clips self.now.table }
+        ensures { result ≡ going_first (ring_of self.now.ring.geometry) self.now.clips self.now.table }
+    {
+        if grows {
+            return self.victim;
+        }
+        victim_block(&self.ring.geometry, &self.table, self.clips.as_slice())
+    }
 }

@@ -13,29 +13,28 @@ ghost use Rattle.loop_ring.specs.Heads.{has_number, heads_of};
 ghost use Rattle.loop_store.specs.declared.fault.StoreFault.TheVariants.{Damaged};
 ghost use Rattle.loop_store.specs.Faults.{answers_disk, is_disk, failed_in};
 ghost use Rattle.loop_store.specs.Numbers.{numbers_in};
+ghost use Rattle.loop_store.specs.Recovered.{IsIndex, IsIndexOf};
 ghost use Rattle.loop_store.specs.Reads.{AnswersFrame};
 
 use crate::StoreFault;
+use crate::index::Index;
 use loop_disk::Disk;
 use loop_record::{Found, FrameHead, Geometry};
-use loop_ring::{Ring, SegmentTable};
+use loop_ring::Ring;
 use std::alloc::{AllocError, Allocator};
 
 /// The segment that has the frame of a number, if one has it.
-pub(crate) fn segment_with<A: Allocator>(
-    geometry: &Geometry,
-    table: &SegmentTable<A>,
-    number: u64,
-) -> Option<u32>
-    requires good { IsTrue (is_good geometry.now) }
-    requires count { length table.now ≡ geometry.now.segments }
-    ensures within { IfSome result (λ segment. segment < geometry.now.segments) }
-    ensures there { IfSome result (λ segment. has_number geometry.now.slots number (slice_index_or table.now segment None) ≡ true) }
-    ensures missing { (r : Recording) (image : List ℕ) → Holds geometry.now r image → table.now ≡ heads_of geometry.now image → IfNone result (holds r number ≡ false) }
+pub(crate) fn segment_with<A: Allocator>(index: &Index<A>, number: u64) -> Option<u32>
+    requires { IsIndex index.now }
+    ensures within { IfSome result (λ segment. segment < index.now.ring.geometry.segments) }
+    ensures there { IfSome result (λ segment.
+        has_number index.now.ring.geometry.slots number (slice_index_or index.now.table segment None) ≡ true) }
+    ensures missing { (r : Recording) (image : List ℕ) → IsIndexOf index.now r image → IfNone result (holds r number ≡ false) }
 {
-    let segment = table.find(number / u64::from(geometry.slots))?;
-    let head = table.get(segment)?;
-    if number % u64::from(geometry.slots) < u64::from(head.frames) {
+    let slots = u64::from(index.ring.geometry.slots);
+    let segment = index.find(number / slots)?;
+    let head = index.table.get(segment)?;
+    if number % slots < u64::from(head.frames) {
         Some(segment)
     } else {
         None

@@ -8,7 +8,7 @@ ghost use Rattle.loop_store.specs.Seen.{IsKept, Refused, seen_with};
 
 use crate::StoreFault;
 use crate::grow::append_group;
-use crate::index::{Index, note};
+use crate::index::Index;
 use loop_disk::Disk;
 use loop_ring::Group;
 use std::alloc::Allocator;
@@ -39,15 +39,7 @@ pub(crate) fn put<D: Disk, A: Allocator>(
     match append_group(disk, &index.ring, place, group) {
         Ok(()) => {
             let number = index.next;
-            let count = group.len();
-            note(
-                &mut index.table,
-                &index.ring.geometry,
-                place.segment(),
-                number,
-                count as u32,
-            );
-            index.next = number + count as u64;
+            index.note(place.segment(), group.len() as u32);
             Ok(number)
         }
         Err(fault) => {

@@ -42,7 +42,7 @@ fn clear_newest<D: Disk, A: Allocator>(disk: &mut D, index: &Index<A>) -> Result
     ensures called { Called (D.medium disk.old) (D.medium disk.new) (failed_call result) }
 {
     let slots = u64::from(index.ring.geometry.slots);
-    match index.table.find(index.next / slots) {
+    match index.find(index.next / slots) {
         Some(segment) => index
             .ring
             .clear_stray(disk, segment, (index.next % slots) as u32),

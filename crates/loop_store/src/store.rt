@@ -1,10 +1,10 @@
 //! A store: a disk that holds a recording, and what is known of it in memory.
 
-ghost use Rattle.std.specs.Prelude.{◌≡◌, ◌≢◌, ◌+◌, ◌-◌, ◌%◌, ◌≤◌, ◌↔◌, ◌⊎◌, ◌∷◌, [], All, Err, IfErr, IfOk, IsTrue, length, map};
+ghost use Rattle.std.specs.Prelude.{◌≡◌, ◌≢◌, ◌+◌, ◌-◌, ◌%◌, ◌≤◌, ◌↔◌, ◌⊎◌, ◌∷◌, [], All, Err, IfErr, IfOk, IsTrue, false, length, map};
 ghost use Rattle.loop_disk.specs.Calls.{Stays};
 ghost use Rattle.loop_record.specs.Geometry.{frame_bytes, is_good};
 ghost use Rattle.loop_record.specs.Plain.{pictures};
-ghost use Rattle.loop_record.specs.Recording.{Recording, picture, ring_of, room};
+ghost use Rattle.loop_record.specs.Recording.{Recording, picture, ring_of, room, victim};
 ghost use Rattle.loop_store.specs.Calls.{appended, read_with, was_read};
 ghost use Rattle.loop_store.specs.Goes.{Goes};
 ghost use Rattle.loop_store.specs.Numbers.{is_among};
@@ -77,6 +77,15 @@ impl<D: Disk + Drop, A: Allocator> Store<D, A> {
         self.index
             .table
             .holds(self.index.ring.geometry.slots, number)
+    }
+
+    /// The block that goes when an append needs room: the least block of a held frame that no clip meets and that isn't the
+    /// newest's. Nothing where none may go. Where the store must be reopened, it is that of before the call that failed.
+    pub fn victim(&self) -> Option<u64>
+        ensures { (r : Recording) → StandsFor D.medium self.now r → (D.medium self.now.disk).honest
+            → self.now.must_reopen ≡ false → result ≡ victim (ring_of self.now.geometry) r }
+    {
+        self.index.victim
     }
 
     /// The disk, as the calls left it.
@@ -154,8 +163,7 @@ impl<D: Disk + Drop, A: Allocator> Store<D, A> {
         if self.must_reopen {
             return Err(StoreFault::MustReopen);
         }
-        let geometry = self.index.ring.geometry;
-        match segment_with(&geometry, &self.index.table, number) {
+        match segment_with(&self.index, number) {
             Some(segment) => read_held(&mut self.disk, &self.index.ring, segment, number, out),
             None => Err(StoreFault::NotHeld),
         }

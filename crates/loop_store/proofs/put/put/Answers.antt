@@ -4,6 +4,7 @@ use Rattle.loop_disk.specs.Medium.{LeavesOnly, Medium}
 use Rattle.loop_record.specs.declared.geometry.Geometry.{Geometry}
 use Rattle.loop_record.specs.Recording.{Picture, Step, last_number, ring_of}
 use Rattle.loop_record.proofs.Bounds.{limits}
+use Rattle.loop_ring.specs.declared.ring.Ring.{Ring}
 use Rattle.loop_store.specs.declared.fault.StoreFault.{StoreFault}
 use Rattle.loop_store.specs.declared.fault.StoreFault.TheVariants.{AllLocked, NumbersSpent}
 use Rattle.loop_store.specs.declared.place.Place.{Place}
@@ -55,7 +56,7 @@ returns-in-Ok-clause-kept g c =
     let h = i.ring.geometry in
     let ps = c.args.group.now.frames in
     let j = segment_of c.in_ok-place.place in
-    let n = c.len-count.result in
+    let n = c.len.result in
     let medium = g.D.Disk.medium in
     let first : Grew medium h c.args.disk.now c.append_group.new.disk c.args.group.now.first (length ps) j ps = record {
       back = c.append_group.ensures.called.honest.1;
@@ -64,10 +65,10 @@ returns-in-Ok-clause-kept g c =
       settled = c.in-Ok.ensures.settled;
       stored = c.in-Ok.ensures.stored;
     } in
-    let grew = grew-by medium h c.args.disk.now c.append_group.new.disk c.args.group.now.first i.next n j ps c.requires.first c.len-count.ensures.count first in
-    let heads = noted-at h i.next n c.segment.result j i.table c.note.new.table c.segment.ensures c.note.ensures in
-    kept-grown medium c.args.disk.now c.append_group.new.disk i _ n j ps c.args.must_reopen.now c.requires.kept c.if-must_reopen.false (record { geometry = refl; next = refl; heads = heads; clips = refl }) (limits h i.ring.good).slots.0
-    (λ same. not-refused c.in_ok-place.place (c.in_ok-place.ensures.spent.1 same)) (omega (arith, c.requires.room, c.len-count.ensures.count)) c.append_group.ensures.called.size grew
+    let grew = grew-by medium h c.args.disk.now c.append_group.new.disk c.args.group.now.first i.next n j ps c.requires.first c.len.ensures.count first in
+    let noted = noted-at i c.note.new.self c.segment.result j n c.segment.ensures c.note.ensures in
+    kept-grown medium c.args.disk.now c.append_group.new.disk i c.note.new.self n j ps c.args.must_reopen.now c.requires.kept c.if-must_reopen.false noted (limits h i.ring.good).slots.0
+    (λ same. not-refused c.in_ok-place.place (c.in_ok-place.ensures.spent.1 same)) (omega (arith, c.requires.room, c.len.ensures.count)) c.append_group.ensures.called.size grew
 
 pub returns-in-Ok-clause-goes : goal.returns-in-Ok-clause-goes
 returns-in-Ok-clause-goes g c =
@@ -75,7 +76,7 @@ returns-in-Ok-clause-goes g c =
     let h = i.ring.geometry in
     let ps = c.args.group.now.frames in
     let j = segment_of c.in_ok-place.place in
-    let n = c.len-count.result in
+    let n = c.len.result in
     let medium = g.D.Disk.medium in
     let must = c.args.must_reopen.now in
     let fine = c.if-must_reopen.false in
@@ -88,15 +89,15 @@ returns-in-Ok-clause-goes g c =
       settled = c.in-Ok.ensures.settled;
       stored = c.in-Ok.ensures.stored;
     } in
-    let grew = grew-by medium h c.args.disk.now c.append_group.new.disk c.args.group.now.first i.next n j ps c.requires.first c.len-count.ensures.count first in
-    let heads = noted-at h i.next n c.segment.result j i.table c.note.new.table c.segment.ensures c.note.ensures in
-    let room : i.next % h.slots + n ≤ h.slots = omega (arith, c.requires.room, c.len-count.ensures.count) in
-    put-stored medium (seen_with c.args.disk.now i must) _ ps (record {
+    let grew = grew-by medium h c.args.disk.now c.append_group.new.disk c.args.group.now.first i.next n j ps c.requires.first c.len.ensures.count first in
+    let noted = noted-at i c.note.new.self c.segment.result j n c.segment.ensures c.note.ensures in
+    let room : i.next % h.slots + n ≤ h.slots = omega (arith, c.requires.room, c.len.ensures.count) in
+    put-stored medium (seen_with c.args.disk.now i must) (seen_with c.append_group.new.disk c.note.new.self must) ps (record {
       fine = fine;
       still = fine;
       unspent = unspent;
-      next = ap (λ (k : ℕ). i.next + k) c.len-count.ensures.count;
-      geometry = refl;
+      next = noted.next ∙ ap (λ (k : ℕ). i.next + k) c.len.ensures.count;
+      geometry = ap (λ (x : Ring). x.geometry) noted.ring;
       called = c.in-Ok.ensures.called;
       some = λ r stands honest.
           let known = known-by medium c.args.disk.now i must r c.requires.kept stands fine honest in
@@ -110,7 +111,7 @@ returns-in-Ok-clause-goes g c =
       stands = λ r stands honest.
           let known = known-by medium c.args.disk.now i must r c.requires.kept stands fine honest in
           let at = c.in_ok-place.ensures.answers r (medium c.args.disk.now).bytes known in
-          stands-grown medium c.args.disk.now c.append_group.new.disk i (record { ring = i.ring; table = c.note.new.table; clips = i.clips; next = i.next + n }) n j ps must r honest known (record { geometry = refl; next = refl; heads = heads; clips = refl }) c.requires.kept.fits some unspent room grew at.0 (place-some h r (medium c.args.disk.now).bytes c.in_ok-place.place at.1);
+          stands-grown medium c.args.disk.now c.append_group.new.disk i c.note.new.self n j ps must r honest known noted c.requires.kept.fits.whole some unspent room grew at.0 (place-some h r (medium c.args.disk.now).bytes c.in_ok-place.place at.1);
     })
 
 pub returns-in-Err-clause-goes : goal.returns-in-Err-clause-goes

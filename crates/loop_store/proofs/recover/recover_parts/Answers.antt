@@ -109,7 +109,7 @@ returns-clause-recovered g c = λ honest.
     let second = c.read_heads.ensures.called.honest.0 honest in
     let checked = c.in_ok-check_slots.ensures.disk second in
     let third = c.check_slots.ensures.called.honest.0 second in
-    recovered c.index_of.result h image _ _ fs xs c.in_ok-heads.heads.items c.in_ok-clips.clips c.next_after-next.result (record { geometry = c.index_of.ensures.geometry; heads_are = c.index_of.ensures.heads; clips_are = c.index_of.ensures.clips; next_is = c.index_of.ensures.next }) all first.bytes (c.in_ok-check_slots.ensures.slots second) (checked.bytes ∙ first.bytes) (c.in_ok-clips.ensures.clips third) (c.next_after-next.ensures image) (c.in_ok-heads.ensures.heads honest)
+    recovered c.index_of.result h image _ _ fs xs c.in_ok-heads.heads.items c.in_ok-clips.clips c.next_after-next.result c.index_of.ensures all first.bytes (c.in_ok-check_slots.ensures.slots second) (checked.bytes ∙ first.bytes) (c.in_ok-clips.ensures.clips third) (c.next_after-next.ensures image) (c.in_ok-heads.ensures.heads honest)
 
 pub returns-clause-disk : goal.returns-clause-disk
 returns-clause-disk g c = λ honest.
@@ -122,5 +122,5 @@ returns-clause-fits g c =
     let xs = c.as_slice-open.result.now in
     let within = subst (AreIn h) (sym c.as_slice-open.ensures.value) c.in_ok-segments.ensures.within in
     fitting c.index_of.result h c.in_ok-heads.heads.items c.in_ok-clips.clips c.next_after-next.result (g.D.Disk.medium c.args.disk.now).size
-    (record { geometry = c.index_of.ensures.geometry; heads_are = c.index_of.ensures.heads; clips_are = c.index_of.ensures.clips; next_is = c.index_of.ensures.next }) c.requires.size c.in_ok-heads.ensures.count c.in_ok-heads.ensures.within
+    c.index_of.ensures c.requires.size c.in_ok-heads.ensures.count c.in_ok-heads.ensures.within
     (subst (λ (n : ℕ). n ≤ last_number (ring_of h)) (sym (c.next_after-next.ensures [])) (next-few h [] xs (limits h c.requires.good).slots.0 within))

@@ -11,20 +11,20 @@ clear_stray-requires-clause-whole g c = λ honest.
     let image = (g.D.Disk.medium c.args.disk.now).bytes in
     let told = c.requires.told honest in
     found-whole c.args.index.now c.from-slots.result c.in-Some.segment image told c.from-slots.ensures
-    (found-place c.args.index.now c.from-slots.result image c.find.result (Some c.in-Some.segment) told c.from-slots.ensures c.in-Some.is c.find.ensures)
+    (found-place c.args.index.now c.from-slots.result image c.find.result (Some c.in-Some.segment) told c.from-slots.ensures c.in-Some.is c.find.ensures.place)
 
 pub returns-in-Some-clause-moments : goal.returns-in-Some-clause-moments
 returns-in-Some-clause-moments g c = λ honest.
     let image = (g.D.Disk.medium c.args.disk.now).bytes in
     let told = c.requires.told honest in
-    let found = found-place c.args.index.now c.from-slots.result image c.find.result (Some c.in-Some.segment) told c.from-slots.ensures c.in-Some.is c.find.ensures in
+    let found = found-place c.args.index.now c.from-slots.result image c.find.result (Some c.in-Some.segment) told c.from-slots.ensures c.in-Some.is c.find.ensures.place in
     weaker _ _ _ (ReadsAlike image) (c.clear_stray.ensures.moments honest) (λ new shows. found-alike c.args.index.now c.in-Some.segment image new told found shows)
 
 pub returns-in-Some-clause-present : goal.returns-in-Some-clause-present
 returns-in-Some-clause-present g c = λ honest.
     let image = (g.D.Disk.medium c.args.disk.now).bytes in
     let told = c.requires.told honest in
-    let found = found-place c.args.index.now c.from-slots.result image c.find.result (Some c.in-Some.segment) told c.from-slots.ensures c.in-Some.is c.find.ensures in
+    let found = found-place c.args.index.now c.from-slots.result image c.find.result (Some c.in-Some.segment) told c.from-slots.ensures c.in-Some.is c.find.ensures.place in
     all_ok c.clear_stray.result (λ shows clean settled. found-present c.args.index.now c.in-Some.segment image (g.D.Disk.medium c.clear_stray.new.disk) told found shows clean settled)
     (c.clear_stray.ensures.same honest) (c.clear_stray.ensures.stray honest) (c.clear_stray.ensures.settled honest)
 
@@ -40,5 +40,5 @@ returns-in-None-clause-present g c = λ honest.
     let told = c.requires.told honest in record {
       recorded = told;
       settled = c.requires.settled honest;
-      unstray = unstray-missing h told.recording image told.known.held (found-place c.args.index.now c.from-slots.result image c.find.result None told c.from-slots.ensures c.in-None.is c.find.ensures);
+      unstray = unstray-missing h told.recording image told.known.held (found-place c.args.index.now c.from-slots.result image c.find.result None told c.from-slots.ensures c.in-None.is c.find.ensures.place);
     }

@@ -14,4 +14,4 @@ invariant_of-result g c = (
 pub returns-in-Ok-clause-opened : goal.returns-in-Ok-clause-opened
 returns-in-Ok-clause-opened g c = λ honest.
     let index = c.in-Ok.index in
-    present-opened g.D.Disk.medium c.reopen.new.disk index (g.D.Disk.medium c.args.disk).bytes (limits index.ring.geometry index.ring.good).slots.0 c.in-Ok.ensures.fits.0.within (c.in-Ok.ensures.present honest) (c.reopen.ensures.alike honest)
+    present-opened g.D.Disk.medium c.reopen.new.disk index (g.D.Disk.medium c.args.disk).bytes (limits index.ring.geometry index.ring.good).slots.0 c.in-Ok.ensures.fits.0.whole.within (c.in-Ok.ensures.present honest) (c.reopen.ensures.alike honest)

@@ -40,5 +40,5 @@ returns-in-None-clause-goes g c =
     (goes-unread medium (seen_with s.disk s.index s.must_reopen) c.args.number NotHeld (λ honest. g.met.D.Disk.sound s.disk honest) refl
     (λ t stands honest.
     let known = known-by medium s.disk s.index s.must_reopen t.recording c.self.invariant.0 stands.recording c.if-self.false honest in
-    inr (inl (refl, (sym stands.must_reopen ∙ c.if-self.false, c.in-None.ensures.missing t.recording (medium s.disk).bytes known.held known.heads_are))))
+    inr (inl (refl, (sym stands.must_reopen ∙ c.if-self.false, c.in-None.ensures.missing t.recording (medium s.disk).bytes known))))
     (inr (inl refl, c.if-self.false)))
