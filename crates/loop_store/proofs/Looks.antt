@@ -16,9 +16,7 @@ use Rattle.loop_store.specs.Recovered.{IsFitting, IsHeadIn, IsIndexOf, IsRecover
 use Rattle.loop_store.specs.Seen.{IsKept, IsPresent, Seen, StandsFor, Tells, seen_with}
 use Rattle.loop_store.proofs.Looked.{held-slot}
 use Rattle.loop_store.proofs.Numbers.{among-under}
-
-ok-inj : (a b : Contents) → let x : Result Contents LayoutFault = Ok a in let y : Result Contents LayoutFault = Ok b in x ≡ y → a ≡ b
-ok-inj a b e = cc
+use Rattle.loop_store.proofs.Room.{one-recording}
 
 pub stays-settled : (old new : Medium) → Stays old new → IsSettled old → IsSettled new
 stays-settled old new stays settled = λ c left. settled c (stays.images c left) ∙ sym stays.bytes
@@ -58,10 +56,6 @@ told-by disk index must_reopen r image some within known = record {
   numbers_are = λ n. among-under index.ring.geometry n index.table some within ∙ ap (list_any (has_number index.ring.geometry.slots n)) known.heads_are ∙ held-number index.ring.geometry r image n known.held;
   clips_are = known.clips_are;
 }
-
--- an image holds one recording
-one-recording : (g : Geometry) (r t : Recording) (image : List ℕ) → Holds g r image → Holds g t image → r ≡ t
-one-recording g r t image first second = ap (λ (x : Contents). x.recording) (ok-inj (record { geometry = g; recording = r }) (record { geometry = g; recording = t }) (sym first ∙ second))
 
 -- where the store needn't be reopened, its index says all of the recording that it stands for
 pub known-by : {D A : Type 0} (medium : D → Medium) (disk : D) (index : Index A) (must_reopen : Bool) (r : Recording) → IsKept medium disk index must_reopen → StandsFor medium (seen_with disk index must_reopen) r → must_reopen ≡ false → (medium disk).honest

@@ -1,7 +1,9 @@
 -- What a disk's image holds of a recording, before and after some steps.
-use Rattle.std.specs.Prelude.{◌≡◌, ◌≢◌, ◌==◌, ℕ, ◌/◌, ◌%◌, ◌<◌, ◌≤◌, false, None, Some, List, length, take}
+use Rattle.std.specs.Prelude.{◌≡◌, ◌≢◌, ◌==◌, ℕ, ◌/◌, ◌%◌, ◌<◌, ◌≤◌, false, None, Some, Result, OnOk, List, length, take}
 use Rattle.std.specs.List.{list_any}
-use Rattle.loop_disk.specs.Medium.{Medium}
+use Rattle.loop_disk.specs.declared.fault.DiskFault.{DiskFault}
+use Rattle.loop_disk.specs.Calls.{Called, failed_call}
+use Rattle.loop_disk.specs.Medium.{IsSettled, LeavesOnly, Medium}
 use Rattle.loop_record.specs.declared.geometry.Geometry.{Geometry}
 use Rattle.loop_record.specs.Recording.{Recording, Step, ring_of, plain}
 use Rattle.loop_record.specs.Layout.{Segment, is_too_high, segment_in, whole_frames}
@@ -40,3 +42,12 @@ EachNow m P = (image : List ℕ) → m.may_leave image → P image
 -- no frame gate is open behind the frames of an open segment
 abbrev pub HasNoneStray : Geometry → List ℕ → Type 0
 HasNoneStray g image = (j : ℕ) → j < g.segments → segment_in g image j ≢ None → HasNoStray g j image
+
+-- A call made these steps of each recording with this next number that the disk held: whatever the moment of a stop, the image reads as that
+-- recording after a beginning of the steps; and at Ok the disk holds it after all of them, the image is such, and a crash leaves nothing else.
+pub record Makes {T : Type 0} (g : Geometry) (next : ℕ) (steps : Recording → List Step) (IsSuch : List ℕ → Type 0) (old new : Medium) (result : Result T DiskFault) : Type 0 where
+  pub moments : (r : Recording) → r.next ≡ next → old.honest → Holds g r old.bytes → LeavesOnly old new (HoldsSome g r (steps r))
+  pub held : (r : Recording) → r.next ≡ next → old.honest → Holds g r old.bytes → OnOk result (Holds g (plain (ring_of g) r (steps r)) new.bytes)
+  pub such : old.honest → OnOk result (IsSuch new.bytes)
+  pub settled : old.honest → OnOk result (IsSettled new)
+  pub called : Called old new (failed_call result)

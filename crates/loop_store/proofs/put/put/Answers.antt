@@ -61,9 +61,9 @@ returns-in-Ok-clause-kept g c =
     let first : Grew medium h c.args.disk.now c.append_group.new.disk c.args.group.now.first (length ps) j ps = record {
       back = c.append_group.ensures.called.honest.1;
       count = refl;
-      grown = c.in-Ok.ensures.grown;
+      grown = c.in-Ok.ensures.such;
       settled = c.in-Ok.ensures.settled;
-      stored = c.in-Ok.ensures.stored;
+      stored = c.in-Ok.ensures.held;
     } in
     let grew = grew-by medium h c.args.disk.now c.append_group.new.disk c.args.group.now.first i.next n j ps c.requires.first c.len.ensures.count first in
     let noted = noted-at i c.note.new.self c.segment.result j n c.segment.ensures c.note.ensures in
@@ -85,9 +85,9 @@ returns-in-Ok-clause-goes g c =
     let first : Grew medium h c.args.disk.now c.append_group.new.disk c.args.group.now.first (length ps) j ps = record {
       back = c.append_group.ensures.called.honest.1;
       count = refl;
-      grown = c.in-Ok.ensures.grown;
+      grown = c.in-Ok.ensures.such;
       settled = c.in-Ok.ensures.settled;
-      stored = c.in-Ok.ensures.stored;
+      stored = c.in-Ok.ensures.held;
     } in
     let grew = grew-by medium h c.args.disk.now c.append_group.new.disk c.args.group.now.first i.next n j ps c.requires.first c.len.ensures.count first in
     let noted = noted-at i c.note.new.self c.segment.result j n c.segment.ensures c.note.ensures in
