@@ -1,5 +1,5 @@
 -- What two or three clauses of an answer say together.
-use Rattle.std.proofs.Common.{◌≡◌, Option, None, Result, Ok, Err, OnOk, refl, ap, ◌∙◌}
+use Rattle.std.proofs.Common.{Option, None, Result, Ok, Err, OnOk, refl, ap, ◌∙◌}
 use Rattle.loop_disk.specs.declared.fault.DiskFault.{DiskFault}
 use Rattle.loop_disk.specs.Calls.{Called, with_failed}
 use Rattle.loop_disk.specs.Medium.{Medium}

@@ -1,5 +1,5 @@
 -- What formatting leaves of a disk, write by write.
-use Rattle.std.proofs.Common.{◌≡◌, ◌⊎◌, inl, inr, ℕ, ◌+◌, ◌-◌, ◌*◌, ◌<◌, ◌≤◌, Bool, true, false, eqb, Result, OnOk, Ok, Err, List, [], ◌∷◌, ◌++◌, length, drop, get_or, replicate, refl, sym, ap, ◌∙◌, subst, arith}
+use Rattle.std.proofs.Common.{◌≡◌, ◌⊎◌, inl, inr, ℕ, ◌+◌, ◌-◌, ◌*◌, ◌<◌, ◌≤◌, Bool, true, false, eqb, Result, OnOk, List, [], ◌∷◌, ◌++◌, length, drop, get_or, replicate, refl, sym, ap, ◌∙◌, subst, arith}
 use Rattle.std.proofs.lemmas.Bool.{cases_lt}
 use Rattle.std.proofs.lemmas.List.{ext_get_or, get_or-take, get_or-drop, get_or-replicate, get_or_append_left, get_or-append_right, length-take, length-drop, length-append, length-replicate}
 use Rattle.std.proofs.lemmas.Result.{on_ok_weaker}
@@ -137,17 +137,11 @@ laid-super g front old is long whole = laid-front g (drop 1 front) old (omega (a
         get_or-drop 1 front i 0 ∙ ap (λ (b : List ℕ). get_or b (1 + i) 0) is ∙ get_or-append_right (super_bytes g) (drop 512 zeros) 512 (1 + i) 0 super_size (omega (arith, low))
         ∙ get_or-drop 512 zeros (1 + i - 512) 0 ∙ get_or-replicate 2560 (512 + (1 + i - 512)) 0 0 (omega (arith, low, high))
 
-always : {T E : Type 0} {P : Type 0} (r : Result T E) → P → OnOk r P
-always (Ok x) p = p
-always (Err e) p = tt
-
 -- ---- what the writes say
 
-pub still-closed : {T : Type 0} (at : ℕ) (bytes : List ℕ) (old new : Medium) (r : Result T DiskFault) → 1 ≤ at → AreClosed old → Writes at bytes old new r → AreClosed new
-still-closed at bytes old new r behind closed writes = λ c left. closed-behind at (length bytes) old c behind closed (writes.images c left)
-
-pub front-closed : {T : Type 0} (bytes : List ℕ) (old new : Medium) (r : Result T DiskFault) → AreClosed old → Writes 1 bytes old new r → OnOk r (AreClosed new)
-front-closed bytes old new r closed writes = always r (still-closed 1 bytes old new r (omega arith) closed writes)
+-- where each image since then is closed, those that a crash now may leave are
+pub run-closed : (old new : Medium) → IsSound new → LeavesOnly old new IsClosed → AreClosed new
+run-closed old new sound run = λ c left. run.each c (sound.counts_now old.moment c run.later left)
 
 pub front-laid : {T : Type 0} (g : Geometry) (front bytes : List ℕ) (old new : Medium) (r : Result T DiskFault) → front ≡ super_bytes g ++ drop 512 (replicate 2560 0) → length front ≡ 2560 → bytes ≡ drop 1 front → IsSound old → old.size ≡ disk_size g
     → Writes 1 bytes old new r → OnOk r (IsLaid g 0 new.bytes)

@@ -1,10 +1,10 @@
 -- What formatting leaves of a disk.
-use Rattle.std.specs.Prelude.{◌≡◌, ◌⊎◌, ℕ, ◌<◌, true, false, Option, None, Result, Ok, Err, List, length, drop, slice_range}
+use Rattle.std.specs.Prelude.{◌≡◌, ◌⊎◌, ℕ, IsTrue, ◌<◌, true, false, Option, None, Result, Ok, Err, List, length, drop, slice_range}
 use Rattle.loop_disk.specs.declared.fault.DiskFault.{DiskFault}
 use Rattle.loop_disk.specs.Medium.{Medium}
 use Rattle.loop_record.specs.declared.damage.LayoutFault.TheVariants.{NotFormatted}
 use Rattle.loop_record.specs.declared.geometry.Geometry.{Geometry}
-use Rattle.loop_record.specs.Geometry.{clip_at, disk_size, segment_at}
+use Rattle.loop_record.specs.Geometry.{clip_at, disk_size, is_good, segment_at}
 use Rattle.loop_record.specs.Layout.{is_open, super_bytes}
 use Rattle.loop_record.specs.Reading.{Holds, reading}
 use Rattle.loop_record.specs.Recording.{empty}
@@ -12,6 +12,10 @@ use Rattle.loop_store.specs.declared.fault.OpenRefused.{OpenRefused}
 use Rattle.loop_store.specs.declared.fault.StoreFault.TheVariants.{BadGeometry, NoMemory}
 use Rattle.loop_store.specs.Faults.{failed_by, is_disk}
 use Rattle.loop_store.specs.Seen.{Seen, Tells}
+
+-- the geometry is good, and a disk of this size is one for it
+abbrev pub Fits : Geometry → ℕ → Type 0
+Fits g size = IsTrue (is_good g) × (size ≡ disk_size g)
 
 -- the superblock's gate is closed
 abbrev pub IsClosed : List ℕ → Type 0

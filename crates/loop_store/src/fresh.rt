@@ -3,10 +3,10 @@
 ghost use Rattle.std.specs.Prelude.{◌≡◌, ◌+◌, ◌<◌, ◌≤◌, ◌↔◌, IsTrue, OnOk, ◌++◌, drop, false, length};
 ghost use Rattle.loop_disk.specs.Calls.{Called, failed_call};
 ghost use Rattle.loop_disk.specs.Medium.{IsSettled, LeavesOnly};
-ghost use Rattle.loop_record.specs.Geometry.{disk_size, is_good};
+ghost use Rattle.loop_record.specs.Geometry.{is_good};
 ghost use Rattle.loop_record.specs.Layout.{is_open, super_bytes};
 ghost use Rattle.loop_record.specs.Reading.{IsFresh};
-ghost use Rattle.loop_store.specs.Formatted.{AreClosed, IsClosed, IsLaid, NoneOrEmpty, WasOrClosed, WasOrEmpty};
+ghost use Rattle.loop_store.specs.Formatted.{AreClosed, Fits, IsClosed, IsLaid, NoneOrEmpty, WasOrClosed, WasOrEmpty};
 
 use loop_disk::{Disk, DiskFault, store};
 use loop_record::{Geometry, HEADER_SIZE, OPEN, SUPER_SIZE, encode_super};
@@ -18,7 +18,8 @@ const FRONT_SIZE: usize = 2560;
 fn close_gate<D: Disk>(disk: &mut D) -> Result<(), DiskFault>
     requires extent { 1 ≤ (D.medium disk.old).size }
     requires settled { (D.medium disk.old).honest → IsSettled (D.medium disk.old) }
-    ensures moments { (D.medium disk.old).honest → LeavesOnly (D.medium disk.old) (D.medium disk.new) (WasOrClosed (D.medium disk.old)) }
+    ensures moments { (D.medium disk.old).honest
+        → LeavesOnly (D.medium disk.old) (D.medium disk.new) (WasOrClosed (D.medium disk.old)) }
     ensures closed { (D.medium disk.old).honest → OnOk result (is_open (D.medium disk.new).bytes 0 ≡ false) }
     ensures settled { (D.medium disk.old).honest → OnOk result (IsSettled (D.medium disk.new)) }
     ensures called { Called (D.medium disk.old) (D.medium disk.new) (failed_call result) }
@@ -35,7 +36,8 @@ fn close_gate<D: Disk>(disk: &mut D) -> Result<(), DiskFault>
 /// Settles the disk and closes the superblock's gate.
 fn unformat<D: Disk>(disk: &mut D) -> Result<(), DiskFault>
     requires extent { 1 ≤ (D.medium disk.old).size }
-    ensures moments { (D.medium disk.old).honest → LeavesOnly (D.medium disk.old) (D.medium disk.new) (WasOrClosed (D.medium disk.old)) }
+    ensures moments { (D.medium disk.old).honest
+        → LeavesOnly (D.medium disk.old) (D.medium disk.new) (WasOrClosed (D.medium disk.old)) }
     ensures closed { (D.medium disk.old).honest → OnOk result (AreClosed (D.medium disk.new)) }
     ensures called { Called (D.medium disk.old) (D.medium disk.new) (failed_call result) }
 {
@@ -62,11 +64,9 @@ fn behind_gate(bytes: &[u8]) -> &[u8]
 
 /// Writes the superblock behind its gate, and the clip table without a clip.
 fn write_front<D: Disk>(disk: &mut D, geometry: &Geometry) -> Result<(), DiskFault>
-    requires good { IsTrue (is_good geometry.now) }
-    requires extent { (D.medium disk.old).size ≡ disk_size geometry.now }
+    requires fits { Fits geometry.now (D.medium disk.old).size }
     requires closed { (D.medium disk.old).honest → AreClosed (D.medium disk.old) }
     ensures moments { (D.medium disk.old).honest → LeavesOnly (D.medium disk.old) (D.medium disk.new) IsClosed }
-    ensures closed { (D.medium disk.old).honest → OnOk result (AreClosed (D.medium disk.new)) }
     ensures laid { (D.medium disk.old).honest → OnOk result (IsLaid geometry.now 0 (D.medium disk.new).bytes) }
     ensures called { Called (D.medium disk.old) (D.medium disk.new) (failed_call result) }
 {
@@ -77,14 +77,13 @@ fn write_front<D: Disk>(disk: &mut D, geometry: &Geometry) -> Result<(), DiskFau
 
 /// Writes the header of a segment as zeros.
 fn write_header<D: Disk>(disk: &mut D, geometry: &Geometry, segment: u32) -> Result<(), DiskFault>
-    requires good { IsTrue (is_good geometry.now) }
-    requires extent { (D.medium disk.old).size ≡ disk_size geometry.now }
+    requires fits { Fits geometry.now (D.medium disk.old).size }
     requires segment { segment < geometry.now.segments }
     requires closed { (D.medium disk.old).honest → AreClosed (D.medium disk.old) }
     requires laid { (D.medium disk.old).honest → IsLaid geometry.now segment (D.medium disk.old).bytes }
     ensures moments { (D.medium disk.old).honest → LeavesOnly (D.medium disk.old) (D.medium disk.new) IsClosed }
-    ensures closed { (D.medium disk.old).honest → AreClosed (D.medium disk.new) }
-    ensures laid { (D.medium disk.old).honest → OnOk result (IsLaid geometry.now (segment + 1) (D.medium disk.new).bytes) }
+    ensures laid { (D.medium disk.old).honest
+        → OnOk result (IsLaid geometry.now (segment + 1) (D.medium disk.new).bytes) }
     ensures called { Called (D.medium disk.old) (D.medium disk.new) (failed_call result) }
 {
     disk.write_at(geometry.segment_at(segment), &[0; HEADER_SIZE])
@@ -92,13 +91,12 @@ fn write_header<D: Disk>(disk: &mut D, geometry: &Geometry, segment: u32) -> Res
 
 /// Writes the headers of all segments as zeros.
 fn write_headers<D: Disk>(disk: &mut D, geometry: &Geometry) -> Result<(), DiskFault>
-    requires good { IsTrue (is_good geometry.now) }
-    requires extent { (D.medium disk.old).size ≡ disk_size geometry.now }
+    requires fits { Fits geometry.now (D.medium disk.old).size }
     requires closed { (D.medium disk.old).honest → AreClosed (D.medium disk.old) }
     requires laid { (D.medium disk.old).honest → IsLaid geometry.now 0 (D.medium disk.old).bytes }
     ensures moments { (D.medium disk.old).honest → LeavesOnly (D.medium disk.old) (D.medium disk.new) IsClosed }
-    ensures closed { (D.medium disk.old).honest → AreClosed (D.medium disk.new) }
-    ensures laid { (D.medium disk.old).honest → OnOk result (IsLaid geometry.now geometry.now.segments (D.medium disk.new).bytes) }
+    ensures laid { (D.medium disk.old).honest
+        → OnOk result (IsLaid geometry.now geometry.now.segments (D.medium disk.new).bytes) }
     ensures called { Called (D.medium disk.old) (D.medium disk.new) (failed_call result) }
 {
     for segment in 0..geometry.segments {
@@ -109,11 +107,11 @@ fn write_headers<D: Disk>(disk: &mut D, geometry: &Geometry) -> Result<(), DiskF
 
 /// Opens the superblock's gate, on a disk where a crash leaves the present bytes and nothing else.
 fn open_gate<D: Disk>(disk: &mut D, geometry: &Geometry) -> Result<(), DiskFault>
-    requires good { IsTrue (is_good geometry.now) }
-    requires extent { (D.medium disk.old).size ≡ disk_size geometry.now }
+    requires fits { Fits geometry.now (D.medium disk.old).size }
     requires settled { (D.medium disk.old).honest → IsSettled (D.medium disk.old) }
     requires laid { (D.medium disk.old).honest → IsLaid geometry.now geometry.now.segments (D.medium disk.old).bytes }
-    ensures moments { (D.medium disk.old).honest → LeavesOnly (D.medium disk.old) (D.medium disk.new) (NoneOrEmpty geometry.now) }
+    ensures moments { (D.medium disk.old).honest
+        → LeavesOnly (D.medium disk.old) (D.medium disk.new) (NoneOrEmpty geometry.now) }
     ensures fresh { (D.medium disk.old).honest → OnOk result (IsFresh geometry.now (D.medium disk.new).bytes) }
     ensures settled { (D.medium disk.old).honest → OnOk result (IsSettled (D.medium disk.new)) }
     ensures called { Called (D.medium disk.old) (D.medium disk.new) (failed_call result) }
@@ -123,11 +121,11 @@ fn open_gate<D: Disk>(disk: &mut D, geometry: &Geometry) -> Result<(), DiskFault
 
 /// Settles what was laid out behind the gate, and opens it.
 fn finish<D: Disk>(disk: &mut D, geometry: &Geometry) -> Result<(), DiskFault>
-    requires good { IsTrue (is_good geometry.now) }
-    requires extent { (D.medium disk.old).size ≡ disk_size geometry.now }
+    requires fits { Fits geometry.now (D.medium disk.old).size }
     requires closed { (D.medium disk.old).honest → AreClosed (D.medium disk.old) }
     requires laid { (D.medium disk.old).honest → IsLaid geometry.now geometry.now.segments (D.medium disk.old).bytes }
-    ensures moments { (D.medium disk.old).honest → LeavesOnly (D.medium disk.old) (D.medium disk.new) (NoneOrEmpty geometry.now) }
+    ensures moments { (D.medium disk.old).honest
+        → LeavesOnly (D.medium disk.old) (D.medium disk.new) (NoneOrEmpty geometry.now) }
     ensures fresh { (D.medium disk.old).honest → OnOk result (IsFresh geometry.now (D.medium disk.new).bytes) }
     ensures settled { (D.medium disk.old).honest → OnOk result (IsSettled (D.medium disk.new)) }
     ensures called { Called (D.medium disk.old) (D.medium disk.new) (failed_call result) }
@@ -138,9 +136,9 @@ fn finish<D: Disk>(disk: &mut D, geometry: &Geometry) -> Result<(), DiskFault>
 
 /// Writes an empty recording over whatever stands on a disk of the geometry's size.
 pub(crate) fn lay_out<D: Disk>(disk: &mut D, geometry: &Geometry) -> Result<(), DiskFault>
-    requires good { IsTrue (is_good geometry.now) }
-    requires extent { (D.medium disk.old).size ≡ disk_size geometry.now }
-    ensures moments { (D.medium disk.old).honest → LeavesOnly (D.medium disk.old) (D.medium disk.new) (WasOrEmpty geometry.now (D.medium disk.old)) }
+    requires fits { Fits geometry.now (D.medium disk.old).size }
+    ensures moments { (D.medium disk.old).honest
+        → LeavesOnly (D.medium disk.old) (D.medium disk.new) (WasOrEmpty geometry.now (D.medium disk.old)) }
     ensures fresh { (D.medium disk.old).honest → OnOk result (IsFresh geometry.now (D.medium disk.new).bytes) }
     ensures settled { (D.medium disk.old).honest → OnOk result (IsSettled (D.medium disk.new)) }
     ensures called { Called (D.medium disk.old) (D.medium disk.new) (failed_call result) }

@@ -25,7 +25,7 @@ fn begin<D: Disk>(disk: &mut D, ring: &Ring, segment: u32, next: u64) -> Result<
     requires free { (D.medium disk.old).honest → IsFreeFor ring.now.geometry next segment (D.medium disk.old).bytes }
     ensures { let g = ring.now.geometry in let old = D.medium disk.old in
         Makes g next (λ r. []) (λ image. IsNewest g next segment image
-            × ShowsSegment g segment (Some (begun (next / g.slots))) old.bytes image) old (D.medium disk.new) result }
+        × ShowsSegment g segment (Some (begun (next / g.slots))) old.bytes image) old (D.medium disk.new) result }
 {
     ring.begin_block(disk, segment, next / u64::from(ring.geometry.slots))
 }
@@ -47,8 +47,8 @@ fn store_group<D: Disk, A: Allocator>(
         → IsNewest ring.now.geometry group.now.first segment (D.medium disk.old).bytes }
     ensures { let g = ring.now.geometry in let old = D.medium disk.old in
         Makes g group.now.first (λ r. map store group.now.frames)
-            (λ image. ShowsFrames g segment group.now.first group.now.frames old.bytes image × HasNoStray g segment image)
-            old (D.medium disk.new) result }
+        (λ image. ShowsFrames g segment group.now.first group.now.frames old.bytes image × HasNoStray g segment image)
+        old (D.medium disk.new) result }
 {
     let slot = (group.first() % u64::from(ring.geometry.slots)) as u32;
     ring.commit(disk, segment, slot, group)
@@ -63,7 +63,7 @@ fn replace<D: Disk>(disk: &mut D, ring: &Ring, segment: u32, next: u64) -> Resul
         → IsKnown ring.now.geometry next (Victim segment) (D.medium disk.old).bytes }
     ensures { let g = ring.now.geometry in let old = D.medium disk.old in
         Makes g next (steps_before g) (λ image. IsNewest g next segment image × IsBegunAt g next segment old.bytes image)
-            old (D.medium disk.new) result }
+        old (D.medium disk.new) result }
 {
     ring.retire(disk, segment)?;
     begin(disk, ring, segment, next)
@@ -77,7 +77,7 @@ fn make_room<D: Disk>(disk: &mut D, ring: &Ring, place: Place, next: u64) -> Res
     requires known { (D.medium disk.old).honest → IsKnown ring.now.geometry next place (D.medium disk.old).bytes }
     ensures { let g = ring.now.geometry in let old = D.medium disk.old in let j = segment_of place in
         Makes g next (steps_before g) (λ image. IsNewest g next j image × IsBegunAt g next j old.bytes image)
-            old (D.medium disk.new) result }
+        old (D.medium disk.new) result }
 {
     match place {
         Place::Newest(_) => Ok(()),
@@ -103,8 +103,8 @@ pub(crate) fn append_group<D: Disk, A: Allocator>(
         → IsKnown ring.now.geometry group.now.first place (D.medium disk.old).bytes }
     ensures { let g = ring.now.geometry in let old = D.medium disk.old in
         Makes g group.now.first (λ r. steps_before g r ++ map store group.now.frames)
-            (IsGrownAt g group.now.first (length group.now.frames) (segment_of place) old.bytes)
-            old (D.medium disk.new) result }
+        (IsGrownAt g group.now.first (length group.now.frames) (segment_of place) old.bytes)
+        old (D.medium disk.new) result }
 {
     make_room(disk, ring, place, group.first())?;
     store_group(disk, ring, place.segment(), group)

@@ -4,7 +4,7 @@ use Rattle.loop_store.proofs.Formatting.{writing-closed, header-laid}
 use Rattle.loop_store.proofs.fresh.write_header.Goals as goal
 
 pub write_at-requires : goal.write_at-requires
-write_at-requires g c = omega (arith, c.segment_at.ensures, c.requires.extent, apart c.args.geometry.now c.args.segment c.args.geometry.now.segments c.requires.segment)
+write_at-requires g c = omega (arith, c.segment_at.ensures, c.requires.fits.1, apart c.args.geometry.now c.args.segment c.args.geometry.now.segments c.requires.segment)
 
 pub returns-clause-moments : goal.returns-clause-moments
 returns-clause-moments g c = λ honest. writing-closed _ _ _ _ c.write_at.result (omega (arith, c.segment_at.ensures)) (g.met.D.Disk.sound c.args.disk.now honest) (c.requires.closed honest) (c.write_at.ensures.disk honest)

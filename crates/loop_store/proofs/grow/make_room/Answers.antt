@@ -1,4 +1,4 @@
-use Rattle.std.proofs.Common.{[], List, OnOk, sym, subst}
+use Rattle.std.proofs.Common.{List, OnOk, sym, subst}
 use Rattle.std.proofs.lemmas.Result.{on_ok_weaker}
 use Rattle.loop_disk.specs.Medium.{LeavesOnly}
 use Rattle.loop_record.specs.Reading.{Holds}
@@ -41,8 +41,9 @@ returns-in-Closed g c =
           subst (λ (steps : List Step). OnOk c.begin.result (Holds h (plain (ring_of h) r steps) new.bytes)) (sym at.steps) (c.begin.ensures.held r is honest held);
       such = λ honest.
           on_ok_weaker c.begin.result (λ begun. (
-          subst (λ (p : Place). IsNewest h c.args.next (segment_of p) new.bytes) (sym c.in-Closed.is) begun.0,
-          closed-at h c.args.next c.in-Closed.segment c.args.place old.bytes new.bytes (limits h c.args.ring.now.good).slots.1 c.in-Closed.is c.requires.segment (c.requires.known honest) begun.1 begun.0.stray)) (c.begin.ensures.such honest);
+            subst (λ (p : Place). IsNewest h c.args.next (segment_of p) new.bytes) (sym c.in-Closed.is) begun.0,
+            closed-at h c.args.next c.in-Closed.segment c.args.place old.bytes new.bytes (limits h c.args.ring.now.good).slots.1 c.in-Closed.is c.requires.segment (c.requires.known honest) begun.1 begun.0.stray,
+          )) (c.begin.ensures.such honest);
       settled = c.begin.ensures.settled;
       called = c.begin.ensures.called;
     }

@@ -3,7 +3,7 @@ use Rattle.std.proofs.lemmas.Result.{on_ok_weaker, err_from_is_err_and}
 use Rattle.loop_disk.specs.Medium.{LeavesOnly}
 use Rattle.loop_disk.proofs.Moments.{weaker}
 use Rattle.loop_record.specs.Reading.{Holds}
-use Rattle.loop_record.specs.Recording.{Recording, Step, after, plain, recycle, ring_of}
+use Rattle.loop_record.specs.Recording.{Step, after, plain, recycle, ring_of}
 use Rattle.loop_record.proofs.Bounds.{limits}
 use Rattle.loop_store.specs.Held.{HoldsSome, IsFreeFor}
 use Rattle.loop_store.proofs.Answered.{called-behind}
@@ -66,8 +66,10 @@ returns g c =
       such = λ honest.
           let now = c.retire.ensures.called.honest.0 honest in
           let known = c.requires.known honest in
-          on_ok_weaker c.begin.result (λ begun. (begun.0,
-          replaced-begun h c.args.next j old.bytes mid.bytes new.bytes (limits h c.args.ring.now.good).slots.1 c.requires.segment (first-of h c.args.next j old.bytes known) known.unstray (c.in_ok-retire.ensures.retired honest) begun.1 begun.0.stray))
+          on_ok_weaker c.begin.result (λ begun. (
+            begun.0,
+            replaced-begun h c.args.next j old.bytes mid.bytes new.bytes (limits h c.args.ring.now.good).slots.1 c.requires.segment (first-of h c.args.next j old.bytes known) known.unstray (c.in_ok-retire.ensures.retired honest) begun.1 begun.0.stray,
+          ))
           (c.begin.ensures.such now);
       settled = λ honest. c.begin.ensures.settled (c.retire.ensures.called.honest.0 honest);
       called = called-behind old mid new _ c.in_ok-retire.ensures.called c.begin.ensures.called;
