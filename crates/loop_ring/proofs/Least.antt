@@ -34,10 +34,10 @@ least-more f xs i d l =
 
 -- ---- one segment
 
-true_below : (b m : ℕ) → ltb b m ≡ true → b < m
+pub true_below : (b m : ℕ) → ltb b m ≡ true → b < m
 true_below b m e = grind (arith, nat_tests, e)
 
-false_below : (b m : ℕ) → ltb b m ≡ false → m ≤ b
+pub false_below : (b m : ℕ) → ltb b m ≡ false → m ≤ b
 false_below b m e = grind (arith, nat_tests, e)
 
 -- a segment without a frame changes nothing

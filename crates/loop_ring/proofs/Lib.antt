@@ -10,3 +10,4 @@ pub mod SlotReads
 pub mod Frames
 pub mod Clearing
 pub mod Least
+pub mod Indexed

@@ -6,7 +6,7 @@ ghost use Rattle.loop_record.specs.Reading.{Holds};
 ghost use Rattle.loop_record.specs.Recording.{Recording, ring_of, victim};
 ghost use Rattle.loop_ring.specs.Heads.{IsPlaceOf, going_block, held_block, heads_of, is_below, with_least};
 
-use crate::SegmentTable;
+use crate::SegmentIndex;
 use loop_record::{Geometry, SegmentHead, Span, may_go};
 use std::alloc::Allocator;
 
@@ -14,14 +14,14 @@ use std::alloc::Allocator;
 /// newest held frame. Nothing where none may go. A segment without frames holds none and is passed over. It takes no memory.
 pub fn victim_block<A: Allocator>(
     geometry: &Geometry,
-    table: &SegmentTable<A>,
+    index: &SegmentIndex<A>,
     clips: &[Option<Span>],
 ) -> Option<u64>
     requires { IsTrue (is_good geometry.now) }
-    ensures { (r : Recording) (image : List ℕ) → Holds geometry.now r image → table.now ≡ heads_of geometry.now image → clips.now ≡ r.clips
+    ensures { (r : Recording) (image : List ℕ) → Holds geometry.now r image → index.now ≡ heads_of geometry.now image → clips.now ≡ r.clips
         → result ≡ victim (ring_of geometry.now) r }
 {
-    let heads = table.as_slice();
+    let heads = index.as_slice();
     let newest = newest_block(heads)?;
     oldest_block(geometry, heads, clips, newest)
 }
@@ -30,16 +30,16 @@ pub fn victim_block<A: Allocator>(
 /// takes no memory.
 pub fn victim_segment<A: Allocator>(
     geometry: &Geometry,
-    table: &SegmentTable<A>,
+    index: &SegmentIndex<A>,
     clips: &[Option<Span>],
 ) -> Option<u32>
     requires { IsTrue (is_good geometry.now) }
-    ensures within { IfSome result (λ segment. segment < length table.now) }
-    ensures place { (r : Recording) (image : List ℕ) → Holds geometry.now r image → table.now ≡ heads_of geometry.now image → clips.now ≡ r.clips
-        → IsPlaceOf table.now (victim (ring_of geometry.now) r) result }
+    ensures within { IfSome result (λ segment. segment < length index.now) }
+    ensures place { (r : Recording) (image : List ℕ) → Holds geometry.now r image → index.now ≡ heads_of geometry.now image → clips.now ≡ r.clips
+        → IsPlaceOf index.now (victim (ring_of geometry.now) r) result }
 {
-    let block = victim_block(geometry, table, clips)?;
-    table.find(block)
+    let block = victim_block(geometry, index, clips)?;
+    index.find(block).0
 }
 
 // The block of a segment that is open and has a whole frame.
