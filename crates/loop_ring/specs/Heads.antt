@@ -1,5 +1,5 @@
 -- The segments of a store as their headers say, in the order in which they lie on the disk.
-use Rattle.std.specs.Prelude.{◌≡◌, ℕ, ◌/◌, ◌%◌, Bool, true, false, not, ◌&&◌, ◌==◌, nat_lt, min, if◌then◌else◌, Option, None, Some, List, map, slice_index_or}
+use Rattle.std.specs.Prelude.{◌≡◌, ℕ, ◌/◌, ◌%◌, Bool, false, not, ◌&&◌, ◌==◌, nat_lt, if◌then◌else◌, Option, None, Some, List, map, slice_index_or}
 use Rattle.std.specs.List.{list_any, range_with_len}
 use Rattle.loop_record.specs.declared.clip.Span.{Span}
 use Rattle.loop_record.specs.declared.geometry.Geometry.{Geometry}
@@ -40,17 +40,6 @@ is_going ring clips newest block = not (block == newest) && not (list_any (meets
 abbrev pub going_block : Ring → List (Option Span) → ℕ → Option SegmentHead → Option ℕ
 going_block ring clips newest None = None
 going_block ring clips newest (Some head) = if nat_lt 0 head.frames && is_going ring clips newest head.block then Some head.block else None
-
--- the lesser of two blocks, if they are there
-abbrev pub with_least : Option ℕ → Option ℕ → Option ℕ
-with_least None block = block
-with_least (Some least) None = Some least
-with_least (Some least) (Some block) = Some (min least block)
-
--- a block is below another one, if that is there
-abbrev pub is_below : ℕ → Option ℕ → Bool
-is_below block None = true
-is_below block (Some other) = nat_lt block other
 
 -- the place of a segment that holds this block, or no place where there is no block
 abbrev pub IsPlaceOf : List (Option SegmentHead) → Option ℕ → Option ℕ → Type 0

@@ -65,6 +65,13 @@ impl<A: Allocator> SegmentIndex<A> {
         &self.heads
     }
 
+    // The open segments in the order of their blocks.
+    pub(crate) fn by_block(&self) -> &[Entry]
+        ensures { IsIndexed self.now result.now (length self.now) }
+    {
+        &self.entries
+    }
+
     /// Notes what the header of a segment says now. It takes no memory.
     pub fn set(&mut self, segment: u32, head: Option<SegmentHead>)
         requires { segment < length self.old }

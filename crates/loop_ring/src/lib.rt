@@ -9,7 +9,8 @@
 //! `stray` closes the gates that a stopped commit left open behind a closed one.
 //! `index` has the `SegmentIndex`, what the header of each segment says, and `entry` its open segments by block; `victim` finds
 //! in it the block that goes when room is needed. `specs/Heads` says what an index has where it agrees with a disk; `proofs/Heads`
-//! and `proofs/Held` what it then says of the recording; `specs/Entries` and `proofs/Indexed` how the open segments are sorted.
+//! and `proofs/Held` what it then says of the recording; `specs/Entries` and `proofs/Indexed` how the open segments are sorted,
+//! `proofs/Oldest` that the victim is the first of them that may go.
 #![tactic(auto)]
 
 mod entry;
