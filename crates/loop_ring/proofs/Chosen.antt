@@ -47,9 +47,9 @@ record Greatest (xs : List ℕ) (m : ℕ) : Type 0 where
   among : Among m xs
   most : (c : ℕ) → Among c xs → c ≤ m
 
-record Least (xs : List ℕ) (m : ℕ) : Type 0 where
-  among : Among m xs
-  least : (c : ℕ) → Among c xs → m ≤ c
+pub record Least (xs : List ℕ) (m : ℕ) : Type 0 where
+  pub among : Among m xs
+  pub least : (c : ℕ) → Among c xs → m ≤ c
 
 -- one of two is the greater, and one the lesser
 max-either : (a b : ℕ) → (a ≡ max a b) ⊎ (b ≡ max a b)
@@ -127,7 +127,7 @@ greatest : (xs : List ℕ) (m : ℕ) → reduce max xs ≡ Some m → Greatest x
 greatest [] m e = absurd cc
 greatest (x ∷ xs) m e = subst (Greatest (x ∷ xs)) (these (fold max x xs) m e) (fold-max x xs)
 
-least : (xs : List ℕ) (m : ℕ) → reduce min xs ≡ Some m → Least xs m
+pub least : (xs : List ℕ) (m : ℕ) → reduce min xs ≡ Some m → Least xs m
 least [] m e = absurd cc
 least (x ∷ xs) m e = subst (Least (x ∷ xs)) (these (fold min x xs) m e) (fold-min x xs)
 
@@ -136,7 +136,7 @@ none-greatest : (xs : List ℕ) (b : ℕ) → reduce max xs ≡ None → Among b
 none-greatest [] b e at = elim at [ ]
 none-greatest (x ∷ xs) b e at = absurd cc
 
-none-least : (xs : List ℕ) (b : ℕ) → reduce min xs ≡ None → Among b xs → ⊥
+pub none-least : (xs : List ℕ) (b : ℕ) → reduce min xs ≡ None → Among b xs → ⊥
 none-least [] b e at = elim at [ ]
 none-least (x ∷ xs) b e at = absurd cc
 

@@ -9,4 +9,5 @@ pub mod Committing
 pub mod SlotReads
 pub mod Frames
 pub mod Clearing
-pub mod Least
+pub mod Indexed
+pub mod Oldest

@@ -1,5 +1,5 @@
 -- The segments of a store as their headers say, in the order in which they lie on the disk.
-use Rattle.std.specs.Prelude.{◌≡◌, ℕ, ◌/◌, ◌%◌, Bool, true, false, not, ◌&&◌, ◌==◌, nat_lt, max, min, if◌then◌else◌, Option, None, Some, List, map, slice_index_or}
+use Rattle.std.specs.Prelude.{◌≡◌, ℕ, ◌/◌, ◌%◌, Bool, false, not, ◌&&◌, ◌==◌, nat_lt, max, min, if◌then◌else◌, Option, None, Some, List, map, slice_index_or}
 use Rattle.std.specs.List.{filter_map, list_any, range_with_len, reduce}
 use Rattle.loop_record.specs.declared.clip.Span.{Span}
 use Rattle.loop_record.specs.declared.geometry.Geometry.{Geometry}
@@ -49,17 +49,6 @@ least_going ring clips heads (Some newest) = reduce min (filter_map (going_block
 -- the block that goes when room is needed, by the headers and the clips alone
 abbrev pub going_first : Ring → List (Option Span) → List (Option SegmentHead) → Option ℕ
 going_first ring clips heads = least_going ring clips heads (reduce max (filter_map held_block heads))
-
--- the lesser of two blocks, if they are there
-abbrev pub with_least : Option ℕ → Option ℕ → Option ℕ
-with_least None block = block
-with_least (Some least) None = Some least
-with_least (Some least) (Some block) = Some (min least block)
-
--- a block is below another one, if that is there
-abbrev pub is_below : ℕ → Option ℕ → Bool
-is_below block None = true
-is_below block (Some other) = nat_lt block other
 
 -- the place of a segment that holds this block, or no place where there is no block
 abbrev pub IsPlaceOf : List (Option SegmentHead) → Option ℕ → Option ℕ → Type 0

@@ -7,20 +7,22 @@
 //! segment with a beginning of the group: `specs/Writes` says so segment by segment, and never speaks of bytes.
 //! Each call makes at most four calls of the disk, and none of them takes memory.
 //! `stray` closes the gates that a stopped commit left open behind a closed one.
-//! `table` has the `SegmentTable`, what the header of each segment says, and `victim` finds in it the block that goes when
-//! room is needed. `specs/Heads` says what a table has where it agrees with a disk; `proofs/Heads` and `proofs/Held` what
-//! it then says of the recording.
+//! `index` has the `SegmentIndex`, what the header of each segment says, and `entry` its open segments by block; `victim` finds
+//! in it the block that goes when room is needed. `specs/Heads` says what an index has where it agrees with a disk; `proofs/Heads`
+//! and `proofs/Held` what it then says of the recording; `specs/Entries` and `proofs/Indexed` how the open segments are sorted,
+//! `proofs/Oldest` that the victim is the first of them that may go.
 #![tactic(auto)]
 
+mod entry;
 mod fault;
 mod group;
+mod index;
 mod ring;
 mod stray;
-mod table;
 mod victim;
 
 pub use fault::SlotFault;
 pub use group::{Group, MAX_GROUP};
+pub use index::SegmentIndex;
 pub use ring::Ring;
-pub use table::SegmentTable;
 pub use victim::victim_block;

@@ -1,12 +1,15 @@
 // Which block goes when room is needed, by the segments and the clips of a store.
-ghost use Rattle.std.specs.Prelude.{◌≡◌, ℕ, List, IsTrue, max, min};
+ghost use Rattle.std.specs.Prelude.{◌≡◌, ℕ, List, IsTrue, length, max, min};
 ghost use Rattle.std.specs.List.{filter_map, reduce};
 ghost use Rattle.loop_record.specs.Geometry.{is_good};
 ghost use Rattle.loop_record.specs.Reading.{Holds};
 ghost use Rattle.loop_record.specs.Recording.{Recording, ring_of, victim};
-ghost use Rattle.loop_ring.specs.Heads.{going_block, going_first, held_block, heads_of, is_below, with_least};
+ghost use Rattle.loop_ring.specs.Entries.{IsIndexed};
+ghost use Rattle.loop_ring.specs.Heads.{going_block, going_first, held_block, heads_of};
 
-use crate::SegmentTable;
+use crate::SegmentIndex;
+use crate::entry::Entry;
+use crate::index::has_frame;
 use loop_record::{Geometry, SegmentHead, Span, may_go};
 use std::alloc::Allocator;
 
@@ -14,17 +17,17 @@ use std::alloc::Allocator;
 /// newest held frame. Nothing where none may go. A segment without frames holds none and is passed over. It takes no memory.
 pub fn victim_block<A: Allocator>(
     geometry: &Geometry,
-    table: &SegmentTable<A>,
+    index: &SegmentIndex<A>,
     clips: &[Option<Span>],
 ) -> Option<u64>
     requires { IsTrue (is_good geometry.now) }
-    ensures first { result ≡ going_first (ring_of geometry.now) clips.now table.now }
+    ensures first { result ≡ going_first (ring_of geometry.now) clips.now index.now }
     ensures victim { (r : Recording) (image : List ℕ) → Holds geometry.now r image
-        → table.now ≡ heads_of geometry.now image → clips.now ≡ r.clips → result ≡ victim (ring_of geometry.now) r }
+        → index.now ≡ heads_of geometry.now image → clips.now ≡ r.clips → result ≡ victim (ring_of geometry.now) r }
 {
-    let heads = table.as_slice();
+    let heads = index.as_slice();
     let newest = newest_block(heads)?;
-    oldest_block(geometry, heads, clips, newest)
+    oldest_block(geometry, heads, index.by_block(), clips, newest)
 }
 
 // The block of a segment that is open and has a whole frame.
@@ -44,54 +47,24 @@ fn newest_block(heads: &[Option<SegmentHead>]) -> Option<u64>
     heads.iter().filter_map(|head| held_block(*head)).max()
 }
 
-// Whether a block is below another one, if that is there.
-fn is_below(block: u64, other: Option<u64>) -> bool
-    ensures { result ≡ is_below block other }
-{
-    match other {
-        Some(other) => block < other,
-        None => true,
-    }
-}
-
-// The lesser of the least block so far and that of one segment more, if that one has a whole frame and its block may go. Whether a
-// clip meets a block is asked only of a lesser one: with many clips that is most of the work.
-fn lesser(
-    geometry: &Geometry,
-    clips: &[Option<Span>],
-    newest: u64,
-    least: Option<u64>,
-    head: Option<SegmentHead>,
-) -> Option<u64>
-    requires { IsTrue (is_good geometry.now) }
-    ensures { result ≡ with_least least (going_block (ring_of geometry.now) clips.now newest head) }
-{
-    let Some(block) = held_block(head) else {
-        return least;
-    };
-    if !is_below(block, least) {
-        return least;
-    }
-    if may_go(geometry, clips, newest, block) {
-        Some(block)
-    } else {
-        least
-    }
-}
-
-// The least block of a held frame that may go, where this is the newest block.
+// The least block of a held frame that may go, where this is the newest block: the first one in the order of the blocks. So the
+// clips are asked of no later block.
 fn oldest_block(
     geometry: &Geometry,
     heads: &[Option<SegmentHead>],
+    entries: &[Entry],
     clips: &[Option<Span>],
     newest: u64,
 ) -> Option<u64>
-    requires { IsTrue (is_good geometry.now) }
+    requires good { IsTrue (is_good geometry.now) }
+    requires order { IsIndexed heads.now entries.now (length heads.now) }
     ensures { result ≡ reduce min (filter_map (going_block (ring_of geometry.now) clips.now newest) heads.now) }
 {
-    let mut least = None;
-    for head in heads {
-        least = lesser(geometry, clips, newest, least, *head);
+    for entry in entries {
+        let head = heads[entry.segment as usize];
+        if has_frame(head) && may_go(geometry, clips, newest, entry.block) {
+            return Some(entry.block);
+        }
     }
-    least
+    None
 }

@@ -12,15 +12,15 @@ use crate::StoreFault;
 use crate::place::Place;
 use loop_clips::ClipTable;
 use loop_record::{Geometry, SegmentHead, Span};
-use loop_ring::{Ring, SegmentTable, victim_block};
-use std::alloc::Allocator;
+use loop_ring::{Ring, SegmentIndex, victim_block};
+use std::alloc::{AllocError, Allocator};
 
 /// The geometry, what the header of each segment says, the clip of each id, the number that the next frame gets, and the block
 /// that goes when room is needed.
 #[derive(Drop)]
 pub(crate) struct Index<A: Allocator> {
     pub(crate) ring: Ring,
-    pub(crate) table: SegmentTable<A>,
+    pub(crate) table: SegmentIndex<A>,
     pub(crate) clips: ClipTable,
     pub(crate) next: u64,
     pub(crate) victim: Option<u64>,
@@ -45,27 +45,28 @@ fn has_frame_of(head: Option<SegmentHead>, block: u64) -> bool
     head.is_some_and(|head| head.block == block && head.frames > 0)
 }
 
-/// The index of what was found on a disk.
+/// The index of what was found on a disk. Its only error is want of memory; what is noted in it later takes none.
 pub(crate) fn index_of<A: Allocator>(
+    alloc: A,
     geometry: Geometry,
     heads: Vec<Option<SegmentHead>, A>,
     clips: [Option<Span>; 64],
     next: u64,
-) -> Index<A>
+) -> Result<Index<A>, AllocError>
     requires good { IsTrue (is_good geometry) }
     requires count { length heads.items ≡ geometry.segments }
-    ensures { IsOf result geometry heads.items clips next }
+    ensures { IfOk result (λ index. IsOf index geometry heads.items clips next) }
 {
-    let table = SegmentTable::of(heads);
+    let table = SegmentIndex::of(alloc, heads)?;
     let clips = ClipTable::of(clips);
     let victim = victim_block(&geometry, &table, clips.as_slice());
-    Index {
+    Ok(Index {
         ring: Ring::new(geometry),
         table,
         clips,
         next,
         victim,
-    }
+    })
 }
 
 impl<A: Allocator> Index<A> {
@@ -74,7 +75,7 @@ impl<A: Allocator> Index<A> {
         ensures place { result ≡ position (is_of block) self.now.table }
         ensures within { IfSome result (λ segment. segment < length self.now.table) }
     {
-        self.table.find(block)
+        self.table.find(block).0
     }
 
     /// The segment of the block that goes when room is needed, or nothing where no block may go.

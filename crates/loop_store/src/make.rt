@@ -15,7 +15,7 @@ use crate::{OpenRefused, Store, StoreFault};
 use loop_clips::ClipTable;
 use loop_disk::Disk;
 use loop_record::Geometry;
-use loop_ring::{Group, Ring, SegmentTable};
+use loop_ring::{Group, Ring, SegmentIndex};
 use std::alloc::Allocator;
 
 /// Whether a geometry is good, and a disk has its size.
@@ -54,7 +54,7 @@ pub fn format<D: Disk + Drop, A: Allocator + Copy>(
             disk,
         });
     }
-    let Ok(table) = SegmentTable::new(alloc, geometry.segments) else {
+    let Ok(table) = SegmentIndex::new(alloc, geometry.segments) else {
         return Err(OpenRefused {
             fault: StoreFault::NoMemory,
             disk,

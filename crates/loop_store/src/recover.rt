@@ -42,13 +42,14 @@ fn recover_parts<D: Disk, A: Allocator + Copy>(
     check_slots(disk, &geometry, open)?;
     let clips = read_table(disk, &geometry, open)?;
     let next = next_after(&geometry, open);
-    Ok(index_of(geometry, heads, clips, next))
+    Ok(index_of(alloc, geometry, heads, clips, next)?)
 }
 
 /// The index of what a disk's image reads as: the geometry, the header of each segment, the clips and the number that comes next.
 ///
 /// It reads the superblock, each header, the first `HEAD_SIZE` bytes of each slot before the first closed gate of an open
-/// segment, and the clip table. It writes nothing. Memory is taken twice: a list of the headers and one of the open segments.
+/// segment, and the clip table. It writes nothing. Memory is taken three times: a list of the headers, one of the
+/// open segments, and one for the index.
 ///
 /// `NotFormatted` where the disk has no open superblock; `Damaged` with the first damage in the layout's order; `Disk` where
 /// a read failed; `NoMemory`. After each of these the disk is as it was.

@@ -6,7 +6,7 @@ use loop_budget::Budget;
 use loop_clips::{CLIPS, Clip, ClipTable};
 use loop_disk::{DiskFault, FuseDisk, MemDisk};
 use loop_record::{Geometry, OPEN, PixelFormat, SegmentHead, Span};
-use loop_ring::{SegmentTable, victim_block, victim_segment};
+use loop_ring::{SegmentIndex, victim_block, victim_segment};
 use std::alloc::{AllocError, Allocator, Global};
 use std::process::Abort;
 use std::test::Fail;
@@ -22,18 +22,18 @@ const SMALL: Geometry = Geometry {
     slots: 2,
 };
 
-// A table of three segments.
-fn table<A: Allocator>(
+// An index of three segments.
+fn index<A: Allocator + Copy>(
     alloc: A,
     heads: [Option<SegmentHead>; 3],
-) -> Result<SegmentTable<A>, AllocError>
-    ensures { IfOk result (λ table. length table ≡ 3) }
+) -> Result<SegmentIndex<A>, AllocError>
+    ensures { IfOk result (λ index. length index ≡ 3) }
 {
-    let mut table = SegmentTable::new(alloc, 3)?;
-    table.set(0, heads[0]);
-    table.set(1, heads[1]);
-    table.set(2, heads[2]);
-    Ok(table)
+    let mut index = SegmentIndex::new(alloc, 3)?;
+    index.set(0, heads[0]);
+    index.set(1, heads[1]);
+    index.set(2, heads[2]);
+    Ok(index)
 }
 
 // The header of an open segment.
@@ -49,32 +49,101 @@ fn clip(number: u64) -> Option<Span> {
     })
 }
 
-// What is found in the table of a block 3 with one frame, a closed segment, and a block 2 with both frames; and once block 4
+// What is found in the index of a block 3 with one frame, a closed segment, and a block 2 with both frames; and once block 4
 // is begun in the closed one.
-fn finds<A: Allocator>(rt: &impl Abort, table: &mut SegmentTable<A>)
-    requires { length table.old ≡ 3 }
+fn finds<A: Allocator>(rt: &impl Abort, index: &mut SegmentIndex<A>)
+    requires { length index.old ≡ 3 }
 {
-    assert_eq!(rt; (table.find(2), table.find(1)), (Some(2), None));
-    assert_eq!(rt; table.first_closed(), Some(1));
+    assert_eq!(rt; (index.find(2).0, index.find(1).0), (Some(2), None));
+    assert_eq!(rt; index.first_closed(), Some(1));
     for (number, held) in [(3, false), (5, true), (6, true), (7, false)] {
-        assert_eq!(rt; table.holds(2, number), held, "{number}");
+        assert_eq!(rt; index.holds(2, number), held, "{number}");
     }
-    table.set(1, open(4, 0));
-    assert_eq!(rt; table.get(1), open(4, 0));
-    assert_eq!(rt; (table.first_closed(), table.held_blocks()), (None, 2));
+    index.set(1, open(4, 0));
+    assert_eq!(rt; index.get(1), open(4, 0));
+    assert_eq!(rt; (index.first_closed(), index.held_blocks()), (None, 2));
 }
 
 #[test]
 fn segments_are_found_by_what_they_hold(rt: HostRuntime) -> Result<(), Fail> {
     let memory = Budget::new(rt.alloc());
-    memory.allow(0);
-    assert!(rt; SegmentTable::new(&memory, 3).is_err());
-    memory.allow(1);
+    for blocks in 0..2 {
+        memory.allow(blocks);
+        assert!(rt; SegmentIndex::new(&memory, 3).is_err(), "{blocks}");
+    }
+    memory.allow(2);
     let heads = [open(3, 1), None, open(2, 2)];
-    let mut table = table(&memory, heads)?;
+    let mut index = index(&memory, heads)?;
     memory.allow(0);
-    assert!(rt; table.as_slice().iter().eq(heads.iter()));
-    finds(&rt, &mut table);
+    assert!(rt; index.as_slice().iter().eq(heads.iter()));
+    finds(&rt, &mut index);
+    Ok(())
+}
+
+// The block of a segment, where 64 of them lie in a mixed order: each third block from 10 on.
+fn mixed_block(segment: u32) -> u64 {
+    u64::from(segment) * 37 % 64 * 3 + 10
+}
+
+// 64 segments in that order. The second block of memory is the sorted entries'.
+fn mixed(memory: &Budget<Global>) -> Result<SegmentIndex<&Budget<Global>>, AllocError>
+    ensures { IfOk result (λ index. length index ≡ 64) }
+{
+    let mut heads = [None; 64];
+    for (segment, head) in heads.iter_mut().enumerate() {
+        *head = open(mixed_block(segment as u32), 1);
+    }
+    let heads = Vec::from_slice(memory, &heads)?;
+    SegmentIndex::of(memory, heads)
+}
+
+// What is found of some blocks, each by at most seven looks.
+fn finds_soon<A: Allocator>(rt: &impl Abort, index: &SegmentIndex<A>, rows: &[(u64, Option<u32>)]) {
+    for (block, expected) in rows {
+        let (found, looks) = index.find(*block);
+        assert_eq!(rt; found, *expected, "{block}");
+        assert!(rt; looks <= 7, "{block}: {looks}");
+    }
+}
+
+#[test]
+fn a_block_is_found_by_few_looks(rt: HostRuntime) -> Result<(), Fail> {
+    let memory = Budget::new(rt.alloc());
+    memory.allow(1);
+    assert!(rt; mixed(&memory).is_err());
+    memory.allow(2);
+    let mut index = mixed(&memory)?;
+    memory.allow(0);
+    for segment in 0..64 {
+        finds_soon(&rt, &index, &[(mixed_block(segment), Some(segment))]);
+    }
+    let absent = [
+        (0, None),
+        (9, None),
+        (11, None),
+        (200, None),
+        (u64::MAX, None),
+    ];
+    finds_soon(&rt, &index, &absent);
+    // Segment 5 had block 10 + 3 * 57; 6 moves behind all blocks, and then 50 to the block of 20.
+    index.set(5, None);
+    index.set(6, open(u64::MAX, 0));
+    index.set(50, open(mixed_block(20), 2));
+    let moved = [
+        (181, None),
+        (100, None),
+        (u64::MAX, Some(6)),
+        (220, None),
+        (mixed_block(50), None),
+        (mixed_block(20), Some(20)),
+    ];
+    finds_soon(&rt, &index, &moved);
+    // 5 opens again, as the first of three with that block; without it and 20 the third is found.
+    index.set(5, open(mixed_block(20), 1));
+    finds_soon(&rt, &index, &[(mixed_block(20), Some(5))]);
+    index.set(5, None);
+    index.set(20, None);
+    finds_soon(&rt, &index, &[(mixed_block(20), Some(50))]);
     Ok(())
 }
 
@@ -84,9 +153,9 @@ fn goes(
     heads: [Option<SegmentHead>; 3],
     clips: &[Option<Span>],
 ) -> Result<Option<(u64, u32)>, AllocError> {
-    let table = table(alloc, heads)?;
-    let block = victim_block(&SMALL, &table, clips);
-    let segment = victim_segment(&SMALL, &table, clips);
+    let index = index(alloc, heads)?;
+    let block = victim_block(&SMALL, &index, clips);
+    let segment = victim_segment(&SMALL, &index, clips);
     Ok(block.zip(segment))
 }
 

@@ -10,15 +10,15 @@ pub returns-in_err-newest : goal.returns-in_err-newest
 returns-in_err-newest g c =
     let ring = ring_of c.args.geometry.now in
     let clips = c.args.clips.now in
-    let first : c.from_residual.result ≡ going_first ring clips c.args.table.now =
-    c.from_residual.ensures ∙ ap (least_going ring clips c.args.table.now) (c.in_err-newest.ensures ∙ ap (λ (hs : List (Option SegmentHead)). reduce max (filter_map held_block hs)) c.as_slice-heads.ensures) in
-    record { first = first; victim = λ r image holds heads same. first ∙ victim-first c.args.geometry.now r image c.args.table.now clips holds heads same }
+    let first : c.from_residual.result ≡ going_first ring clips c.args.index.now =
+    c.from_residual.ensures ∙ ap (least_going ring clips c.args.index.now) (c.in_err-newest.ensures ∙ ap (λ (hs : List (Option SegmentHead)). reduce max (filter_map held_block hs)) c.as_slice-heads.ensures) in
+    record { first = first; victim = λ r image holds heads same. first ∙ victim-first c.args.geometry.now r image c.args.index.now clips holds heads same }
 
 pub returns : goal.returns
 returns g c =
     let ring = ring_of c.args.geometry.now in
     let clips = c.args.clips.now in
-    let table = c.args.table.now in
+    let table = c.args.index.now in
     let newest : Some c.in_ok-newest.newest ≡ reduce max (filter_map held_block table) =
     c.in_ok-newest.ensures ∙ ap (λ (hs : List (Option SegmentHead)). reduce max (filter_map held_block hs)) c.as_slice-heads.ensures in
     let least : c.oldest_block.result ≡ reduce min (filter_map (going_block ring clips c.in_ok-newest.newest) table) =

@@ -109,7 +109,7 @@ returns-clause-recovered g c = λ honest.
     let second = c.read_heads.ensures.called.honest.0 honest in
     let checked = c.in_ok-check_slots.ensures.disk second in
     let third = c.check_slots.ensures.called.honest.0 second in
-    recovered c.index_of.result h image _ _ fs xs c.in_ok-heads.heads.items c.in_ok-clips.clips c.next_after-next.result c.index_of.ensures all first.bytes (c.in_ok-check_slots.ensures.slots second) (checked.bytes ∙ first.bytes) (c.in_ok-clips.ensures.clips third) (c.next_after-next.ensures image) (c.in_ok-heads.ensures.heads honest)
+    recovered c.in_ok-index_of.field-0 h image _ _ fs xs c.in_ok-heads.heads.items c.in_ok-clips.clips c.next_after-next.result c.in_ok-index_of.ensures all first.bytes (c.in_ok-check_slots.ensures.slots second) (checked.bytes ∙ first.bytes) (c.in_ok-clips.ensures.clips third) (c.next_after-next.ensures image) (c.in_ok-heads.ensures.heads honest)
 
 pub returns-clause-disk : goal.returns-clause-disk
 returns-clause-disk g c = λ honest.
@@ -121,6 +121,6 @@ returns-clause-fits g c =
     let h = c.args.geometry in
     let xs = c.as_slice-open.result.now in
     let within = subst (AreIn h) (sym c.as_slice-open.ensures.value) c.in_ok-segments.ensures.within in
-    fitting c.index_of.result h c.in_ok-heads.heads.items c.in_ok-clips.clips c.next_after-next.result (g.D.Disk.medium c.args.disk.now).size
-    c.index_of.ensures c.requires.size c.in_ok-heads.ensures.count c.in_ok-heads.ensures.within
+    fitting c.in_ok-index_of.field-0 h c.in_ok-heads.heads.items c.in_ok-clips.clips c.next_after-next.result (g.D.Disk.medium c.args.disk.now).size
+    c.in_ok-index_of.ensures c.requires.size c.in_ok-heads.ensures.count c.in_ok-heads.ensures.within
     (subst (λ (n : ℕ). n ≤ last_number (ring_of h)) (sym (c.next_after-next.ensures [])) (next-few h [] xs (limits h c.requires.good).slots.0 within))

@@ -1,43 +1,53 @@
-// The segments of a store in memory: what each header says, at the place of its segment.
-ghost use Rattle.std.specs.Prelude.{◌≡◌, ◌<◌, ◌/◌, ◌%◌, ◌^◌, ℕ, IfOk, IfSome, List, None, Option, is_some, length, not, position, replicate, slice_index_or, slice_set};
+// The segments of a store in memory: what each header says, and the open ones by block.
+ghost use Rattle.std.specs.Prelude.{◌≡◌, ◌<◌, ◌≤◌, ◌/◌, ◌%◌, ◌^◌, ℕ, IfOk, IfSome, List, None, Option, is_some, length, not, position, replicate, slice_index_or, slice_set, vec_capacity};
 ghost use Rattle.std.specs.List.{count_by, list_any};
 ghost use Rattle.loop_record.specs.declared.segment.SegmentHead.{SegmentHead};
+ghost use Rattle.loop_ring.specs.Entries.{IsIndexed};
 ghost use Rattle.loop_ring.specs.Heads.{has_frame, has_number, is_of};
 
+use crate::entry::{Entry, first_of, insert_segment, insert_segments, remove_segment};
 use loop_record::SegmentHead;
 use std::alloc::{AllocError, Allocator, Global};
 use std::marker::Model;
 
-/// The segments of a store, searched from the first one on. In contracts it is the list of what the header of each says:
-/// its block and its whole frames, or nothing where the segment is closed.
+/// The segments of a store. In contracts it is the list of what the header of each says: its block and its whole frames, or
+/// nothing where the segment is closed. Beside that list it keeps the open segments sorted by block, so that `find` looks at few.
+/// Only `new` and `of` take memory: for the list, and for as many sorted entries as there are segments.
 #[derive(Drop)]
-pub struct SegmentTable<A: Allocator = Global> {
+pub struct SegmentIndex<A: Allocator = Global> {
     heads: Vec<Option<SegmentHead>, A>,
+    // The open segments by block, those of one block by segment. There is room for all segments.
+    entries: Vec<Entry, A>,
 }
 
-impl<A: Allocator> Model for SegmentTable<A> {
+impl<A: Allocator> Model for SegmentIndex<A> {
     ghost Value = { List (Option SegmentHead) };
 
-    ghost view = { λ table. table.heads.items };
+    ghost view = { λ index. index.heads.items };
 
-    ghost invariant = { λ table. length table.heads.items < 2 ^ 32 };
+    ghost invariant = { λ index. IsIndexed index.heads.items index.entries.items
+        (vec_capacity index.entries) };
 }
 
-impl<A: Allocator> SegmentTable<A> {
-    /// So many segments, all of them closed. Its only error is want of memory; no later call takes any.
+impl<A: Allocator + Copy> SegmentIndex<A> {
+    /// So many segments, all of them closed. Its only error is want of memory.
     pub fn new(alloc: A, segments: u32) -> Result<Self, AllocError>
-        ensures { IfOk result (λ table. table ≡ replicate segments None) }
+        ensures { IfOk result (λ index. index ≡ replicate segments None) }
     {
         let heads = vec![in alloc; None; segments as usize]?;
-        Ok(SegmentTable::of(heads))
+        SegmentIndex::of(alloc, heads)
     }
+}
 
-    /// Segments whose headers were read before, one entry each. It takes no memory.
-    pub fn of(heads: Vec<Option<SegmentHead>, A>) -> Self
+impl<A: Allocator> SegmentIndex<A> {
+    /// Segments whose headers were read before. Its only error is want of memory; the list is gone then.
+    pub fn of(alloc: A, heads: Vec<Option<SegmentHead>, A>) -> Result<Self, AllocError>
         requires { length heads.items < 2 ^ 32 }
-        ensures { result ≡ heads.items }
+        ensures { IfOk result (λ index. index ≡ heads.items) }
     {
-        SegmentTable { heads }
+        let mut entries = Vec::with_capacity(alloc, heads.len())?;
+        insert_segments(&mut entries, &heads);
+        Ok(SegmentIndex { heads, entries })
     }
 
     /// What the header of a segment says, or nothing where it is closed.
@@ -55,21 +65,31 @@ impl<A: Allocator> SegmentTable<A> {
         &self.heads
     }
 
-    /// Notes what the header of a segment says now.
+    // The open segments in the order of their blocks.
+    pub(crate) fn by_block(&self) -> &[Entry]
+        ensures { IsIndexed self.now result.now (length self.now) }
+    {
+        &self.entries
+    }
+
+    /// Notes what the header of a segment says now. It takes no memory.
     pub fn set(&mut self, segment: u32, head: Option<SegmentHead>)
         requires { segment < length self.old }
         ensures { self.new ≡ slice_set self.old segment head }
     {
+        remove_segment(&mut self.entries, &self.heads, segment);
+        insert_segment(&mut self.entries, &self.heads, segment, head);
         let place = segment as usize;
         self.heads[place] = head;
     }
 
-    /// The first segment that holds a block, if one does.
-    pub fn find(&self, block: u64) -> Option<u32>
-        ensures { result ≡ position (is_of block) self.now }
+    /// The first segment that holds a block, if one does, and how many segments' blocks it looked at: of fewer than `2^n`
+    /// segments at most `n`, so 7 where there are 64.
+    pub fn find(&self, block: u64) -> (Option<u32>, u32)
+        ensures first { result.0 ≡ position (is_of block) self.now }
+        ensures looks { (n : ℕ) → length self.now < 2 ^ n → result.1 ≤ n }
     {
-        let place = place_of(&self.heads, block)?;
-        Some(place as u32)
+        first_of(&self.entries, block)
     }
 
     /// The first segment that is closed, if one is.
@@ -98,27 +118,12 @@ impl<A: Allocator> SegmentTable<A> {
     }
 }
 
-// The first place of a segment that holds a block.
-fn place_of(heads: &[Option<SegmentHead>], block: u64) -> Option<usize>
-    ensures place { result ≡ position (is_of block) heads.now }
-    ensures within { IfSome result (λ place. place < length heads.now) }
-{
-    heads.iter().position(|head| is_of(*head, block))
-}
-
 // The first place of a closed segment.
 fn closed_place(heads: &[Option<SegmentHead>]) -> Option<usize>
     ensures place { result ≡ position (λ head. not (is_some head)) heads.now }
     ensures within { IfSome result (λ place. place < length heads.now) }
 {
     heads.iter().position(|head| head.is_none())
-}
-
-// Whether a segment is open and holds a block.
-fn is_of(head: Option<SegmentHead>, block: u64) -> bool
-    ensures { result ≡ is_of block head }
-{
-    head.is_some_and(|head| head.block == block)
 }
 
 // Whether a segment is open and has a whole frame.
