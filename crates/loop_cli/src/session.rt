@@ -6,7 +6,7 @@ ghost use Rattle.loop_record.specs.Recording.{Recording, empty};
 ghost use Rattle.loop_store.specs.Calls.{appended, read_with, was_read};
 ghost use Rattle.loop_store.specs.Formatted.{IsFormatted};
 ghost use Rattle.loop_store.specs.Goes.{Goes};
-ghost use Rattle.loop_store.specs.Opened.{IsOpened};
+ghost use Rattle.loop_store.specs.Opened.{IsOpened, IsRefusedOpen};
 ghost use Rattle.loop_store.specs.Seen.{StandsFor};
 ghost use Rattle.loop_cli.specs.Pattern.{pattern_picture};
 ghost use Rattle.loop_cli.specs.Sessions.{HasRoom, accepted_after};
@@ -43,9 +43,10 @@ impl<A: Allocator + Copy> Model for Session<A> {
 }
 
 impl<A: Allocator + Copy> Session<A> {
-    /// Formats a fresh disk of the right size. It answers BadGeometry, NoMemory or Disk, and then leaves nothing behind.
+    /// Formats a fresh disk of the right size. It answers BadGeometry or NoMemory, and then leaves nothing behind.
     pub fn format(alloc: A, geometry: Geometry) -> Result<Self, StoreFault>
         ensures bad { (result ≡ Err StoreFault.BadGeometry) ↔ (is_good geometry ≡ false) }
+        ensures refusals { IfErr result (λ fault. (fault ≡ StoreFault.BadGeometry) ⊎ (fault ≡ StoreFault.NoMemory)) }
         ensures formatted { IfOk result (λ s. IsFormatted geometry s.store × (s.accepted ≡ 0)) }
         ensures stands { IfOk result (λ s. StandsFor ⟦<MemDisk<A> as Disk>⟧.medium s.store empty) }
     {
@@ -93,6 +94,8 @@ impl<A: Allocator + Copy> Session<A> {
         ensures geometry { IfOk result (λ s. s.store.geometry ≡ self.store.geometry) }
         ensures fine { IfOk result (λ s. s.store.must_reopen ≡ false) }
         ensures kept { IfOk result (λ s. (s.accepted ≡ self.accepted) × (s.pixels ≡ self.pixels)) }
+        ensures refused { IfErr result (λ fault. (fault ≡ StoreFault.BadGeometry)
+            ⊎ IsRefusedOpen (⟦<MemDisk<A> as Disk>⟧.medium self.store.disk).bytes fault) }
     {
         let Session {
             store,
