@@ -1,2 +1,4 @@
 pub mod Pattern
+pub mod Refusals
 pub mod Script
+pub mod Sessions

@@ -1,5 +1,6 @@
 // Lines of a script, read in bounded memory.
-ghost use Rattle.std.specs.Prelude.{◌≤◌, OnOk, vec_len};
+ghost use Rattle.std.specs.Prelude.{◌≡◌, ◌≤◌, IfOk, IfSome, OnOk, length, nat_lt, vec_len};
+ghost use Rattle.std.specs.Io.BufRead.{first_piece, strip_last};
 
 use std::alloc::Allocator;
 use std::io::{BufRead, Read};
@@ -11,14 +12,17 @@ pub const MAX_LINE: usize = 4096;
 #[derive(Clone, Copy, Debug, PartialEq, Eq)]
 pub struct BadLine;
 
-/// Reads the next line into `line`, in place of what is there, and takes its 0x0A off; false where no line is left.
+/// Reads the next line into `line`, in place of what is there, and takes its 0x0A off; false where no line is left. A 0x0D
+/// before the 0x0A is a byte of the line, so that it can't be read as a command.
 /// It reads no byte behind the line, and of a line that is too long only the first 4,097. Where `line` has room for 4,097
 /// bytes it takes no memory; else want of memory is a failed read.
 pub fn next_line<R: BufRead, A: Allocator>(
     input: &mut R,
     line: &mut Vec<u8, A>,
 ) -> Result<bool, BadLine>
-    ensures { OnOk result (vec_len line.new ≤ 4096) }
+    ensures most { OnOk result (vec_len line.new ≤ 4096) }
+    ensures line { OnOk result (IfSome (R.remaining input.old) (λ left. line.new.items ≡ first_piece 10 left)) }
+    ensures more { IfOk result (λ more. IfSome (R.remaining input.old) (λ left. more ≡ nat_lt 0 (length left))) }
 {
     line.clear();
     let mut limited = input.take(MAX_LINE as u64 + 1);
@@ -27,11 +31,18 @@ pub fn next_line<R: BufRead, A: Allocator>(
         Ok(0) => return Ok(false),
         Ok(_) => (),
     }
-    if line.last() == Some(&b'\n') {
-        let _ = line.pop();
-    }
+    strip_newline(line);
     if line.len() > MAX_LINE {
         return Err(BadLine);
     }
     Ok(true)
+}
+
+// Takes off the 0x0A that ends a line, where one does.
+fn strip_newline<A: Allocator>(line: &mut Vec<u8, A>)
+    ensures { line.new.items ≡ strip_last 10 line.old.items }
+{
+    if line.last() == Some(&b'\n') {
+        let _ = line.pop();
+    }
 }

@@ -2,10 +2,11 @@
 //!
 //! `program` reads the program's words and chooses what to do, and ends with a status. `simulate` runs a script line by line;
 //! `lines` reads a line in bounded memory, `command` says what a line means, `number` reads a number in it. `session` is a
-//! formatted store and the frames that a script makes for it, `pattern` has their bytes and timestamps, and `runs` the runs
-//! of numbers that `list` prints.
+//! formatted store and the frames that a script makes for it, `pattern` has their bytes and timestamps, `runs` the runs of
+//! numbers that `list` prints, and `refusal` the words of a refusal.
 //!
-//! What a line means, the bytes and timestamps of frames and the runs of numbers are proved (`specs/`); what is printed is tested.
+//! What a line means, the calls of a session, the bytes and timestamps of frames, the runs of numbers and the words of refusals are
+//! proved (`specs/`); the other lines that are printed are tested.
 #![tactic(auto)]
 
 mod command;
@@ -13,6 +14,7 @@ mod lines;
 mod number;
 mod pattern;
 mod program;
+mod refusal;
 mod runs;
 mod session;
 mod simulate;

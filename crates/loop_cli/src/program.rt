@@ -1,6 +1,7 @@
 // The program's words.
 
-use crate::simulate::{print_refusal, simulate};
+use crate::refusal::print_refusal;
+use crate::simulate::simulate;
 use clap::Command;
 use clap::error::ErrorKind;
 use loop_store::StoreFault;

@@ -1,19 +1,27 @@
 // A formatted store, and the frames that a script makes for it.
-ghost use Rattle.std.specs.Prelude.{◌≡◌, All, IsTrue, IfOk, length, vec_len};
+ghost use Rattle.std.specs.Prelude.{◌≡◌, ◌≢◌, ◌⊎◌, ◌↔◌, ◌∷◌, [], All, Err, IsTrue, IfErr, IfOk, false, length, map, vec_len};
 ghost use Rattle.loop_record.specs.Geometry.{frame_bytes, is_good};
-ghost use Rattle.loop_record.specs.Recording.{picture};
+ghost use Rattle.loop_record.specs.Plain.{pictures};
+ghost use Rattle.loop_record.specs.Recording.{Recording, empty};
+ghost use Rattle.loop_store.specs.Calls.{appended, read_with, was_read};
+ghost use Rattle.loop_store.specs.Formatted.{IsFormatted};
+ghost use Rattle.loop_store.specs.Goes.{Goes};
+ghost use Rattle.loop_store.specs.Opened.{IsOpened, IsRefusedOpen};
+ghost use Rattle.loop_store.specs.Seen.{StandsFor};
 ghost use Rattle.loop_cli.specs.Pattern.{pattern_picture};
+ghost use Rattle.loop_cli.specs.Sessions.{HasRoom, accepted_after};
 
 use crate::pattern::{PATTERN_FLAGS, fill_pattern, pattern_sequence, pattern_timestamp};
-use loop_disk::MemDisk;
+use loop_disk::{Disk, MemDisk};
 use loop_record::{Frame, FrameHead, Geometry};
 use loop_store::{OpenRefused, Store, StoreFault};
 use std::alloc::{AllocError, Allocator, Global};
+use std::marker::Model;
 
-/// A store on a disk in memory, and a source of pattern frames for it.
+/// A store on a disk in memory, and a source of pattern frames for it. Contracts see the store, how many frames were accepted
+/// since it was formatted, and the bytes of the frame that was read last.
 #[derive(Drop)]
 pub struct Session<A: Allocator + Copy = Global> {
-    geometry: Geometry,
     store: Store<MemDisk<A>, A>,
     // The frame that is stored next, as a group of one. It is kept, and filled anew each time.
     group: Vec<Frame<A>, A>,
@@ -21,21 +29,32 @@ pub struct Session<A: Allocator + Copy = Global> {
     pixels: Vec<u8, A>,
     // Frames accepted since the store was formatted.
     accepted: u64,
-    ghost good: { IsTrue (is_good geometry) },
-    ghost stored: { store.geometry ≡ geometry },
-    ghost one: { vec_len group ≡ 1 },
-    ghost sizes: { All (λ frame. length frame.bytes.items ≡ frame_bytes geometry) group.items },
-    ghost size: { vec_len pixels ≡ frame_bytes geometry },
+}
+
+impl<A: Allocator + Copy> Model for Session<A> {
+    ghost use Rattle.loop_disk.specs.declared.memory.MemDisk.{MemDisk};
+    ghost use Rattle.loop_cli.specs.Sessions.{HasRoom, Shown};
+
+    ghost Value = { Shown (MemDisk A) };
+
+    ghost view = { λ s. record { store = s.store; accepted = s.accepted; pixels = s.pixels.items } };
+
+    ghost invariant = { λ s. HasRoom s.store.geometry s.group.items s.pixels.items };
 }
 
 impl<A: Allocator + Copy> Session<A> {
-    /// Formats a fresh disk of the right size. It answers BadGeometry, NoMemory or Disk, and then leaves nothing behind.
-    pub fn format(alloc: A, geometry: Geometry) -> Result<Self, StoreFault> {
+    /// Formats a fresh disk of the right size. It answers BadGeometry or NoMemory, and then leaves nothing behind.
+    pub fn format(alloc: A, geometry: Geometry) -> Result<Self, StoreFault>
+        ensures bad { (result ≡ Err StoreFault.BadGeometry) ↔ (is_good geometry ≡ false) }
+        ensures refusals { IfErr result (λ fault. (fault ≡ StoreFault.BadGeometry) ⊎ (fault ≡ StoreFault.NoMemory)) }
+        ensures formatted { IfOk result (λ s. IsFormatted geometry s.store × (s.accepted ≡ 0)) }
+        ensures stands { IfOk result (λ s. StandsFor ⟦<MemDisk<A> as Disk>⟧.medium s.store empty) }
+    {
         match geometry.check() {
             Ok(()) => (),
             Err(_) => return Err(StoreFault::BadGeometry),
         }
-        let (group, pixels) = match buffers(alloc, geometry.frame_bytes()) {
+        let (group, pixels) = match buffers(alloc, &geometry) {
             Ok(made) => made,
             Err(_) => return Err(StoreFault::NoMemory),
         };
@@ -43,7 +62,6 @@ impl<A: Allocator + Copy> Session<A> {
         match loop_store::format(alloc, disk, geometry) {
             Err(OpenRefused { fault, disk: _ }) => Err(fault),
             Ok(store) => Ok(Session {
-                geometry,
                 store,
                 group,
                 pixels,
@@ -54,8 +72,14 @@ impl<A: Allocator + Copy> Session<A> {
 
     /// Makes the next frame of the pattern and stores it; answers its number. A refused frame isn't accepted, so the next
     /// call makes it again.
-    pub fn store_next(&mut self) -> Result<u64, StoreFault> {
-        fill_group(&mut self.group, self.accepted, &self.geometry);
+    pub fn store_next(&mut self) -> Result<u64, StoreFault>
+        ensures goes { Goes ⟦<MemDisk<A> as Disk>⟧.medium self.old.store self.new.store
+            (appended (pattern_picture self.old.store.geometry self.old.accepted ∷ []) result ∷ []) }
+        ensures accepted { self.new.accepted ≡ accepted_after self.old.accepted result }
+        ensures pixels { self.new.pixels ≡ self.old.pixels }
+    {
+        let geometry = self.store.geometry();
+        fill_group(&mut self.group, self.accepted, &geometry);
         let number = self.store.append(&self.group)?;
         self.accepted = self.accepted.saturating_add(1);
         Ok(number)
@@ -64,14 +88,22 @@ impl<A: Allocator + Copy> Session<A> {
     /// Takes the disk out of the store and finds the store on it again; the frames that were accepted stay so. It answers
     /// NoMemory or Disk, and then leaves nothing behind. So does a disk that holds no store of this geometry, which is
     /// refused as NotFormatted, Damaged or BadGeometry.
-    pub fn reopen(self, alloc: A) -> Result<Self, StoreFault> {
+    pub fn reopen(self, alloc: A) -> Result<Self, StoreFault>
+        ensures opened { IfOk result (λ s. IsOpened ⟦<MemDisk<A> as Disk>⟧.medium
+            (⟦<MemDisk<A> as Disk>⟧.medium self.store.disk).bytes s.store) }
+        ensures geometry { IfOk result (λ s. s.store.geometry ≡ self.store.geometry) }
+        ensures fine { IfOk result (λ s. s.store.must_reopen ≡ false) }
+        ensures kept { IfOk result (λ s. (s.accepted ≡ self.accepted) × (s.pixels ≡ self.pixels)) }
+        ensures refused { IfErr result (λ fault. (fault ≡ StoreFault.BadGeometry)
+            ⊎ IsRefusedOpen (⟦<MemDisk<A> as Disk>⟧.medium self.store.disk).bytes fault) }
+    {
         let Session {
-            geometry,
             store,
             group,
             pixels,
             accepted,
         } = self;
+        let geometry = store.geometry();
         match Store::open(alloc, store.into_disk()) {
             Err(OpenRefused { fault, disk: _ }) => Err(fault),
             Ok(store) => {
@@ -80,7 +112,6 @@ impl<A: Allocator + Copy> Session<A> {
                     return Err(StoreFault::BadGeometry);
                 }
                 Ok(Session {
-                    geometry,
                     store,
                     group,
                     pixels,
@@ -91,43 +122,57 @@ impl<A: Allocator + Copy> Session<A> {
     }
 
     /// Reads a stored frame; its bytes are then in `pixels`. After a refusal these may be any.
-    pub fn read(&mut self, number: u64) -> Result<FrameHead, StoreFault> {
+    pub fn read(&mut self, number: u64) -> Result<FrameHead, StoreFault>
+        ensures goes { Goes ⟦<MemDisk<A> as Disk>⟧.medium self.old.store self.new.store
+            (was_read number (read_with result self.new.pixels) ∷ []) }
+        ensures same { self.new.store ≡ record self.old.store { disk = self.new.store.disk } }
+        ensures accepted { self.new.accepted ≡ self.old.accepted }
+    {
         self.store.read(number, &mut self.pixels)
     }
 
     /// The bytes of the frame that was read last.
-    pub fn pixels(&self) -> &[u8] {
+    pub fn pixels(&self) -> &[u8]
+        ensures { result.now ≡ self.now.pixels }
+    {
         &self.pixels
     }
 
     /// The number of the next frame.
-    pub fn next(&self) -> u64 {
+    pub fn next(&self) -> u64
+        ensures { result ≡ self.now.store.next }
+    {
         self.store.next()
     }
 
     /// The held numbers, rising. It answers NoMemory or MustReopen.
-    pub fn frames(&self, alloc: A) -> Result<Vec<u64, A>, StoreFault> {
+    pub fn frames(&self, alloc: A) -> Result<Vec<u64, A>, StoreFault>
+        ensures must_reopen { (result ≡ Err StoreFault.MustReopen) ↔ IsTrue self.now.store.must_reopen }
+        ensures numbers { (r : Recording) → StandsFor ⟦<MemDisk<A> as Disk>⟧.medium self.now.store r
+            → IfOk result (λ numbers. numbers.items ≡ map (λ f. f.0) r.frames) }
+        ensures refusals { IfErr result (λ fault. (fault ≡ StoreFault.MustReopen) ⊎ (fault ≡ StoreFault.NoMemory)) }
+    {
         self.store.frames(alloc)
     }
 }
 
-// A group of one frame, and bytes for another; all of it zero.
+// A group of one frame of the geometry, and bytes for another; all of it zero.
 fn buffers<A: Allocator + Copy>(
     alloc: A,
-    size: u32,
+    geometry: &Geometry,
 ) -> Result<(Vec<Frame<A>, A>, Vec<u8, A>), AllocError>
-    ensures one { IfOk result (λ made. vec_len made.0 ≡ 1) }
-    ensures sizes { IfOk result (λ made. All (λ frame. length frame.bytes.items ≡ size) made.0.items) }
-    ensures size { IfOk result (λ made. vec_len made.1 ≡ size) }
+    requires { IsTrue (is_good geometry.now) }
+    ensures { IfOk result (λ made. HasRoom geometry.now made.0.items made.1.items) }
 {
+    let size = geometry.frame_bytes() as usize;
     let mut group = Vec::new(alloc);
     group.push(Frame {
         sequence: 0,
         flags: 0,
         timestamp: 0,
-        bytes: vec![in alloc; 0; size as usize]?,
+        bytes: vec![in alloc; 0; size]?,
     })?;
-    let pixels = vec![in alloc; 0; size as usize]?;
+    let pixels = vec![in alloc; 0; size]?;
     Ok((group, pixels))
 }
 
@@ -138,7 +183,7 @@ fn fill_group<A: Allocator>(group: &mut Vec<Frame<A>, A>, n: u64, geometry: &Geo
     requires sizes { All (λ frame. length frame.bytes.items ≡ frame_bytes geometry.now) group.old.items }
     ensures one { vec_len group.new ≡ 1 }
     ensures sizes { All (λ frame. length frame.bytes.items ≡ frame_bytes geometry.now) group.new.items }
-    ensures frames { All (λ frame. picture frame ≡ pattern_picture geometry.now n) group.new.items }
+    ensures frames { pictures group.new.items ≡ pattern_picture geometry.now n ∷ [] }
 {
     let frame = &mut group[0];
     fill_pattern(&mut frame.bytes, n);

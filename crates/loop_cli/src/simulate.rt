@@ -2,6 +2,7 @@
 
 use crate::command::{Command, read_command};
 use crate::lines::{MAX_LINE, next_line};
+use crate::refusal::print_refusal;
 use crate::runs::run_length;
 use crate::session::Session;
 use loop_record::Geometry;
@@ -227,17 +228,4 @@ fn print_runs<W: Write>(numbers: &[u64], out: &mut W) -> io::Result<()> {
         rest = behind;
     }
     Ok(())
-}
-
-/// Prints a refusal: its number, its name and its arguments.
-pub fn print_refusal<W: Write>(out: &mut W, fault: StoreFault) -> io::Result<()> {
-    let number = fault.number();
-    let name = fault.name();
-    match fault {
-        StoreFault::Damaged(damage) => {
-            let kind = damage.number();
-            writeln!(out, "refused {number} {name} {kind}")
-        }
-        _ => writeln!(out, "refused {number} {name}"),
-    }
 }

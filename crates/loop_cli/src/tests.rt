@@ -1,9 +1,12 @@
 use crate::lines::{BadLine, next_line};
 use crate::program::run_words;
+use crate::refusal::print_refusal;
 use crate::session::Session;
 use crate::simulate::simulate;
 use loop_budget::Budget;
-use loop_record::{Geometry, PixelFormat};
+use loop_disk::DiskFault;
+use loop_record::{Damage, Geometry, PixelFormat};
+use loop_store::StoreFault;
 use std::alloc::{AllocError, Allocator, Global};
 use std::io;
 use std::io::{Error, ErrorKind, Read, Write};
@@ -404,5 +407,31 @@ fn stores_and_reads_take_no_memory(rt: HostRuntime) -> Result<(), Fail> {
     budget.allow(1000);
     let mut session = session.reopen(&budget)?;
     assert_eq!(rt; session.store_next(), Ok(1000));
+    Ok(())
+}
+
+#[test]
+fn a_refusal_is_printed_with_its_number_its_name_and_the_kind_of_damage(
+    rt: HostRuntime,
+) -> Result<(), Fail> {
+    for (fault, line) in [
+        (StoreFault::NoMemory, "refused 1 NoMemory\n"),
+        (StoreFault::Disk(DiskFault::Sync), "refused 2 Disk\n"),
+        (StoreFault::MustReopen, "refused 3 MustReopen\n"),
+        (
+            StoreFault::Damaged(Damage::DiskSize),
+            "refused 5 Damaged 1\n",
+        ),
+        (
+            StoreFault::Damaged(Damage::ClipRange),
+            "refused 5 Damaged 7\n",
+        ),
+        (StoreFault::NumbersSpent, "refused 14 NumbersSpent\n"),
+    ] {
+        let mut out: Vec<u8> = Vec::new(rt.alloc());
+        print_refusal(&mut out, fault)?;
+        assert_eq!(rt; out.as_slice(), line.as_bytes(), "{line}");
+        assert!(rt; print_refusal(&mut Broken, fault).is_err(), "{line}");
+    }
     Ok(())
 }

@@ -70,16 +70,8 @@ impl FileDisk {
             .create(true)
             .open(rt, path)?;
         take(&file)?;
-        file.set_len(size)?;
-        file.set_len(0)?;
-        file.set_len(size)?;
-        file.sync_all()?;
-        sync_folder(rt, path)?;
-        Ok(FileDisk {
-            file,
-            size,
-            failures: Failures::none(),
-        })
+        let folder = File::open(rt, folder_of(path))?;
+        FileDisk::fresh_over(file, &folder, size)
     }
 
     /// Opens a file that is there, for reading and writing. Its length is the disk's size.
@@ -108,14 +100,12 @@ fn take(file: &File) -> Result<(), FileFault> {
     }
 }
 
-// Puts a file's name on the disk.
-fn sync_folder<R: Files<File = File>>(rt: &R, path: &str) -> io::Result<()> {
-    let path = Path::new(path);
-    let folder = match path.parent() {
+// The folder in which a path's file stands.
+fn folder_of(path: &str) -> Path<'_> {
+    match Path::new(path).parent() {
         Some(folder) if !folder.as_os_str().is_empty() => folder,
         _ => Path::new("."),
-    };
-    File::open(rt, folder)?.sync_all()
+    }
 }
 
 impl<F: OpenFile + FileExt + Drop> FileDisk<F> {
@@ -124,6 +114,24 @@ impl<F: OpenFile + FileExt + Drop> FileDisk<F> {
         ensures { IfOk result (λ disk. (⟦<FileDisk<F> as Disk>⟧.medium disk).failures ≡ no_failures) }
     {
         let size = file.metadata()?.len();
+        Ok(FileDisk {
+            file,
+            size,
+            failures: Failures::none(),
+        })
+    }
+
+    /// Makes an open file, which nobody else may use, a disk of so many bytes of zero, and syncs the file and then the folder in
+    /// which it stands. It takes no lock. A file that can't have that size keeps its bytes.
+    pub fn fresh_over<G: OpenFile>(file: F, folder: &G, size: u64) -> Result<Self, FileFault>
+        ensures size { IfOk result (λ disk. (⟦<FileDisk<F> as Disk>⟧.medium disk).size ≡ size) }
+        ensures counted { IfOk result (λ disk. (⟦<FileDisk<F> as Disk>⟧.medium disk).failures ≡ no_failures) }
+    {
+        file.set_len(size)?;
+        file.set_len(0)?;
+        file.set_len(size)?;
+        file.sync_all()?;
+        folder.sync_all()?;
         Ok(FileDisk {
             file,
             size,

@@ -33,9 +33,9 @@ changes count s page new id me w kept within is most others =
     }
 
 -- a seat's view is cut into itself and an empty one
-pub split_keeps : (count id : ℕ) (v : Holding) → Splits (IsKept count) id v v (holding [] [])
+pub split_keeps : (count id : ℕ) (v : Holding) → Splits (IsKept count) id v v (holding [] [] [])
 split_keeps count id v s kept at =
-    let empty : Holding = holding [] [] in
+    let empty : Holding = holding [] [] [] in
     let same : set s.views id v ++ empty ∷ [] ≡ s.views ++ empty ∷ [] = ap (λ (vs : List Holding). vs ++ empty ∷ []) (set_again s.views id v at) in
     let as_before : (page : ℕ) → listed page (set s.views id v ++ empty ∷ []) ≡ listed page s.views = λ page. ap (listed page) same ∙ listed-append page s.views in record {
       size = kept.size;
@@ -44,10 +44,10 @@ split_keeps count id v s kept at =
     }
 
 -- the word of a free page becomes 1, and the view gains the page
-won : (count id : ℕ) (me : Me (Unit {0}) Holding) (page : ℕ) (missed : List ℕ) (s : State (Unit {0}) Holding) → page < count → IsKept count s → get_elem? s.views id ≡ some me.0
-    → get_or s.words page 0 ≡ 0 → IsKept count (stepped s page 1 id me.1 (holding (me.0.pages ++ page ∷ []) missed) keeps)
-won count id me page missed s within kept at free =
-    let w : Holding = holding (me.0.pages ++ page ∷ []) missed in
+won : (count id : ℕ) (me : Me (Unit {0}) Holding) (page : ℕ) (missed tried : List ℕ) (s : State (Unit {0}) Holding) → page < count → IsKept count s → get_elem? s.views id ≡ some me.0
+    → get_or s.words page 0 ≡ 0 → IsKept count (stepped s page 1 id me.1 (holding (me.0.pages ++ page ∷ []) missed tried) keeps)
+won count id me page missed tried s within kept at free =
+    let w : Holding = holding (me.0.pages ++ page ∷ []) missed tried in
     let sum = listed-set page s.views id me.0 w at in
     let more = times-append page me.0.pages page in
     let self = one_same page page refl in
@@ -58,10 +58,10 @@ won count id me page missed s within kept at free =
     let none_more = one_other other page not in omega arith)
 
 -- the word of a held page stays, and the view holds what it held
-lost : (count id : ℕ) (me : Me (Unit {0}) Holding) (page : ℕ) (missed : List ℕ) (s : State (Unit {0}) Holding) → page < count → IsKept count s → get_elem? s.views id ≡ some me.0
-    → IsKept count (stepped s page (get_or s.words page 0) id me.1 (holding me.0.pages missed) keeps)
-lost count id me page missed s within kept at =
-    let w : Holding = holding me.0.pages missed in
+lost : (count id : ℕ) (me : Me (Unit {0}) Holding) (page : ℕ) (missed tried : List ℕ) (s : State (Unit {0}) Holding) → page < count → IsKept count s → get_elem? s.views id ≡ some me.0
+    → IsKept count (stepped s page (get_or s.words page 0) id me.1 (holding me.0.pages missed tried) keeps)
+lost count id me page missed tried s within kept at =
+    let w : Holding = holding me.0.pages missed tried in
     let as_before : (other : ℕ) → listed other (set s.views id w) ≡ listed other s.views = λ other. let sum = listed-set other s.views id me.0 w at in omega arith in
     let was = kept.counted page in
     let here = as_before page in
@@ -74,20 +74,21 @@ pub try_keeps : (count slots id : ℕ) (me : Me (Unit {0}) Holding) (page : ℕ)
 try_keeps count slots id me page within s kept _ at _ =
     let n : ℕ = get_or s.words page 0 in
     let before : List ℕ = missed_before page me.0.missed in
-    let w : Holding = holding (me.0.pages ++ page ∷ []) before in
-    let l : Holding = holding me.0.pages (before ++ page ∷ []) in dite (ℕ_discrete n 0)
+    let tried : List ℕ = me.0.tried ++ page ∷ [] in
+    let w : Holding = holding (me.0.pages ++ page ∷ []) before tried in
+    let l : Holding = holding me.0.pages (before ++ page ∷ []) tried in dite (ℕ_discrete n 0)
     (λ free. (
       w,
       keeps,
       tt,
-      subst (λ b. IsKept count (stepped s page (either b 1 n) id me.1 w keeps)) (sym (eq-eqb n 0 free)) (won count id me page before s within kept at free),
+      subst (λ b. IsKept count (stepped s page (either b 1 n) id me.1 w keeps)) (sym (eq-eqb n 0 free)) (won count id me page before tried s within kept at free),
       subst (λ b. MatchBool b (w ≡ w) (w ≡ l)) (sym (eq-eqb n 0 free)) refl,
     ))
     (λ held. (
       l,
       keeps,
       tt,
-      subst (λ b. IsKept count (stepped s page (either b 1 n) id me.1 l keeps)) (sym (ne_eqb n 0 held)) (lost count id me page (before ++ page ∷ []) s within kept at),
+      subst (λ b. IsKept count (stepped s page (either b 1 n) id me.1 l keeps)) (sym (ne_eqb n 0 held)) (lost count id me page (before ++ page ∷ []) tried s within kept at),
       subst (λ b. MatchBool b (l ≡ w) (l ≡ l)) (sym (ne_eqb n 0 held)) refl,
     ))
 
@@ -95,7 +96,7 @@ try_keeps count slots id me page within s kept _ at _ =
 pub free_keeps : (count slots id : ℕ) (me : Me (Unit {0}) Holding) (page : ℕ) (rest : List ℕ) → page < count → me.0.pages ≡ rest ++ page ∷ []
     → Allows (IsKept count) slots id me page (λ _. 0) (λ _. frees (step slots page 0 0 none) me 0)
 free_keeps count slots id me page rest within last s kept _ at _ =
-    let w : Holding = holding rest me.0.missed in
+    let w : Holding = holding rest me.0.missed me.0.tried in
     let before : (other : ℕ) → times other me.0.pages ≡ times other rest + one other page = λ other. ap (times other) last ∙ times-append other rest page in
     let sum = listed-set page s.views id me.0 w at in
     let less = before page in
@@ -108,7 +109,7 @@ free_keeps count slots id me page rest within last s kept _ at _ =
           let sum' = listed-set other s.views id me.0 w at in
           let same = before other in
           let none_less = one_other other page not in omega arith),
-      (last, refl),
+      (last, (refl, refl)),
     )
 
 -- what holds of each page holds of the last one

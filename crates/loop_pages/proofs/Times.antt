@@ -19,7 +19,7 @@ pub times-append : (page : ℕ) (pages : List ℕ) (last : ℕ) → times page (
 times-append page [] last = omega arith
 times-append page (p ∷ ps) last = let r = times-append page ps last in omega arith
 
-pub listed-append : (page : ℕ) (views : List Holding) → listed page (views ++ holding [] [] ∷ []) ≡ listed page views
+pub listed-append : (page : ℕ) (views : List Holding) → listed page (views ++ holding [] [] [] ∷ []) ≡ listed page views
 listed-append page [] = refl
 listed-append page (v ∷ vs) = ap (λ (n : ℕ). times page v.pages + n) (listed-append page vs)
 

@@ -1,6 +1,6 @@
 -- What the answers of the ledger mean.
-use Rattle.std.specs.Prelude.{◌≡◌, ℕ, ◌+◌, ◌-◌, ◌<◌, ◌≤◌, ◌⊎◌, List, length, slice_index, Contains}
-use Rattle.std.specs.List.{All, AllPairs}
+use Rattle.std.specs.Prelude.{◌≡◌, ℕ, ◌+◌, ◌-◌, ◌<◌, ◌≤◌, ◌⊎◌, List, ◌++◌, length, slice_index, Contains}
+use Rattle.std.specs.List.{All, AllPairs, range_with_len}
 use Rattle.loop_pages.specs.declared.fault.PageFault.{PageFault}
 use Rattle.loop_pages.specs.declared.fault.PageFault.TheVariants.{NoPages, NoMemory, BadCount}
 
@@ -13,23 +13,24 @@ pub record IsRising (limit : ℕ) (pages : List ℕ) : Type 0 where
   pub below : All (λ page. page < limit) pages
   pub rise : AllPairs (λ page later. page < later) pages
 
--- each page below a limit was tried once, from page 0 upward: some were got, and the others missed
-pub record IsTried (limit : ℕ) (got missed : List ℕ) : Type 0 where
+-- each page below a limit was tried once, from page 0 upward, after those that were tried before: some were got, and the others missed
+pub record IsTried (limit : ℕ) (got missed before tried : List ℕ) : Type 0 where
+  pub order : tried ≡ before ++ range_with_len 0 limit
   pub got_rise : IsRising limit got
   pub missed_rise : IsRising limit missed
   pub each : (page : ℕ) → page < limit → Contains got page ⊎ Contains missed page
   pub once : length got + length missed ≡ limit
 
 -- a claim that has as many as it asked for, and tried no page past the last of them
-pub record IsGot (most count : ℕ) (pages missed : List ℕ) : Type 0 where
+pub record IsGot (most count : ℕ) (pages missed before tried : List ℕ) : Type 0 where
   pub all : length pages ≡ count
-  pub tried : IsTried (slice_index pages (count - 1) + 1) pages missed
+  pub tries : IsTried (slice_index pages (count - 1) + 1) pages missed before tried
   pub within : slice_index pages (count - 1) < most
 
 -- a claim that tried every page and got fewer than it asked for
-pub record IsShort (most count : ℕ) (got missed : List ℕ) : Type 0 where
+pub record IsShort (most count : ℕ) (got missed before tried : List ℕ) : Type 0 where
   pub few : length got < count
-  pub tried : IsTried most got missed
+  pub tries : IsTried most got missed before tried
 
 -- why a claim was refused: BadCount is the answer to a count that may not be asked, and to no other
 abbrev pub FaultOfClaim : PageFault → Type 0 → Type 0

@@ -3,9 +3,9 @@ use Rattle.std.specs.Prelude.{◌≡◌, ℕ, zero, suc, ◌+◌, ◌≤◌, ◌
 use Rattle.atomic_table.specs.Table.{State, Me, Step}
 use Rattle.loop_pages.specs.declared.rule.Holding.{Holding}
 
--- a view: the pages that its seat holds, and those that its last claim missed
-abbrev pub holding : List ℕ → List ℕ → Holding
-holding pages missed = record { pages = pages; missed = missed }
+-- a view: the pages that its seat holds, those that its last claim missed, and all that it ever tried, in their order
+abbrev pub holding : List ℕ → List ℕ → List ℕ → Holding
+holding pages missed tried = record { pages = pages; missed = missed; tried = tried }
 
 -- how often a page stands in a list
 abbrev pub times : ℕ → List ℕ → ℕ
@@ -28,14 +28,14 @@ abbrev pub missed_before : ℕ → List ℕ → List ℕ
 missed_before zero missed = []
 missed_before (suc page) missed = missed
 
--- a try of a page: the view gains the page where its word was 0, and has missed it where it was not
+-- a try of a page: the view has tried it, gains it where its word was 0, and has missed it where it was not
 abbrev pub tries : Step (Unit {0}) → Me (Unit {0}) Holding → ℕ → Me (Unit {0}) Holding → Type 0
 tries step before found after =
     MatchBool
     (found == 0)
-    (after.0 ≡ holding (before.0.pages ++ step.word ∷ []) (missed_before step.word before.0.missed))
-    (after.0 ≡ holding before.0.pages (missed_before step.word before.0.missed ++ step.word ∷ []))
+    (after.0 ≡ holding (before.0.pages ++ step.word ∷ []) (missed_before step.word before.0.missed) (before.0.tried ++ step.word ∷ []))
+    (after.0 ≡ holding before.0.pages (missed_before step.word before.0.missed ++ step.word ∷ []) (before.0.tried ++ step.word ∷ []))
 
 -- a page given back: the view loses the page, which it listed last
 abbrev pub frees : Step (Unit {0}) → Me (Unit {0}) Holding → ℕ → Me (Unit {0}) Holding → Type 0
-frees step before _ after = (before.0.pages ≡ after.0.pages ++ step.word ∷ []) × (after.0.missed ≡ before.0.missed)
+frees step before _ after = (before.0.pages ≡ after.0.pages ++ step.word ∷ []) × ((after.0.missed ≡ before.0.missed) × (after.0.tried ≡ before.0.tried))

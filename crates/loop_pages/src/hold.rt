@@ -13,7 +13,8 @@ use std::marker::Model;
 use std::sync::Arc;
 
 /// Pages of one ledger, which nobody else holds until they are released. Dropping a hold releases it.
-/// Contracts see the ledger, the pages, which are those that the view of its seat lists, and those that its claim missed.
+/// Contracts see the ledger, the pages, which are those that the view of its seat lists, those that its claim missed, and all
+/// that the seat ever tried.
 pub struct PageHold<A: Allocator = Global> {
     ledger: Arc<PageLedger<A>, A>,
     seat: PageSeat,
@@ -41,7 +42,9 @@ fn try_each<A: Allocator>(
     requires count { 0 < count }
     requires pages { (pages.old.items ≡ []) × (count ≤ vec_capacity pages.old) }
     ensures seat { (seat.new.ledger ≡ ledger.now) × (seat.new.pages ≡ pages.new.items) }
-    ensures tried { MatchBool result (IsGot ledger.now.words count pages.new.items seat.new.missed) (IsShort ledger.now.words count pages.new.items seat.new.missed) }
+    ensures tried { MatchBool result
+        (IsGot ledger.now.words count pages.new.items seat.new.missed seat.old.tried seat.new.tried)
+        (IsShort ledger.now.words count pages.new.items seat.new.missed seat.old.tried seat.new.tried) }
 {
     for page in 0..ledger.count() {
         if ledger.take_page(seat, page) {
@@ -59,7 +62,7 @@ fn give_back<A: Allocator>(ledger: &PageLedger<A>, seat: &mut PageSeat, pages: &
     requires ledger { seat.old.ledger ≡ ledger.now }
     requires pages { seat.old.pages ≡ pages.old.items }
     requires within { All (λ page. page < ledger.now.words) pages.old.items }
-    ensures seat { seat.new ≡ place ledger.now [] seat.old.missed }
+    ensures seat { seat.new ≡ place ledger.now [] seat.old.missed seat.old.tried }
     ensures pages { pages.new.items ≡ [] }
 {
     while let Some(page) = pages.pop() {
@@ -83,10 +86,11 @@ impl<A: Allocator> PageLedger<A> {
         ensures count { IfOk result (λ h. IsCount (arc_value ledger.now).words count × (length h.pages ≡ count)) }
         ensures ledger { IfOk result (λ h. h.ledger ≡ arc_value ledger.now) }
         ensures pages { IfOk result (λ h. IsRising (arc_value ledger.now).words h.pages) }
-        ensures tried { IfOk result (λ h. IsGot (arc_value ledger.now).words count h.pages h.missed) }
+        ensures tried { IfOk result (λ h. IsGot (arc_value ledger.now).words count h.pages h.missed seat.tried h.tried) }
 
         ensures fault { IfErr result (λ e. FaultOfClaim e.0 (IsCount (arc_value ledger.now).words count)) }
-        ensures short { IfErr result (λ e. IfNoPages e.0 ((got : _) × IsShort (arc_value ledger.now).words count got e.1.missed)) }
+        ensures short { IfErr result (λ e. IfNoPages e.0
+            ((got : _) × IsShort (arc_value ledger.now).words count got e.1.missed seat.tried e.1.tried)) }
         ensures idle { IfErr result (λ e. IsIdle (arc_value ledger.now) e.1) }
         ensures same { IfErr result (λ e. UnlessNoPages e.0 (e.1 ≡ seat)) }
     {
@@ -132,14 +136,14 @@ impl<A: Allocator> PageHold<A> {
 
     /// Gives all pages back. The hold has none then, and a second call finds none to give back.
     pub fn release(&mut self)
-        ensures { self.new ≡ place self.old.ledger [] self.old.missed }
+        ensures { self.new ≡ place self.old.ledger [] self.old.missed self.old.tried }
     {
         give_back(&self.ledger, &mut self.seat, &mut self.pages);
     }
 
     // Gives all pages back, and the seat.
     fn into_seat(self) -> PageSeat
-        ensures { result ≡ place self.ledger [] self.missed }
+        ensures { result ≡ place self.ledger [] self.missed self.tried }
     {
         let PageHold {
             ledger,

@@ -39,7 +39,7 @@ impl<A: Allocator + Copy> PageLedger<A> {
     /// and NoMemory where a growth was refused; nothing is left then.
     pub fn new(alloc: A, count: u32) -> Result<(Arc<PageLedger<A>, A>, PageSeat), PageFault>
         ensures count { IfOk result (λ r. IsCount 1024 count × ((arc_value r.0).words ≡ count)) }
-        ensures seat { IfOk result (λ r. r.1 ≡ place (arc_value r.0) [] []) }
+        ensures seat { IfOk result (λ r. r.1 ≡ place (arc_value r.0) [] [] []) }
         ensures fault { IfErr result (λ fault. FaultOfNew fault (IsCount 1024 count)) }
     {
         if count == 0 || count > MOST_PAGES {
@@ -50,7 +50,7 @@ impl<A: Allocator + Copy> PageLedger<A> {
 
     fn made(alloc: A, count: u32) -> Result<(Arc<PageLedger<A>, A>, PageSeat), AllocError>
         requires { IsCount 1024 count }
-        ensures { IfOk result (λ r. ((arc_value r.0).words ≡ count) × (r.1 ≡ place (arc_value r.0) [] [])) }
+        ensures { IfOk result (λ r. ((arc_value r.0).words ≡ count) × (r.1 ≡ place (arc_value r.0) [] [] [])) }
     {
         let words = vec![in alloc; 0u64; count as usize]?;
         let (table, seat) = Table::of_words(alloc, words.as_slice(), &count)?;
@@ -72,7 +72,7 @@ impl<A: Allocator> PageLedger<A> {
     pub fn split(&self, seat: PageSeat) -> (PageSeat, PageSeat)
         requires { IsIdle self.now seat }
         ensures same { result.0 ≡ seat }
-        ensures new { result.1 ≡ place self.now [] [] }
+        ensures new { result.1 ≡ place self.now [] [] [] }
     {
         let PageSeat { mut seat } = seat;
         let other = self.table.shared.split_seat::<Halves>(&mut seat);
@@ -83,7 +83,9 @@ impl<A: Allocator> PageLedger<A> {
     pub(crate) fn take_page(&self, seat: &mut PageSeat, page: u32) -> bool
         requires ledger { seat.old.ledger ≡ self.now }
         requires page { page < self.now.words }
-        ensures { MatchBool result (seat.new ≡ place self.now (seat.old.pages ++ page ∷ []) (missed_before page seat.old.missed)) (seat.new ≡ place self.now seat.old.pages (missed_before page seat.old.missed ++ page ∷ [])) }
+        ensures { MatchBool result
+            (seat.new ≡ place self.now (seat.old.pages ++ page ∷ []) (missed_before page seat.old.missed) (seat.old.tried ++ page ∷ []))
+            (seat.new ≡ place self.now seat.old.pages (missed_before page seat.old.missed ++ page ∷ []) (seat.old.tried ++ page ∷ [])) }
     {
         let seat = &mut seat.seat;
         let found = self
@@ -98,7 +100,7 @@ impl<A: Allocator> PageLedger<A> {
         requires ledger { seat.old.ledger ≡ self.now }
         requires page { page < self.now.words }
         requires last { EndsWith seat.old.pages page }
-        ensures place { seat.new ≡ place self.now seat.new.pages seat.old.missed }
+        ensures place { seat.new ≡ place self.now seat.new.pages seat.old.missed seat.old.tried }
         ensures pages { seat.old.pages ≡ seat.new.pages ++ page ∷ [] }
     {
         let seat = &mut seat.seat;

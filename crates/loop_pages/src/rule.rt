@@ -2,11 +2,12 @@
 use atomic_table::{Play, Split, TableRule};
 use std::collections::LinkedList;
 
-/// What a seat knows: the pages that it holds, in the order in which it got them, and the pages that its last claim tried
-/// and missed, since another seat held them. No value of it is made.
+/// What a seat knows: the pages that it holds, in the order in which it got them, the pages that its last claim tried
+/// and missed, since another seat held them, and all pages that it ever tried, one after the other. No value of it is made.
 pub struct Holding {
     pub pages: LinkedList<u32>,
     pub missed: LinkedList<u32>,
+    pub tried: LinkedList<u32>,
 }
 
 /// The rule of the words: each says how often the views of the seats list its page, which is once or not at all.
@@ -19,7 +20,7 @@ impl TableRule<(), Holding, u32> for PageRule {
 
     ghost holds = { IsKept };
 
-    ghost first = { λ _. holding [] [] };
+    ghost first = { λ _. holding [] [] [] };
 }
 
 // A compare-exchange of 0 to 1.
@@ -49,5 +50,5 @@ impl Split<Holding> for Halves {
 
     ghost left = { λ v. v };
 
-    ghost right = { λ _. holding [] [] };
+    ghost right = { λ _. holding [] [] [] };
 }

@@ -4,7 +4,8 @@ use atomic_table::Seat;
 use std::marker::Model;
 
 /// The right to make steps on the words of one ledger. It takes no bytes, and a thread of its own can have it.
-/// Contracts see the ledger that it belongs to, the pages that its view lists, and those that its last claim missed.
+/// Contracts see the ledger that it belongs to, the pages that its view lists, those that its last claim missed, and all
+/// that it ever tried.
 #[derive(Drop)]
 pub struct PageSeat {
     pub(crate) seat: Seat<(), Holding>,
@@ -17,5 +18,5 @@ impl Model for PageSeat {
 
     ghost coded = { place_code };
 
-    ghost view = { λ s. place s.seat.table_id s.seat.me.0.pages s.seat.me.0.missed };
+    ghost view = { λ s. place s.seat.table_id s.seat.me.0.pages s.seat.me.0.missed s.seat.me.0.tried };
 }

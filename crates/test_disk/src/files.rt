@@ -148,12 +148,37 @@ fn short_counts_and_interruptions_are_gone_on_from(rt: HostRuntime) -> Result<()
     Ok(())
 }
 
+// The syncs of a file: how many of its bytes and its length, how many of all that it is, and whether they fail.
+#[derive(Drop)]
+struct Syncs {
+    data: Cell<u32>,
+    all: Cell<u32>,
+    fails: Cell<bool>,
+}
+
+impl Syncs {
+    fn none() -> Syncs {
+        Syncs {
+            data: Cell::new(0),
+            all: Cell::new(0),
+            fails: Cell::new(false),
+        }
+    }
+
+    fn count(&self, syncs: &Cell<u32>) -> io::Result<()> {
+        syncs.set(syncs.get().wrapping_add(1));
+        if self.fails.get() {
+            return Err(io::Error::from(ErrorKind::Other));
+        }
+        Ok(())
+    }
+}
+
 // A file whose syncs are counted, and fail where they are to.
 #[derive(Drop)]
 struct Counting<'a> {
     file: File,
-    syncs: &'a Cell<u32>,
-    fails: &'a Cell<bool>,
+    syncs: &'a Syncs,
 }
 
 impl<'a> OpenFile for Counting<'a> {
@@ -166,14 +191,12 @@ impl<'a> OpenFile for Counting<'a> {
     }
 
     fn sync_all(&self) -> io::Result<()> {
+        self.syncs.count(&self.syncs.all)?;
         self.file.sync_all()
     }
 
     fn sync_data(&self) -> io::Result<()> {
-        self.syncs.set(self.syncs.get().wrapping_add(1));
-        if self.fails.get() {
-            return Err(io::Error::from(ErrorKind::Other));
-        }
+        self.syncs.count(&self.syncs.data)?;
         self.file.sync_data()
     }
 }
@@ -193,21 +216,56 @@ fn a_sync_is_one_of_the_file(rt: HostRuntime) -> Result<(), Fail> {
     let path = "counting.img";
     drop(FileDisk::create(&rt, path, 8)?);
     let file = OpenOptions::new().read(true).write(true).open(&rt, path)?;
-    let syncs = Cell::new(0);
-    let fails = Cell::new(false);
+    let syncs = Syncs::none();
     let mut disk = FileDisk::over(Counting {
         file,
         syncs: &syncs,
-        fails: &fails,
     })?;
     assert_eq!(rt; disk.size(), 8);
     assert_eq!(rt; disk.write_at(1, b"ab"), Ok(()));
-    assert_eq!(rt; syncs.get(), 0);
+    assert_eq!(rt; syncs.data.get(), 0);
     assert_eq!(rt; disk.sync(), Ok(()));
-    assert_eq!(rt; syncs.get(), 1);
-    fails.set(true);
+    assert_eq!(rt; syncs.data.get(), 1);
+    syncs.fails.set(true);
     assert_eq!(rt; disk.sync(), Err(DiskFault::Sync));
-    assert_eq!(rt; syncs.get(), 2);
+    assert_eq!(rt; syncs.data.get(), 2);
     fs::remove_file(&rt, path)?;
+    Ok(())
+}
+
+// A file of three bytes that counts its syncs.
+fn old_file<'a>(rt: &HostRuntime, path: &str, syncs: &'a Syncs) -> Result<Counting<'a>, Fail> {
+    fs::write(rt, path, b"old")?;
+    let file = OpenOptions::new().read(true).write(true).open(rt, path)?;
+    Ok(Counting { file, syncs })
+}
+
+#[test]
+fn a_fresh_file_and_its_folder_are_synced_before_the_answer(rt: HostRuntime) -> Result<(), Fail> {
+    for (file_fails, folder_fails) in [(false, false), (false, true), (true, false)] {
+        let (of_file, of_folder) = (Syncs::none(), Syncs::none());
+        of_file.fails.set(file_fails);
+        of_folder.fails.set(folder_fails);
+        let file = old_file(&rt, "fresh.img", &of_file)?;
+        let folder = old_file(&rt, "folder.img", &of_folder)?;
+        let made = FileDisk::fresh_over(file, &folder, 8);
+        assert_eq!(rt; of_file.all.get(), 1);
+        assert_eq!(rt; of_folder.all.get(), if file_fails { 0 } else { 1 });
+        match made {
+            Ok(mut disk) => {
+                let mut bytes = [1; 8];
+                assert_eq!(rt; disk.size(), 8);
+                assert_eq!(rt; disk.read(0, &mut bytes), Ok(()));
+                assert_eq!(rt; bytes, [0; 8]);
+                assert!(rt; !file_fails && !folder_fails);
+            }
+            Err(fault) => {
+                assert_eq!(rt; fault, FileFault::Failed);
+                assert!(rt; file_fails || folder_fails);
+            }
+        }
+    }
+    fs::remove_file(&rt, "fresh.img")?;
+    fs::remove_file(&rt, "folder.img")?;
     Ok(())
 }

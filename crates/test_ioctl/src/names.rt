@@ -2,28 +2,36 @@
 
 use crate::common::Call::*;
 use crate::common::Told::{Count, Done, Frame, Refused};
-use crate::common::{one, page, runs};
+use crate::common::{page, runs};
 use loop_ioctl::PlaneFds;
 use loop_pages::PageLedger;
 use loop_plane::{DmabufPlane, DmabufTable, FdFault, FdTable, Memory};
 use loop_record::PixelFormat;
 use loop_vb2::{Queue, Reason};
+use std::alloc::Global;
+use std::process::Abort;
 use std::test::Fail;
 
 const DMABUF: Memory = Memory::DmaBuf;
 
-#[test]
-fn fds_are_attached_while_a_buffer_has_their_planes(rt: HostRuntime) -> Result<(), Fail> {
-    let alloc = rt.alloc();
+// A table with one plane of one page, and the plane's fd.
+fn table_of_one(rt: &impl Abort, alloc: Global) -> Result<(DmabufTable, u32), Fail> {
     let (ledger, seat) = PageLedger::new(alloc, 1)?;
-    let (hold, _) = page(&rt, alloc, &ledger, seat);
+    let (hold, _) = page(rt, alloc, &ledger, seat);
     let Ok(plane) = DmabufPlane::new(alloc, hold) else {
         panic!(rt; "memory for a plane")
     };
     let mut table: DmabufTable = FdTable::new(alloc);
-    let Ok(fd) = table.add(Box::new(alloc, plane)?) else {
-        panic!(rt; "memory for an fd")
-    };
+    match table.add(Box::new(alloc, plane)?) {
+        Ok(fd) => Ok((table, fd)),
+        Err(_) => panic!(rt; "memory for an fd"),
+    }
+}
+
+#[test]
+fn fds_are_attached_while_a_buffer_has_their_planes(rt: HostRuntime) -> Result<(), Fail> {
+    let alloc = rt.alloc();
+    let (mut table, fd) = table_of_one(&rt, alloc)?;
     let mut queue: Queue = Queue::new(alloc, PixelFormat::Grey, 1, 1, 1);
     let named = PlaneFds {
         count: 1,

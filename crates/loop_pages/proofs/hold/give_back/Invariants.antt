@@ -5,7 +5,7 @@ use Rattle.loop_pages.proofs.hold.give_back.Given as goal
 
 abbrev pub invariant-loop-page : goal.invariant-loop-page
 invariant-loop-page g l = record {
-  seat : l.seat ≡ place l.ledger l.pages.items l.initial.seat.missed;
+  seat : l.seat ≡ place l.ledger l.pages.items l.initial.seat.missed l.initial.seat.tried;
   within : All (λ page. page < l.ledger.words) l.pages.items;
 }
 

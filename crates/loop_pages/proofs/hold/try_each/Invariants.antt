@@ -7,7 +7,7 @@ abbrev pub invariant-loop-page : goal.invariant-loop-page
 invariant-loop-page g l = record {
   ledger : l.seat.ledger ≡ l.ledger;
   held : l.seat.pages ≡ l.pages.items;
-  tried : IsTried l.page l.pages.items (missed_before l.page l.seat.missed);
+  tried : IsTried l.page l.pages.items (missed_before l.page l.seat.missed) l.initial.seat.tried l.seat.tried;
   few : length l.pages.items < l.count;
   room : l.count ≤ vec_capacity l.pages;
 }

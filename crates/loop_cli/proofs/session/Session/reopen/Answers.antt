@@ -1,4 +1,4 @@
-use Rattle.std.proofs.Common.{◌≡◌, ◌==◌, ◌&&◌, true, sym, ◌∙◌}
+use Rattle.std.proofs.Common.{◌≡◌, ◌==◌, ◌&&◌, true, sym, ap, ◌∙◌}
 use Rattle.std.proofs.lemmas.Bool.{and_parts, eqb-true, not-false}
 use denote.Enum.Bare.{sameb, same_true}
 use Rattle.loop_record.specs.contracts.geometry.PixelFormat.{the_type}
@@ -23,5 +23,12 @@ equal a b same =
     let slots = eqb-true a.slots b.slots s.1 in
     λ i. record { width = width i; height = height i; format = format i; rate_num = num i; rate_den = den i; segments = segments i; slots = slots i }
 
-pub invariant_of-result-clause-stored : goal.invariant_of-result-clause-stored
-invariant_of-result-clause-stored g c = sym c.geometry.ensures.geometry ∙ equal c.geometry.result c.args.self.geometry (not-false _ (sym c.if-ne.ensures))
+pub invariant_of-result : goal.invariant_of-result
+invariant_of-result g c =
+    let same = sym c.geometry.ensures.geometry ∙ equal c.geometry.result c.geometry-geometry.result (not-false _ (sym c.if-ne.ensures)) ∙ c.geometry-geometry.ensures.geometry in
+    rw same c.self.invariant
+
+pub returns-else-ne-clause-geometry : goal.returns-else-ne-clause-geometry
+returns-else-ne-clause-geometry g c =
+    let same = sym c.geometry.ensures.geometry ∙ equal c.geometry.result c.geometry-geometry.result (not-false _ (sym c.if-ne.ensures)) ∙ c.geometry-geometry.ensures.geometry in
+    same ∙ ap (λ s. s.store.geometry) c.self.view_is
