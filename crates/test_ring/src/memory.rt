@@ -6,7 +6,7 @@ use loop_budget::Budget;
 use loop_clips::{CLIPS, Clip, ClipTable};
 use loop_disk::{DiskFault, FuseDisk, MemDisk};
 use loop_record::{Geometry, OPEN, PixelFormat, SegmentHead, Span};
-use loop_ring::{SegmentIndex, victim_block, victim_segment};
+use loop_ring::{SegmentIndex, victim_block};
 use std::alloc::{AllocError, Allocator, Global};
 use std::process::Abort;
 use std::test::Fail;
@@ -155,7 +155,7 @@ fn goes(
 ) -> Result<Option<(u64, u32)>, AllocError> {
     let index = index(alloc, heads)?;
     let block = victim_block(&SMALL, &index, clips);
-    let segment = victim_segment(&SMALL, &index, clips);
+    let segment = block.and_then(|block| index.find(block).0);
     Ok(block.zip(segment))
 }
 
