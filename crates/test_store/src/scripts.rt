@@ -27,9 +27,11 @@ enum Line {
     Clip(usize, u64, u64),
     /// The disk has these bytes from a place on.
     Has(usize, &'static [u8]),
+    /// This block would go next. To tell it takes no call of the disk.
+    Goes(Option<u64>),
 }
 
-use Line::{Clip, Has, Open, Put, Refused};
+use Line::{Clip, Goes, Has, Open, Put, Refused};
 
 type Recorder<'a> = Store<Counted<'a, MemDisk>>;
 
@@ -160,6 +162,11 @@ fn play_line<'a>(
         }
         Refused(fault) => refuses(rt, alloc, calls, store, *fault),
         Open(expected, spans) => opens(rt, alloc, calls, store, *expected, spans),
+        Goes(block) => {
+            calls.set(0);
+            assert_eq!(rt; (store.victim(), calls.get()), (*block, 0));
+            Ok(store)
+        }
         _ => changes(rt, alloc, calls, store, line),
     }
 }
@@ -309,15 +316,19 @@ const TWO_RETIRED: [Line; 6] = [
 ];
 
 // Six frames, the first segment retired, and then begun for block 3, which has no frame yet.
-const BEGUN: [Line; 8] = [
+const BEGUN: [Line; 11] = [
     Put(2560, &[0], 10),
     Put(2568, &[3], 10),
     Put(2816, &[0, 0], 10),
     Put(2560, &[OPEN], 11),
     Open(11, &[(2, 5)]),
+    // Block 3 has no frame: the newest of the held ones is 2.
+    Goes(Some(1)),
     Line::Store(1, 4, &[(2, 6)]),
+    Goes(Some(1)),
     Line::Store(1, 4, &[(2, 7)]),
     Line::Store(1, 10, &[(4, 8)]),
+    Goes(Some(2)),
 ];
 
 // A group of three of which the gates were torn: frame 0 alone is there. The gate behind a closed one is closed, and the closed
@@ -347,8 +358,9 @@ fn what_stops_leave_is_taken_up(rt: HostRuntime) -> Result<(), Fail> {
 }
 
 // Six frames, of which clips meet the blocks 0 and 1, or all three.
-const ALL_LOCKED: [Line; 10] = [
+const ALL_LOCKED: [Line; 12] = [
     Clip(0, 0, 3),
+    Goes(None),
     Refused(StoreFault::AllLocked),
     Clip(0, 1, 1),
     Clip(1, 2, 2),
@@ -357,12 +369,15 @@ const ALL_LOCKED: [Line; 10] = [
     Put(544, &[0], 12),
     Refused(StoreFault::AllLocked),
     Clip(0, 3, 4),
+    Goes(Some(0)),
     Line::Store(1, 10, &[(2, 6)]),
 ];
 
-const OLDEST_LOCKED: [Line; 3] = [
+const OLDEST_LOCKED: [Line; 5] = [
     Clip(0, 0, 0),
+    Goes(Some(1)),
     Line::Store(1, 10, &[(0, 1), (4, 6)]),
+    Goes(Some(2)),
     Open(11, &[(0, 1), (4, 6)]),
 ];
 
