@@ -1,3 +1,4 @@
+pub mod Answered
 pub mod Heads
 pub mod Held
 pub mod Chosen

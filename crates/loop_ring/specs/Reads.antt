@@ -1,11 +1,11 @@
 -- What a read of a slot answers.
-use Rattle.std.specs.Prelude.{◌≡◌, ℕ, List, Option, None, Some, Result, Ok, Err}
+use Rattle.std.specs.Prelude.{◌≡◌, ℕ, List, Option, None, Some, Result, Ok, Err, OnOk}
 use Rattle.loop_disk.specs.declared.fault.DiskFault.{DiskFault}
 use Rattle.loop_record.specs.declared.damage.Damage.{Damage}
 use Rattle.loop_record.specs.declared.frame.FrameHead.{FrameHead}
 use Rattle.loop_record.specs.declared.geometry.Geometry.{Geometry}
 use Rattle.loop_record.specs.Geometry.{frame_bytes, slot_at}
-use Rattle.loop_record.specs.Layout.{Slot, slot_in}
+use Rattle.loop_record.specs.Layout.{Slot, slot_head, slot_in}
 use Rattle.loop_ring.specs.declared.fault.SlotFault.{SlotFault}
 use Rattle.loop_ring.specs.declared.fault.SlotFault.TheVariants.{Disk, Damaged}
 
@@ -18,6 +18,10 @@ abbrev pub AnswersHead : Result FrameHead Damage → Result FrameHead SlotFault 
 AnswersHead said (Ok head) = said ≡ Ok head
 AnswersHead said (Err (Damaged damage)) = said ≡ Err damage
 AnswersHead said (Err (Disk fault)) = Unit {0}
+
+-- so it is for frame `number` of n bytes, and where the head is answered, the pixels were read
+abbrev pub AnswersSlot : ℕ → ℕ → Slot → Result FrameHead SlotFault → List ℕ → Type 0
+AnswersSlot n number slot result out = AnswersHead (slot_head n number slot) result × OnOk result (out ≡ slot.picture.bytes)
 
 -- the call of the disk that failed, if the answer is that one did
 abbrev pub failed_read : {T : Type 0} → Result T SlotFault → Option DiskFault

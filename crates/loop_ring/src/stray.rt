@@ -1,12 +1,12 @@
 // The frame gates that a stop left open behind a closed one.
-ghost use Rattle.std.specs.Prelude.{◌≡◌, ◌+◌, ◌<◌, ◌≤◌, ◌==◌, OnOk, length};
+ghost use Rattle.std.specs.Prelude.{◌≡◌, ◌+◌, ◌<◌, ◌≤◌, ◌==◌};
 ghost use Rattle.std.specs.List.{list_any};
-ghost use Rattle.loop_disk.specs.Calls.{Called, Stays, failed_call};
-ghost use Rattle.loop_disk.specs.Medium.{IsSettled, LeavesOnly, SameOutside};
+ghost use Rattle.loop_disk.specs.Calls.{Stays};
+ghost use Rattle.loop_disk.specs.Medium.{IsSettled, SameOutside};
 ghost use Rattle.loop_record.specs.Change.{ShowsSegment};
 ghost use Rattle.loop_record.specs.Geometry.{disk_size};
 ghost use Rattle.loop_record.specs.Layout.{segment_in, whole_frames};
-ghost use Rattle.loop_ring.specs.Writes.{AreClosed, HasNoStray};
+ghost use Rattle.loop_ring.specs.Writes.{AreClosed, Changes, HasNoStray};
 
 use crate::Ring;
 use loop_disk::{Disk, DiskFault, store};
@@ -31,12 +31,11 @@ impl Ring {
         requires few { frames ≤ self.now.geometry.slots }
         requires settled { (D.medium disk.old).honest → IsSettled (D.medium disk.old) }
         requires whole { (D.medium disk.old).honest → whole_frames self.now.geometry (D.medium disk.old).bytes segment ≡ frames }
-        ensures moments { (D.medium disk.old).honest → LeavesOnly (D.medium disk.old) (D.medium disk.new) (ShowsSegment self.now.geometry segment (segment_in self.now.geometry (D.medium disk.old).bytes segment) (D.medium disk.old).bytes) }
-        ensures same { (D.medium disk.old).honest → OnOk result (ShowsSegment self.now.geometry segment (segment_in self.now.geometry (D.medium disk.old).bytes segment) (D.medium disk.old).bytes (D.medium disk.new).bytes) }
-        ensures stray { (D.medium disk.old).honest → OnOk result (HasNoStray self.now.geometry segment (D.medium disk.new).bytes) }
-        ensures quiet { (D.medium disk.old).honest → HasNoStray self.now.geometry segment (D.medium disk.old).bytes → Stays (D.medium disk.old) (D.medium disk.new) }
-        ensures settled { (D.medium disk.old).honest → OnOk result (IsSettled (D.medium disk.new)) }
-        ensures called { Called (D.medium disk.old) (D.medium disk.new) (failed_call result) }
+        ensures changes { let g = self.now.geometry in let old = D.medium disk.old in
+            let Same = ShowsSegment g segment (segment_in g old.bytes segment) old.bytes in
+            Changes Same (λ image. Same image × HasNoStray g segment image) old (D.medium disk.new) result }
+        ensures quiet { (D.medium disk.old).honest → HasNoStray self.now.geometry segment (D.medium disk.old).bytes
+            → Stays (D.medium disk.old) (D.medium disk.new) }
     {
         let first = frames + 1;
         if first >= self.geometry.slots {
@@ -53,12 +52,11 @@ fn close_gates<D: Disk>(disk: &mut D, at: u64, count: usize) -> Result<(), DiskF
     requires inside { at + count ≤ (D.medium disk.old).size }
     requires few { count ≤ 256 }
     requires settled { (D.medium disk.old).honest → IsSettled (D.medium disk.old) }
-    ensures moments { (D.medium disk.old).honest → LeavesOnly (D.medium disk.old) (D.medium disk.new) (SameOutside at count (D.medium disk.old).bytes) }
-    ensures elsewhere { (D.medium disk.old).honest → SameOutside at count (D.medium disk.old).bytes (D.medium disk.new).bytes }
-    ensures closed { (D.medium disk.old).honest → OnOk result (AreClosed at count (D.medium disk.new).bytes) }
-    ensures quiet { (D.medium disk.old).honest → AreClosed at count (D.medium disk.old).bytes → Stays (D.medium disk.old) (D.medium disk.new) }
-    ensures settled { (D.medium disk.old).honest → OnOk result (IsSettled (D.medium disk.new)) }
-    ensures called { Called (D.medium disk.old) (D.medium disk.new) (failed_call result) }
+    ensures changes { let old = D.medium disk.old in
+        Changes (SameOutside at count old.bytes) (λ image. SameOutside at count old.bytes image × AreClosed at count image)
+        old (D.medium disk.new) result }
+    ensures quiet { (D.medium disk.old).honest → AreClosed at count (D.medium disk.old).bytes
+        → Stays (D.medium disk.old) (D.medium disk.new) }
 {
     let mut buffer = [0; MAX_GATES];
     let gates = &mut buffer[..count];

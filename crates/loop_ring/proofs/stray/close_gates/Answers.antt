@@ -1,20 +1,35 @@
-use Rattle.std.proofs.Common.{ℕ, List, sym, ap, ◌∙◌, arith}
+use Rattle.std.proofs.Common.{rules, ℕ, List, sym, ap, ◌∙◌, arith}
 use Rattle.std.proofs.lemmas.Result.{on_ok_weaker}
 use Rattle.loop_record.specs.Layout.{is_open}
 use Rattle.loop_ring.proofs.Clearing.{never, read_front, closed_as_read, none_open, closed_written}
 use Rattle.loop_ring.proofs.stray.close_gates.Goals as goal
 
-pub returns-then-not-has_open-clause-closed : goal.returns-then-not-has_open-clause-closed
-returns-then-not-has_open-clause-closed g c = λ honest i low high.
-    let size = (g.met.D.Disk.sound c.args.disk.now honest).length_is in
-    ap (λ (l : List ℕ). is_open l i) (c.in_ok-read.ensures.disk honest).bytes
-    ∙ closed_as_read c.args.at c.args.count (g.D.Disk.medium c.args.disk.now).bytes _ (omega (arith, size, c.requires.inside)) (read_front c.args.at c.args.count (g.D.Disk.medium c.args.disk.now).bytes _ c.requires.few (c.in_ok-read.ensures.read honest)) (sym c.has_open.ensures ∙ c.if-not-has_open.true) i low high
+pub returns-then-not-has_open-clause-changes : goal.returns-then-not-has_open-clause-changes
+returns-then-not-has_open-clause-changes g c =
+    let old = (g.D.Disk.medium c.args.disk.now).bytes in record {
+      moments = search rules;
+      such = λ honest. (
+        search rules,
+        λ i low high.
+            ap (λ (l : List ℕ). is_open l i) (c.in_ok-read.ensures.disk honest).bytes
+            ∙ closed_as_read c.args.at c.args.count old _ (omega (arith, (g.met.D.Disk.sound c.args.disk.now honest).length_is, c.requires.inside)) (read_front c.args.at c.args.count old _ c.requires.few (c.in_ok-read.ensures.read honest)) (sym c.has_open.ensures ∙ c.if-not-has_open.true) i low high,
+      );
+      settled = search rules;
+      called = c.in_ok-read.ensures.called;
+    }
 
-pub returns-clause-closed : goal.returns-clause-closed
-returns-clause-closed g c = λ honest.
-    let later = c.in_ok-read.ensures.called.honest.0 honest in
-    let size = (g.met.D.Disk.sound c.read.new.self later).length_is in
-    on_ok_weaker c.store.result (λ e. closed_written c.args.at c.args.count (g.D.Disk.medium c.read.new.self).bytes _ c.requires.few (omega (arith, size, c.in_ok-read.ensures.called.size, c.requires.inside)) e) (c.store.ensures.disk later).done
+pub returns-clause-changes : goal.returns-clause-changes
+returns-clause-changes g c = record {
+  moments = search rules;
+  such = λ honest.
+      let later = c.in_ok-read.ensures.called.honest.0 honest in
+      on_ok_weaker c.store.result (λ done. (
+        search rules,
+        closed_written c.args.at c.args.count (g.D.Disk.medium c.read.new.self).bytes _ c.requires.few (omega (arith, (g.met.D.Disk.sound c.read.new.self later).length_is, c.in_ok-read.ensures.called.size, c.requires.inside)) done,
+      )) (c.store.ensures.disk later).done;
+  settled = search rules;
+  called = search rules;
+}
 
 pub returns-clause-quiet : goal.returns-clause-quiet
 returns-clause-quiet g c = λ honest closed.

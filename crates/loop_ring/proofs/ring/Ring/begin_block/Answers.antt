@@ -7,6 +7,7 @@ use Rattle.loop_disk.proofs.Images.{get_or-written_behind, length-written}
 use Rattle.loop_record.specs.Geometry.{segment_at}
 use Rattle.loop_record.proofs.Bounds.{limits, place-lt}
 use Rattle.loop_record.proofs.Parts.{apart}
+use Rattle.loop_ring.proofs.Answered.{both_ok}
 use Rattle.loop_ring.proofs.Beginning.{IsHeader, begin_moments, begin_ok, begin_stray_ok}
 use Rattle.loop_ring.proofs.ring.Ring.begin_block.Goals as goal
 
@@ -21,20 +22,19 @@ is_header block header fits is = record {
 pub overflow_add-at : goal.overflow_add-at
 overflow_add-at g c = omega (arith, c.segment_at-at.ensures, place-lt c.args.self.now.geometry c.args.segment c.args.self.now.good (omega (arith, c.requires.segment)))
 
-pub returns-clause-moments : goal.returns-clause-moments
-returns-clause-moments g c = λ honest.
-    let fits : segment_at c.args.self.now.geometry c.args.segment + 512 ≤ length (g.D.Disk.medium c.args.disk.now).bytes =
-    omega (arith, (g.met.D.Disk.sound c.args.disk.now honest).length_is, c.requires.extent, apart c.args.self.now.geometry c.args.segment c.args.self.now.geometry.segments c.requires.segment) in
-    begin_moments c.args.self.now.geometry c.args.segment c.args.block c.segment_at-at.result _ _ _ _ c.segment_at-at.ensures (is_header c.args.block _ c.ranges.block.fits c.put_u64.ensures) (limits c.args.self.now.geometry c.args.self.now.good).slots.1 fits (c.requires.closed honest) (c.store_in_turn.ensures.disk honest)
-
-pub returns-clause-begun : goal.returns-clause-begun
-returns-clause-begun g c = λ honest.
-    let fits : segment_at c.args.self.now.geometry c.args.segment + 512 ≤ length (g.D.Disk.medium c.args.disk.now).bytes =
-    omega (arith, (g.met.D.Disk.sound c.args.disk.now honest).length_is, c.requires.extent, apart c.args.self.now.geometry c.args.segment c.args.self.now.geometry.segments c.requires.segment) in
-    begin_ok c.args.self.now.geometry c.args.segment c.args.block c.segment_at-at.result _ _ _ _ c.segment_at-at.ensures (is_header c.args.block _ c.ranges.block.fits c.put_u64.ensures) (limits c.args.self.now.geometry c.args.self.now.good).slots.1 fits (c.store_in_turn.ensures.disk honest)
-
-pub returns-clause-stray : goal.returns-clause-stray
-returns-clause-stray g c = λ honest.
-    let fits : segment_at c.args.self.now.geometry c.args.segment + 512 ≤ length (g.D.Disk.medium c.args.disk.now).bytes =
-    omega (arith, (g.met.D.Disk.sound c.args.disk.now honest).length_is, c.requires.extent, apart c.args.self.now.geometry c.args.segment c.args.self.now.geometry.segments c.requires.segment) in
-    begin_stray_ok c.args.self.now.geometry c.args.segment c.args.block c.segment_at-at.result _ _ _ _ c.segment_at-at.ensures (is_header c.args.block _ c.ranges.block.fits c.put_u64.ensures) (limits c.args.self.now.geometry c.args.self.now.good).slots.1 fits (c.store_in_turn.ensures.disk honest)
+pub returns : goal.returns
+returns g c =
+    let h = c.args.self.now.geometry in
+    let j = c.args.segment in
+    let header = is_header c.args.block c.put_u64.new.«out» c.ranges.block.fits c.put_u64.ensures in
+    let few = (limits h c.args.self.now.good).slots.1 in
+    let fits : (g.D.Disk.medium c.args.disk.now).honest → segment_at h j + 512 ≤ length (g.D.Disk.medium c.args.disk.now).bytes = λ honest.
+    omega (arith, (g.met.D.Disk.sound c.args.disk.now honest).length_is, c.requires.extent, apart h j h.segments c.requires.segment) in record {
+      moments = λ honest. begin_moments h j c.args.block c.segment_at-at.result _ _ _ _ c.segment_at-at.ensures header few (fits honest) (c.requires.closed honest) (c.store_in_turn.ensures.disk honest);
+      such = λ honest.
+          both_ok c.store_in_turn.result (λ shows stray. (shows, stray))
+          (begin_ok h j c.args.block c.segment_at-at.result _ _ _ _ c.segment_at-at.ensures header few (fits honest) (c.store_in_turn.ensures.disk honest))
+          (begin_stray_ok h j c.args.block c.segment_at-at.result _ _ _ _ c.segment_at-at.ensures header few (fits honest) (c.store_in_turn.ensures.disk honest));
+      settled = λ honest. (c.store_in_turn.ensures.disk honest).settled;
+      called = c.store_in_turn.ensures.called;
+    }
