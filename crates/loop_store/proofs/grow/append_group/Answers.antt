@@ -1,12 +1,11 @@
 use Rattle.std.proofs.Common.{ℕ, length, OnOk, map, refl, sym, ◌∙◌, subst}
 use Rattle.std.proofs.lemmas.Result.{err_from_is_err_and, on_ok_weaker}
-use Rattle.loop_disk.proofs.Moments.{weaker}
+use Rattle.loop_disk.proofs.Moments.{called_on, weaker}
 use Rattle.loop_record.specs.Reading.{Holds}
 use Rattle.loop_record.specs.Recording.{Recording, plain, ring_of, store}
 use Rattle.loop_record.proofs.Bounds.{limits}
 use Rattle.loop_record.proofs.Steps.{plain-append}
 use Rattle.loop_store.specs.Places.{IsBegunAt, segment_of, steps_before}
-use Rattle.loop_store.proofs.Answered.{called-behind}
 use Rattle.loop_store.proofs.Grown.{earlier-steps, steps-joined}
 use Rattle.loop_store.proofs.Room.{before-next, grown-place}
 use Rattle.loop_store.proofs.grow.append_group.Goals as goal
@@ -45,5 +44,5 @@ returns g c =
           on_ok_weaker c.store_group.result (λ stored. grown-place h first (length frames) c.segment.result c.args.place frames old.bytes mid.bytes new.bytes (limits h c.args.ring.now.good).slots.1 c.segment.ensures c.requires.segment refl begun stored.0 stored.1)
           (c.store_group.ensures.such (c.make_room.ensures.called.honest.0 honest));
       settled = λ honest. c.store_group.ensures.settled (c.make_room.ensures.called.honest.0 honest);
-      called = called-behind old mid new _ c.in_ok-make_room.ensures.called c.store_group.ensures.called;
+      called = called_on old mid new _ c.in_ok-make_room.ensures.called c.store_group.ensures.called;
     }

@@ -6,7 +6,6 @@ use Rattle.loop_record.specs.Change.{ShowsSegment}
 use Rattle.loop_record.specs.Reading.{begun}
 use Rattle.loop_ring.specs.Writes.{ShowsOrNot}
 use Rattle.loop_store.proofs.Grown.{begun-held, begun-held_or, begun-newest, held-some}
-use Rattle.loop_store.proofs.Answered.{both_ok}
 use Rattle.loop_store.proofs.grow.begin.Goals as goal
 
 shows_slots : (g : Geometry) (j next slots : ℕ) (old new : List ℕ) → slots ≡ g.slots → ShowsSegment g j (Some (begun (next / slots))) old new → ShowsSegment g j (Some (begun (next / g.slots))) old new
@@ -26,11 +25,11 @@ returns g c =
           weaker _ _ _ _ (c.begin_block.ensures.moments honest) (λ image either.
           held-some h r [] image (begun-held_or h r next j old image held is c.requires.segment (c.requires.first honest) (c.requires.free honest) (either_slots h j next c.from.result old image c.from.ensures either)));
       held = λ r is honest held.
-          on_ok_weaker c.begin_block.result (λ shows. begun-held h r next j old new held is c.requires.segment (c.requires.first honest) (c.requires.free honest) (shows_slots h j next c.from.result old new c.from.ensures shows)) (c.begin_block.ensures.begun honest);
+          on_ok_weaker c.begin_block.result (λ shows. begun-held h r next j old new held is c.requires.segment (c.requires.first honest) (c.requires.free honest) (shows_slots h j next c.from.result old new c.from.ensures shows.0)) (c.begin_block.ensures.such honest);
       such = λ honest.
-          both_ok c.begin_block.result (λ shows stray.
-          let shown = shows_slots h j next c.from.result old new c.from.ensures shows in
-          (begun-newest h next j new (c.requires.first honest) shown.holds stray, shown)) (c.begin_block.ensures.begun honest) (c.begin_block.ensures.stray honest);
+          on_ok_weaker c.begin_block.result (λ shows.
+          let shown = shows_slots h j next c.from.result old new c.from.ensures shows.0 in
+          (begun-newest h next j new (c.requires.first honest) shown.holds shows.1, shown)) (c.begin_block.ensures.such honest);
       settled = c.begin_block.ensures.settled;
       called = c.begin_block.ensures.called;
     }

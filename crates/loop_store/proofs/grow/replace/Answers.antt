@@ -1,12 +1,11 @@
 use Rattle.std.proofs.Common.{ℕ, [], ◌∷◌, List, OnOk, sym, subst}
 use Rattle.std.proofs.lemmas.Result.{on_ok_weaker, err_from_is_err_and}
 use Rattle.loop_disk.specs.Medium.{LeavesOnly}
-use Rattle.loop_disk.proofs.Moments.{weaker}
+use Rattle.loop_disk.proofs.Moments.{called_on, weaker}
 use Rattle.loop_record.specs.Reading.{Holds}
 use Rattle.loop_record.specs.Recording.{Step, after, plain, recycle, ring_of}
 use Rattle.loop_record.proofs.Bounds.{limits}
 use Rattle.loop_store.specs.Held.{HoldsSome, IsFreeFor}
-use Rattle.loop_store.proofs.Answered.{called-behind}
 use Rattle.loop_store.proofs.Grown.{steps-joined}
 use Rattle.loop_store.proofs.Room.{first-of, goes, replaced-begun, retired-free, retired-held, retired-held_or}
 use Rattle.loop_store.proofs.grow.replace.Goals as goal
@@ -40,7 +39,7 @@ begin-requires-clause-free g c = λ now.
     let known = c.requires.known honest in
     let gone = goes h known.recording c.args.next c.args.segment _ known known.held in
     subst (λ (n : ℕ). IsFreeFor h n c.args.segment (g.D.Disk.medium c.retire.new.disk).bytes) known.next_is
-    (retired-free h known.recording.next gone.block c.args.segment _ _ (limits h c.args.ring.now.good).slots.1 c.requires.segment gone.is (c.in_ok-retire.ensures.retired honest))
+    (retired-free h known.recording.next gone.block c.args.segment _ _ (limits h c.args.ring.now.good).slots.1 c.requires.segment gone.is (c.in_ok-retire.ensures.such honest))
 
 pub returns : goal.returns
 returns g c =
@@ -52,7 +51,7 @@ returns g c =
       moments = λ r is honest held.
           let now = c.retire.ensures.called.honest.0 honest in
           let gone = goes h r c.args.next j old.bytes (c.requires.known honest) held in
-          let gap = retired-held h r gone.block j old.bytes mid.bytes held c.requires.segment gone.chosen gone.is (c.in_ok-retire.ensures.retired honest) in
+          let gap = retired-held h r gone.block j old.bytes mid.bytes held c.requires.segment gone.chosen gone.is (c.in_ok-retire.ensures.such honest) in
           subst (λ (steps : List Step). LeavesOnly old new (HoldsSome h r steps)) (sym gone.steps)
           (steps-joined h r (recycle gone.block ∷ []) [] old mid new
           (weaker _ _ _ _ (c.retire.ensures.moments honest) (λ image either. retired-held_or h r gone.block j old.bytes image held c.requires.segment gone.chosen gone.is either))
@@ -60,7 +59,7 @@ returns g c =
       held = λ r is honest held.
           let now = c.retire.ensures.called.honest.0 honest in
           let gone = goes h r c.args.next j old.bytes (c.requires.known honest) held in
-          let gap = retired-held h r gone.block j old.bytes mid.bytes held c.requires.segment gone.chosen gone.is (c.in_ok-retire.ensures.retired honest) in
+          let gap = retired-held h r gone.block j old.bytes mid.bytes held c.requires.segment gone.chosen gone.is (c.in_ok-retire.ensures.such honest) in
           subst (λ (steps : List Step). OnOk c.begin.result (Holds h (plain (ring_of h) r steps) new.bytes)) (sym gone.steps)
           (c.begin.ensures.held (after (ring_of h) r (recycle gone.block)) is now gap);
       such = λ honest.
@@ -68,9 +67,9 @@ returns g c =
           let known = c.requires.known honest in
           on_ok_weaker c.begin.result (λ begun. (
             begun.0,
-            replaced-begun h c.args.next j old.bytes mid.bytes new.bytes (limits h c.args.ring.now.good).slots.1 c.requires.segment (first-of h c.args.next j old.bytes known) known.unstray (c.in_ok-retire.ensures.retired honest) begun.1 begun.0.stray,
+            replaced-begun h c.args.next j old.bytes mid.bytes new.bytes (limits h c.args.ring.now.good).slots.1 c.requires.segment (first-of h c.args.next j old.bytes known) known.unstray (c.in_ok-retire.ensures.such honest) begun.1 begun.0.stray,
           ))
           (c.begin.ensures.such now);
       settled = λ honest. c.begin.ensures.settled (c.retire.ensures.called.honest.0 honest);
-      called = called-behind old mid new _ c.in_ok-retire.ensures.called c.begin.ensures.called;
+      called = called_on old mid new _ c.in_ok-retire.ensures.called c.begin.ensures.called;
     }

@@ -1,6 +1,5 @@
 use Rattle.std.proofs.lemmas.Result.{on_ok_weaker}
 use Rattle.loop_disk.proofs.Moments.{weaker}
-use Rattle.loop_store.proofs.Answered.{both_ok}
 use Rattle.loop_store.proofs.Grown.{frames-held, beginning-held}
 use Rattle.loop_store.proofs.grow.store_group.Goals as goal
 
@@ -10,8 +9,8 @@ returns g c =
     let first = c.args.group.now.first in
     let frames = c.args.group.now.frames in record {
       moments = λ r is honest held. weaker _ _ _ _ (c.commit.ensures.moments honest) (λ image some. beginning-held h r c.args.segment first frames _ image held is c.requires.segment (c.requires.newest honest) some);
-      held = λ r is honest held. on_ok_weaker c.commit.result (λ shows. frames-held h r c.args.segment first frames _ _ held is c.requires.segment (c.requires.newest honest) shows) (c.commit.ensures.committed honest);
-      such = λ honest. both_ok c.commit.result (λ shows stray. (shows, stray)) (c.commit.ensures.committed honest) (c.commit.ensures.stray honest);
+      held = λ r is honest held. on_ok_weaker c.commit.result (λ shows. frames-held h r c.args.segment first frames _ _ held is c.requires.segment (c.requires.newest honest) shows.0) (c.commit.ensures.such honest);
+      such = c.commit.ensures.such;
       settled = c.commit.ensures.settled;
       called = c.commit.ensures.called;
     }

@@ -3,7 +3,7 @@ use Rattle.loop_disk.proofs.Moments.{started, weaker}
 use Rattle.loop_record.specs.Reading.{reading}
 use Rattle.loop_store.specs.Opened.{ReadsAlike}
 use Rattle.loop_store.proofs.Reopened.{found-alike, found-place, found-present, found-whole, unstray-missing}
-use Rattle.loop_store.proofs.Answered.{all_ok}
+use Rattle.loop_store.proofs.Answered.{both_ok}
 use Rattle.loop_store.proofs.reopen.clear_newest.Goals as goal
 
 pub clear_stray-requires-clause-whole : goal.clear_stray-requires-clause-whole
@@ -18,15 +18,15 @@ returns-in-Some-clause-moments g c = λ honest.
     let image = (g.D.Disk.medium c.args.disk.now).bytes in
     let told = c.requires.told honest in
     let found = found-place c.args.index.now c.from-slots.result image c.find.result (Some c.in-Some.segment) told c.from-slots.ensures c.in-Some.is c.find.ensures.place in
-    weaker _ _ _ (ReadsAlike image) (c.clear_stray.ensures.moments honest) (λ new shows. found-alike c.args.index.now c.in-Some.segment image new told found shows)
+    weaker _ _ _ (ReadsAlike image) (c.clear_stray.ensures.changes.moments honest) (λ new shows. found-alike c.args.index.now c.in-Some.segment image new told found shows)
 
 pub returns-in-Some-clause-present : goal.returns-in-Some-clause-present
 returns-in-Some-clause-present g c = λ honest.
     let image = (g.D.Disk.medium c.args.disk.now).bytes in
     let told = c.requires.told honest in
     let found = found-place c.args.index.now c.from-slots.result image c.find.result (Some c.in-Some.segment) told c.from-slots.ensures c.in-Some.is c.find.ensures.place in
-    all_ok c.clear_stray.result (λ shows clean settled. found-present c.args.index.now c.in-Some.segment image (g.D.Disk.medium c.clear_stray.new.disk) told found shows clean settled)
-    (c.clear_stray.ensures.same honest) (c.clear_stray.ensures.stray honest) (c.clear_stray.ensures.settled honest)
+    both_ok c.clear_stray.result (λ shows settled. found-present c.args.index.now c.in-Some.segment image (g.D.Disk.medium c.clear_stray.new.disk) told found shows.0 shows.1 settled)
+    (c.clear_stray.ensures.changes.such honest) (c.clear_stray.ensures.changes.settled honest)
 
 pub returns-in-None-clause-moments : goal.returns-in-None-clause-moments
 returns-in-None-clause-moments g c = λ honest.
