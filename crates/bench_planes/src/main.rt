@@ -1,6 +1,7 @@
-//! How fast planes are, beside plain copies of as many bytes. For a plane of each kind it fills 1 MiB and copies it out again,
-//! as many rounds as its one word says, and prints what a round of plain copies took as a part of what a round of the plane
-//! took: 100 % is as fast as memcpy. Without a word it prints nothing, since what it measures is never the same twice.
+//! How fast planes are, beside plain copies of as many bytes. For a plane of each kind it fills 1 MiB and
+//! copies it out again, as many rounds as its one word says, and prints what a round of plain copies took as a
+//! part of what a round of the plane took: 100 % is as fast as memcpy. Without a word it prints nothing, since
+//! what it measures is never the same twice.
 //!
 //!     rt run -- 2000
 #![tactic(auto)]

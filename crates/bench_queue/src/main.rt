@@ -1,7 +1,7 @@
-//! How fast frames go through a queue, beside plain copies of as many bytes. For GREY frames of 64x48 and of 1920x1080 it makes
-//! QBUF, a completion and DQBUF of one buffer of mapped memory, as many rounds as its one word says, and prints the nanoseconds
-//! of a round, those of a copy, and the copy as a part of the round: 100 % is as fast as memcpy. Without a word it prints
-//! nothing, since what it measures is never the same twice.
+//! How fast frames go through a queue, beside plain copies of as many bytes. For GREY frames of 64x48 and of
+//! 1920x1080 it makes QBUF, a completion and DQBUF of one buffer of mapped memory, as many rounds as its one
+//! word says, and prints the nanoseconds of a round, those of a copy, and the copy as a part of the round: 100
+//! % is as fast as memcpy. Without a word it prints nothing, since what it measures is never the same twice.
 //!
 //!     rt run -- 2000
 #![tactic(auto)]

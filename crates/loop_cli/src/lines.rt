@@ -12,10 +12,10 @@ pub const MAX_LINE: usize = 4096;
 #[derive(Clone, Copy, Debug, PartialEq, Eq)]
 pub struct BadLine;
 
-/// Reads the next line into `line`, in place of what is there, and takes its 0x0A off; false where no line is left. A 0x0D
-/// before the 0x0A is a byte of the line, so that it can't be read as a command.
-/// It reads no byte behind the line, and of a line that is too long only the first 4,097. Where `line` has room for 4,097
-/// bytes it takes no memory; else want of memory is a failed read.
+/// Reads the next line into `line`, in place of what is there, and takes its 0x0A off; false where no line is
+/// left. A 0x0D before the 0x0A is a byte of the line, so that it can't be read as a command. It reads no byte
+/// behind the line, and of a line that is too long only the first 4,097. Where `line` has room for 4,097 bytes
+/// it takes no memory; else want of memory is a failed read.
 pub fn next_line<R: BufRead, A: Allocator>(
     input: &mut R,
     line: &mut Vec<u8, A>,

@@ -1,12 +1,13 @@
-//! The program: it runs scripts on a recorder whose disk lies in memory. docs/script.md has the language of the scripts.
+//! The program: it runs scripts on a recorder whose disk lies in memory. docs/script.md has the language of the
+//! scripts.
 //!
-//! `program` reads the program's words and chooses what to do, and ends with a status. `simulate` runs a script line by line;
-//! `lines` reads a line in bounded memory, `command` says what a line means, `number` reads a number in it. `session` is a
-//! formatted store and the frames that a script makes for it, `pattern` has their bytes and timestamps, `runs` the runs of
-//! numbers that `list` prints, and `refusal` the words of a refusal.
+//! `program` reads the program's words and chooses what to do, and ends with a status. `simulate` runs a script
+//! line by line; `lines` reads a line in bounded memory, `command` says what a line means, `number` reads a
+//! number in it. `session` is a formatted store and the frames that a script makes for it, `pattern` has their
+//! bytes and timestamps, `runs` the runs of numbers that `list` prints, and `refusal` the words of a refusal.
 //!
-//! What a line means, the calls of a session, the bytes and timestamps of frames, the runs of numbers and the words of refusals are
-//! proved (`specs/`); the other lines that are printed are tested.
+//! What a line means, the calls of a session, the bytes and timestamps of frames, the runs of numbers and the
+//! words of refusals are proved (`specs/`); the other lines that are printed are tested.
 #![tactic(auto)]
 
 mod command;

@@ -7,8 +7,8 @@ ghost use Rattle.loop_cli.specs.Script.{number_below};
 /// The most digits of a number.
 const MAX_DIGITS: usize = 20;
 
-/// The number that a word writes with 1 to 20 decimal digits, leading zeros among them; `None` for any other word, and where
-/// the number doesn't fit.
+/// The number that a word writes with 1 to 20 decimal digits, leading zeros among them; `None` for any other
+/// word, and where the number doesn't fit.
 pub fn number(word: &str) -> Option<u64>
     ensures { result ≡ number_below (2 ^ 64) word.now }
 {

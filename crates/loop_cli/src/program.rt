@@ -23,9 +23,9 @@ enum Task {
     Simulate,
 }
 
-/// Does what the words behind the program's name ask for, and answers the status with which the program ends: 0; 1 for a
-/// script that can't be read to its end, for a failed write and for want of memory; 2 for words that can't be read. No words
-/// are the same as `simulate`.
+/// Does what the words behind the program's name ask for, and answers the status with which the program ends:
+/// 0; 1 for a script that can't be read to its end, for a failed write and for want of memory; 2 for words that
+/// can't be read. No words are the same as `simulate`.
 pub fn run_words<R: AllocGlobal, S: AsStr, I: Read + Drop, W: Write, E: Write>(
     rt: &R,
     words: &[S],

@@ -7,7 +7,8 @@ pub fn run_length(numbers: &[u64]) -> usize
     ensures some { 0 < result }
     ensures within { result ≤ length numbers.now }
     ensures follow { (i : ℕ) → i < result → slice_index numbers.now i ≡ slice_index numbers.now 0 + i }
-    ensures longest { result < length numbers.now → slice_index numbers.now result ≢ slice_index numbers.now 0 + result }
+    ensures longest { result < length numbers.now
+        → slice_index numbers.now result ≢ slice_index numbers.now 0 + result }
 {
     let first = numbers[0];
     for (i, number) in numbers.iter().enumerate() {

@@ -18,8 +18,8 @@ use loop_store::{OpenRefused, Store, StoreFault};
 use std::alloc::{AllocError, Allocator, Global};
 use std::marker::Model;
 
-/// A store on a disk in memory, and a source of pattern frames for it. Contracts see the store, how many frames were accepted
-/// since it was formatted, and the bytes of the frame that was read last.
+/// A store on a disk in memory, and a source of pattern frames for it. Contracts see the store, how many frames
+/// were accepted since it was formatted, and the bytes of the frame that was read last.
 #[derive(Drop)]
 pub struct Session<A: Allocator + Copy = Global> {
     store: Store<MemDisk<A>, A>,
@@ -70,8 +70,8 @@ impl<A: Allocator + Copy> Session<A> {
         }
     }
 
-    /// Makes the next frame of the pattern and stores it; answers its number. A refused frame isn't accepted, so the next
-    /// call makes it again.
+    /// Makes the next frame of the pattern and stores it; answers its number. A refused frame isn't accepted,
+    /// so the next call makes it again.
     pub fn store_next(&mut self) -> Result<u64, StoreFault>
         ensures goes { Goes ⟦<MemDisk<A> as Disk>⟧.medium self.old.store self.new.store
             (appended (pattern_picture self.old.store.geometry self.old.accepted ∷ []) result ∷ []) }
@@ -85,9 +85,9 @@ impl<A: Allocator + Copy> Session<A> {
         Ok(number)
     }
 
-    /// Takes the disk out of the store and finds the store on it again; the frames that were accepted stay so. It answers
-    /// NoMemory or Disk, and then leaves nothing behind. So does a disk that holds no store of this geometry, which is
-    /// refused as NotFormatted, Damaged or BadGeometry.
+    /// Takes the disk out of the store and finds the store on it again; the frames that were accepted stay so.
+    /// It answers NoMemory or Disk, and then leaves nothing behind. So does a disk that holds no store of this
+    /// geometry, which is refused as NotFormatted, Damaged or BadGeometry.
     pub fn reopen(self, alloc: A) -> Result<Self, StoreFault>
         ensures opened { IfOk result (λ s. IsOpened ⟦<MemDisk<A> as Disk>⟧.medium
             (⟦<MemDisk<A> as Disk>⟧.medium self.store.disk).bytes s.store) }

@@ -32,9 +32,10 @@ impl From<Error> for ScriptFault {
     }
 }
 
-/// Runs a script on a disk in memory and answers the program's status: 0 where each line was run, refused or not; 1 where a
-/// line can't be read, which `err` then names, where `out` or `err` fails, and where there is no memory for the buffers of
-/// input and output. Each line is run, and what it prints is printed, before the next one is read.
+/// Runs a script on a disk in memory and answers the program's status: 0 where each line was run, refused or
+/// not; 1 where a line can't be read, which `err` then names, where `out` or `err` fails, and where there is no
+/// memory for the buffers of input and output. Each line is run, and what it prints is printed, before the next
+/// one is read.
 pub fn simulate<A: Allocator + Copy, R: Read, W: Write, E: Write>(
     alloc: A,
     input: R,

@@ -1,4 +1,5 @@
-/// A clip that stands, as a caller sees it: the frames from `from` to `to`, both among them, are kept until it is unlocked.
+/// A clip that stands, as a caller sees it: the frames from `from` to `to`, both among them, are kept until it
+/// is unlocked.
 #[derive(Clone, Copy, Debug, PartialEq, Eq)]
 pub struct Clip {
     /// Its id, from 0 to 63.

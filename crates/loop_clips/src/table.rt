@@ -49,11 +49,12 @@ impl ClipTable {
         ClipTable { clips }
     }
 
-    /// The clips whose entries are open on a disk of at least 2,560 bytes, as they stand there, sound or not: one read, and no
-    /// memory. Its only refusal is that the read fails.
+    /// The clips whose entries are open on a disk of at least 2,560 bytes, as they stand there, sound or not:
+    /// one read, and no memory. Its only refusal is that the read fails.
     pub fn read<D: Disk>(disk: &mut D) -> Result<ClipTable, DiskFault>
         requires extent { 2560 ≤ (D.medium disk.old).size }
-        ensures clips { (D.medium disk.old).honest → IfOk result (λ table. table ≡ map (clip_in (D.medium disk.old).bytes) (range_with_len 0 64)) }
+        ensures clips { (D.medium disk.old).honest
+            → IfOk result (λ table. table ≡ map (clip_in (D.medium disk.old).bytes) (range_with_len 0 64)) }
         ensures disk { (D.medium disk.old).honest → Stays (D.medium disk.old) (D.medium disk.new) }
         ensures called { Called (D.medium disk.old) (D.medium disk.new) (failed_call result) }
     {

@@ -4,7 +4,8 @@ use Rattle.loop_disk.specs.declared.past.Event.{Event}
 use Rattle.loop_disk.specs.declared.past.Event.TheVariants.{Began, Wrote, Synced}
 use Rattle.loop_disk.specs.History.{Moment}
 
--- what the last sync put on the disk, the ranges written since, and the moments before the present one, the newest first
+-- what the last sync put on the disk, the ranges written since, and the moments before the present one, the
+-- newest first
 pub record Behind : Type 0 where
   pub settled : List ℕ
   pub loose : List (ℕ × ℕ)

@@ -25,7 +25,8 @@ abbrev pub failed_call : {T : Type 0} → Result T DiskFault → Option DiskFaul
 failed_call (Ok x) = None
 failed_call (Err fault) = Some fault
 
--- What each call keeps, and each run of calls in which this one failed, or none did. It holds of every disk, honest or not.
+-- What each call keeps, and each run of calls in which this one failed, or none did. It holds of every disk,
+-- honest or not.
 pub record Called (old new : Medium) (failed : Option DiskFault) : Type 0 where
   pub size : new.size ≡ old.size
   pub honest : old.honest ↔ new.honest

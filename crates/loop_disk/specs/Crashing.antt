@@ -45,7 +45,8 @@ IsWithin size call.Read = Unit {0}
 IsWithin size (call.Write at bytes) = at + length bytes ≤ size
 IsWithin size call.Sync = Unit {0}
 
--- what is left of a byte that was written since the last sync: i is its place, `settled` the byte at that sync, and `present` the present one
+-- what is left of a byte that was written since the last sync: i is its place, `settled` the byte at that sync,
+-- and `present` the present one
 abbrev pub spoiled : Spoil → ℕ → ℕ → ℕ → ℕ
 spoiled spoil.Keep i settled present = present
 spoiled spoil.Old i settled present = settled

@@ -1,4 +1,5 @@
--- What a crash may leave of a disk in memory: its moments, and the images of each. Such a disk has one moment more after each write and each sync.
+-- What a crash may leave of a disk in memory: its moments, and the images of each. Such a disk has one moment
+-- more after each write and each sync.
 use Rattle.std.specs.Prelude.{◌≡◌, ◌⊎◌, ℕ, ◌+◌, ◌≤◌, Bool, false, ◌&&◌, ◌||◌, nat_le, nat_lt, List, [], ◌∷◌, length, get_or}
 use Rattle.loop_disk.specs.declared.fault.Failures.{Failures}
 use Rattle.loop_disk.specs.Medium.{Medium, written}
@@ -33,7 +34,8 @@ abbrev pub is_loose : List (ℕ × ℕ) → ℕ → Bool
 is_loose [] i = false
 is_loose (range ∷ ranges) i = is_within range.0 range.1 i || is_loose ranges i
 
--- an image that a crash may leave: any byte in each place that was written since the last sync, and the present one elsewhere
+-- an image that a crash may leave: any byte in each place that was written since the last sync, and the present
+-- one elsewhere
 pub record IsLeft (m : Moment) (image : List ℕ) : Type 0 where
   pub size : length image ≡ length m.bytes
   pub kept : (i : ℕ) → is_loose m.loose i ≡ false → get_or image i 0 ≡ get_or m.bytes i 0

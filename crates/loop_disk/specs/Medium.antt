@@ -49,7 +49,8 @@ pub record IsFresh (image : List ℕ) (m : Medium) : Type 0 where
   pub bytes : m.bytes ≡ image
   pub settled : Only image m.may_leave
 
--- Time goes on: a crash since t might have left what it might have left before, or what a crash during the call may leave.
+-- Time goes on: a crash since t might have left what it might have left before, or what a crash during the call
+-- may leave.
 pub record Elapses (old new : Medium) (during : List ℕ → Type 0) : Type 0 where
   pub later : old.moment ≤ new.moment
   pub nothing_else : (t : ℕ) (c : List ℕ) → t ≤ old.moment → new.left_since t c → old.left_since t c ⊎ during c

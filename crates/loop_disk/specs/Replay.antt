@@ -13,7 +13,8 @@ pub record IsRecorded (start : List ℕ) (calls : List (DeviceCall (List ℕ))) 
   pub size : length bytes ≡ length start
   pub within : All (IsWithin (length start)) calls
 
--- The bytes are those of the moment, the image is what a crash leaves there, and what wasn't written since the last sync is as it was at that.
+-- The bytes are those of the moment, the image is what a crash leaves there, and what wasn't written since the
+-- last sync is as it was at that.
 pub record IsReplayed (s : Spoil) (m : Moment) (bytes image : List ℕ) : Type 0 where
   pub whole : bytes ≡ m.bytes
   pub spoilt : IsSpoiled s m image

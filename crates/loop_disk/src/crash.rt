@@ -59,9 +59,16 @@ impl<A: Allocator> Model for CrashDisk<A> {
 
     ghost Value = { Tape };
 
-    ghost view = { λ disk. record { start = disk.start.items; calls = map (call_of (λ v. v.items)) disk.calls.items; failures = disk.failures } };
+    ghost view = { λ disk.
+        record {
+          start = disk.start.items;
+          calls = map (call_of (λ v.
+              v.items)) disk.calls.items;
+          failures = disk.failures;
+        } };
 
-    ghost invariant = { λ disk. IsRecorded disk.start.items (map (call_of (λ v. v.items)) disk.calls.items) disk.bytes.items };
+    ghost invariant = { λ disk.
+        IsRecorded disk.start.items (map (call_of (λ v. v.items)) disk.calls.items) disk.bytes.items };
 }
 
 impl<A: Allocator + Copy> CrashDisk<A> {
@@ -72,7 +79,8 @@ impl<A: Allocator + Copy> CrashDisk<A> {
         CrashDisk::of(alloc, vec![in alloc; 0; size as usize]?)
     }
 
-    /// A disk that holds an image, all of it on the disk. It keeps a second copy of it. Its only error is want of memory.
+    /// A disk that holds an image, all of it on the disk. It keeps a second copy of it. Its only error is want
+    /// of memory.
     pub fn of(alloc: A, bytes: Vec<u8, A>) -> Result<Self, AllocError>
         ensures { IfOk result (λ disk. disk ≡ record { start = bytes.items; calls = []; failures = no_failures }) }
     {
@@ -103,8 +111,10 @@ impl<A: Allocator + Copy> CrashDisk<A> {
     /// The disk after a crash that came when so many calls were made, the first ones. Its only error is want of memory.
     pub fn crash(&self, calls: usize, spoil: Spoil) -> Result<MemDisk<A>, AllocError>
         requires { calls ≤ length self.now.calls }
-        ensures left { IfOk result (λ disk. (medium_after self.now).left_since calls (⟦<MemDisk<A> as Disk>⟧.medium disk).bytes) }
-        ensures image { IfOk result (λ disk. IsSpoiled spoil (after_calls self.now.start (take calls self.now.calls)) (⟦<MemDisk<A> as Disk>⟧.medium disk).bytes) }
+        ensures left { IfOk result (λ disk.
+            (medium_after self.now).left_since calls (⟦<MemDisk<A> as Disk>⟧.medium disk).bytes) }
+        ensures image { IfOk result (λ disk.
+            IsSpoiled spoil (after_calls self.now.start (take calls self.now.calls)) (⟦<MemDisk<A> as Disk>⟧.medium disk).bytes) }
         ensures settled { IfOk result (λ disk. IsSettled (⟦<MemDisk<A> as Disk>⟧.medium disk)) }
     {
         let mut bytes = Vec::from_slice(self.alloc, &self.start)?;
@@ -117,7 +127,8 @@ impl<A: Allocator + Copy> CrashDisk<A> {
 impl<A: Allocator + Copy> Disk for CrashDisk<A> {
     ghost medium = { medium_after };
 
-    ghost sound = { λ tape honest. sound_of tape.failures (after_calls tape.start tape.calls) (moments_from (at_rest tape.start) [] tape.calls) };
+    ghost sound = { λ tape honest.
+        sound_of tape.failures (after_calls tape.start tape.calls) (moments_from (at_rest tape.start) [] tape.calls) };
 
     fn size(&self) -> u64 {
         self.bytes.len() as u64
@@ -125,10 +136,12 @@ impl<A: Allocator + Copy> Disk for CrashDisk<A> {
 
     fn read(&mut self, at: u64, buf: &mut [u8]) -> Result<(), DiskFault>
         requires { at + length buf.old ≤ (medium_after self.old).size }
-        ensures read { (medium_after self.old).honest → OnOk result (buf.new ≡ piece at (length buf.old) (medium_after self.old).bytes) }
+        ensures read { (medium_after self.old).honest
+            → OnOk result (buf.new ≡ piece at (length buf.old) (medium_after self.old).bytes) }
         ensures disk { (medium_after self.old).honest → Stays (medium_after self.old) (medium_after self.new) }
         ensures done { OnOk result (self.new ≡ record self.old { calls = self.old.calls ++ call.Read ∷ [] }) }
-        ensures failed { OnErr result (self.new ≡ record self.old { failures = with_failed (failed_call result) self.old.failures }) }
+        ensures failed { OnErr result (self.new
+            ≡ record self.old { failures = with_failed (failed_call result) self.old.failures }) }
         ensures fault { IfErr result (λ fault. fault ≡ Read) }
         ensures called { Called (medium_after self.old) (medium_after self.new) (failed_call result) }
     {
@@ -149,9 +162,12 @@ impl<A: Allocator + Copy> Disk for CrashDisk<A> {
     /// At Ok a crash may leave any bytes in the range.
     fn write_at(&mut self, at: u64, bytes: &[u8]) -> Result<(), DiskFault>
         requires { at + length bytes.now ≤ (medium_after self.old).size }
-        ensures disk { (medium_after self.old).honest → Writes at bytes.now (medium_after self.old) (medium_after self.new) result }
-        ensures done { OnOk result (self.new ≡ record self.old { calls = self.old.calls ++ call.Write at bytes.now ∷ [] }) }
-        ensures failed { OnErr result (self.new ≡ record self.old { failures = with_failed (failed_call result) self.old.failures }) }
+        ensures disk { (medium_after self.old).honest
+            → Writes at bytes.now (medium_after self.old) (medium_after self.new) result }
+        ensures done { OnOk result (self.new
+            ≡ record self.old { calls = self.old.calls ++ call.Write at bytes.now ∷ [] }) }
+        ensures failed { OnErr result (self.new
+            ≡ record self.old { failures = with_failed (failed_call result) self.old.failures }) }
         ensures fault { IfErr result (λ fault. fault ≡ Write) }
         ensures called { Called (medium_after self.old) (medium_after self.new) (failed_call result) }
     {
@@ -167,7 +183,8 @@ impl<A: Allocator + Copy> Disk for CrashDisk<A> {
     fn sync(&mut self) -> Result<(), DiskFault>
         ensures disk { (medium_after self.old).honest → Syncs (medium_after self.old) (medium_after self.new) result }
         ensures done { OnOk result (self.new ≡ record self.old { calls = self.old.calls ++ call.Sync ∷ [] }) }
-        ensures failed { OnErr result (self.new ≡ record self.old { failures = with_failed (failed_call result) self.old.failures }) }
+        ensures failed { OnErr result (self.new
+            ≡ record self.old { failures = with_failed (failed_call result) self.old.failures }) }
         ensures fault { IfErr result (λ fault. fault ≡ Sync) }
         ensures called { Called (medium_after self.old) (medium_after self.new) (failed_call result) }
     {
@@ -186,7 +203,8 @@ fn remember<A: Allocator>(
     calls: &mut Vec<DeviceCall<Vec<u8, A>>, A>,
     call: DeviceCall<Vec<u8, A>>,
 ) -> Result<(), AllocError>
-    ensures call { OnOk result (map (call_of (λ v. v.items)) calls.new.items ≡ map (call_of (λ v. v.items)) calls.old.items ++ call_of (λ v. v.items) call ∷ []) }
+    ensures call { OnOk result (map (call_of (λ v. v.items)) calls.new.items ≡ map (call_of (λ v.
+        v.items)) calls.old.items ++ call_of (λ v. v.items) call ∷ []) }
     ensures no_call { OnErr result (calls.new.items ≡ calls.old.items) }
 {
     calls.reserve(1)?;
@@ -203,7 +221,8 @@ fn remember_write<A: Allocator>(
     bytes: &[u8],
 ) -> Result<(), AllocError>
     requires { at + length bytes.now ≤ length image.old.items }
-    ensures call { OnOk result (map (call_of (λ v. v.items)) calls.new.items ≡ map (call_of (λ v. v.items)) calls.old.items ++ call.Write at bytes.now ∷ []) }
+    ensures call { OnOk result (map (call_of (λ v. v.items)) calls.new.items ≡ map (call_of (λ v.
+        v.items)) calls.old.items ++ call.Write at bytes.now ∷ []) }
     ensures image { OnOk result (image.new.items ≡ written at bytes.now image.old.items) }
     ensures no_call { OnErr result (calls.new.items ≡ calls.old.items) }
     ensures same { OnErr result (image.new.items ≡ image.old.items) }
@@ -214,7 +233,8 @@ fn remember_write<A: Allocator>(
     Ok(())
 }
 
-// Makes the calls again: whole on one image, and on the other with what a crash leaves of what was written since the last sync.
+// Makes the calls again: whole on one image, and on the other with what a crash leaves of what was written
+// since the last sync.
 fn replay<A: Allocator>(
     bytes: &mut Vec<u8, A>,
     image: &mut Vec<u8, A>,
@@ -223,7 +243,8 @@ fn replay<A: Allocator>(
 )
     requires same { image.old.items ≡ bytes.old.items }
     requires within { All (IsWithin (length bytes.old.items)) (map (call_of (λ v. v.items)) calls.now) }
-    ensures { IsReplayed spoil (after_calls bytes.old.items (map (call_of (λ v. v.items)) calls.now)) bytes.new.items image.new.items }
+    ensures { IsReplayed spoil (after_calls bytes.old.items (map (call_of (λ v.
+        v.items)) calls.now)) bytes.new.items image.new.items }
 {
     for call in calls {
         replay_call(bytes, image, call, spoil);
@@ -238,7 +259,8 @@ fn replay_call<A: Allocator>(
 )
     requires same { length image.old.items ≡ length bytes.old.items }
     requires within { IsWithin (length bytes.old.items) (call_of (λ v. v.items) call.now) }
-    ensures replayed { (m : Moment) → IsReplayed spoil m bytes.old.items image.old.items → IsReplayed spoil (after_call m (call_of (λ v. v.items) call.now)) bytes.new.items image.new.items }
+    ensures replayed { (m : Moment) → IsReplayed spoil m bytes.old.items image.old.items
+        → IsReplayed spoil (after_call m (call_of (λ v. v.items) call.now)) bytes.new.items image.new.items }
     ensures size { length bytes.new.items ≡ length bytes.old.items }
     ensures image_size { length image.new.items ≡ length image.old.items }
 {
@@ -267,7 +289,8 @@ fn spoil_range(range: &mut [u8], start: usize, bytes: &[u8], spoil: Spoil)
     requires same { length range.old ≡ length bytes.now }
     requires fits { start + length bytes.now < 2 ^ 64 }
     ensures size { length range.new ≡ length range.old }
-    ensures there { (i : ℕ) → i < length bytes.now → get_or range.new i 0 ≡ spoiled spoil (start + i) (get_or range.old i 0) (get_or bytes.now i 0) }
+    ensures there { (i : ℕ) → i < length bytes.now
+        → get_or range.new i 0 ≡ spoiled spoil (start + i) (get_or range.old i 0) (get_or bytes.now i 0) }
 {
     match spoil {
         Spoil::Keep => range.copy_from_slice(bytes),

@@ -8,13 +8,15 @@ use crate::DiskFault;
 
 /// A disk of fixed size, in bytes. The model is this project's own.
 ///
-/// What is written may be lost in part until a sync has answered Ok: a crash leaves any bytes in each range written since
-/// the last such sync, and the present bytes elsewhere. A crash may come before, within or after a call.
+/// What is written may be lost in part until a sync has answered Ok: a crash leaves any bytes in each range
+/// written since the last such sync, and the present bytes elsewhere. A crash may come before, within or after
+/// a call.
 ///
-/// What `read`, `write_at` and `sync` say of bytes and images holds of an honest disk. `called` holds of every disk: it keeps
-/// its size, honesty is neither gained nor lost, and each failed call is counted.
+/// What `read`, `write_at` and `sync` say of bytes and images holds of an honest disk. `called` holds of every
+/// disk: it keeps its size, honesty is neither gained nor lost, and each failed call is counted.
 pub trait Disk {
-    /// What it is: its size, whether it is honest, which calls have failed, what stands on it, and what a crash may leave.
+    /// What it is: its size, whether it is honest, which calls have failed, what stands on it, and what a crash
+    /// may leave.
     ghost medium: { Self → Medium };
 
     /// How many bytes it has. This isn't counted as a call, and can't fail.
@@ -24,7 +26,8 @@ pub trait Disk {
     /// Fills the buffer with the bytes from `at` on. After a failure it may hold any bytes, and the disk is as it was.
     fn read(&mut self, at: u64, buf: &mut [u8]) -> Result<(), DiskFault>
         requires { at + length buf.old ≤ (medium self.old).size }
-        ensures read { (medium self.old).honest → OnOk result (buf.new ≡ piece at (length buf.old) (medium self.old).bytes) }
+        ensures read { (medium self.old).honest
+            → OnOk result (buf.new ≡ piece at (length buf.old) (medium self.old).bytes) }
         ensures disk { (medium self.old).honest → Stays (medium self.old) (medium self.new) }
         ensures fault { IfErr result (λ fault. fault ≡ Read) }
         ensures called { Called (medium self.old) (medium self.new) (failed_call result) };

@@ -58,8 +58,9 @@ pub struct FileDisk<F = File> {
 }
 
 impl FileDisk {
-    /// Makes the file anew, with so many bytes of zero, or makes an old one so. Its name is on the disk when this answers Ok.
-    /// A file that another program holds keeps its bytes, and so does one that can't have that size.
+    /// Makes the file anew, with so many bytes of zero, or makes an old one so. Its name is on the disk when
+    /// this answers Ok. A file that another program holds keeps its bytes, and so does one that can't have that
+    /// size.
     pub fn create<R: Files<File = File>>(rt: &R, path: &str, size: u64) -> Result<Self, FileFault>
         ensures size { IfOk result (λ disk. (⟦<FileDisk<File> as Disk>⟧.medium disk).size ≡ size) }
         ensures counted { IfOk result (λ disk. (⟦<FileDisk<File> as Disk>⟧.medium disk).failures ≡ no_failures) }
@@ -121,8 +122,8 @@ impl<F: OpenFile + FileExt + Drop> FileDisk<F> {
         })
     }
 
-    /// Makes an open file, which nobody else may use, a disk of so many bytes of zero, and syncs the file and then the folder in
-    /// which it stands. It takes no lock. A file that can't have that size keeps its bytes.
+    /// Makes an open file, which nobody else may use, a disk of so many bytes of zero, and syncs the file and
+    /// then the folder in which it stands. It takes no lock. A file that can't have that size keeps its bytes.
     pub fn fresh_over<G: OpenFile>(file: F, folder: &G, size: u64) -> Result<Self, FileFault>
         ensures size { IfOk result (λ disk. (⟦<FileDisk<F> as Disk>⟧.medium disk).size ≡ size) }
         ensures counted { IfOk result (λ disk. (⟦<FileDisk<F> as Disk>⟧.medium disk).failures ≡ no_failures) }

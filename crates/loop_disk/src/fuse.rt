@@ -8,7 +8,8 @@ ghost use Rattle.loop_disk.specs.Failing.{FailsOrPasses};
 
 use crate::{Disk, DiskFault, Failures};
 
-/// Passes a count of calls to the disk beneath it, and fails every later one in its place. `size` isn't counted as a call.
+/// Passes a count of calls to the disk beneath it, and fails every later one in its place. `size` isn't counted
+/// as a call.
 #[derive(Drop)]
 pub struct FuseDisk<D> {
     /// The disk beneath.
@@ -73,8 +74,10 @@ impl<D: Disk> Disk for FuseDisk<D> {
 
     fn read(&mut self, at: u64, buf: &mut [u8]) -> Result<(), DiskFault>
         requires { at + length buf.old ≤ (D.medium self.old.inner).size }
-        ensures read { (D.medium self.old.inner).honest → OnOk result (buf.new ≡ piece at (length buf.old) (D.medium self.old.inner).bytes) }
-        ensures disk { (D.medium self.old.inner).honest → Stays (⟦<FuseDisk<D> as Disk>⟧.medium self.old) (⟦<FuseDisk<D> as Disk>⟧.medium self.new) }
+        ensures read { (D.medium self.old.inner).honest
+            → OnOk result (buf.new ≡ piece at (length buf.old) (D.medium self.old.inner).bytes) }
+        ensures disk { (D.medium self.old.inner).honest
+            → Stays (⟦<FuseDisk<D> as Disk>⟧.medium self.old) (⟦<FuseDisk<D> as Disk>⟧.medium self.new) }
         ensures which { FailsOrPasses D.medium (self.old.left == 0) self.old.inner self.new.inner result }
         ensures left { self.new.left ≡ self.old.left - 1 }
         ensures fault { IfErr result (λ fault. fault ≡ Read) }
@@ -87,7 +90,8 @@ impl<D: Disk> Disk for FuseDisk<D> {
 
     fn write_at(&mut self, at: u64, bytes: &[u8]) -> Result<(), DiskFault>
         requires { at + length bytes.now ≤ (D.medium self.old.inner).size }
-        ensures disk { (D.medium self.old.inner).honest → Writes at bytes.now (⟦<FuseDisk<D> as Disk>⟧.medium self.old) (⟦<FuseDisk<D> as Disk>⟧.medium self.new) result }
+        ensures disk { (D.medium self.old.inner).honest
+            → Writes at bytes.now (⟦<FuseDisk<D> as Disk>⟧.medium self.old) (⟦<FuseDisk<D> as Disk>⟧.medium self.new) result }
         ensures which { FailsOrPasses D.medium (self.old.left == 0) self.old.inner self.new.inner result }
         ensures left { self.new.left ≡ self.old.left - 1 }
         ensures fault { IfErr result (λ fault. fault ≡ Write) }
@@ -99,7 +103,8 @@ impl<D: Disk> Disk for FuseDisk<D> {
     }
 
     fn sync(&mut self) -> Result<(), DiskFault>
-        ensures disk { (D.medium self.old.inner).honest → Syncs (⟦<FuseDisk<D> as Disk>⟧.medium self.old) (⟦<FuseDisk<D> as Disk>⟧.medium self.new) result }
+        ensures disk { (D.medium self.old.inner).honest
+            → Syncs (⟦<FuseDisk<D> as Disk>⟧.medium self.old) (⟦<FuseDisk<D> as Disk>⟧.medium self.new) result }
         ensures which { FailsOrPasses D.medium (self.old.left == 0) self.old.inner self.new.inner result }
         ensures left { self.new.left ≡ self.old.left - 1 }
         ensures fault { IfErr result (λ fault. fault ≡ Sync) }

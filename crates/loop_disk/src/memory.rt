@@ -50,9 +50,11 @@ impl<A: Allocator> MemDisk<A> {
 }
 
 impl<A: Allocator> Disk for MemDisk<A> {
-    ghost medium = { λ disk. medium_of no_failures (moment_now disk.past.behind disk.bytes.items) disk.past.behind.moments };
+    ghost medium = { λ disk.
+        medium_of no_failures (moment_now disk.past.behind disk.bytes.items) disk.past.behind.moments };
 
-    ghost sound = { λ disk honest. sound_of no_failures (moment_now disk.past.behind disk.bytes.items) disk.past.behind.moments };
+    ghost sound = { λ disk honest.
+        sound_of no_failures (moment_now disk.past.behind disk.bytes.items) disk.past.behind.moments };
 
     fn size(&self) -> u64 {
         self.bytes.len() as u64
@@ -62,8 +64,10 @@ impl<A: Allocator> Disk for MemDisk<A> {
     fn read(&mut self, at: u64, buf: &mut [u8]) -> Result<(), DiskFault>
         requires { at + length buf.old ≤ (⟦<MemDisk<A> as Disk>⟧.medium self.old).size }
         ensures always { IsOk result }
-        ensures read { (⟦<MemDisk<A> as Disk>⟧.medium self.old).honest → OnOk result (buf.new ≡ piece at (length buf.old) (⟦<MemDisk<A> as Disk>⟧.medium self.old).bytes) }
-        ensures disk { (⟦<MemDisk<A> as Disk>⟧.medium self.old).honest → Stays (⟦<MemDisk<A> as Disk>⟧.medium self.old) (⟦<MemDisk<A> as Disk>⟧.medium self.new) }
+        ensures read { (⟦<MemDisk<A> as Disk>⟧.medium self.old).honest
+            → OnOk result (buf.new ≡ piece at (length buf.old) (⟦<MemDisk<A> as Disk>⟧.medium self.old).bytes) }
+        ensures disk { (⟦<MemDisk<A> as Disk>⟧.medium self.old).honest
+            → Stays (⟦<MemDisk<A> as Disk>⟧.medium self.old) (⟦<MemDisk<A> as Disk>⟧.medium self.new) }
         ensures same { IsSame (⟦<MemDisk<A> as Disk>⟧.medium self.old) (⟦<MemDisk<A> as Disk>⟧.medium self.new) }
         ensures fault { IfErr result (λ fault. fault ≡ Read) }
         ensures called { Called (⟦<MemDisk<A> as Disk>⟧.medium self.old) (⟦<MemDisk<A> as Disk>⟧.medium self.new) (failed_call result) }
@@ -78,7 +82,8 @@ impl<A: Allocator> Disk for MemDisk<A> {
     fn write_at(&mut self, at: u64, bytes: &[u8]) -> Result<(), DiskFault>
         requires { at + length bytes.now ≤ (⟦<MemDisk<A> as Disk>⟧.medium self.old).size }
         ensures always { IsOk result }
-        ensures disk { (⟦<MemDisk<A> as Disk>⟧.medium self.old).honest → Writes at bytes.now (⟦<MemDisk<A> as Disk>⟧.medium self.old) (⟦<MemDisk<A> as Disk>⟧.medium self.new) result }
+        ensures disk { (⟦<MemDisk<A> as Disk>⟧.medium self.old).honest
+            → Writes at bytes.now (⟦<MemDisk<A> as Disk>⟧.medium self.old) (⟦<MemDisk<A> as Disk>⟧.medium self.new) result }
         ensures torn { LeavesEachTorn at (length bytes.now) (⟦<MemDisk<A> as Disk>⟧.medium self.old) (⟦<MemDisk<A> as Disk>⟧.medium self.new) }
         ensures fault { IfErr result (λ fault. fault ≡ Write) }
         ensures called { Called (⟦<MemDisk<A> as Disk>⟧.medium self.old) (⟦<MemDisk<A> as Disk>⟧.medium self.new) (failed_call result) }
@@ -92,7 +97,8 @@ impl<A: Allocator> Disk for MemDisk<A> {
     /// It never fails.
     fn sync(&mut self) -> Result<(), DiskFault>
         ensures always { IsOk result }
-        ensures disk { (⟦<MemDisk<A> as Disk>⟧.medium self.old).honest → Syncs (⟦<MemDisk<A> as Disk>⟧.medium self.old) (⟦<MemDisk<A> as Disk>⟧.medium self.new) result }
+        ensures disk { (⟦<MemDisk<A> as Disk>⟧.medium self.old).honest
+            → Syncs (⟦<MemDisk<A> as Disk>⟧.medium self.old) (⟦<MemDisk<A> as Disk>⟧.medium self.new) result }
         ensures fault { IfErr result (λ fault. fault ≡ Sync) }
         ensures called { Called (⟦<MemDisk<A> as Disk>⟧.medium self.old) (⟦<MemDisk<A> as Disk>⟧.medium self.new) (failed_call result) }
     {

@@ -103,8 +103,10 @@ impl<D: Disk> Disk for OnceDisk<D> {
 
     fn read(&mut self, at: u64, buf: &mut [u8]) -> Result<(), DiskFault>
         requires { at + length buf.old ≤ (D.medium self.old.inner).size }
-        ensures read { (D.medium self.old.inner).honest → OnOk result (buf.new ≡ piece at (length buf.old) (D.medium self.old.inner).bytes) }
-        ensures disk { (D.medium self.old.inner).honest → Stays (⟦<OnceDisk<D> as Disk>⟧.medium self.old) (⟦<OnceDisk<D> as Disk>⟧.medium self.new) }
+        ensures read { (D.medium self.old.inner).honest
+            → OnOk result (buf.new ≡ piece at (length buf.old) (D.medium self.old.inner).bytes) }
+        ensures disk { (D.medium self.old.inner).honest
+            → Stays (⟦<OnceDisk<D> as Disk>⟧.medium self.old) (⟦<OnceDisk<D> as Disk>⟧.medium self.new) }
         ensures which { FailsOrPasses D.medium (is_due self.old.left) self.old.inner self.new.inner result }
         ensures left { self.new.left ≡ left_after self.old.left }
         ensures torn { self.new.torn ≡ self.old.torn }
@@ -120,11 +122,15 @@ impl<D: Disk> Disk for OnceDisk<D> {
 
     fn write_at(&mut self, at: u64, bytes: &[u8]) -> Result<(), DiskFault>
         requires { at + length bytes.now ≤ (D.medium self.old.inner).size }
-        ensures disk { (D.medium self.old.inner).honest → Writes at bytes.now (⟦<OnceDisk<D> as Disk>⟧.medium self.old) (⟦<OnceDisk<D> as Disk>⟧.medium self.new) result }
-        ensures passes { is_due self.old.left ≡ false → Called (D.medium self.old.inner) (D.medium self.new.inner) (failed_call result) }
+        ensures disk { (D.medium self.old.inner).honest
+            → Writes at bytes.now (⟦<OnceDisk<D> as Disk>⟧.medium self.old) (⟦<OnceDisk<D> as Disk>⟧.medium self.new) result }
+        ensures passes { is_due self.old.left ≡ false
+            → Called (D.medium self.old.inner) (D.medium self.new.inner) (failed_call result) }
         ensures untouched { is_due self.old.left ≡ true → self.old.torn ≡ None → self.new.inner ≡ self.old.inner }
         ensures fails { is_due self.old.left ≡ true → IsErr result }
-        ensures kept { (D.medium self.old.inner).honest → is_due self.old.left ≡ true → (keep : ℕ) → self.old.torn ≡ Some keep → IsTorn at bytes.now keep (D.medium self.old.inner) (D.medium self.new.inner) result }
+        ensures kept { (D.medium self.old.inner).honest → is_due self.old.left ≡ true → (keep : ℕ)
+            → self.old.torn ≡ Some keep
+            → IsTorn at bytes.now keep (D.medium self.old.inner) (D.medium self.new.inner) result }
         ensures left { self.new.left ≡ left_after self.old.left }
         ensures torn { self.new.torn ≡ self.old.torn }
         ensures fault { IfErr result (λ fault. fault ≡ Write) }
@@ -143,7 +149,8 @@ impl<D: Disk> Disk for OnceDisk<D> {
     }
 
     fn sync(&mut self) -> Result<(), DiskFault>
-        ensures disk { (D.medium self.old.inner).honest → Syncs (⟦<OnceDisk<D> as Disk>⟧.medium self.old) (⟦<OnceDisk<D> as Disk>⟧.medium self.new) result }
+        ensures disk { (D.medium self.old.inner).honest
+            → Syncs (⟦<OnceDisk<D> as Disk>⟧.medium self.old) (⟦<OnceDisk<D> as Disk>⟧.medium self.new) result }
         ensures which { FailsOrPasses D.medium (is_due self.old.left) self.old.inner self.new.inner result }
         ensures left { self.new.left ≡ left_after self.old.left }
         ensures torn { self.new.torn ≡ self.old.torn }
@@ -158,10 +165,12 @@ impl<D: Disk> Disk for OnceDisk<D> {
     }
 }
 
-// Writes the first bytes of a write, and the present bytes again in the places of the others: all of them then count as written.
+// Writes the first bytes of a write, and the present bytes again in the places of the others: all of them then
+// count as written.
 fn tear<D: Disk>(disk: &mut D, at: u64, bytes: &[u8], keep: usize) -> Result<(), DiskFault>
     requires { at + length bytes.now ≤ (D.medium disk.old).size }
-    ensures disk { (D.medium disk.old).honest → Tears at (length bytes.now) (written at (take keep bytes.now) (D.medium disk.old).bytes) (D.medium disk.old) (D.medium disk.new) result }
+    ensures disk { (D.medium disk.old).honest
+        → Tears at (length bytes.now) (written at (take keep bytes.now) (D.medium disk.old).bytes) (D.medium disk.old) (D.medium disk.new) result }
     ensures called { Called (D.medium disk.old) (D.medium disk.new) (failed_call result) }
 {
     let keep = keep.min(bytes.len());
@@ -173,7 +182,8 @@ fn tear<D: Disk>(disk: &mut D, at: u64, bytes: &[u8], keep: usize) -> Result<(),
 fn rewrite<D: Disk>(disk: &mut D, at: u64, from: usize, count: usize) -> Result<(), DiskFault>
     requires inside { at + count ≤ (D.medium disk.old).size }
     requires within { from ≤ count }
-    ensures disk { (D.medium disk.old).honest → Tears at count (D.medium disk.old).bytes (D.medium disk.old) (D.medium disk.new) result }
+    ensures disk { (D.medium disk.old).honest
+        → Tears at count (D.medium disk.old).bytes (D.medium disk.old) (D.medium disk.new) result }
     ensures called { Called (D.medium disk.old) (D.medium disk.new) (failed_call result) }
 {
     // The range ends on the disk, so its places are u64s, as the disk's size is.
@@ -191,7 +201,8 @@ fn rewrite<D: Disk>(disk: &mut D, at: u64, from: usize, count: usize) -> Result<
 // Writes the present bytes again in as many places as the buffer has.
 fn rewrite_chunk<D: Disk>(disk: &mut D, at: u64, chunk: &mut [u8]) -> Result<(), DiskFault>
     requires { at + length chunk.old ≤ (D.medium disk.old).size }
-    ensures disk { (D.medium disk.old).honest → Tears at (length chunk.old) (D.medium disk.old).bytes (D.medium disk.old) (D.medium disk.new) result }
+    ensures disk { (D.medium disk.old).honest
+        → Tears at (length chunk.old) (D.medium disk.old).bytes (D.medium disk.old) (D.medium disk.new) result }
     ensures called { Called (D.medium disk.old) (D.medium disk.new) (failed_call result) }
 {
     disk.read(at, chunk)?;

@@ -1,4 +1,5 @@
-// What a memory disk has behind it, as data of its proofs. It takes no memory, and its calls do nothing when the program runs.
+// What a memory disk has behind it, as data of its proofs. It takes no memory, and its calls do nothing when
+// the program runs.
 ghost use Rattle.std.specs.Prelude.{◌≡◌};
 ghost use Rattle.std.specs.Borrow.{ftrue};
 ghost use Rattle.loop_disk.specs.Behind.{Behind, nothing_yet, behind_after};

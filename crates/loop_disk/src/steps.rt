@@ -30,7 +30,8 @@ pub fn store_in_turn<D: Disk>(
     requires inside { at + length bytes.now ≤ (D.medium disk.old).size }
     requires gate { gate + length gates.now ≤ (D.medium disk.old).size }
     requires settled { (D.medium disk.old).honest → IsSettled (D.medium disk.old) }
-    ensures disk { (D.medium disk.old).honest → StoresInTurn at bytes.now gate gates.now (D.medium disk.old) (D.medium disk.new) result }
+    ensures disk { (D.medium disk.old).honest
+        → StoresInTurn at bytes.now gate gates.now (D.medium disk.old) (D.medium disk.new) result }
     ensures called { Called (D.medium disk.old) (D.medium disk.new) (failed_call result) }
 {
     store(disk, at, bytes)?;

@@ -66,7 +66,8 @@ module _ {P A : Type 0} (meaning : P → Plane) where
   abbrev pub Reacts : QueueEvent P A → QueueReply P A → Lined P → Fds P → Lined P → Fds P → Type 0
   Reacts e r queue table new_queue new_table = (j : IoctlState) → Stands meaning queue table j → IsTold e r j × Stands meaning new_queue new_table (state_after e r j)
 
-  -- a list of events: there are as many replies, each is the model's at its point, and queue and table stand for the state after all
+  -- a list of events: there are as many replies, each is the model's at its point, and queue and table stand
+  -- for the state after all
   pub record Runs (events : List (QueueEvent P A)) (replies : List (QueueReply P A)) (queue : Lined P) (table : Fds P) (new_queue : Lined P) (new_table : Fds P) : Type 0 where
     pub count : length replies ≡ length events
     pub told : (j : IoctlState) → Stands meaning queue table j → EachIn turned IsTurn j (turns events replies) × Stands meaning new_queue new_table (after_all turned j (turns events replies))

@@ -256,9 +256,10 @@ fn dispatch<P: PlaneMemory, A: Allocator + Copy>(
     }
 }
 
-/// One ioctl. BadType is judged before all else; then come the checks of each call in their order. With planes by fd, BadIndex
-/// and BadMemory come before the fds are attached, and the first fd that fails (NoSuchFd, FdAttached) before the other checks.
-/// A refusal changes neither queue nor table, and hands back all planes that came by value.
+/// One ioctl. BadType is judged before all else; then come the checks of each call in their order. With planes
+/// by fd, BadIndex and BadMemory come before the fds are attached, and the first fd that fails (NoSuchFd,
+/// FdAttached) before the other checks. A refusal changes neither queue nor table, and hands back all planes
+/// that came by value.
 pub fn apply<P: PlaneMemory, A: Allocator + Copy>(
     queue: &mut Queue<P, A>,
     table: &mut FdTable<P, A>,

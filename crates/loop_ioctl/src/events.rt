@@ -93,15 +93,17 @@ fn react<P: PlaneMemory, A: Allocator + Copy>(
     }
 }
 
-/// Each event in turn, with its reply. A refused event changes nothing, and the next one follows. NoMemory, where there is no
-/// room for the replies, comes before the first event: then nothing has changed, and the events come back.
+/// Each event in turn, with its reply. A refused event changes nothing, and the next one follows. NoMemory,
+/// where there is no room for the replies, comes before the first event: then nothing has changed, and the
+/// events come back.
 pub fn run_events<P: PlaneMemory, A: Allocator + Copy>(
     queue: &mut Queue<P, A>,
     table: &mut FdTable<P, A>,
     events: Vec<QueueEvent<P, A>, A>,
 ) -> Result<Vec<QueueReply<P, A>, A>, (Errno, Vec<QueueEvent<P, A>, A>)>
     requires whole { are_whole queue.old.body.shape events.items ≡ true }
-    ensures runs { IfOk result (λ replies. Runs P.plane events.items replies.items queue.old table.old queue.new table.new) }
+    ensures runs { IfOk result (λ replies.
+        Runs P.plane events.items replies.items queue.old table.old queue.new table.new) }
     ensures memory { IfErr result (λ e. (e.0 ≡ errno NoMemory) × (e.1 ≡ events)) }
     ensures same { OnErr result ((queue.new ≡ queue.old) × (table.new ≡ table.old)) }
     ensures shape { queue.new.body.shape ≡ queue.old.body.shape }

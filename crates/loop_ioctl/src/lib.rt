@@ -6,8 +6,9 @@
 //! - `events` has `run_events`: ioctls and calls of the device in a list, each answered in turn;
 //! - `laws` has what follows from the definitions.
 //!
-//! Of `specs/`, `Calls` has the model of an ioctl, `Names` that of the fds, `Attached` what holds of both (each fd of a plane
-//! that a queue holds is attached, and no two are the same), and `Events` that of a list. Only private functions speak of `Parts`.
+//! Of `specs/`, `Calls` has the model of an ioctl, `Names` that of the fds, `Attached` what holds of both (each
+//! fd of a plane that a queue holds is attached, and no two are the same), and `Events` that of a list. Only
+//! private functions speak of `Parts`.
 #![tactic(auto)]
 
 mod call;

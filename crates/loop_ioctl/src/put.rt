@@ -146,8 +146,8 @@ fn put_memory<P: PlaneMemory, A: Allocator + Copy>(
     }
 }
 
-/// QBUF or PREPARE_BUF: planes by fd are attached first. A refusal hands planes by value back, and leaves queue and table as
-/// they were.
+/// QBUF or PREPARE_BUF: planes by fd are attached first. A refusal hands planes by value back, and leaves queue
+/// and table as they were.
 pub(crate) fn use_buffer<P: PlaneMemory, A: Allocator + Copy>(
     queue: &mut Queue<P, A>,
     table: &mut FdTable<P, A>,

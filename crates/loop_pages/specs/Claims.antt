@@ -13,7 +13,8 @@ pub record IsRising (limit : ℕ) (pages : List ℕ) : Type 0 where
   pub below : All (λ page. page < limit) pages
   pub rise : AllPairs (λ page later. page < later) pages
 
--- each page below a limit was tried once, from page 0 upward, after those that were tried before: some were got, and the others missed
+-- each page below a limit was tried once, from page 0 upward, after those that were tried before: some were
+-- got, and the others missed
 pub record IsTried (limit : ℕ) (got missed before tried : List ℕ) : Type 0 where
   pub order : tried ≡ before ++ range_with_len 0 limit
   pub got_rise : IsRising limit got

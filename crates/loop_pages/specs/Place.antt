@@ -3,7 +3,8 @@ use Rattle.std.specs.Prelude.{◌≡◌, ℕ, List, [], ◌∷◌, ◌++◌, ref
 use Rattle.std.specs.Coded.{Coded, code_by, coded×, coded_ℕ, coded_list}
 use Rattle.atomic_table.specs.Seated.{TableId, table_id_coded}
 
--- a ledger, the pages of it that are held, those that the last claim missed, and all that were ever tried, in their order
+-- a ledger, the pages of it that are held, those that the last claim missed, and all that were ever tried, in
+-- their order
 pub record Place : Type 0 where
   pub ledger : TableId
   pub pages : List ℕ

@@ -12,9 +12,9 @@ use std::alloc::{Allocator, Global};
 use std::marker::Model;
 use std::sync::Arc;
 
-/// Pages of one ledger, which nobody else holds until they are released. Dropping a hold releases it.
-/// Contracts see the ledger, the pages, which are those that the view of its seat lists, those that its claim missed, and all
-/// that the seat ever tried.
+/// Pages of one ledger, which nobody else holds until they are released. Dropping a hold releases it. Contracts
+/// see the ledger, the pages, which are those that the view of its seat lists, those that its claim missed, and
+/// all that the seat ever tried.
 pub struct PageHold<A: Allocator = Global> {
     ledger: Arc<PageLedger<A>, A>,
     seat: PageSeat,
@@ -28,7 +28,8 @@ impl<A: Allocator> Model for PageHold<A> {
 
     ghost view = { λ h. h.seat };
 
-    ghost invariant = { λ h. (h.seat.ledger ≡ arc_value h.ledger) × (h.seat.pages ≡ h.pages.items) × All (λ page. page < (arc_value h.ledger).words) h.pages.items × (length h.pages.items ≤ 1024) };
+    ghost invariant = { λ h. (h.seat.ledger ≡ arc_value h.ledger) × (h.seat.pages ≡ h.pages.items)
+        × All (λ page. page < (arc_value h.ledger).words) h.pages.items × (length h.pages.items ≤ 1024) };
 }
 
 // Tries each page once, from page 0 upward, until there are `count`. Says whether there are.
@@ -71,11 +72,12 @@ fn give_back<A: Allocator>(ledger: &PageLedger<A>, seat: &mut PageSeat, pages: &
 }
 
 impl<A: Allocator> PageLedger<A> {
-    /// Claims `count` free pages: it tries page 0, 1, 2, .. once each until it has as many. The seat is this ledger's and
-    /// holds no page; it goes into the hold. The allocator is that of the hold's list of pages.
+    /// Claims `count` free pages: it tries page 0, 1, 2, .. once each until it has as many. The seat is this
+    /// ledger's and holds no page; it goes into the hold. The allocator is that of the hold's list of pages.
     ///
-    /// BadCount where `count` is 0 or above the ledger's number of pages, NoMemory where a growth was refused, and NoPages
-    /// where each page was tried, and those that it got, which are given back, are fewer. A refusal gives the seat back.
+    /// BadCount where `count` is 0 or above the ledger's number of pages, NoMemory where a growth was refused,
+    /// and NoPages where each page was tried, and those that it got, which are given back, are fewer. A refusal
+    /// gives the seat back.
     pub fn claim(
         alloc: A,
         ledger: &Arc<PageLedger<A>, A>,
@@ -86,7 +88,8 @@ impl<A: Allocator> PageLedger<A> {
         ensures count { IfOk result (λ h. IsCount (arc_value ledger.now).words count × (length h.pages ≡ count)) }
         ensures ledger { IfOk result (λ h. h.ledger ≡ arc_value ledger.now) }
         ensures pages { IfOk result (λ h. IsRising (arc_value ledger.now).words h.pages) }
-        ensures tried { IfOk result (λ h. IsGot (arc_value ledger.now).words count h.pages h.missed seat.tried h.tried) }
+        ensures tried { IfOk result (λ h.
+            IsGot (arc_value ledger.now).words count h.pages h.missed seat.tried h.tried) }
 
         ensures fault { IfErr result (λ e. FaultOfClaim e.0 (IsCount (arc_value ledger.now).words count)) }
         ensures short { IfErr result (λ e. IfNoPages e.0

@@ -31,12 +31,13 @@ impl<A: Allocator> Model for PageLedger<A> {
 
     ghost view = { λ l. l.table.shared.table_id };
 
-    ghost invariant = { λ l. IsCount 1024 l.table.shared.table_id.words × (l.table.shared.key ≡ l.table.shared.table_id.words) };
+    ghost invariant = { λ l. IsCount 1024 l.table.shared.table_id.words
+        × (l.table.shared.key ≡ l.table.shared.table_id.words) };
 }
 
 impl<A: Allocator + Copy> PageLedger<A> {
-    /// A ledger of `count` free pages, and its first seat, which holds no page. BadCount where `count` is 0 or above 1,024,
-    /// and NoMemory where a growth was refused; nothing is left then.
+    /// A ledger of `count` free pages, and its first seat, which holds no page. BadCount where `count` is 0 or
+    /// above 1,024, and NoMemory where a growth was refused; nothing is left then.
     pub fn new(alloc: A, count: u32) -> Result<(Arc<PageLedger<A>, A>, PageSeat), PageFault>
         ensures count { IfOk result (λ r. IsCount 1024 count × ((arc_value r.0).words ≡ count)) }
         ensures seat { IfOk result (λ r. r.1 ≡ place (arc_value r.0) [] [] []) }

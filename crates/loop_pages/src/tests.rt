@@ -124,7 +124,8 @@ fn clears_all(hold: &PageHold, marks: &[AtomicBool]) {
     }
 }
 
-// A hundred times claims `least` pages or up to `kinds - 1` more, and says how often it got them. Nothing if another held one.
+// A hundred times claims `least` pages or up to `kinds - 1` more, and says how often it got them. Nothing if
+// another held one.
 fn takes_turns(
     alloc: Global,
     ledger: &Arc<PageLedger>,

@@ -5,7 +5,8 @@ use Rattle.loop_record.specs.declared.geometry.Geometry.{Geometry}
 use Rattle.loop_record.specs.Geometry.{segment_at, segment_size, clip_at}
 use Rattle.loop_record.specs.Layout.{Segment, segment_in, clip_in}
 
--- images of one length with the same bytes, but for n bytes from a place on; loop_disk, on which nothing here stands, says the same of a disk as `SameOutside`
+-- images of one length with the same bytes, but for n bytes from a place on; loop_disk, on which nothing here
+-- stands, says the same of a disk as `SameOutside`
 pub record SameBut (at n : ℕ) (old new : List ℕ) : Type 0 where
   pub size : length new ≡ length old
   pub before : (i : ℕ) → i < at → slice_index new i ≡ slice_index old i

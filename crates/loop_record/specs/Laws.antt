@@ -45,7 +45,8 @@ pub record FitsSlot (number : ℕ) (p : Picture) : Type 0 where
   pub timestamp : p.timestamp < 2 ^ 64
   pub bytes : length p.bytes < 2 ^ 32
 
--- a slot that was written is read as its frame's, a superblock as its geometry, a header as its block, an entry as its clip
+-- a slot that was written is read as its frame's, a superblock as its geometry, a header as its block, an entry
+-- as its clip
 pub record WrittenIsRead : Type 0 where
   pub slot : (number : ℕ) (p : Picture) → FitsSlot number p → slot_head (length p.bytes) number (slot_in (length p.bytes) (slot_bytes number p) 0) ≡ Ok (head number p)
   pub superblock : (g : Geometry) → IsTrue (is_good g) → geometry_in (super_bytes g) ≡ Ok g

@@ -3,7 +3,8 @@ use Rattle.std.specs.Prelude.{◌≡◌, ℕ, ◌+◌, ◌*◌, ◌<◌, ◌≤�
 use Rattle.loop_record.specs.Recording.{Picture}
 use Rattle.loop_ring.specs.Writes.{slots_in, slots_of}
 
--- how many bytes a frame of it has, how many frames it has memory for, the number of the first, and the frames, numbered from that one on
+-- how many bytes a frame of it has, how many frames it has memory for, the number of the first, and the frames,
+-- numbered from that one on
 pub record Grouped : Type 0 where
   pub size : ℕ
   pub limit : ℕ

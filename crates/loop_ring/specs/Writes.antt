@@ -49,8 +49,8 @@ pub record IsGroup (g : Geometry) (number : ℕ) (frames : List Picture) (bytes 
   pub count_is : count ≡ length frames
   pub slots : slots_in (frame_bytes g) bytes count ≡ slots_of (frame_bytes g) number frames
 
--- What a call that writes changed: whatever the moment of a stop, the image is one of the first; at Ok it is one of the second, and a crash leaves
--- nothing else.
+-- What a call that writes changed: whatever the moment of a stop, the image is one of the first; at Ok it is
+-- one of the second, and a crash leaves nothing else.
 pub record Changes {T : Type 0} (IsLeft IsSuch : List ℕ → Type 0) (old new : Medium) (result : Result T DiskFault) : Type 0 where
   pub moments : old.honest → LeavesOnly old new IsLeft
   pub such : old.honest → OnOk result (IsSuch new.bytes)

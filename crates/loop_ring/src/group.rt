@@ -15,8 +15,9 @@ use std::marker::Model;
 /// The most frames that one commit takes.
 pub const MAX_GROUP: usize = 8;
 
-/// Frames that are written together, numbered from a first one on. It holds their slots, as they are to stand on the disk: putting
-/// a frame into it is the one copy of its pixels on the way there. In contracts it is the first number and the list of the frames.
+/// Frames that are written together, numbered from a first one on. It holds their slots, as they are to stand
+/// on the disk: putting a frame into it is the one copy of its pixels on the way there. In contracts it is the
+/// first number and the list of the frames.
 #[derive(Drop)]
 pub struct Group<A: Allocator = Global> {
     // The slots, one behind the other.
@@ -30,17 +31,19 @@ pub struct Group<A: Allocator = Global> {
 impl<A: Allocator> Model for Group<A> {
     ghost Value = { Grouped };
 
-    ghost view = { λ g. record { size = g.frame_bytes; limit = g.limit; first = g.first; frames = frames_in g.frame_bytes g.slots.items g.count } };
+    ghost view = { λ g.
+        record { size = g.frame_bytes; limit = g.limit; first = g.first; frames = frames_in g.frame_bytes g.slots.items g.count } };
 
     ghost invariant = { λ g. IsGrouped g.frame_bytes g.limit g.first g.count g.slots.items (vec_capacity g.slots) };
 }
 
 impl<A: Allocator> Group<A> {
-    /// A group without a frame, for frames of this geometry. It takes the memory of as many slots as a segment has, and at most of
-    /// `MAX_GROUP`, and keeps it; no later call takes any.
+    /// A group without a frame, for frames of this geometry. It takes the memory of as many slots as a segment
+    /// has, and at most of `MAX_GROUP`, and keeps it; no later call takes any.
     pub fn new(alloc: A, geometry: &Geometry) -> Result<Self, AllocError>
         requires { IsTrue (is_good geometry.now) }
-        ensures { IfOk result (λ group. group ≡ record { size = frame_bytes geometry.now; limit = min 8 geometry.now.slots; first = 0; frames = [] }) }
+        ensures { IfOk result (λ group.
+            group ≡ record { size = frame_bytes geometry.now; limit = min 8 geometry.now.slots; first = 0; frames = [] }) }
     {
         let frame_bytes = geometry.frame_bytes() as usize;
         let limit = MAX_GROUP.min(geometry.slots as usize);
@@ -104,7 +107,8 @@ impl<A: Allocator> Group<A> {
     // The slots, one behind the other.
     pub(crate) fn slots(&self) -> &[u8]
         ensures size { length result.now ≡ length self.now.frames * (32 + self.now.size) }
-        ensures slots { slots_in self.now.size result.now (length self.now.frames) ≡ slots_of self.now.size self.now.first self.now.frames }
+        ensures slots { slots_in self.now.size result.now (length self.now.frames)
+            ≡ slots_of self.now.size self.now.first self.now.frames }
     {
         &self.slots
     }

@@ -10,9 +10,10 @@ use loop_record::SegmentHead;
 use std::alloc::{AllocError, Allocator, Global};
 use std::marker::Model;
 
-/// The segments of a store. In contracts it is the list of what the header of each says: its block and its whole frames, or
-/// nothing where the segment is closed. Beside that list it keeps the open segments sorted by block, so that `find` looks at few.
-/// Only `new` and `of` take memory: for the list, and for as many sorted entries as there are segments.
+/// The segments of a store. In contracts it is the list of what the header of each says: its block and its
+/// whole frames, or nothing where the segment is closed. Beside that list it keeps the open segments sorted by
+/// block, so that `find` looks at few. Only `new` and `of` take memory: for the list, and for as many sorted
+/// entries as there are segments.
 #[derive(Drop)]
 pub struct SegmentIndex<A: Allocator = Global> {
     heads: Vec<Option<SegmentHead>, A>,
@@ -83,8 +84,8 @@ impl<A: Allocator> SegmentIndex<A> {
         self.heads[place] = head;
     }
 
-    /// The first segment that holds a block, if one does, and how many segments' blocks it looked at: of fewer than `2^n`
-    /// segments at most `n`, so 7 where there are 64.
+    /// The first segment that holds a block, if one does, and how many segments' blocks it looked at: of fewer
+    /// than `2^n` segments at most `n`, so 7 where there are 64.
     pub fn find(&self, block: u64) -> (Option<u32>, u32)
         ensures first { result.0 ≡ position (is_of block) self.now }
         ensures looks { (n : ℕ) → length self.now < 2 ^ n → result.1 ≤ n }
@@ -135,7 +136,8 @@ pub(crate) fn has_frame(head: Option<SegmentHead>) -> bool
 
 // Whether a segment is open, holds a block, and has its frame of a slot.
 fn has_slot(head: Option<SegmentHead>, block: u64, slot: u64) -> bool
-    ensures { (slots : ℕ) (number : ℕ) → block ≡ number / slots → slot ≡ number % slots → result ≡ has_number slots number head }
+    ensures { (slots : ℕ) (number : ℕ) → block ≡ number / slots → slot ≡ number % slots
+        → result ≡ has_number slots number head }
 {
     head.is_some_and(|head| head.block == block && slot < u64::from(head.frames))
 }

@@ -1,16 +1,16 @@
-//! The segments of a store's ring: on a disk, what opens one, what it gains, what closes it, and how a frame is read back;
-//! in memory, which of them is which.
+//! The segments of a store's ring: on a disk, what opens one, what it gains, what closes it, and how a frame is
+//! read back; in memory, which of them is which.
 //!
-//! `ring` has the `Ring`, a store's geometry. `group` has the memory in which a group's slots are put together before they
-//! are written; a group is a value, its first number and its frames, and `Ring::commit` takes one.
-//! At no moment does a crash during one of its calls leave a segment but as it was or as was asked for, or a commit's
-//! segment with a beginning of the group: `specs/Writes` says so segment by segment, and never speaks of bytes.
-//! Each call makes at most four calls of the disk, and none of them takes memory.
-//! `stray` closes the gates that a stopped commit left open behind a closed one.
-//! `index` has the `SegmentIndex`, what the header of each segment says, and `entry` its open segments by block; `victim` finds
-//! in it the block that goes when room is needed. `specs/Heads` says what an index has where it agrees with a disk; `proofs/Heads`
-//! and `proofs/Held` what it then says of the recording; `specs/Entries` and `proofs/Indexed` how the open segments are sorted,
-//! `proofs/Oldest` that the victim is the first of them that may go.
+//! `ring` has the `Ring`, a store's geometry. `group` has the memory in which a group's slots are put together
+//! before they are written; a group is a value, its first number and its frames, and `Ring::commit` takes one.
+//! At no moment does a crash during one of its calls leave a segment but as it was or as was asked for, or a
+//! commit's segment with a beginning of the group: `specs/Writes` says so segment by segment, and never speaks
+//! of bytes. Each call makes at most four calls of the disk, and none of them takes memory. `stray` closes the
+//! gates that a stopped commit left open behind a closed one. `index` has the `SegmentIndex`, what the header
+//! of each segment says, and `entry` its open segments by block; `victim` finds in it the block that goes when
+//! room is needed. `specs/Heads` says what an index has where it agrees with a disk; `proofs/Heads` and
+//! `proofs/Held` what it then says of the recording; `specs/Entries` and `proofs/Indexed` how the open segments
+//! are sorted, `proofs/Oldest` that the victim is the first of them that may go.
 #![tactic(auto)]
 
 mod entry;

@@ -38,7 +38,8 @@ impl Ring {
         requires extent { (D.medium disk.old).size ≡ disk_size self.now.geometry }
         requires segment { segment < self.now.geometry.segments }
         requires settled { (D.medium disk.old).honest → IsSettled (D.medium disk.old) }
-        requires there { (D.medium disk.old).honest → segment_in self.now.geometry (D.medium disk.old).bytes segment ≢ None }
+        requires there { (D.medium disk.old).honest
+            → segment_in self.now.geometry (D.medium disk.old).bytes segment ≢ None }
         ensures { let g = self.now.geometry in let old = D.medium disk.old in
             Changes (ShowsOrNot g segment None old.bytes) (ShowsSegment g segment None old.bytes) old (D.medium disk.new) result }
     {
@@ -55,21 +56,23 @@ impl Ring {
         requires extent { (D.medium disk.old).size ≡ disk_size self.now.geometry }
         requires segment { segment < self.now.geometry.segments }
         requires settled { (D.medium disk.old).honest → IsSettled (D.medium disk.old) }
-        requires closed { (D.medium disk.old).honest → segment_in self.now.geometry (D.medium disk.old).bytes segment ≡ None }
+        requires closed { (D.medium disk.old).honest
+            → segment_in self.now.geometry (D.medium disk.old).bytes segment ≡ None }
         ensures { let g = self.now.geometry in let old = D.medium disk.old in
             Changes (ShowsOrNot g segment (Some (begun block)) old.bytes)
             (λ image. ShowsSegment g segment (Some (begun block)) old.bytes image × HasNoStray g segment image)
             old (D.medium disk.new) result }
     {
-        // Everything behind the gate: zeros, so that no frame gate stays open from an earlier block, and the block's number.
+        // Everything behind the gate: zeros, so that no frame gate stays open from an earlier block, and the
+        // block's number.
         let mut header = [0; 511];
         put_u64(&mut header, 7, block);
         let at = self.geometry.segment_at(segment);
         store_in_turn(disk, at + 1, &header, at, &[OPEN])
     }
 
-    /// Adds the frames of a group to a segment, behind its whole frames, of which there are as many as `first_slot` says: two writes,
-    /// each with its sync.
+    /// Adds the frames of a group to a segment, behind its whole frames, of which there are as many as
+    /// `first_slot` says: two writes, each with its sync.
     pub fn commit<D: Disk, A: Allocator>(
         &self,
         disk: &mut D,
@@ -98,8 +101,8 @@ impl Ring {
         store_in_turn(disk, at, group.slots(), gate, &gates[..group.len()])
     }
 
-    /// Reads a slot that should hold frame `number`: at most two reads. `out` has the size of a frame and gets the pixels.
-    /// After a refusal `out` may hold any bytes.
+    /// Reads a slot that should hold frame `number`: at most two reads. `out` has the size of a frame and gets
+    /// the pixels. After a refusal `out` may hold any bytes.
     pub fn read_slot<D: Disk>(
         &self,
         disk: &mut D,

@@ -16,10 +16,10 @@ use loop_record::OPEN;
 const MAX_GATES: usize = 256;
 
 impl Ring {
-    /// Closes the frame gates behind a segment's first closed one, where one of them is open: one read, and then at most
-    /// one write and one sync. `frames` is how many whole frames the segment has. Without a gate behind the first closed
-    /// one nothing is read. A failed read changes nothing; a failed write or sync may leave some of these gates open.
-    /// At each moment, and after each failure, the segment reads as before.
+    /// Closes the frame gates behind a segment's first closed one, where one of them is open: one read, and
+    /// then at most one write and one sync. `frames` is how many whole frames the segment has. Without a gate
+    /// behind the first closed one nothing is read. A failed read changes nothing; a failed write or sync may
+    /// leave some of these gates open. At each moment, and after each failure, the segment reads as before.
     pub fn clear_stray<D: Disk>(
         &self,
         disk: &mut D,
@@ -30,7 +30,8 @@ impl Ring {
         requires segment { segment < self.now.geometry.segments }
         requires few { frames ≤ self.now.geometry.slots }
         requires settled { (D.medium disk.old).honest → IsSettled (D.medium disk.old) }
-        requires whole { (D.medium disk.old).honest → whole_frames self.now.geometry (D.medium disk.old).bytes segment ≡ frames }
+        requires whole { (D.medium disk.old).honest
+            → whole_frames self.now.geometry (D.medium disk.old).bytes segment ≡ frames }
         ensures changes { let g = self.now.geometry in let old = D.medium disk.old in
             let Same = ShowsSegment g segment (segment_in g old.bytes segment) old.bytes in
             Changes Same (λ image. Same image × HasNoStray g segment image) old (D.medium disk.new) result }

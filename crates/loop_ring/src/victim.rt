@@ -13,8 +13,9 @@ use crate::index::has_frame;
 use loop_record::{Geometry, SegmentHead, Span, may_go};
 use std::alloc::Allocator;
 
-/// The block that goes when room is needed: the least block of a held frame that no clip meets and that isn't the block of the
-/// newest held frame. Nothing where none may go. A segment without frames holds none and is passed over. It takes no memory.
+/// The block that goes when room is needed: the least block of a held frame that no clip meets and that isn't
+/// the block of the newest held frame. Nothing where none may go. A segment without frames holds none and is
+/// passed over. It takes no memory.
 pub fn victim_block<A: Allocator>(
     geometry: &Geometry,
     index: &SegmentIndex<A>,
@@ -47,8 +48,8 @@ fn newest_block(heads: &[Option<SegmentHead>]) -> Option<u64>
     heads.iter().filter_map(|head| held_block(*head)).max()
 }
 
-// The least block of a held frame that may go, where this is the newest block: the first one in the order of the blocks. So the
-// clips are asked of no later block.
+// The least block of a held frame that may go, where this is the newest block: the first one in the order of
+// the blocks. So the clips are asked of no later block.
 fn oldest_block(
     geometry: &Geometry,
     heads: &[Option<SegmentHead>],

@@ -57,8 +57,8 @@ after g s call = record {
 
 -- ---- the answers
 
--- why an append is refused: it must be reopened, or otherwise no number is left, or otherwise no block may go that has to, or otherwise
--- the disk failed
+-- why an append is refused: it must be reopened, or otherwise no number is left, or otherwise no block may go
+-- that has to, or otherwise the disk failed
 abbrev pub RefusesAppend : Geometry → StoreState → List Picture → StoreFault → Type 0
 RefusesAppend g s group fault =
     (fault ≡ MustReopen) × (s.must_reopen ≡ true)
@@ -66,7 +66,8 @@ RefusesAppend g s group fault =
     ⊎ ((fault ≡ AllLocked) × ((s.must_reopen ≡ false) × ((s.recording.next ≢ last_number (ring_of g)) × (steps (ring_of g) s.recording group ≡ None)))
     ⊎ (is_disk fault ≡ true) × ((s.must_reopen ≡ false) × (steps (ring_of g) s.recording group ≢ None))))
 
--- why a read is refused: it must be reopened, or otherwise the number isn't held, or otherwise memory was refused or the disk failed
+-- why a read is refused: it must be reopened, or otherwise the number isn't held, or otherwise memory was
+-- refused or the disk failed
 abbrev pub RefusesRead : StoreState → ℕ → StoreFault → Type 0
 RefusesRead s number fault =
     (fault ≡ MustReopen) × (s.must_reopen ≡ true)

@@ -64,12 +64,14 @@ steps_before g r = steps_or_none (recycling_first (needs_recycling (ring_of g) r
 abbrev pub head_at : Geometry → ℕ → SegmentHead
 head_at g next = record { block = next / g.slots; frames = next % g.slots }
 
--- the segments' headers are the old ones, but that segment j has begun the block of the next number, with the frames before it; and no stray gate is there
+-- the segments' headers are the old ones, but that segment j has begun the block of the next number, with the
+-- frames before it; and no stray gate is there
 pub record IsBegunAt (g : Geometry) (next j : ℕ) (old new : List ℕ) : Type 0 where
   pub heads : heads_of g new ≡ slice_set (heads_of g old) j (Some (head_at g next))
   pub unstray : HasNoneStray g new
 
--- the segments' headers are the old ones, but that segment j has so many frames of the block of the next number from there on; and no stray gate is there
+-- the segments' headers are the old ones, but that segment j has so many frames of the block of the next number
+-- from there on; and no stray gate is there
 pub record IsGrownAt (g : Geometry) (next count j : ℕ) (old new : List ℕ) : Type 0 where
   pub heads : heads_of g new ≡ slice_set (heads_of g old) j (Some (head_after g next count))
   pub unstray : HasNoneStray g new

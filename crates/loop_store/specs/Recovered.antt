@@ -20,7 +20,8 @@ abbrev pub refusal : LayoutFault → StoreFault
 refusal LayoutFault.NotFormatted = StoreFault.NotFormatted
 refusal (LayoutFault.Damaged damage) = StoreFault.Damaged damage
 
--- The answer is as the first says, or the layout's refusal as the second, or memory was refused, or a call of the disk failed.
+-- The answer is as the first says, or the layout's refusal as the second, or memory was refused, or a call of
+-- the disk failed.
 abbrev pub Recovers : {T : Type 0} → Result T StoreFault → (T → Type 0) → (LayoutFault → Type 0) → Type 0
 Recovers (Ok x) P Q = P x
 Recovers (Err StoreFault.NoMemory) P Q = Unit {0}
@@ -77,7 +78,8 @@ pub record IsRecovered {A : Type 0} (index : Index A) (image : List ℕ) : Type 
   pub recording : Recording
   pub known : IsIndexOf index recording image
 
--- whatever a disk holds: there is a header for each segment, each may stand there, no block of the numbers below the next one is too high, and the block that is kept as the victim is that of the headers and the clips
+-- whatever a disk holds: there is a header for each segment, each may stand there, no block of the numbers
+-- below the next one is too high, and the block that is kept as the victim is that of the headers and the clips
 pub record IsIndex {A : Type 0} (index : Index A) : Type 0 where
   pub count : length index.table ≡ index.ring.geometry.segments
   pub within : All (IsHeadIn index.ring.geometry) index.table

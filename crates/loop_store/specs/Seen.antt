@@ -14,7 +14,8 @@ use Rattle.loop_store.specs.Held.{HasNoneStray}
 use Rattle.loop_store.specs.Numbers.{is_among, numbers_under}
 use Rattle.loop_store.specs.Recovered.{IsFitting, IsRecovered}
 
--- the disk and the geometry, and what a store tells of its recording: the number that comes next, the numbers that are held, the clip of each id; and whether a call that writes has failed
+-- the disk and the geometry, and what a store tells of its recording: the number that comes next, the numbers
+-- that are held, the clip of each id; and whether a call that writes has failed
 pub record Seen (D : Type 0) : Type 0 where
   pub disk : D
   pub geometry : Geometry
@@ -40,7 +41,8 @@ pub record Tells {D : Type 0} (s : Seen D) (r : Recording) : Type 0 where
   pub numbers_are : (n : ℕ) → is_among s.numbers n ≡ holds r n
   pub clips_are : s.clips ≡ r.clips
 
--- The store stands for a recording, where its disk is honest: it tells of that recording, after a failed call too; and where it needn't be reopened, the disk holds it, and a crash leaves nothing else.
+-- The store stands for a recording, where its disk is honest: it tells of that recording, after a failed call
+-- too; and where it needn't be reopened, the disk holds it, and a crash leaves nothing else.
 pub record StandsFor {D : Type 0} (medium : D → Medium) (s : Seen D) (r : Recording) : Type 0 where
   pub told : (medium s.disk).honest → Tells s r
   pub settled : s.must_reopen ≡ false → (medium s.disk).honest → IsSettled (medium s.disk)
@@ -52,7 +54,8 @@ pub record StandsFor {D : Type 0} (medium : D → Medium) (s : Seen D) (r : Reco
 abbrev pub HasFailed : {D : Type 0} → Seen D → Seen D → Type 0
 HasFailed old new = new ≡ record old { disk = new.disk; must_reopen = true }
 
--- so it is with each refusal of a call that writes: after a failed call of the disk, as above; any other changes nothing
+-- so it is with each refusal of a call that writes: after a failed call of the disk, as above; any other
+-- changes nothing
 abbrev pub Refused : {D T : Type 0} → Seen D → Seen D → Result T StoreFault → Type 0
 Refused old new (Ok x) = Unit {0}
 Refused old new (Err (Disk fault)) = HasFailed old new

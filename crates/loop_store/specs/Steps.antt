@@ -21,8 +21,9 @@ if_answered (Err fault) asked = []
 abbrev pub if_failed : {T : Type 0} → Result T StoreFault → List Step → List Step
 if_failed result asked = if answers_disk result then asked else []
 
--- Some steps were made, and others begun behind them. Each image of the moments since then reads as the recording after a beginning of
--- all these steps, and each that a crash now may leave as the recording after those that were made, at least.
+-- Some steps were made, and others begun behind them. Each image of the moments since then reads as the
+-- recording after a beginning of all these steps, and each that a crash now may leave as the recording after
+-- those that were made, at least.
 pub record LeavesSteps (g : Geometry) (r : Recording) (made begun : List Step) (old new : Medium) : Type 0 where
   pub moments : LeavesOnly old new (HoldsSome g r (made ++ begun))
   pub now : EachNow new (HoldsFrom g r (length made) (made ++ begun))

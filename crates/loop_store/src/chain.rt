@@ -38,10 +38,12 @@ pub fn format_and_append<D: Disk + Drop, A: Allocator + Copy>(
     }
 }
 
-/// Reads a frame of a store after a crash: `crashed` is a disk that holds what a crash now may leave of the store's. What the store
-/// held is read from it, byte for byte, unless memory is refused or a call of `crashed` fails.
+/// Reads a frame of a store after a crash: `crashed` is a disk that holds what a crash now may leave of the
+/// store's. What the store held is read from it, byte for byte, unless memory is refused or a call of `crashed`
+/// fails.
 ///
-/// A disk that holds no store is refused as `Store::open` refuses it, and one whose frames have another size as `BadGeometry`.
+/// A disk that holds no store is refused as `Store::open` refuses it, and one whose frames have another size as
+/// `BadGeometry`.
 pub fn read_after_crash<D: Disk + Drop, E: Disk + Drop, A: Allocator + Copy>(
     alloc: A,
     store: &Store<D, A>,
@@ -51,7 +53,8 @@ pub fn read_after_crash<D: Disk + Drop, E: Disk + Drop, A: Allocator + Copy>(
 ) -> Result<FrameHead, StoreFault>
     requires size { length out.old ≡ frame_bytes store.now.geometry }
     requires left { (D.medium store.now.disk).may_leave (E.medium crashed).bytes }
-    ensures { (s : StoreState) → Stands D.medium store.now s → s.must_reopen ≡ false → (D.medium store.now.disk).honest → (E.medium crashed).honest
+    ensures { (s : StoreState) → Stands D.medium store.now s → s.must_reopen ≡ false
+        → (D.medium store.now.disk).honest → (E.medium crashed).honest
         → holds s.recording number ≡ true → ReadsFrame s.recording number result out.new }
 {
     match Store::open(alloc, crashed) {

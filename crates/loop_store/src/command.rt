@@ -38,7 +38,8 @@ pub enum Reply<A: Allocator = Global> {
 }
 
 impl<D: Disk + Drop, A: Allocator + Copy> Store<D, A> {
-    /// Reads a frame into memory of its own. `MustReopen`, `NotHeld`, then `NoMemory` for its bytes, then `Disk` or `Damaged`.
+    /// Reads a frame into memory of its own. `MustReopen`, `NotHeld`, then `NoMemory` for its bytes, then
+    /// `Disk` or `Damaged`.
     pub fn read_frame(&mut self, alloc: A, number: u64) -> Result<ReadFrame<A>, StoreFault>
         ensures { Goes D.medium self.old self.new (was_read number (read_of result) ∷ []) }
     {
@@ -71,13 +72,14 @@ impl<D: Disk + Drop, A: Allocator + Copy> Store<D, A> {
 impl<D: Disk + Drop, A: Allocator + Copy> Store<D, A> {
     /// Does commands one after the other, and answers each.
     ///
-    /// `MustReopen` where a call that writes has failed before, or `NoMemory` where there is no room for the replies; then
-    /// nothing was done. A command that is refused doesn't end the list: after `Disk` of one that writes, each later one is
-    /// answered `MustReopen`.
+    /// `MustReopen` where a call that writes has failed before, or `NoMemory` where there is no room for the
+    /// replies; then nothing was done. A command that is refused doesn't end the list: after `Disk` of one that
+    /// writes, each later one is answered `MustReopen`.
     pub fn run(&mut self, alloc: A, commands: &[Command<A>]) -> Result<Vec<Reply<A>, A>, StoreFault>
         requires sizes { All (IsOfSize self.old.geometry) commands.now }
         ensures ran { IfOk result (λ replies. Ran D.medium self.old self.new commands.now replies.items) }
-        ensures refused { IfErr result (λ fault. ((fault ≡ StoreFault.MustReopen) ⊎ (fault ≡ StoreFault.NoMemory)) × (self.new ≡ self.old)) }
+        ensures refused { IfErr result (λ fault. ((fault ≡ StoreFault.MustReopen)
+            ⊎ (fault ≡ StoreFault.NoMemory)) × (self.new ≡ self.old)) }
         ensures must_reopen { (result ≡ Err StoreFault.MustReopen) ↔ IsTrue self.old.must_reopen }
     {
         if self.must_reopen {

@@ -10,8 +10,8 @@ use loop_ring::SlotFault;
 use std::alloc::AllocError;
 use thiserror::Error;
 
-/// Why a call of a store is refused. The names and numbers are this project's own; a refusal changes nothing, but for `Disk`
-/// in a call that writes.
+/// Why a call of a store is refused. The names and numbers are this project's own; a refusal changes nothing,
+/// but for `Disk` in a call that writes.
 #[derive(Clone, Copy, Debug, PartialEq, Eq, Error)]
 pub enum StoreFault {
     /// Memory was refused.

@@ -1,4 +1,5 @@
-//! The parts of a recording on a disk, each read alone: the superblock, the headers, the heads of the slots, the clip table.
+//! The parts of a recording on a disk, each read alone: the superblock, the headers, the heads of the slots,
+//! the clip table.
 //!
 //! Each call reads and never writes; after a refusal the disk is as it was.
 
@@ -39,7 +40,9 @@ impl From<LayoutFault> for StoreFault {
 pub(crate) fn read_geometry<D: Disk>(disk: &mut D) -> Result<Geometry, StoreFault>
     ensures good { IfOk result (λ geometry. IsTrue (is_good geometry)) }
     ensures size { IfOk result (λ geometry. (D.medium disk.old).size ≡ disk_size geometry) }
-    ensures geometry { (D.medium disk.old).honest → Recovers result (λ geometry. geometry_in (D.medium disk.old).bytes ≡ Ok geometry) (λ fault. reading (D.medium disk.old).bytes ≡ Err fault) }
+    ensures geometry { (D.medium disk.old).honest
+        → Recovers result (λ geometry. geometry_in (D.medium disk.old).bytes ≡ Ok geometry) (λ fault.
+        reading (D.medium disk.old).bytes ≡ Err fault) }
     ensures disk { (D.medium disk.old).honest → Stays (D.medium disk.old) (D.medium disk.new) }
     ensures called { Called (D.medium disk.old) (D.medium disk.new) (failed_in result) }
 {
@@ -66,7 +69,9 @@ fn read_head<D: Disk>(
     requires size { (D.medium disk.old).size ≡ disk_size geometry.now }
     requires segment { segment < geometry.now.segments }
     ensures within { IfOk result (IsHeadIn geometry.now) }
-    ensures head { (D.medium disk.old).honest → Recovers result (λ head. head ≡ header_at geometry.now (D.medium disk.old).bytes (segment_at geometry.now segment))
+    ensures head { (D.medium disk.old).honest
+        → Recovers result (λ head.
+        head ≡ header_at geometry.now (D.medium disk.old).bytes (segment_at geometry.now segment))
         (λ fault. (fault ≡ LayoutFault.Damaged Damage.BlockTooHigh) × IsSomeHigh geometry.now (segment_in geometry.now (D.medium disk.old).bytes segment)) }
     ensures disk { (D.medium disk.old).honest → Stays (D.medium disk.old) (D.medium disk.new) }
     ensures called { Called (D.medium disk.old) (D.medium disk.new) (failed_in result) }
@@ -77,7 +82,8 @@ fn read_head<D: Disk>(
     Ok(head)
 }
 
-/// What the header of each segment says, in the order of the segments: a read each. `BlockTooHigh` where one has such a block.
+/// What the header of each segment says, in the order of the segments: a read each. `BlockTooHigh` where one
+/// has such a block.
 pub(crate) fn read_heads<D: Disk, A: Allocator>(
     alloc: A,
     disk: &mut D,
@@ -87,7 +93,8 @@ pub(crate) fn read_heads<D: Disk, A: Allocator>(
     requires size { (D.medium disk.old).size ≡ disk_size geometry.now }
     ensures count { IfOk result (λ heads. length heads.items ≡ geometry.now.segments) }
     ensures within { IfOk result (λ heads. All (IsHeadIn geometry.now) heads.items) }
-    ensures heads { (D.medium disk.old).honest → Recovers result (λ heads. heads.items ≡ heads_of geometry.now (D.medium disk.old).bytes)
+    ensures heads { (D.medium disk.old).honest
+        → Recovers result (λ heads. heads.items ≡ heads_of geometry.now (D.medium disk.old).bytes)
         (λ fault. (fault ≡ LayoutFault.Damaged Damage.BlockTooHigh) × (list_any (is_high geometry.now) (by_block (opened (parts_of geometry.now (D.medium disk.old).bytes).segments)) ≡ true)) }
     ensures disk { (D.medium disk.old).honest → Stays (D.medium disk.old) (D.medium disk.new) }
     ensures called { Called (D.medium disk.old) (D.medium disk.new) (failed_in result) }
@@ -106,8 +113,11 @@ fn add_head<A: Allocator>(
     head: Option<SegmentHead>,
     open: &mut Vec<Found, A>,
 ) -> Result<(), AllocError>
-    ensures within { OnOk result ((g : Geometry) → IsHeadIn g head → segment < g.segments → AreIn g open.old.items → AreIn g open.new.items) }
-    ensures placed { OnOk result ((g : Geometry) (image : List ℕ) → segments_of g image open.new.items ≡ with_segment (segment_said g image segment head) (segments_of g image open.old.items)) }
+    ensures within { OnOk result ((g : Geometry) → IsHeadIn g head → segment < g.segments
+        → AreIn g open.old.items → AreIn g open.new.items) }
+    ensures placed { OnOk result ((g : Geometry) (image : List ℕ)
+        → segments_of g image open.new.items
+        ≡ with_segment (segment_said g image segment head) (segments_of g image open.old.items)) }
 {
     if let Some(SegmentHead { block, frames }) = head {
         put_in_place(
@@ -133,7 +143,8 @@ pub(crate) fn in_order<A: Allocator>(
     ensures count { IfOk result (λ found. length found.items ≤ geometry.now.segments) }
     ensures within { IfOk result (λ found. AreIn geometry.now found.items) }
     ensures order { (image : List ℕ) → heads.now ≡ heads_of geometry.now image
-        → IfOk result (λ found. segments_of geometry.now image found.items ≡ by_block (opened (parts_of geometry.now image).segments)) }
+        → IfOk result (λ found.
+        segments_of geometry.now image found.items ≡ by_block (opened (parts_of geometry.now image).segments)) }
 {
     let mut open = Vec::with_capacity(alloc, geometry.segments as usize)?;
     for done in 0..geometry.segments {

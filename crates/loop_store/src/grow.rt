@@ -1,4 +1,5 @@
-//! What an append writes: the block that it begins, and the frames. What each of these makes of a recording is said by `Makes`.
+//! What an append writes: the block that it begins, and the frames. What each of these makes of a recording is
+//! said by `Makes`.
 
 ghost use Rattle.std.specs.Prelude.{◌≡◌, ◌+◌, ◌<◌, ◌≤◌, ◌/◌, ◌%◌, ◌++◌, [], Some, length, map};
 ghost use Rattle.loop_disk.specs.Medium.{IsSettled};
@@ -69,7 +70,8 @@ fn replace<D: Disk>(disk: &mut D, ring: &Ring, segment: u32, next: u64) -> Resul
     begin(disk, ring, segment, next)
 }
 
-/// Makes room for the next frames at a place: a block is recycled and another begun, or one is begun, or nothing is to be done.
+/// Makes room for the next frames at a place: a block is recycled and another begun, or one is begun, or
+/// nothing is to be done.
 fn make_room<D: Disk>(disk: &mut D, ring: &Ring, place: Place, next: u64) -> Result<(), DiskFault>
     requires extent { (D.medium disk.old).size ≡ disk_size ring.now.geometry }
     requires segment { segment_of place < ring.now.geometry.segments }

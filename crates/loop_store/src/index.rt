@@ -15,8 +15,8 @@ use loop_record::{Geometry, SegmentHead, Span};
 use loop_ring::{Ring, SegmentIndex, victim_block};
 use std::alloc::{AllocError, Allocator};
 
-/// The geometry, what the header of each segment says, the clip of each id, the number that the next frame gets, and the block
-/// that goes when room is needed.
+/// The geometry, what the header of each segment says, the clip of each id, the number that the next frame
+/// gets, and the block that goes when room is needed.
 #[derive(Drop)]
 pub(crate) struct Index<A: Allocator> {
     pub(crate) ring: Ring,
@@ -89,8 +89,8 @@ impl<A: Allocator> Index<A> {
         self.find(block)
     }
 
-    /// Where a block begins that no segment has: in the closed segment of least number, or in the victim's where each segment
-    /// has a frame. Nothing where there is no victim then.
+    /// Where a block begins that no segment has: in the closed segment of least number, or in the victim's
+    /// where each segment has a frame. Nothing where there is no victim then.
     fn place_of_new(&self) -> Option<Place>
         requires { IsIndex self.now }
         ensures within { IfSome result (λ place. segment_of place < self.now.ring.geometry.segments) }
@@ -111,7 +111,8 @@ impl<A: Allocator> Index<A> {
         }
     }
 
-    /// Where the next frames go, where a number is left. Nothing where a block has to be recycled first and none may go.
+    /// Where the next frames go, where a number is left. Nothing where a block has to be recycled first and
+    /// none may go.
     fn place_of_next(&self) -> Option<Place>
         requires { IsIndex self.now }
         ensures within { IfSome result (λ place. segment_of place < self.now.ring.geometry.segments) }
@@ -124,13 +125,14 @@ impl<A: Allocator> Index<A> {
         }
     }
 
-    /// Where the next frames go. `NumbersSpent` where no number is left; otherwise `AllLocked` where a block has to be recycled
-    /// first and none may go.
+    /// Where the next frames go. `NumbersSpent` where no number is left; otherwise `AllLocked` where a block
+    /// has to be recycled first and none may go.
     pub(crate) fn place(&self) -> Result<Place, StoreFault>
         requires { IsIndex self.now }
         ensures within { IfOk result (λ place. segment_of place < self.now.ring.geometry.segments) }
         ensures refusals { IfErr result (λ fault. (fault ≡ StoreFault.NumbersSpent) ⊎ (fault ≡ StoreFault.AllLocked)) }
-        ensures spent { (result ≡ Err StoreFault.NumbersSpent) ↔ (self.now.next ≡ last_number (ring_of self.now.ring.geometry)) }
+        ensures spent { (result ≡ Err StoreFault.NumbersSpent) ↔ (self.now.next
+            ≡ last_number (ring_of self.now.ring.geometry)) }
         ensures answers { (r : Recording) (image : List ℕ) → IsIndexOf self.now r image
             → AnswersPlace self.now.ring.geometry r image result }
     {
@@ -143,8 +145,8 @@ impl<A: Allocator> Index<A> {
         }
     }
 
-    /// Notes that a segment has the block of the next number, the frames before it and so many from it on. A block that had a
-    /// frame there leaves the victim as it is; only another one has it looked for.
+    /// Notes that a segment has the block of the next number, the frames before it and so many from it on. A
+    /// block that had a frame there leaves the victim as it is; only another one has it looked for.
     pub(crate) fn note(&mut self, segment: u32, count: u32)
         requires index { IsIndex self.old }
         requires segment { segment < length self.old.table }
@@ -161,10 +163,11 @@ impl<A: Allocator> Index<A> {
         self.next += u64::from(count);
     }
 
-    /// The block that goes when room is needed, once a segment's header has changed: the one that is kept where a block only
-    /// grows.
+    /// The block that goes when room is needed, once a segment's header has changed: the one that is kept where
+    /// a block only grows.
     fn victim_after(&self, grows: bool) -> Option<u64>
-        requires { IsTrue grows → self.now.victim ≡ going_first (ring_of self.now.ring.geometry) self.now.clips self.now.table }
+        requires { IsTrue grows
+            → self.now.victim ≡ going_first (ring_of self.now.ring.geometry) self.now.clips self.now.table }
         ensures { result ≡ going_first (ring_of self.now.ring.geometry) self.now.clips self.now.table }
     {
         if grows {

@@ -1,12 +1,13 @@
 //! A loop recording on a disk: made, appended to, read, and after a stop at any moment still there.
 //!
-//! A `Store` stands for a recording of the plain recorder. `specs/Seen` says how, and `specs/Held` what a call may leave of it:
-//! whatever the moment of a stop, the disk's image reads as that recording after a beginning of the steps that were asked for.
+//! A `Store` stands for a recording of the plain recorder. `specs/Seen` says how, and `specs/Held` what a call
+//! may leave of it: whatever the moment of a stop, the disk's image reads as that recording after a beginning
+//! of the steps that were asked for.
 //!
 //! - `make`: formats a disk; `fresh`: the writes of it;
 //! - `reopen`: finds the recording on a disk again; `recover` and `found`: what a disk's image reads as;
-//! - `store`: the store and its calls; `index`: what it knows in memory; `put`: the append of a group, `place`: where it goes, `grow`: what it
-//!   writes there; `look`: what is read;
+//! - `store`: the store and its calls; `index`: what it knows in memory; `put`: the append of a group, `place`:
+//!   where it goes, `grow`: what it writes there; `look`: what is read;
 //! - `command`: lists of commands, and the replies;
 //! - `laws`: what calls leave, one after the other; `chain`: calls in a row, across a crash;
 //! - `fault`: the refusals, with their numbers and names.

@@ -29,7 +29,8 @@ pub(crate) fn segment_with<A: Allocator>(index: &Index<A>, number: u64) -> Optio
     ensures within { IfSome result (λ segment. segment < index.now.ring.geometry.segments) }
     ensures there { IfSome result (λ segment.
         has_number index.now.ring.geometry.slots number (slice_index_or index.now.table segment None) ≡ true) }
-    ensures missing { (r : Recording) (image : List ℕ) → IsIndexOf index.now r image → IfNone result (holds r number ≡ false) }
+    ensures missing { (r : Recording) (image : List ℕ) → IsIndexOf index.now r image
+        → IfNone result (holds r number ≡ false) }
 {
     let slots = u64::from(index.ring.geometry.slots);
     let segment = index.find(number / slots)?;
@@ -52,7 +53,10 @@ pub(crate) fn read_held<D: Disk>(
     requires extent { (D.medium disk.old).size ≡ disk_size ring.now.geometry }
     requires segment { segment < ring.now.geometry.segments }
     requires size { length out.old ≡ frame_bytes ring.now.geometry }
-    ensures frame { (r : Recording) → (D.medium disk.old).honest → Holds ring.now.geometry r (D.medium disk.old).bytes → has_number ring.now.geometry.slots number (slice_index_or (heads_of ring.now.geometry (D.medium disk.old).bytes) segment None) ≡ true
+    ensures frame { (r : Recording) → (D.medium disk.old).honest
+        → Holds ring.now.geometry r (D.medium disk.old).bytes
+        → has_number ring.now.geometry.slots number (slice_index_or (heads_of ring.now.geometry (D.medium disk.old).bytes) segment None)
+        ≡ true
         → AnswersFrame r number result out.new }
     ensures refusals { IfErr result (λ fault. (fault ≡ Damaged SlotHead) ⊎ (is_disk fault ≡ true)) }
     ensures stays { (D.medium disk.old).honest → Stays (D.medium disk.old) (D.medium disk.new) }
@@ -67,7 +71,8 @@ fn add_numbers<A: Allocator>(geometry: &Geometry, found: Found, numbers: &mut Ve
     requires few { found.frames ≤ geometry.now.slots }
     requires low { is_too_high geometry.now found.block ≡ false }
     requires room { length numbers.old.items + found.frames ≤ vec_capacity numbers.old }
-    ensures items { numbers.new.items ≡ numbers.old.items ++ range_with_len (found.block * geometry.now.slots) found.frames }
+    ensures items { numbers.new.items
+        ≡ numbers.old.items ++ range_with_len (found.block * geometry.now.slots) found.frames }
     ensures room { vec_capacity numbers.new ≡ vec_capacity numbers.old }
 {
     let first = found.block * u64::from(geometry.slots);

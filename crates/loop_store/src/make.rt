@@ -30,21 +30,23 @@ fn fits<D: Disk>(disk: &D, geometry: &Geometry) -> bool
 
 /// Writes an empty recording over whatever stands on a disk, and hands out its store.
 ///
-/// `BadGeometry` where a limit of the geometry is broken or the disk's size isn't the geometry's; otherwise `NoMemory` or
-/// `Disk`. A refusal hands the disk back, and the first two haven't called it. A stop at any moment leaves an image that
-/// reads as before the call, or isn't formatted, or is the empty recording. One read, and a write and a sync more where the
-/// disk was formatted; then 4 calls and one a segment.
+/// `BadGeometry` where a limit of the geometry is broken or the disk's size isn't the geometry's; otherwise
+/// `NoMemory` or `Disk`. A refusal hands the disk back, and the first two haven't called it. A stop at any
+/// moment leaves an image that reads as before the call, or isn't formatted, or is the empty recording. One
+/// read, and a write and a sync more where the disk was formatted; then 4 calls and one a segment.
 pub fn format<D: Disk + Drop, A: Allocator + Copy>(
     alloc: A,
     disk: D,
     geometry: Geometry,
 ) -> Result<Store<D, A>, OpenRefused<D>>
-    ensures bad { (IsBadGeometry result) ↔ ((is_good geometry && ((D.medium disk).size == disk_size geometry)) ≡ false) }
+    ensures bad { (IsBadGeometry result) ↔ ((is_good geometry && ((D.medium disk).size == disk_size geometry))
+        ≡ false) }
     ensures refusals { IfErr result IsRefusedFormat }
     ensures untouched { IfErr result (λ refused. is_disk refused.fault ≡ false → refused.disk ≡ disk) }
     ensures formatted { IfOk result (λ store. IsFormatted geometry store) }
     ensures stands { IfOk result (λ store. StandsFor D.medium store empty) }
-    ensures moments { (D.medium disk).honest → LeavesOnly (D.medium disk) (D.medium (disk_after result)) (WasOrEmpty geometry (D.medium disk)) }
+    ensures moments { (D.medium disk).honest
+        → LeavesOnly (D.medium disk) (D.medium (disk_after result)) (WasOrEmpty geometry (D.medium disk)) }
     ensures called { Called (D.medium disk) (D.medium (disk_after result)) (failed_opening result) }
 {
     let mut disk = disk;

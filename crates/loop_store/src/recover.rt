@@ -25,7 +25,8 @@ fn recover_parts<D: Disk, A: Allocator + Copy>(
     requires size { (D.medium disk.old).size ≡ disk_size geometry }
     requires geometry { (D.medium disk.old).honest → geometry_in (D.medium disk.old).bytes ≡ Ok geometry }
     ensures fits { IfOk result (λ index. IsFitting index (D.medium disk.old).size) }
-    ensures recovered { (D.medium disk.old).honest → Recovers result (λ index. IsRecovered index (D.medium disk.old).bytes)
+    ensures recovered { (D.medium disk.old).honest
+        → Recovers result (λ index. IsRecovered index (D.medium disk.old).bytes)
         (λ fault. reading (D.medium disk.old).bytes ≡ Err fault) }
     ensures disk { (D.medium disk.old).honest → Stays (D.medium disk.old) (D.medium disk.new) }
     ensures called { Called (D.medium disk.old) (D.medium disk.new) (failed_in result) }
@@ -45,20 +46,22 @@ fn recover_parts<D: Disk, A: Allocator + Copy>(
     Ok(index_of(alloc, geometry, heads, clips, next)?)
 }
 
-/// The index of what a disk's image reads as: the geometry, the header of each segment, the clips and the number that comes next.
+/// The index of what a disk's image reads as: the geometry, the header of each segment, the clips and the
+/// number that comes next.
 ///
-/// It reads the superblock, each header, the first `HEAD_SIZE` bytes of each slot before the first closed gate of an open
-/// segment, and the clip table. It writes nothing. Memory is taken three times: a list of the headers, one of the
-/// open segments, and one for the index.
+/// It reads the superblock, each header, the first `HEAD_SIZE` bytes of each slot before the first closed gate
+/// of an open segment, and the clip table. It writes nothing. Memory is taken three times: a list of the
+/// headers, one of the open segments, and one for the index.
 ///
-/// `NotFormatted` where the disk has no open superblock; `Damaged` with the first damage in the layout's order; `Disk` where
-/// a read failed; `NoMemory`. After each of these the disk is as it was.
+/// `NotFormatted` where the disk has no open superblock; `Damaged` with the first damage in the layout's order;
+/// `Disk` where a read failed; `NoMemory`. After each of these the disk is as it was.
 pub(crate) fn recover<D: Disk, A: Allocator + Copy>(
     alloc: A,
     disk: &mut D,
 ) -> Result<Index<A>, StoreFault>
     ensures fits { IfOk result (λ index. IsFitting index (D.medium disk.old).size) }
-    ensures recovered { (D.medium disk.old).honest → Recovers result (λ index. IsRecovered index (D.medium disk.old).bytes)
+    ensures recovered { (D.medium disk.old).honest
+        → Recovers result (λ index. IsRecovered index (D.medium disk.old).bytes)
         (λ fault. reading (D.medium disk.old).bytes ≡ Err fault) }
     ensures disk { (D.medium disk.old).honest → Stays (D.medium disk.old) (D.medium disk.new) }
     ensures called { Called (D.medium disk.old) (D.medium disk.new) (failed_in result) }

@@ -20,7 +20,8 @@ use std::alloc::Allocator;
 /// Syncs, so that a stop leaves what a read gives, and finds what the disk's image reads as.
 fn reread<D: Disk, A: Allocator + Copy>(alloc: A, disk: &mut D) -> Result<Index<A>, StoreFault>
     ensures fits { IfOk result (λ index. IsFitting index (D.medium disk.old).size) }
-    ensures recovered { (D.medium disk.old).honest → Recovers result (λ index. IsRecovered index (D.medium disk.old).bytes)
+    ensures recovered { (D.medium disk.old).honest
+        → Recovers result (λ index. IsRecovered index (D.medium disk.old).bytes)
         (λ fault. reading (D.medium disk.old).bytes ≡ Err fault) }
     ensures disk { (D.medium disk.old).honest → Stays (D.medium disk.old) (D.medium disk.new) }
     ensures settled { (D.medium disk.old).honest → IfOk result (λ _. IsSettled (D.medium disk.new)) }
@@ -74,22 +75,27 @@ fn reopen<D: Disk, A: Allocator + Copy>(
 impl<D: Disk + Drop, A: Allocator + Copy> Store<D, A> {
     /// Finds the recording on a disk again, and hands out its store.
     ///
-    /// First it syncs, so that a stop leaves what a read gives. Then it reads the superblock, each header, the first
-    /// `HEAD_SIZE` bytes of each slot before the first closed gate of an open segment, and the clip table. Then it takes the
-    /// memory of a group; lists of the headers and of the open segments are taken before. Last it closes the frame
-    /// gates that a stop left open behind the first closed one of the newest segment: one read where there is a gate behind
-    /// it, and where one is open a write and a sync.
+    /// First it syncs, so that a stop leaves what a read gives. Then it reads the superblock, each header, the
+    /// first `HEAD_SIZE` bytes of each slot before the first closed gate of an open segment, and the clip
+    /// table. Then it takes the memory of a group; lists of the headers and of the open segments are taken
+    /// before. Last it closes the frame gates that a stop left open behind the first closed one of the newest
+    /// segment: one read where there is a gate behind it, and where one is open a write and a sync.
     ///
-    /// `NotFormatted` where the disk has no open superblock; `Damaged` with the first damage in the layout's order; `NoMemory`,
-    /// before the first write; `Disk` where a call failed. Each hands the disk back, and its image reads as before. So does
-    /// each image that a stop within the call leaves, unless a stop before the call could have left it.
+    /// `NotFormatted` where the disk has no open superblock; `Damaged` with the first damage in the layout's
+    /// order; `NoMemory`, before the first write; `Disk` where a call failed. Each hands the disk back, and its
+    /// image reads as before. So does each image that a stop within the call leaves, unless a stop before the
+    /// call could have left it.
     pub fn open(alloc: A, disk: D) -> Result<Store<D, A>, OpenRefused<D>>
         ensures opened { (D.medium disk).honest → IfOk result (λ store. IsOpened D.medium (D.medium disk).bytes store) }
         ensures fine { IfOk result (λ store. store.must_reopen ≡ false) }
-        ensures refused { (D.medium disk).honest → IfErr result (λ refused. IsRefusedOpen (D.medium disk).bytes refused.fault) }
+        ensures refused { (D.medium disk).honest
+            → IfErr result (λ refused. IsRefusedOpen (D.medium disk).bytes refused.fault) }
         ensures alike { (D.medium disk).honest → ReadsAlike (D.medium disk).bytes (D.medium (disk_after result)).bytes }
-        ensures stays { (D.medium disk).honest → IfErr result (λ refused. is_disk refused.fault ≡ false → Stays (D.medium disk) (D.medium refused.disk)) }
-        ensures moments { (D.medium disk).honest → LeavesOnly (D.medium disk) (D.medium (disk_after result)) (WasOrReadsAlike (D.medium disk)) }
+        ensures stays { (D.medium disk).honest
+            → IfErr result (λ refused. is_disk refused.fault ≡ false
+            → Stays (D.medium disk) (D.medium refused.disk)) }
+        ensures moments { (D.medium disk).honest
+            → LeavesOnly (D.medium disk) (D.medium (disk_after result)) (WasOrReadsAlike (D.medium disk)) }
         ensures called { Called (D.medium disk) (D.medium (disk_after result)) (failed_opening result) }
     {
         let mut disk = disk;

@@ -64,7 +64,8 @@ impl<D: Disk + Drop, A: Allocator> Store<D, A> {
     /// How many frames an append may store at most: as many as the block of the next number still takes.
     pub fn room(&self) -> u32
         ensures room { result ≡ self.now.geometry.slots - self.now.next % self.now.geometry.slots }
-        ensures recording { (r : Recording) → StandsFor D.medium self.now r → (D.medium self.now.disk).honest → result ≡ room (ring_of self.now.geometry) r }
+        ensures recording { (r : Recording) → StandsFor D.medium self.now r → (D.medium self.now.disk).honest
+            → result ≡ room (ring_of self.now.geometry) r }
     {
         let slots = self.index.ring.geometry.slots;
         slots - (self.index.next % u64::from(slots)) as u32
@@ -79,8 +80,9 @@ impl<D: Disk + Drop, A: Allocator> Store<D, A> {
             .holds(self.index.ring.geometry.slots, number)
     }
 
-    /// The block that goes when an append needs room: the least block of a held frame that no clip meets and that isn't the
-    /// newest's. Nothing where none may go. Where the store must be reopened, it is that of before the call that failed.
+    /// The block that goes when an append needs room: the least block of a held frame that no clip meets and
+    /// that isn't the newest's. Nothing where none may go. Where the store must be reopened, it is that of
+    /// before the call that failed.
     pub fn victim(&self) -> Option<u64>
         ensures { (r : Recording) → StandsFor D.medium self.now r → (D.medium self.now.disk).honest
             → self.now.must_reopen ≡ false → result ≡ victim (ring_of self.now.geometry) r }
@@ -103,16 +105,16 @@ impl<D: Disk + Drop, A: Allocator> Store<D, A> {
 }
 
 impl<D: Disk + Drop, A: Allocator> Store<D, A> {
-    /// Stores a group of 1 to 8 frames behind the others, all or none, and answers the number of the first. They fit into the
-    /// block of the next number, as `room` says. Where that block has to be begun and each segment holds one, the least
-    /// block that isn't locked by a clip and isn't the newest goes first.
+    /// Stores a group of 1 to 8 frames behind the others, all or none, and answers the number of the first.
+    /// They fit into the block of the next number, as `room` says. Where that block has to be begun and each
+    /// segment holds one, the least block that isn't locked by a clip and isn't the newest goes first.
     ///
-    /// `MustReopen` where a call that writes has failed; otherwise `NumbersSpent` where no number is left; then `AllLocked`
-    /// where a block would have to go and none may. It takes no memory, and reads nothing. After `Disk` the store has to be
-    /// opened again, and its numbers are those from before the call.
+    /// `MustReopen` where a call that writes has failed; otherwise `NumbersSpent` where no number is left; then
+    /// `AllLocked` where a block would have to go and none may. It takes no memory, and reads nothing. After
+    /// `Disk` the store has to be opened again, and its numbers are those from before the call.
     ///
-    /// Four calls of the disk: the slots, a sync, the gates of the frames, a sync. Four more where a block is begun, and
-    /// two more where one goes first.
+    /// Four calls of the disk: the slots, a sync, the gates of the frames, a sync. Four more where a block is
+    /// begun, and two more where one goes first.
     pub fn append(&mut self, frames: &[Frame<A>]) -> Result<u64, StoreFault>
         requires some { 1 ≤ length frames.now }
         requires few { length frames.now ≤ 8 }
@@ -150,8 +152,8 @@ impl<D: Disk + Drop, A: Allocator> Store<D, A> {
 impl<D: Disk + Drop, A: Allocator> Store<D, A> {
     /// Reads the frame of a number: its head, and its bytes into `out`, which has the size of a frame.
     ///
-    /// `MustReopen` where a call that writes has failed; otherwise `NotHeld`; then `Disk`, or `Damaged` where the disk isn't honest.
-    /// After these two `out` may hold any bytes. It takes no memory.
+    /// `MustReopen` where a call that writes has failed; otherwise `NotHeld`; then `Disk`, or `Damaged` where
+    /// the disk isn't honest. After these two `out` may hold any bytes. It takes no memory.
     pub fn read(&mut self, number: u64, out: &mut [u8]) -> Result<FrameHead, StoreFault>
         requires size { length out.old ≡ frame_bytes self.old.geometry }
         ensures goes { Goes D.medium self.old self.new (was_read number (read_with result out.new) ∷ []) }
@@ -169,10 +171,12 @@ impl<D: Disk + Drop, A: Allocator> Store<D, A> {
         }
     }
 
-    /// The numbers of the held frames, which rise. `MustReopen` where a call that writes has failed; otherwise `NoMemory`.
+    /// The numbers of the held frames, which rise. `MustReopen` where a call that writes has failed; otherwise
+    /// `NoMemory`.
     pub fn frames<B: Allocator + Copy>(&self, alloc: B) -> Result<Vec<u64, B>, StoreFault>
         ensures must_reopen { (result ≡ Err StoreFault.MustReopen) ↔ IsTrue self.now.must_reopen }
-        ensures numbers { (r : Recording) → StandsFor D.medium self.now r → (D.medium self.now.disk).honest → IfOk result (λ numbers. numbers.items ≡ map (λ f. f.0) r.frames) }
+        ensures numbers { (r : Recording) → StandsFor D.medium self.now r → (D.medium self.now.disk).honest
+            → IfOk result (λ numbers. numbers.items ≡ map (λ f. f.0) r.frames) }
         ensures refusals { IfErr result (λ fault. (fault ≡ StoreFault.MustReopen) ⊎ (fault ≡ StoreFault.NoMemory)) }
     {
         if self.must_reopen {

@@ -1,4 +1,5 @@
--- What the queue's own code checks before it copies bytes out of a plane: it knows how many bytes are in use, and not that a set fits.
+-- What the queue's own code checks before it copies bytes out of a plane: it knows how many bytes are in use,
+-- and not that a set fits.
 use Rattle.std.specs.Prelude.{ℕ, map, Option}
 use Rattle.loop_plane.specs.Plane.{Plane}
 use Rattle.loop_vb2.specs.declared.reason.Reason.{Reason}

@@ -30,7 +30,8 @@ pub record Grant : Type 0 where
 
 -- an event and its answer; where nothing else is answered, that is the refusal or None
 pub data Event : Type 0 where
-  -- the application's: the ioctls by their names, planes taken out of a buffer, and bytes copied out of one of its planes, from a place on
+  -- the application's: the ioctls by their names, planes taken out of a buffer, and bytes copied out of one of
+  -- its planes, from a place on
   reqbufs : ℕ → Memory → List (PlaneSet Plane) → Result Grant Errno → Event
   prepare_buf : ℕ → Memory → Option (PlaneSet Plane) → Option Errno → Event
   qbuf : ℕ → Memory → Option (PlaneSet Plane) → Option Errno → Event

@@ -7,8 +7,8 @@ pub fn owners_are_one()
     ensures { OwnersAreOne }
 {}
 
-/// Between two events that stop the stream, the buffers dequeued are a beginning of those completed or failed, in the order
-/// of their ends.
+/// Between two events that stop the stream, the buffers dequeued are a beginning of those completed or failed,
+/// in the order of their ends.
 pub fn buffers_are_dequeued_in_order()
     ensures { DequeuedInOrder }
 {}

@@ -1,5 +1,6 @@
-//! Runs lists of events over a queue of two buffers, one list a line of standard input, and prints a line for each: the replies, and
-//! what is there afterwards. `tools/queue_model.py` has the language and what each list has to tell.
+//! Runs lists of events over a queue of two buffers, one list a line of standard input, and prints a line for
+//! each: the replies, and what is there afterwards. `tools/queue_model.py` has the language and what each list
+//! has to tell.
 //!
 //! - `cell` is the memory of a frame of one byte;
 //! - `script` has the letters, `list` runs one list over a fresh queue and table, `told` prints.

@@ -13,8 +13,11 @@ fn store_three<D: Disk>(disk: &mut D, at: u64, x: u8, y: u8, z: u8) -> Result<()
     requires inside { at + 3 ≤ (D.medium disk.old).size }
     requires fits { at + 3 < 2 ^ 64 }
     requires settled { (D.medium disk.old).honest → IsSettled (D.medium disk.old) }
-    ensures moments { (D.medium disk.old).honest → LeavesOnly (D.medium disk.old) (D.medium disk.new) (TornOfThree at x y (D.medium disk.old).bytes) }
-    ensures stored { (D.medium disk.old).honest → OnOk result ((D.medium disk.new).bytes ≡ written (at + 2) (z ∷ []) (written (at + 1) (y ∷ []) (written at (x ∷ []) (D.medium disk.old).bytes))) }
+    ensures moments { (D.medium disk.old).honest
+        → LeavesOnly (D.medium disk.old) (D.medium disk.new) (TornOfThree at x y (D.medium disk.old).bytes) }
+    ensures stored { (D.medium disk.old).honest
+        → OnOk result ((D.medium disk.new).bytes
+        ≡ written (at + 2) (z ∷ []) (written (at + 1) (y ∷ []) (written at (x ∷ []) (D.medium disk.old).bytes))) }
     ensures settled { (D.medium disk.old).honest → OnOk result (IsSettled (D.medium disk.new)) }
     ensures called { Called (D.medium disk.old) (D.medium disk.new) (failed_call result) }
 {

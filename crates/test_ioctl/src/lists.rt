@@ -19,8 +19,8 @@ use std::test::Fail;
 
 const MMAP: Memory = Memory::Mmap;
 
-// Three buffers, one of which is enough to start: frames come in the order of their ends, and one that waits when streaming is
-// turned off is lost. The buffer type is judged before the index.
+// Three buffers, one of which is enough to start: frames come in the order of their ends, and one that waits
+// when streaming is turned off is lost. The buffer type is judged before the index.
 const ENDS: [(Call, Told); 20] = [
     (OtherType, Refused(Reason::BadType, 22)),
     (QueryBuf(40), Refused(Reason::BadIndex, 22)),

@@ -11,8 +11,8 @@ use std::alloc::Allocator;
 use std::process::Abort;
 use std::test::Fail;
 
-// Three buffers, one of which is enough to start: frames come in the order of their ends, and those that wait when streaming
-// is turned off are lost.
+// Three buffers, one of which is enough to start: frames come in the order of their ends, and those that wait
+// when streaming is turned off are lost.
 const ENDS: [(Call, Said); 33] = [
     (StreamOff, Done),
     (Dequeue, Refused(Reason::NotStreaming, 22)),

@@ -50,7 +50,8 @@ fn sizes_and_places(rt: HostRuntime) {
     assert!(rt; wide.check().is_err());
 }
 
-/// The front of the superblock of `SMALL`: its gate and name, version 1, 4 by 2, YM12, 25 over 1, three segments of two slots, 12 bytes.
+/// The front of the superblock of `SMALL`: its gate and name, version 1, 4 by 2, YM12, 25 over 1, three
+/// segments of two slots, 12 bytes.
 const FRONT: [u8; 44] = [
     0xA5, 0x4C, 0x4F, 0x4F, 0x50, 0x52, 0x45, 0x43, 1, 0, 0, 0, 4, 0, 0, 0, 2, 0, 0, 0, 0x59, 0x4D,
     0x31, 0x32, 25, 0, 0, 0, 1, 0, 0, 0, 3, 0, 0, 0, 2, 0, 0, 0, 12, 0, 0, 0,

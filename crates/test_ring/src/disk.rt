@@ -12,7 +12,8 @@ use std::alloc::{AllocError, Global};
 use std::process::Abort;
 use std::test::Fail;
 
-/// Two segments with four slots each, of frames of 12 bytes. The segments begin at 2,560 and 3,248, and the disk has 3,936 bytes.
+/// Two segments with four slots each, of frames of 12 bytes. The segments begin at 2,560 and 3,248, and the
+/// disk has 3,936 bytes.
 const FOUR: Geometry = Geometry {
     width: 4,
     height: 2,
@@ -89,8 +90,8 @@ const CLEARED: [([u8; 4], u32, u64, [u8; 4]); 6] = [
     ([0xA5, 0xA5, 0xA5, 0xA5], 4, 0, [0xA5, 0xA5, 0xA5, 0xA5]),
 ];
 
-// The number of the call that fails, how many bytes of it are written if it is a write, its fault, and the gates that are
-// left of 0xA5, 0x07, 0xA5, 0x01.
+// The number of the call that fails, how many bytes of it are written if it is a write, its fault, and the
+// gates that are left of 0xA5, 0x07, 0xA5, 0x01.
 const UNCLEARED: [(u64, usize, DiskFault, [u8; 4]); 4] = [
     (0, 0, DiskFault::Read, [0xA5, 0x07, 0xA5, 0x01]),
     (1, 0, DiskFault::Write, [0xA5, 0x07, 0xA5, 0x01]),
@@ -177,8 +178,8 @@ fn a_slot_is_read_under_its_number_alone(rt: HostRuntime) -> Result<(), Fail> {
     };
     let damaged = Err(SlotFault::Damaged(Damage::SlotHead));
     let failed = Err(SlotFault::Disk(DiskFault::Read));
-    // How many calls pass, a change, the number that is asked for, and the answer. The slot's first byte is its number's, and
-    // the one at 3,228 its length's; a gate isn't looked at.
+    // How many calls pass, a change, the number that is asked for, and the answer. The slot's first byte is its
+    // number's, and the one at 3,228 its length's; a gate isn't looked at.
     let rows = [
         (2, (2819, 0u8), 3u64, Ok(head)),
         (2, (3236, 3), 3, Ok(head)),

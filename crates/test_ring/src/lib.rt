@@ -1,6 +1,8 @@
-//! Tests of the ring and of the clip table: what is read of an image, which stray gates are closed, and which block goes.
+//! Tests of the ring and of the clip table: what is read of an image, which stray gates are closed, and which
+//! block goes.
 //!
-//! - `disk`: calls of a ring, over a disk that claims nothing of its bytes, so that a test may begin with any image;
+//! - `disk`: calls of a ring, over a disk that claims nothing of its bytes, so that a test may begin with any
+//!   image;
 //! - `memory`: the segments and the clips in memory.
 #![tactic(auto)]
 

@@ -49,8 +49,8 @@ fn clip(number: u64) -> Option<Span> {
     })
 }
 
-// What is found in the index of a block 3 with one frame, a closed segment, and a block 2 with both frames; and once block 4
-// is begun in the closed one.
+// What is found in the index of a block 3 with one frame, a closed segment, and a block 2 with both frames; and
+// once block 4 is begun in the closed one.
 fn finds<A: Allocator>(rt: &impl Abort, index: &mut SegmentIndex<A>)
     requires { length index.old ≡ 3 }
 {
@@ -185,8 +185,8 @@ fn the_least_block_that_no_clip_meets_goes(rt: HostRuntime) -> Result<(), Fail> 
     Ok(())
 }
 
-// A disk's first bytes, 0x5A but for four entries: clip 0 of the frames from 2 to 5, a closed entry 1, clip 2 whose first
-// number is above its last, and clip 63 of the greatest number.
+// A disk's first bytes, 0x5A but for four entries: clip 0 of the frames from 2 to 5, a closed entry 1, clip 2
+// whose first number is above its last, and clip 63 of the greatest number.
 fn image(alloc: Global) -> Result<Vec<u8>, AllocError>
     ensures { IfOk result (λ image. vec_len image ≡ 2560) }
 {

@@ -13,7 +13,8 @@ use std::alloc::{AllocError, Allocator, Global};
 use std::process::Abort;
 use std::test::Fail;
 
-// Formats a disk, in so many calls of it. It has the superblock and no clip, its segments are closed, and all slots stay.
+// Formats a disk, in so many calls of it. It has the superblock and no clip, its segments are closed, and all
+// slots stay.
 fn formats(rt: &impl Abort, alloc: Global, image: Vec<u8>, calls: u64) -> Result<(), Fail> {
     let mut expected = fresh(rt, alloc, SMALL)?;
     for at in [3072, 3672, 4272usize] {

@@ -9,8 +9,8 @@ use std::alloc::{AllocError, Allocator, Global};
 use std::process::Abort;
 use std::test::Fail;
 
-/// Three segments with two slots each, of frames of 12 bytes. The segments begin at 2,560, 3,160 and 3,760, and the disk has
-/// 4,360 bytes.
+/// Three segments with two slots each, of frames of 12 bytes. The segments begin at 2,560, 3,160 and 3,760, and
+/// the disk has 4,360 bytes.
 pub(crate) const SMALL: Geometry = Geometry {
     width: 4,
     height: 2,
@@ -21,7 +21,8 @@ pub(crate) const SMALL: Geometry = Geometry {
     slots: 2,
 };
 
-/// Two segments with one slot each, of frames of one byte. The segments begin at 2,560 and 3,105, and the disk has 3,650 bytes.
+/// Two segments with one slot each, of frames of one byte. The segments begin at 2,560 and 3,105, and the disk
+/// has 3,650 bytes.
 pub(crate) const TINY: Geometry = Geometry {
     width: 1,
     height: 1,
@@ -41,8 +42,8 @@ pub(crate) fn pixels(segments: u32, slots: u32) -> Geometry {
     }
 }
 
-/// The frame that is stored under a number at an attempt at it, 0 being the first: byte i is the number + i, and 100 more for
-/// each later attempt.
+/// The frame that is stored under a number at an attempt at it, 0 being the first: byte i is the number + i,
+/// and 100 more for each later attempt.
 pub(crate) fn frame<A: Allocator + Copy>(
     alloc: A,
     size: usize,
@@ -168,8 +169,9 @@ pub(crate) fn reads<D: Disk + Drop, A: Allocator>(
     Ok(())
 }
 
-/// The numbers of the held frames. Each is read, and is whole: below the number `again` it is of the first attempt, and of the
-/// second from there on. The next number isn't held, nor is the one before the first, and `next` is the number behind the last.
+/// The numbers of the held frames. Each is read, and is whole: below the number `again` it is of the first
+/// attempt, and of the second from there on. The next number isn't held, nor is the one before the first, and
+/// `next` is the number behind the last.
 pub(crate) fn held<D: Disk + Drop, A: Allocator>(
     rt: &impl Abort,
     alloc: Global,

@@ -83,8 +83,8 @@ fn is_left(alloc: Global, row: &Row, refused: bool, found: &[u64]) -> Result<boo
     })
 }
 
-// What an append left shows the frames before it or with a beginning of its steps. A frame is stored then, in a second attempt,
-// and its number is answered.
+// What an append left shows the frames before it or with a beginning of its steps. A frame is stored then, in a
+// second attempt, and its number is answered.
 fn goes_on(
     rt: &impl Abort,
     alloc: Global,

@@ -25,7 +25,8 @@ fn is_shown(
     Ok(())
 }
 
-// Opens an image. It shows these frames, or it is refused and its disk is handed back unchanged. Rows are told by a place.
+// Opens an image. It shows these frames, or it is refused and its disk is handed back unchanged. Rows are told
+// by a place.
 fn opens(
     rt: &impl Abort,
     alloc: Global,
@@ -61,8 +62,8 @@ fn changed(
     opens(rt, alloc, &image, expected, at)
 }
 
-// The changes of the image after frames 0 to 6, and what they make of it. Segment 0 has frame 6 and, behind a closed gate, the
-// slot of frame 1; segment 1 has frames 2 and 3, segment 2 frames 4 and 5.
+// The changes of the image after frames 0 to 6, and what they make of it. Segment 0 has frame 6 and, behind a
+// closed gate, the slot of frame 1; segment 1 has frames 2 and 3, segment 2 frames 4 and 5.
 const DAMAGES: [(Changes, Damage); 19] = [
     // Four segments, for which the disk is too short; the version; the height; a byte behind the fields.
     (&[(32, &[4])], Damage::DiskSize),
@@ -114,8 +115,8 @@ const DAMAGES: [(Changes, Damage); 19] = [
 
 // Changes that leave a recording, and its frames.
 const SOUND: [(Changes, (u64, u64)); 6] = [
-    // A closed gate has any byte but one; what stands in a closed entry, in a header behind its gates or in a closed segment
-    // isn't looked at; and a clip of the frames that are held is sound.
+    // A closed gate has any byte but one; what stands in a closed entry, in a header behind its gates or in a
+    // closed segment isn't looked at; and a clip of the frames that are held is sound.
     (&[(2817, &[7])], (2, 6)),
     (&[(520, &[0xFF; 16])], (2, 6)),
     (&[(2576, &[0xFF; 200]), (2818, &[0xFF; 200])], (2, 6)),

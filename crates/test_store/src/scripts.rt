@@ -198,7 +198,8 @@ fn plays(rt: &impl Abort, alloc: Global, image: Vec<u8>, lines: &[Line]) -> Resu
     Ok(())
 }
 
-// Eleven frames of 12 bytes in three segments of two slots: seven, and then with a clip of frame 2, and another of frame 6.
+// Eleven frames of 12 bytes in three segments of two slots: seven, and then with a clip of frame 2, and another
+// of frame 6.
 const RING: [Line; 24] = [
     Open(6, &[]),
     Has(
@@ -213,7 +214,8 @@ const RING: [Line; 24] = [
     Line::Store(1, 4, &[(0, 5)]),
     Line::Store(1, 10, &[(2, 6)]),
     Open(11, &[(2, 6)]),
-    // The first segment: open, of block 3, with one frame; and its slots, of frame 6, and of frame 1, which was there before.
+    // The first segment: open, of block 3, with one frame; and its slots, of frame 6, and of frame 1, which was
+    // there before.
     Has(2560, b"\xa5\0\0\0\0\0\0\0\x03\0\0\0\0\0\0\0\0"),
     Has(2815, b"\0\xa5\0\0"),
     Has(
@@ -331,8 +333,8 @@ const BEGUN: [Line; 11] = [
     Goes(Some(2)),
 ];
 
-// A group of three of which the gates were torn: frame 0 alone is there. The gate behind a closed one is closed, and the closed
-// one keeps its byte.
+// A group of three of which the gates were torn: frame 0 alone is there. The gate behind a closed one is
+// closed, and the closed one keeps its byte.
 const STRAY: [Line; 7] = [
     Line::Store(3, 8, &[(0, 2)]),
     Put(2816, &[OPEN, 7, OPEN, 0], 10),

@@ -1,5 +1,5 @@
-//! What stops leave: each moment of a list of calls, with the places that were written since the last sync as bad as a crash may
-//! make them, is opened, and goes on.
+//! What stops leave: each moment of a list of calls, with the places that were written since the last sync as
+//! bad as a crash may make them, is opened, and goes on.
 
 use crate::calls::run;
 use crate::common::*;
@@ -22,7 +22,8 @@ struct Row<'a> {
     steps: &'a [Step],
 }
 
-// Of the mixes, the second opens the gates of the first segment and of its first frame, and the others that of a later frame.
+// Of the mixes, the second opens the gates of the first segment and of its first frame, and the others that of
+// a later frame.
 const SPOILS: [Spoil; 9] = [
     Spoil::Keep,
     Spoil::Old,
@@ -188,7 +189,8 @@ fn stops_again(
     Ok(())
 }
 
-// Opens what a stop left on a disk that remembers its calls, and stores a frame in a second attempt, which is stopped too.
+// Opens what a stop left on a disk that remembers its calls, and stores a frame in a second attempt, which is
+// stopped too.
 fn tries_again(rt: &impl Abort, alloc: Global, left: &MemDisk, found: &[u64]) -> Result<(), Fail> {
     let disk = CrashDisk::of(alloc, left.bytes().to_vec(alloc)?)?;
     let mut store = opened(alloc, disk)?;
@@ -312,8 +314,9 @@ fn each_stop_of_a_list_leaves_a_beginning(rt: HostRuntime) -> Result<(), Fail> {
     stops(&rt, alloc, &row, true)
 }
 
-// What is found after each of the ten calls of the append of frame 6, where the oldest block goes first, with the places that
-// were written since the last sync kept, as they were, closed, and open: frames 0 to 5, 2 to 5, or 2 to 6.
+// What is found after each of the ten calls of the append of frame 6, where the oldest block goes first, with
+// the places that were written since the last sync kept, as they were, closed, and open: frames 0 to 5, 2 to 5,
+// or 2 to 6.
 const RECYCLING: [&str; 11] = [
     "0000", "2020", "2222", "2222", "2222", "2222", "2222", "2222", "2222", "6226", "6666",
 ];
@@ -373,8 +376,9 @@ fn formatted(alloc: Global, image: &[u8]) -> Result<CrashDisk, Fail> {
     }
 }
 
-// Stops formatting a disk that holds an image after each of so many calls. What a stop leaves isn't formatted, or reads as
-// before or as the empty recording: this one only once the superblock's gate is written, and always after the last call.
+// Stops formatting a disk that holds an image after each of so many calls. What a stop leaves isn't formatted,
+// or reads as before or as the empty recording: this one only once the superblock's gate is written, and always
+// after the last call.
 fn stops_of_format(rt: &impl Abort, alloc: Global, image: &[u8], calls: usize) -> Result<(), Fail> {
     let disk = formatted(alloc, image)?;
     assert_eq!(rt; disk.calls(), calls);
