@@ -28,11 +28,7 @@ Recovers (Err StoreFault.NoMemory) P Q = Unit {0}
 Recovers (Err (StoreFault.Disk fault)) P Q = Unit {0}
 Recovers (Err StoreFault.NotFormatted) P Q = Q LayoutFault.NotFormatted
 Recovers (Err (StoreFault.Damaged damage)) P Q = Q (LayoutFault.Damaged damage)
-Recovers (Err StoreFault.MustReopen) P Q = ⊥
-Recovers (Err StoreFault.NotHeld) P Q = ⊥
-Recovers (Err StoreFault.BadGeometry) P Q = ⊥
-Recovers (Err StoreFault.NumbersSpent) P Q = ⊥
-Recovers (Err StoreFault.AllLocked) P Q = ⊥
+Recovers (Err _) P Q = ⊥
 
 -- ---- segments
 
