@@ -1,0 +1,9 @@
+pub mod Numbers
+pub mod Words
+pub mod Lines
+pub mod Pixels
+mod Rows
+pub mod Retry
+pub mod Writing
+pub mod Frames
+pub mod Opening
