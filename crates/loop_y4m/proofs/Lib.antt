@@ -7,3 +7,5 @@ pub mod Retry
 pub mod Writing
 pub mod Frames
 pub mod Opening
+pub mod Digits
+pub mod Written

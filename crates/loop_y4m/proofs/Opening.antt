@@ -38,7 +38,7 @@ bare : (rest : List ℕ) → header_line (codes "YUV4MPEG2\n" ++ rest) ≡ Ok (c
 bare rest = line_at (codes "YUV4MPEG2") rest refl (omega arith)
 
 -- one with parameters
-spaced : (rest : List ℕ) → header_line (codes "YUV4MPEG2 " ++ rest) ≡ line (codes "YUV4MPEG2 " ++ rest)
+pub spaced : (rest : List ℕ) → header_line (codes "YUV4MPEG2 " ++ rest) ≡ line (codes "YUV4MPEG2 " ++ rest)
 spaced rest = refl
 
 -- ---- the same, where the bytes that a reader has are known

@@ -1,6 +1,6 @@
 -- How a stream's header line is read: its parameters from left to right.
 use Rattle.std.specs.Prelude.{ℕ, Bool, ◌&&◌, ◌||◌, ◌==◌, nat_lt, nat_le, if◌then◌else◌, Option, Some, None, Result, Ok, Err, List, [], ◌∷◌, length, codes, bytes_eq, option_map, option_and_then, ok_or, sum}
-use Rattle.std.specs.List.{before_first, after_first}
+use Rattle.std.specs.List.{before_first, after_first, slice_split}
 use Rattle.std.specs.Str.{all_ascii_digits}
 use Rattle.std.specs.Str.Parse.{digits_value}
 use Rattle.loop_record.specs.declared.geometry.PixelFormat.{PixelFormat}
@@ -66,13 +66,8 @@ with_parameter p (letter ∷ text) =
     else Ok p
 
 -- the words between spaces
-abbrev pub onto_first : ℕ → List (List ℕ) → List (List ℕ)
-onto_first b [] = (b ∷ []) ∷ []
-onto_first b (w ∷ ws) = (b ∷ w) ∷ ws
-
 abbrev pub words : List ℕ → List (List ℕ)
-words [] = [] ∷ []
-words (b ∷ bs) = if b == 32 then [] ∷ words bs else onto_first b (words bs)
+words text = slice_split (λ b. b == 32) text
 
 -- all parameters, from left to right
 abbrev pub with_parameters : Parameters → List (List ℕ) → Result Parameters Y4mFault

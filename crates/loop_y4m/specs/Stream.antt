@@ -45,9 +45,13 @@ pub record Frames : Type 0 where
   pub frames : List (List ℕ)
   pub fault : Option Y4mFault
 
+-- these frames come, then this fault, or the end
+abbrev pub ends_after : List (List ℕ) → Option Y4mFault → Frames
+ends_after frames fault = record { frames = frames; fault = fault }
+
 -- no frame comes, but this fault, or the end
 abbrev pub ends : Option Y4mFault → Frames
-ends fault = record { frames = []; fault = fault }
+ends fault = ends_after [] fault
 
 -- a frame comes before these
 abbrev pub before : List ℕ → Frames → Frames

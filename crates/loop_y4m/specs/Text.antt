@@ -3,6 +3,7 @@ use Rattle.std.specs.Prelude.{◌≡◌, ℕ, List, [], ◌∷◌, ◌++◌, fla
 use Rattle.std.specs.Io.KnownBytes.{Appends}
 use Rattle.loop_record.specs.declared.geometry.Geometry.{Geometry}
 use Rattle.loop_record.specs.declared.geometry.PixelFormat.{PixelFormat}
+use Rattle.loop_y4m.specs.declared.header.Header.{Header}
 use Rattle.loop_record.specs.declared.geometry.PixelFormat.TheVariants.{Grey, Ym12, Ym16, Ym24}
 
 -- the name of a format
@@ -25,6 +26,10 @@ frame bytes = codes "FRAME" ++ 10 ∷ bytes
 -- the header, and each frame
 abbrev pub text : Geometry → List (List ℕ) → List ℕ
 text g frames = header g ++ flat_map frame frames
+
+-- the format, size and rate of a geometry
+abbrev pub described : Geometry → Header
+described g = record { format = g.format; width = g.width; height = g.height; rate_num = g.rate_num; rate_den = g.rate_den }
 
 -- what the writer was given: the whole text at Ok, a beginning of it at a fault
 abbrev pub Wrote : {E : Type 0} → Option (List ℕ) → Option (List ℕ) → Result (Unit {0}) E → List ℕ → Type 0

@@ -7,7 +7,8 @@
 //! - `reader`: the `Y4mReader`, which gives an input's frames one after another; `fault`: what can be wrong with an input;
 //! - `header`: what a stream's header line says; `number`: decimal numbers, judged by their value;
 //! - `input`: bytes and lines from a reader; `frame`: a frame's line and its bytes;
-//! - `text`: the header and the frames as they are written.
+//! - `text`: the header and the frames as they are written;
+//! - `laws`: that what is written is read back, the contract of a function that does nothing.
 //!
 //! Nothing here takes memory.
 #![tactic(auto)]
@@ -16,6 +17,7 @@ mod fault;
 mod frame;
 mod header;
 mod input;
+pub mod laws;
 mod number;
 mod reader;
 mod text;
