@@ -27,7 +27,7 @@ LineIs whole (Ok n) buf left = (rest : List ℕ) × (whole ≡ Ok (take n buf, r
 abbrev pub IsBegun : List ℕ → List ℕ → Option (List ℕ) → Type 0
 IsBegun bytes seen left = (rest : List ℕ) × (bytes ≡ seen ++ rest) × (left ≡ Some rest) × (position_or_len is_newline seen ≡ length seen)
 
--- the bytes are what the input begins with, or it is too short, which is answered by this fault; a reader that failed may have lost bytes
+-- the bytes are what the input begins with, or it is too short, which this fault answers; a reader that failed may have lost bytes
 abbrev pub FillsWith : Y4mFault → List ℕ → Result (Unit {0}) Y4mFault → List ℕ → Option (List ℕ) → Type 0
 FillsWith cut bytes (Err Read) out left = ⊤
 FillsWith cut bytes (Err fault) out left = (fault ≡ cut) × (length bytes < length out)

@@ -20,7 +20,8 @@ fn is_frame_line(line: &[u8]) -> bool
 
 /// Fills `out`. Where the input ends before that it answers `cut`.
 pub(crate) fn fill<R: Read>(reader: &mut R, out: &mut [u8], cut: Y4mFault) -> Result<(), Y4mFault>
-    ensures { IfSome (R.remaining reader.old) (λ bytes. FillsWith cut bytes result out.new (R.remaining reader.new)) }
+    ensures { IfSome (R.remaining reader.old)
+        (λ bytes. FillsWith cut bytes result out.new (R.remaining reader.new)) }
 {
     let mut at = 0;
     while at < out.len() {
@@ -36,7 +37,8 @@ pub(crate) fn fill<R: Read>(reader: &mut R, out: &mut [u8], cut: Y4mFault) -> Re
 /// Reads the next frame's line and its bytes, as many as `out` has; false at the end.
 #[tactic(auto, using(crate::proofs::Pixels::pixels_whole, crate::proofs::Pixels::pixels_cut))]
 pub(crate) fn next_frame<R: Read>(reader: &mut R, out: &mut [u8]) -> Result<bool, Y4mFault>
-    ensures { IfSome (R.remaining reader.old) (λ bytes. FrameIs bytes result out.new (R.remaining reader.new)) }
+    ensures { IfSome (R.remaining reader.old)
+        (λ bytes. FrameIs bytes result out.new (R.remaining reader.new)) }
 {
     let mut line = [0u8; MAX_LINE];
     match next_byte(reader)? {

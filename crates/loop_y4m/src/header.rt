@@ -11,13 +11,18 @@ use loop_record::PixelFormat;
 /// The most bytes of a frame.
 const MAX_FRAME: u32 = 16_777_216;
 
-/// What a header says: the format, width and height in pixels, and the rate in frames a second, 0 over 0 where it isn't given.
+/// What a header says.
 #[derive(Clone, Copy, Debug, PartialEq, Eq)]
 pub struct Header {
+    /// How the pixels of a frame lie.
     pub format: PixelFormat,
+    /// The width of a frame in pixels, 1 to 16,384.
     pub width: u32,
+    /// The height of a frame in pixels, 1 to 16,384.
     pub height: u32,
+    /// The rate's numerator, in frames a second; 0 where the header has no rate.
     pub rate_num: u32,
+    /// The rate's denominator; 0 where the header has no rate.
     pub rate_den: u32,
 }
 

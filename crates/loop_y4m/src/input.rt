@@ -13,7 +13,7 @@ use std::io::{ErrorKind, Read};
 /// The most bytes of a line, its 0x0A among them.
 pub(crate) const MAX_LINE: usize = 4096;
 
-/// One read, made again where it was interrupted.
+/// One read, made again where it was interrupted. The count of tries, 2^64 - 1, is there since each call has to end.
 #[tactic(auto, using(crate::proofs::Retry::still_there, crate::proofs::Retry::still_read))]
 pub(crate) fn read_some<R: Read>(reader: &mut R, buf: &mut [u8]) -> Result<usize, Y4mFault>
     ensures bound { ReadsAtMost result buf.new }
@@ -32,7 +32,8 @@ pub(crate) fn read_some<R: Read>(reader: &mut R, buf: &mut [u8]) -> Result<usize
 
 /// The next byte; none at the end.
 pub(crate) fn next_byte<R: Read>(reader: &mut R) -> Result<Option<u8>, Y4mFault>
-    ensures byte { IfOk result (λ b. Consumes (R.remaining reader.old) (R.remaining reader.new) (option_to_list b)) }
+    ensures byte { IfOk result
+        (λ b. Consumes (R.remaining reader.old) (R.remaining reader.new) (option_to_list b)) }
     ensures end { IfOk result (λ b. IsNone b → IsAtEnd (R.remaining reader.new)) }
     ensures fault { IfErr result (λ f. f ≡ Y4mFault.Read) }
 {

@@ -14,7 +14,9 @@ use loop_record::PixelFormat;
 use std::io::Read;
 use std::marker::Model;
 
-/// An input whose header was read, and its frames one after another.
+/// An input whose header was read, and its frames one after another: the frames that `parse` has of the input, where the reader
+/// tells its bytes. It reads a byte a call up to the end of a line, and the rest of a frame at once, so who reads a file lends it a
+/// `BufReader`. A read that was interrupted is made again.
 #[derive(Drop)]
 pub struct Y4mReader<R: Read + Drop> {
     reader: R,
@@ -31,7 +33,9 @@ impl<R: Read + Drop> Model for Y4mReader<R> {
 }
 
 impl<R: Read + Drop> Y4mReader<R> {
-    /// Reads the header of an input, and nothing behind its line.
+    /// Reads the header of an input, and nothing behind its line. NotY4m: the input doesn't begin as one. Truncated: it ends within
+    /// the line. BadHeader, UnsupportedColour, UnsupportedInterlace: what the line says can't be read. Read: the reader failed.
+    /// After each of them the reader is dropped; one that was lent has given an unknown count of bytes.
     pub fn open(mut reader: R) -> Result<Self, Y4mFault>
         ensures opened { IfSome (R.remaining reader) (λ bytes. OpensAs bytes result) }
         ensures fresh { IfOk result (λ r. r.fault ≡ None) }
@@ -53,14 +57,16 @@ impl<R: Read + Drop> Y4mReader<R> {
 
     /// The width of a frame in pixels.
     pub fn width(&self) -> u32
-        ensures { result ≡ self.now.header.width }
+        ensures value { result ≡ self.now.header.width }
+        ensures bound { result ≤ 16384 }
     {
         self.header.width
     }
 
     /// The height of a frame in pixels.
     pub fn height(&self) -> u32
-        ensures { result ≡ self.now.header.height }
+        ensures value { result ≡ self.now.header.height }
+        ensures bound { result ≤ 16384 }
     {
         self.header.height
     }
@@ -81,12 +87,16 @@ impl<R: Read + Drop> Y4mReader<R> {
     }
 
     /// Reads the next frame's bytes into `out`, which has a frame's length: the planes Y, Cb and Cr without padding, or Y alone.
-    /// It answers false at the end, and then again. After a fault `out` may hold any bytes, and each later call answers that fault.
+    /// It answers false at the end, and then again. Truncated: the input ends within a frame or its line.
+    /// BadHeader: a line isn't a frame's. Read: the reader failed. After a fault `out` may hold any bytes, and each later call
+    /// answers that fault.
     pub fn next_frame(&mut self, out: &mut [u8]) -> Result<bool, Y4mFault>
         requires size { length out.old ≡ frame_size self.old.header }
-        ensures frame { IfSome self.old.rest (λ frames. GivesNext frames result out.new self.new.rest) }
+        ensures frame { IfSome self.old.rest
+            (λ frames. GivesNext frames result out.new self.new.rest) }
         ensures kept { OnOk result (self.new ≡ record self.old { rest = self.new.rest }) }
-        ensures failed { IfErr result (λ f. self.new ≡ record self.old { fault = Some f; rest = Some (ends (Some f)) }) }
+        ensures failed { IfErr result
+            (λ f. self.new ≡ record self.old { fault = Some f; rest = Some (ends (Some f)) }) }
         ensures stays { IfSome self.old.fault (λ f. result ≡ Err f) }
     {
         if let Some(fault) = self.fault {
@@ -100,7 +110,8 @@ impl<R: Read + Drop> Y4mReader<R> {
 
 /// Reads the header's line, and judges it.
 fn read_header<R: Read>(reader: &mut R) -> Result<Header, Y4mFault>
-    ensures header { IfSome (R.remaining reader.old) (λ bytes. HeaderIs bytes result (R.remaining reader.new)) }
+    ensures header { IfSome (R.remaining reader.old)
+        (λ bytes. HeaderIs bytes result (R.remaining reader.new)) }
     ensures bound { IfOk result IsSmall }
 {
     let mut line = [0u8; MAX_LINE];
