@@ -1,5 +1,5 @@
 -- Decimal numbers as they are written and read.
-use Rattle.std.proofs.Common.{◌≡◌, ℕ, suc, ◌+◌, ◌<◌, ◌≤◌, ◌^◌, Bool, true, false, Some, List, [], ◌∷◌, ◌++◌, length, take, drop, refl, ap, arith, eqb, sym, length-append, append_assoc, ◌∙◌}
+use Rattle.std.proofs.Common.{◌≡◌, ℕ, ◌+◌, ◌<◌, ◌≤◌, ◌^◌, Bool, true, false, Some, List, [], ◌∷◌, ◌++◌, length, take, drop, refl, ap, arith, eqb, sym, length-append, append_assoc, ◌∙◌}
 use Rattle.std.specs.Prelude.{decimal, None, if◌then◌else◌}
 use Rattle.std.specs.Char.{is_ascii_digit}
 use Rattle.std.specs.List.{after_first, before_first, position_or_len}
@@ -8,25 +8,10 @@ use Rattle.std.specs.Str.Parse.{digits_value}
 use Rattle.std.proofs.lemmas.Bool.{both_ways, eqb-true, lt-ltb, le-leb}
 use Rattle.std.proofs.lemmas.Fmt.{decimal_nonempty, digits_decimal, digits_value-decimal}
 use Rattle.std.proofs.lemmas.Str.Parse.{IsNumeralModel, numerals_by_value, tells_all_ascii_digits}
+use Rattle.loop_y4m.proofs.Places.{Lacks, behind}
 use Rattle.loop_y4m.specs.Header.{is_colon, number, rate, side}
 use Rattle.loop_record.proofs.Decided.{both}
 use Rattle.std.proofs.lemmas.List.{take_at, drop_at}
-
--- this byte isn't among these
-abbrev pub Lacks : ℕ → List ℕ → Type 0
-Lacks c bs = position_or_len (λ b. eqb b c) bs ≡ length bs
-
-behind_by : (same : Bool) (c b : ℕ) (bs rest : List ℕ) → eqb b c ≡ same → (Lacks c bs → position_or_len (λ b. eqb b c) (bs ++ rest) ≡ length bs + position_or_len (λ b. eqb b c) rest) → Lacks c (b ∷ bs) → position_or_len (λ b. eqb b c) (b ∷ bs ++ rest) ≡ suc (length bs) + position_or_len (λ b. eqb b c) rest
-behind_by true c b bs rest is more none = absurd (omega (arith, (rw is at none)))
-behind_by false c b bs rest is more none = rw is (omega (arith, more (omega (arith, (rw is at none)))))
-
--- behind bytes without it, it is where it is in what follows
-pub behind : (c : ℕ) (bs rest : List ℕ) → Lacks c bs → position_or_len (λ b. eqb b c) (bs ++ rest) ≡ length bs + position_or_len (λ b. eqb b c) rest
-behind c [] rest none = omega arith
-behind c (b ∷ bs) rest none = behind_by (eqb b c) c b bs rest refl (behind c bs rest) none
-
-pub lacks_both : (c : ℕ) (xs ys : List ℕ) → Lacks c xs → Lacks c ys → Lacks c (xs ++ ys)
-lacks_both c xs ys first last = behind c xs ys first ∙ ap (λ n. length xs + n) last ∙ sym (length-append xs ys)
 
 -- ---- digits
 

@@ -1,5 +1,5 @@
 -- How a line that is read byte by byte goes on, and ends.
-use Rattle.std.proofs.Common.{◌≡◌, ℕ, suc, ◌+◌, ◌<◌, ◌≤◌, Bool, Option, Some, None, List, [], ◌∷◌, ◌++◌, length, take, drop, refl, ap, arith, true, false, eqb, sym, append_assoc, append-nil, length-append, ◌∙◌}
+use Rattle.std.proofs.Common.{◌≡◌, ℕ, ◌+◌, ◌<◌, ◌≤◌, Option, Some, None, List, [], ◌∷◌, ◌++◌, length, take, drop, refl, ap, arith, false, eqb, sym, append_assoc, append-nil, length-append, ◌∙◌}
 use Rattle.std.proofs.lemmas.List.{take_at, drop_at}
 use Rattle.std.specs.Prelude.{Ok, Err, IfSome}
 use Rattle.std.specs.Io.KnownBytes.{Consumes, IsAtEnd}
@@ -7,20 +7,11 @@ use Rattle.std.specs.List.{position_or_len}
 use Rattle.loop_y4m.specs.declared.fault.Y4mFault.TheVariants.{BadHeader, Truncated}
 use Rattle.loop_y4m.specs.Stream.{line, is_newline}
 use Rattle.loop_y4m.specs.Steps.{IsBegun}
-
--- the place of the first newline, told by the first byte's case
-behind_by : (newline : Bool) (b : ℕ) (bs rest : List ℕ) → eqb b 10 ≡ newline → (position_or_len is_newline bs ≡ length bs → position_or_len is_newline (bs ++ rest) ≡ length bs + position_or_len is_newline rest) → position_or_len is_newline (b ∷ bs) ≡ suc (length bs) → position_or_len is_newline (b ∷ bs ++ rest) ≡ suc (length bs) + position_or_len is_newline rest
-behind_by true b bs rest is more none = absurd (omega (arith, (rw is at none)))
-behind_by false b bs rest is more none = rw is (omega (arith, more (omega (arith, (rw is at none)))))
-
--- behind bytes without a newline the first newline is that of what follows
-pub newline_behind : (seen rest : List ℕ) → position_or_len is_newline seen ≡ length seen → position_or_len is_newline (seen ++ rest) ≡ length seen + position_or_len is_newline rest
-newline_behind [] rest none = omega arith
-newline_behind (b ∷ bs) rest none = behind_by (eqb b 10) b bs rest refl (newline_behind bs rest) none
+use Rattle.loop_y4m.proofs.Places.{behind}
 
 -- the first newline stands where what follows begins
 newline_at : (seen rest : List ℕ) → position_or_len is_newline seen ≡ length seen → position_or_len is_newline (seen ++ 10 ∷ rest) ≡ length seen
-newline_at seen rest none = newline_behind seen (10 ∷ rest) none ∙ omega arith
+newline_at seen rest none = behind 10 seen (10 ∷ rest) none ∙ omega arith
 
 line_long : (bytes : List ℕ) → 4096 ≤ position_or_len is_newline bytes → 4096 ≤ length bytes → line bytes ≡ Err BadHeader
 line_long bytes far long = grind (arith, far, long)
@@ -43,7 +34,7 @@ left_of rest (Some more) bs consumed = (more, refl, consumed)
 
 -- 4,096 bytes without a newline
 pub too_long : (bytes seen : List ℕ) (left : Option (List ℕ)) → IsBegun bytes seen left → length seen ≡ 4096 → line bytes ≡ Err BadHeader
-too_long bytes seen left begun long = rw (begun.1) (line_long (seen ++ begun.0) (omega (arith, newline_behind seen begun.0 begun.3, long)) (omega (arith, length-append seen begun.0, long)))
+too_long bytes seen left begun long = rw (begun.1) (line_long (seen ++ begun.0) (omega (arith, behind 10 seen begun.0 begun.3, long)) (omega (arith, length-append seen begun.0, long)))
 
 nothing_left : (new : Option (List ℕ)) (more : List ℕ) → new ≡ Some more → IsAtEnd new → more ≡ []
 nothing_left new more is ended = rw is at ended
@@ -68,7 +59,7 @@ one_more bytes seen b left new begun consumed other =
       m.0,
       begun.1 ∙ ap (λ r. seen ++ r) m.2 ∙ sym (append_assoc seen (b ∷ []) m.0),
       m.1,
-      rw (length-append seen (b ∷ [])) (newline_behind seen (b ∷ []) begun.3 ∙ ap (λ k. length seen + k) (rw other refl)),
+      rw (length-append seen (b ∷ [])) (behind 10 seen (b ∷ []) begun.3 ∙ ap (λ k. length seen + k) (rw other refl)),
     )
 
 -- ---- the same, where the bytes that a reader has are known

@@ -17,7 +17,8 @@ use Rattle.loop_y4m.specs.declared.header.Parameters.{Parameters}
 use Rattle.loop_y4m.specs.declared.header.Header.{Header}
 use Rattle.loop_y4m.specs.Stream.{before, ends_after, frames_in, header_line, next_frame, parse}
 use Rattle.loop_y4m.specs.Text.{colour_name, described, frame, header, text}
-use Rattle.loop_y4m.proofs.Digits.{Lacks, behind, decimal_lacks, lacks_both, rate_decimals, side_decimal}
+use Rattle.loop_y4m.proofs.Digits.{decimal_lacks, rate_decimals, side_decimal}
+use Rattle.loop_y4m.proofs.Places.{Lacks, behind, lacks_both}
 use Rattle.loop_y4m.proofs.Frames.{frames_step}
 use Rattle.loop_y4m.proofs.Lines.{line_at}
 use Rattle.loop_y4m.proofs.Pixels.{pixels_whole}

@@ -57,7 +57,7 @@ pub fn write_pixels<W: Write>(bytes: &[u8], out: &mut W) -> Result<()>
     put(bytes, out)
 }
 
-/// Writes a frame: its line, and its bytes.
+/// Writes a frame: its line, and its bytes, as many as the header's format and size have. Their count isn't looked at.
 pub fn write_frame<W: Write>(bytes: &[u8], out: &mut W) -> Result<()>
     ensures { Wrote (W.contents out.old) (W.contents out.new) result (frame bytes.now) }
 {
