@@ -1,15 +1,16 @@
 -- The frames of an input, one after another.
-use Rattle.std.proofs.Common.{◌≡◌, ℕ, zero, suc, ◌<◌, ◌≤◌, Bool, true, false, Option, Some, None, List, [], ◌∷◌, length, refl, ap, arith, length-drop, ◌∙◌}
+use Rattle.std.proofs.Common.{◌≡◌, ℕ, zero, suc, ◌<◌, ◌≤◌, Bool, true, false, Option, Some, None, List, [], ◌∷◌, length, refl, ap, arith, length-drop, sym, ◌∙◌}
 use Rattle.std.specs.Prelude.{Ok, Err, Result, IfSome, option_map, min, nat_lt, nat_le, if◌then◌else◌}
+use Rattle.std.specs.Option.{unwrap_or}
 use Rattle.std.specs.Result.{result_err}
 use Rattle.std.specs.List.{position_or_len}
 use Rattle.loop_y4m.specs.declared.fault.Y4mFault.{Y4mFault}
 use Rattle.loop_y4m.specs.declared.fault.Y4mFault.TheVariants.{NotY4m, BadHeader, UnsupportedColour, UnsupportedInterlace, Truncated, Read}
 use Rattle.loop_y4m.specs.declared.header.Header.{Header}
 use Rattle.loop_y4m.specs.Header.{and_then, frame_size}
-use Rattle.loop_y4m.specs.Reader.{GivesNext, opened_with}
+use Rattle.loop_y4m.specs.Reader.{Gives, GivesNext, opened_with}
 use Rattle.loop_y4m.specs.Steps.{FrameIs}
-use Rattle.loop_y4m.specs.Stream.{before, frames_by, frames_in, frames_within, is_frame_line, is_newline, line, next_frame, pixels}
+use Rattle.loop_y4m.specs.Stream.{Frames, before, ends, ends_after, frames_by, frames_in, frames_within, is_frame_line, is_newline, line, next_frame, pixels}
 
 -- ---- each frame takes a byte or more
 
@@ -68,3 +69,11 @@ next_known header size bytes new (Ok true) out full is = (frames_in (frame_size 
 pub gives_next : (header : Header) (old new : Option (List ℕ)) (result : Result Bool Y4mFault) (out : List ℕ) → length out ≡ frame_size header → IfSome old (λ bytes. FrameIs bytes result out new) → IfSome (option_map (frames_in (frame_size header)) old) (λ frames. GivesNext frames result out (opened_with header (result_err result) new).rest)
 gives_next header None new result out full is = tt
 gives_next header (Some bytes) new result out full is = next_known header (frame_size header) bytes new result out full is
+
+some_is : (a b : Frames) → Some a ≡ Some b → a ≡ b
+some_is a b same = ap (λ o. unwrap_or o a) same
+
+-- a run up to the end, or to a fault, has all frames
+pub run_read : (frames : Frames) (given : List (List ℕ)) (fault : Option Y4mFault) → Gives frames given (ends fault) → frames ≡ ends_after given fault
+run_read frames [] fault all = all
+run_read frames (f ∷ fs) fault all = all.1.1 ∙ ap (before f) (sym (some_is all.0 all.1.0 all.1.2) ∙ run_read all.0 fs fault all.2)

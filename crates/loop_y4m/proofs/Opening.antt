@@ -1,5 +1,5 @@
 -- How the header's line is told from its first ten bytes.
-use Rattle.std.proofs.Common.{◌≡◌, ℕ, ◌+◌, ◌-◌, ◌<◌, Bool, true, false, Option, Some, None, List, ◌++◌, length, take, drop, refl, ap, arith, sym, ◌∙◌, length-take}
+use Rattle.std.proofs.Common.{◌≡◌, ℕ, ◌+◌, ◌-◌, Bool, true, false, Option, Some, None, List, ◌++◌, length, take, drop, refl, ap, arith, sym, ◌∙◌, length-take}
 use Rattle.std.specs.Prelude.{Ok, Err, Result, IfSome, codes, bytes_eq, min, nat_le, not}
 use Rattle.std.proofs.lemmas.List.{take_at, drop-take, drop_all}
 use Rattle.std.proofs.lemmas.Bool.{leb-true, leb-false}
@@ -7,27 +7,13 @@ use Rattle.std.proofs.lemmas.Slice.Eq.{bytes_eq-Decides}
 use Rattle.loop_y4m.specs.declared.fault.Y4mFault.{Y4mFault}
 use Rattle.loop_y4m.specs.declared.fault.Y4mFault.TheVariants.{NotY4m, BadHeader, UnsupportedColour, UnsupportedInterlace, Truncated, Read}
 use Rattle.loop_y4m.specs.Steps.{LineIs, HeaderIs}
-use Rattle.loop_y4m.specs.Stream.{header_line, headed, is_newline, line}
+use Rattle.loop_y4m.specs.Stream.{header_line, headed, line}
 use Rattle.loop_y4m.specs.Header.{and_then, header_of}
 use Rattle.loop_y4m.specs.declared.header.Header.{Header}
-use Rattle.std.specs.List.{position_or_len}
 use Rattle.loop_y4m.proofs.Lines.{line_at}
 
 equal : (xs ys : List ℕ) → bytes_eq xs ys ≡ true → xs ≡ ys
 equal xs ys is = (bytes_eq-Decides xs ys).0 is
-
--- bytes of another length aren't equal
-other_length : (same : Bool) (xs ys : List ℕ) → bytes_eq xs ys ≡ same → (length xs ≡ length ys → ⊥) → same ≡ false
-other_length true xs ys is other = absurd (other (ap length (equal xs ys is)))
-other_length false xs ys is other = refl
-
-unequal : (xs ys : List ℕ) → (length xs ≡ length ys → ⊥) → bytes_eq xs ys ≡ false
-unequal xs ys other = other_length (bytes_eq xs ys) xs ys refl other
-
--- an input that ends within the ten bytes
-too_short : (bytes : List ℕ) → length bytes < 10 → header_line bytes ≡ Err NotY4m
-too_short bytes short = rw (unequal (take 10 bytes) (codes "YUV4MPEG2 ") (λ e. omega (arith, e, short, length-take 10 bytes)))
-    (rw (unequal (take 10 bytes) (codes "YUV4MPEG2\n") (λ e. omega (arith, e, short, length-take 10 bytes))) refl)
 
 -- one that begins with other bytes
 another : (first rest : List ℕ) → length first ≡ 10 → bytes_eq first (codes "YUV4MPEG2 ") ≡ false → bytes_eq first (codes "YUV4MPEG2\n") ≡ false → header_line (first ++ rest) ≡ Err NotY4m
@@ -36,10 +22,6 @@ another first rest ten space newline = rw (take_at first rest 10 ten) (rw space 
 -- a header without parameters
 bare : (rest : List ℕ) → header_line (codes "YUV4MPEG2\n" ++ rest) ≡ Ok (codes "YUV4MPEG2", rest)
 bare rest = line_at (codes "YUV4MPEG2") rest refl (omega arith)
-
--- one with parameters
-pub spaced : (rest : List ℕ) → header_line (codes "YUV4MPEG2 " ++ rest) ≡ line (codes "YUV4MPEG2 " ++ rest)
-spaced rest = refl
 
 -- ---- the same, where the bytes that a reader has are known
 
@@ -65,10 +47,6 @@ spaced_known None left new first tail buf result ten same filled read = tt
 spaced_known (Some bytes) left new first tail buf result ten same filled read =
     let is : first ≡ codes "YUV4MPEG2 " = equal first (codes "YUV4MPEG2 ") (rw (take_at first tail 10 ten) at same) in
     rw (filled.1) (spaced_from left new first tail buf filled.0 result ten is filled.2 read)
-
--- where no newline is among the ten bytes
-pub no_newline : (first tail : List ℕ) → length first ≡ 10 → bytes_eq (take 10 (first ++ tail)) (codes "YUV4MPEG2 ") ≡ true → position_or_len is_newline (take 10 (first ++ tail)) ≡ length (take 10 (first ++ tail))
-no_newline first tail ten same = rw (equal (take 10 (first ++ tail)) (codes "YUV4MPEG2 ") same) refl
 
 -- a test that was turned round
 pub not_so : (b r : Bool) → r ≡ not b → r ≡ true → b ≡ false

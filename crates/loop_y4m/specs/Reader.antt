@@ -1,5 +1,5 @@
 -- What an open reader is, and what its calls answer.
-use Rattle.std.specs.Prelude.{◌≡◌, ℕ, Bool, Option, Some, None, Result, Ok, Err, List, option_map, ⊤, true, false}
+use Rattle.std.specs.Prelude.{◌≡◌, ℕ, Bool, Option, Some, None, Result, Ok, Err, List, [], ◌∷◌, option_map, ⊤, true, false}
 use Rattle.loop_y4m.specs.declared.fault.Y4mFault.{Y4mFault}
 use Rattle.loop_y4m.specs.declared.fault.Y4mFault.TheVariants.{Read}
 use Rattle.loop_y4m.specs.declared.header.Header.{Header}
@@ -30,3 +30,8 @@ GivesNext frames (Err Read) out left = ⊤
 GivesNext frames (Err fault) out left = frames ≡ ends (Some fault)
 GivesNext frames (Ok false) out left = (frames ≡ ends None) × (left ≡ Some frames)
 GivesNext frames (Ok true) out left = (rest : Frames) × (frames ≡ before out rest) × (left ≡ Some rest)
+
+-- calls in turn gave these frames, and this is left
+abbrev pub Gives : Frames → List (List ℕ) → Frames → Type 0
+Gives frames [] left = frames ≡ left
+Gives frames (f ∷ fs) left = (rest : Frames) × GivesNext frames (Ok true) f (Some rest) × Gives rest fs left

@@ -8,7 +8,7 @@
 //! - `header`: what a stream's header line says; `number`: decimal numbers, judged by their value;
 //! - `input`: bytes and lines from a reader; `frame`: a frame's line and its bytes;
 //! - `text`: the header and the frames as they are written;
-//! - `laws`: that what is written is read back, and frames follow one another: contracts of functions that do nothing.
+//! - `laws`: that what is written is read back, and a run of calls gives all frames: contracts of functions that do nothing.
 //!
 //! Nothing here takes memory.
 #![tactic(auto)]
