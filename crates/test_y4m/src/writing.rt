@@ -83,6 +83,23 @@ const ODD: [(PixelFormat, usize, &[u8]); 4] = [
     ),
 ];
 
+// No header is longer: each number has its ten digits, and the colour its longest name.
+#[test]
+fn the_longest_header_is_written(rt: HostRuntime) -> Result<(), Fail> {
+    let geometry = Geometry {
+        width: u32::MAX,
+        height: u32::MAX,
+        rate_num: u32::MAX,
+        rate_den: u32::MAX,
+        ..SMALL
+    };
+    let mut out: Vec<u8> = Vec::new(rt.alloc());
+    write_header(&geometry, &mut out)?;
+    let line = b"YUV4MPEG2 W4294967295 H4294967295 F4294967295:4294967295 Ip A0:0 C420jpeg\n";
+    assert_eq!(rt; out.as_slice(), line.as_slice());
+    Ok(())
+}
+
 #[test]
 fn what_is_written_is_read_back(rt: HostRuntime) -> Result<(), Fail> {
     for (format, size, header) in ODD {
