@@ -1,0 +1,15 @@
+use Rattle.std.proofs.Common.{◌≡◌, ◌≤◌, length}
+use Rattle.loop_y4m.specs.Header.{with_parameters, words, nothing_given}
+use Rattle.loop_y4m.specs.Steps.{HasSmallSides}
+use Rattle.loop_y4m.proofs.header.parse_header.Given as goal
+
+-- what is left of the parameters goes on with what is given
+abbrev pub invariant-loop-given : goal.invariant-loop-given
+invariant-loop-given l = record {
+  shorter : length l.rest ≤ length l.text;
+  sides : HasSmallSides l.given;
+  parameters : with_parameters l.given (words l.rest) ≡ with_parameters nothing_given (words l.text);
+}
+
+abbrev pub decreases-loop-given : goal.decreases-loop-given
+decreases-loop-given l = length l.rest

@@ -1,0 +1,95 @@
+-- How a stream's header line is read: its parameters from left to right.
+use Rattle.std.specs.Prelude.{ℕ, Bool, ◌&&◌, ◌||◌, ◌==◌, nat_lt, nat_le, if◌then◌else◌, Option, Some, None, Result, Ok, Err, List, [], ◌∷◌, length, codes, bytes_eq, option_map, option_and_then, ok_or, sum}
+use Rattle.std.specs.List.{before_first, after_first, slice_split}
+use Rattle.std.specs.Str.{all_ascii_digits}
+use Rattle.std.specs.Str.Parse.{digits_value}
+use Rattle.loop_record.specs.declared.geometry.PixelFormat.{PixelFormat}
+use Rattle.loop_record.specs.declared.geometry.PixelFormat.TheVariants.{Grey, Ym12, Ym16, Ym24}
+use Rattle.loop_record.specs.Geometry.{plane_sizes}
+use Rattle.loop_y4m.specs.declared.fault.Y4mFault.{Y4mFault}
+use Rattle.loop_y4m.specs.declared.fault.Y4mFault.TheVariants.{BadHeader, UnsupportedColour, UnsupportedInterlace}
+use Rattle.loop_y4m.specs.declared.header.Header.{Header}
+use Rattle.loop_y4m.specs.declared.header.Parameters.{Parameters}
+
+-- ---- the words of a parameter
+
+-- a decimal number, judged by its value, of at most this
+abbrev pub number : ℕ → List ℕ → Option ℕ
+number most text = if nat_lt 0 (length text) && all_ascii_digits text && nat_le (digits_value 10 text) most
+    then Some (digits_value 10 text) else None
+
+-- a width or a height: 1 to 16,384
+abbrev pub side : List ℕ → Option ℕ
+side text = option_and_then (λ n. if n == 0 then None else Some n) (number 16384 text)
+
+abbrev pub is_colon : ℕ → Bool
+is_colon b = b == 58
+
+-- a rate: two numbers of 32 bits with a colon between them
+abbrev pub rate : List ℕ → Option (ℕ × ℕ)
+rate text = option_and_then (λ n. option_map (λ d. (n, d)) (number 4294967295 (after_first is_colon text)))
+    (number 4294967295 (before_first is_colon text))
+
+-- the planar formats of 8 bits a sample
+abbrev pub colour : List ℕ → Option PixelFormat
+colour text = if bytes_eq text (codes "mono") then Some Grey
+    else if bytes_eq text (codes "420") || bytes_eq text (codes "420jpeg") || bytes_eq text (codes "420mpeg2") || bytes_eq text (codes "420paldv") then Some Ym12
+    else if bytes_eq text (codes "422") then Some Ym16
+    else if bytes_eq text (codes "444") then Some Ym24 else None
+
+-- ---- the parameters
+
+-- what is answered at Ok goes on, a fault stays
+abbrev pub and_then : {A B : Type 0} → Result A Y4mFault → (A → Result B Y4mFault) → Result B Y4mFault
+and_then (Ok x) f = f x
+and_then (Err fault) f = Err fault
+
+-- nothing is given yet
+abbrev pub nothing_given : Parameters
+nothing_given = record { width = None; height = None; rate_num = 0; rate_den = 0; format = Ym12 }
+
+-- progressive frames, or unknown ones; interlaced and mixed frames aren't supported
+abbrev pub interlace : List ℕ → Result (Unit {0}) Y4mFault
+interlace text = if bytes_eq text (codes "p") || bytes_eq text (codes "?") then Ok tt
+    else if bytes_eq text (codes "t") || bytes_eq text (codes "b") || bytes_eq text (codes "m") then Err UnsupportedInterlace
+    else Err BadHeader
+
+-- what was given, and one parameter more: W, H, F, I or C; another letter, and an empty parameter, changes nothing
+abbrev pub with_parameter : Parameters → List ℕ → Result Parameters Y4mFault
+with_parameter p [] = Ok p
+with_parameter p (letter ∷ text) =
+    if letter == 87 then ok_or (option_map (λ n. record p { width = Some n }) (side text)) BadHeader
+    else if letter == 72 then ok_or (option_map (λ n. record p { height = Some n }) (side text)) BadHeader
+    else if letter == 70 then ok_or (option_map (λ r. record p { rate_num = r.0; rate_den = r.1 }) (rate text)) BadHeader
+    else if letter == 73 then and_then (interlace text) (λ _. Ok p)
+    else if letter == 67 then ok_or (option_map (λ f. record p { format = f }) (colour text)) UnsupportedColour
+    else Ok p
+
+-- the words between spaces
+abbrev pub words : List ℕ → List (List ℕ)
+words text = slice_split (λ b. b == 32) text
+
+-- all parameters, from left to right
+abbrev pub with_parameters : Parameters → List (List ℕ) → Result Parameters Y4mFault
+with_parameters p [] = Ok p
+with_parameters p (w ∷ ws) = and_then (with_parameter p w) (λ q. with_parameters q ws)
+
+-- ---- the header
+
+-- the bytes of a frame
+abbrev pub frame_size : Header → ℕ
+frame_size h = sum (plane_sizes h.format h.width h.height)
+
+-- a header whose frames have at most 16,777,216 bytes
+abbrev pub not_too_large : Header → Result Header Y4mFault
+not_too_large h = if nat_le (frame_size h) 16777216 then Ok h else Err BadHeader
+
+-- a width and a height are given
+abbrev pub complete : Option ℕ → Option ℕ → Parameters → Result Header Y4mFault
+complete None height p = Err BadHeader
+complete (Some w) None p = Err BadHeader
+complete (Some w) (Some h) p = not_too_large (record { format = p.format; width = w; height = h; rate_num = p.rate_num; rate_den = p.rate_den })
+
+-- what a header line says behind its `YUV4MPEG2` and a space
+abbrev pub header_of : List ℕ → Result Header Y4mFault
+header_of text = and_then (with_parameters nothing_given (words text)) (λ p. complete p.width p.height p)

@@ -1,0 +1,5 @@
+pub mod Header
+pub mod Stream
+pub mod Text
+pub mod Reader
+pub mod Steps

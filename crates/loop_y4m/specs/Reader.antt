@@ -1,0 +1,37 @@
+-- What an open reader is, and what its calls answer.
+use Rattle.std.specs.Prelude.{◌≡◌, ℕ, Bool, Option, Some, None, Result, Ok, Err, List, [], ◌∷◌, option_map, ⊤, true, false}
+use Rattle.loop_y4m.specs.declared.fault.Y4mFault.{Y4mFault}
+use Rattle.loop_y4m.specs.declared.fault.Y4mFault.TheVariants.{Read}
+use Rattle.loop_y4m.specs.declared.header.Header.{Header}
+use Rattle.loop_y4m.specs.Header.{frame_size}
+use Rattle.loop_y4m.specs.Stream.{Frames, before, ends, frames_in, parse}
+
+-- an open reader: what its header says, the fault that it met, and what is still to be read, where that is known
+pub record Opened : Type 0 where
+  pub header : Header
+  pub fault : Option Y4mFault
+  pub rest : Option Frames
+
+-- a reader with these bytes left; behind a fault there is that fault alone
+abbrev pub opened_with : Header → Option Y4mFault → Option (List ℕ) → Opened
+opened_with header None left = record { header = header; fault = None; rest = option_map (frames_in (frame_size header)) left }
+opened_with header (Some fault) left = record { header = header; fault = Some fault; rest = Some (ends (Some fault)) }
+
+-- what is answered to the opening of an input: what `parse` says of it, but where the reader failed
+abbrev pub OpensAs : List ℕ → Result Opened Y4mFault → Type 0
+OpensAs bytes (Err Read) = ⊤
+OpensAs bytes (Err fault) = parse bytes ≡ Err fault
+OpensAs bytes (Ok r) = (rest : Frames) × (parse bytes ≡ Ok (r.header, rest)) × (r.rest ≡ Some rest)
+
+-- what is answered to the call for a frame, and what is left to be read: the first of the frames and those behind it, the end,
+-- or the fault, but where the reader failed
+abbrev pub GivesNext : Frames → Result Bool Y4mFault → List ℕ → Option Frames → Type 0
+GivesNext frames (Err Read) out left = ⊤
+GivesNext frames (Err fault) out left = frames ≡ ends (Some fault)
+GivesNext frames (Ok false) out left = (frames ≡ ends None) × (left ≡ Some frames)
+GivesNext frames (Ok true) out left = (rest : Frames) × (frames ≡ before out rest) × (left ≡ Some rest)
+
+-- calls in turn gave these frames, and this is left
+abbrev pub Gives : Frames → List (List ℕ) → Frames → Type 0
+Gives frames [] left = frames ≡ left
+Gives frames (f ∷ fs) left = (rest : Frames) × GivesNext frames (Ok true) f (Some rest) × Gives rest fs left

@@ -1,0 +1,77 @@
+-- How a whole input is read: line by line, and frame by frame.
+use Rattle.std.specs.Prelude.{ℕ, zero, suc, Bool, ◌&&◌, ◌||◌, ◌==◌, nat_lt, nat_le, min, if◌then◌else◌, Option, Some, None, Result, Ok, Err, List, [], ◌∷◌, length, take, drop, codes, bytes_eq, slice_index}
+use Rattle.std.specs.List.{before_first, after_first, position_or_len}
+use Rattle.loop_y4m.specs.declared.fault.Y4mFault.{Y4mFault}
+use Rattle.loop_y4m.specs.declared.fault.Y4mFault.TheVariants.{NotY4m, BadHeader, Truncated}
+use Rattle.loop_y4m.specs.declared.header.Header.{Header}
+use Rattle.loop_y4m.specs.Header.{and_then, header_of, frame_size}
+
+abbrev pub is_newline : ℕ → Bool
+is_newline b = b == 10
+
+-- the first line, and what comes behind its 0x0A; a line has at most 4,096 bytes with it
+abbrev pub line : List ℕ → Result (List ℕ × List ℕ) Y4mFault
+line bytes = if nat_lt (position_or_len is_newline bytes) (min 4096 (length bytes))
+    then Ok (before_first is_newline bytes, after_first is_newline bytes)
+    else if nat_le 4096 (length bytes) then Err BadHeader else Err Truncated
+
+-- the first ten bytes are `YUV4MPEG2` and a space or a 0x0A
+abbrev pub is_y4m : List ℕ → Bool
+is_y4m bytes = bytes_eq (take 10 bytes) (codes "YUV4MPEG2 ") || bytes_eq (take 10 bytes) (codes "YUV4MPEG2\n")
+
+-- the header's line, and what comes behind it
+abbrev pub header_line : List ℕ → Result (List ℕ × List ℕ) Y4mFault
+header_line bytes = if is_y4m bytes then line bytes else Err NotY4m
+
+-- the header, and what comes behind its line
+abbrev pub headed : List ℕ → Result (Header × List ℕ) Y4mFault
+headed bytes = and_then (header_line bytes) (λ l. and_then (header_of (drop 10 l.0)) (λ h. Ok (h, l.1)))
+
+-- `FRAME`, alone or with a space and anything behind it
+abbrev pub is_frame_line : List ℕ → Bool
+is_frame_line text = bytes_eq (take 5 text) (codes "FRAME") && (length text == 5 || slice_index text 5 == 32)
+
+-- as many bytes as a frame has, and what comes behind them
+abbrev pub pixels : ℕ → List ℕ → Result (Option (List ℕ × List ℕ)) Y4mFault
+pixels size bytes = if nat_le size (length bytes) then Ok (Some (take size bytes, drop size bytes)) else Err Truncated
+
+-- the next frame, and what comes behind it; None at the end
+abbrev pub next_frame : ℕ → List ℕ → Result (Option (List ℕ × List ℕ)) Y4mFault
+next_frame size [] = Ok None
+next_frame size (b ∷ bs) = and_then (line (b ∷ bs)) (λ l. if is_frame_line l.0 then pixels size l.1 else Err BadHeader)
+
+-- frames, and the fault behind them; None: the end comes behind them
+pub record Frames : Type 0 where
+  pub frames : List (List ℕ)
+  pub fault : Option Y4mFault
+
+-- these frames come, then this fault, or the end
+abbrev pub ends_after : List (List ℕ) → Option Y4mFault → Frames
+ends_after frames fault = record { frames = frames; fault = fault }
+
+-- no frame comes, but this fault, or the end
+abbrev pub ends : Option Y4mFault → Frames
+ends fault = ends_after [] fault
+
+-- a frame comes before these
+abbrev pub before : List ℕ → Frames → Frames
+before frame fs = record { frames = frame ∷ fs.frames; fault = fs.fault }
+
+-- the next frame and those behind it, or the end, or a fault
+abbrev pub frames_by : (List ℕ → Frames) → Result (Option (List ℕ × List ℕ)) Y4mFault → Frames
+frames_by behind (Err fault) = ends (Some fault)
+frames_by behind (Ok None) = ends None
+frames_by behind (Ok (Some f)) = before f.0 (behind f.1)
+
+-- at most so many frames
+abbrev pub frames_within : ℕ → ℕ → List ℕ → Frames
+frames_within zero size bytes = ends None
+frames_within (suc most) size bytes = frames_by (frames_within most size) (next_frame size bytes)
+
+-- all frames of these bytes: with its line each takes a byte or more, so there are no more frames than bytes
+abbrev pub frames_in : ℕ → List ℕ → Frames
+frames_in size bytes = frames_within (suc (length bytes)) size bytes
+
+-- a whole input: its header, and its frames with what ends them
+abbrev pub parse : List ℕ → Result (Header × Frames) Y4mFault
+parse bytes = and_then (headed bytes) (λ h. Ok (h.0, frames_in (frame_size h.0) h.1))

@@ -1,0 +1,37 @@
+-- The text that is written.
+use Rattle.std.specs.Prelude.{◌≡◌, ℕ, List, [], ◌∷◌, ◌++◌, flat_map, codes, decimal, Option, Result, Ok, Err}
+use Rattle.std.specs.Io.KnownBytes.{Appends}
+use Rattle.loop_record.specs.declared.geometry.Geometry.{Geometry}
+use Rattle.loop_record.specs.declared.geometry.PixelFormat.{PixelFormat}
+use Rattle.loop_y4m.specs.declared.header.Header.{Header}
+use Rattle.loop_record.specs.declared.geometry.PixelFormat.TheVariants.{Grey, Ym12, Ym16, Ym24}
+
+-- the name of a format
+abbrev pub colour_name : PixelFormat → List ℕ
+colour_name Grey = codes "mono"
+colour_name Ym12 = codes "420jpeg"
+colour_name Ym16 = codes "422"
+colour_name Ym24 = codes "444"
+
+-- the header's line: progressive frames of unknown aspect
+abbrev pub header : Geometry → List ℕ
+header g = codes "YUV4MPEG2 W" ++ decimal g.width ++ codes " H" ++ decimal g.height
+    ++ codes " F" ++ decimal g.rate_num ++ codes ":" ++ decimal g.rate_den
+    ++ codes " Ip A0:0 C" ++ colour_name g.format ++ 10 ∷ []
+
+-- a frame: its line, and its bytes
+abbrev pub frame : List ℕ → List ℕ
+frame bytes = codes "FRAME" ++ 10 ∷ bytes
+
+-- the header, and each frame
+abbrev pub text : Geometry → List (List ℕ) → List ℕ
+text g frames = header g ++ flat_map frame frames
+
+-- the format, size and rate of a geometry
+abbrev pub described : Geometry → Header
+described g = record { format = g.format; width = g.width; height = g.height; rate_num = g.rate_num; rate_den = g.rate_den }
+
+-- what the writer was given: the whole text at Ok, a beginning of it at a fault
+abbrev pub Wrote : {E : Type 0} → Option (List ℕ) → Option (List ℕ) → Result (Unit {0}) E → List ℕ → Type 0
+Wrote old new (Ok done) bytes = Appends old new bytes
+Wrote old new (Err fault) bytes = (given : List ℕ) × (rest : List ℕ) × (bytes ≡ given ++ rest) × Appends old new given

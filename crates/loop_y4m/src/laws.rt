@@ -1,0 +1,31 @@
+//! What follows from the definitions. The functions do nothing: their contracts are the laws.
+
+ghost use Rattle.std.specs.Prelude.{◌≡◌, All, IsTrue, List, None, Ok, Option, length, ℕ};
+ghost use Rattle.loop_record.specs.Geometry.{frame_bytes, is_good};
+ghost use Rattle.loop_y4m.specs.Reader.{Gives};
+ghost use Rattle.loop_y4m.specs.Stream.{Frames, ends, ends_after, frames_by, frames_in, next_frame, parse};
+ghost use Rattle.loop_y4m.specs.declared.fault.Y4mFault.{Y4mFault};
+ghost use Rattle.loop_y4m.specs.Text.{described, text};
+
+use loop_record::Geometry;
+
+/// The text of a geometry's frames is read as its format, size and rate, then these frames' bytes, then the end.
+pub fn written_text_is_read(geometry: &Geometry)
+    ensures { (frames : List (List ℕ)) → IsTrue (is_good geometry.now)
+        → All (λ frame. length frame ≡ frame_bytes geometry.now) frames
+        → parse (text geometry.now frames)
+        ≡ Ok (described geometry.now, ends_after frames None) }
+{}
+
+/// The frames of an input are the next one and those behind it, up to the end or a fault: the count that bounds the definition's
+/// recursion leaves none out.
+pub fn frames_follow_one_another()
+    ensures { (size : ℕ) (bytes : List ℕ)
+        → frames_in size bytes ≡ frames_by (frames_in size) (next_frame size bytes) }
+{}
+
+/// Calls in turn that gave frames until the end, or a fault, was left gave all frames of what was to be read, in their order.
+pub fn a_run_gives_all_frames()
+    ensures { (frames : Frames) (given : List (List ℕ)) (fault : Option Y4mFault)
+        → Gives frames given (ends fault) → frames ≡ ends_after given fault }
+{}

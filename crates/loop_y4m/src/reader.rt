@@ -1,0 +1,137 @@
+//! A reader of an input's frames.
+
+ghost use Rattle.std.specs.Prelude.{◌≡◌, ◌<◌, ◌≤◌, IfErr, IfOk, IfSome, None, OnOk, Some, length};
+ghost use Rattle.loop_y4m.specs.Header.{frame_size};
+ghost use Rattle.loop_y4m.specs.Reader.{GivesNext, Opened, OpensAs, opened_with};
+ghost use Rattle.loop_y4m.specs.Steps.{HeaderIs, IsSmall, LineIs};
+ghost use Rattle.loop_y4m.specs.Stream.{ends, header_line};
+
+use crate::frame::{fill, next_frame};
+use crate::header::parse_header;
+use crate::input::{MAX_LINE, next_line};
+use crate::{Header, Y4mFault};
+use loop_record::PixelFormat;
+use std::io::Read;
+use std::marker::Model;
+
+/// An input whose header was read, and its frames one after another: the frames that `parse` has of the input, where the reader
+/// tells its bytes. It reads a byte a call up to the end of a line, and the rest of a frame at once, so who reads a file lends it a
+/// `BufReader`. A read that was interrupted is made again.
+#[derive(Drop)]
+pub struct Y4mReader<R: Read + Drop> {
+    reader: R,
+    header: Header,
+    fault: Option<Y4mFault>,
+}
+
+impl<R: Read + Drop> Model for Y4mReader<R> {
+    ghost Value = { Opened };
+
+    ghost view = { λ r. opened_with r.header r.fault (R.remaining r.reader) };
+
+    ghost invariant = { λ r. IsSmall r.header };
+}
+
+impl<R: Read + Drop> Y4mReader<R> {
+    /// Reads the header of an input, and nothing behind its line. NotY4m: the input doesn't begin as one. Truncated: it ends within
+    /// the line. BadHeader, UnsupportedColour, UnsupportedInterlace: what the line says can't be read. Read: the reader failed.
+    /// After each of them the reader is dropped; one that was lent has given an unknown count of bytes.
+    pub fn open(mut reader: R) -> Result<Self, Y4mFault>
+        ensures opened { IfSome (R.remaining reader) (λ bytes. OpensAs bytes result) }
+        ensures fresh { IfOk result (λ r. r.fault ≡ None) }
+    {
+        let header = read_header(&mut reader)?;
+        Ok(Y4mReader {
+            reader,
+            header,
+            fault: None,
+        })
+    }
+
+    /// How the pixels of a frame lie.
+    pub fn format(&self) -> PixelFormat
+        ensures { result ≡ self.now.header.format }
+    {
+        self.header.format
+    }
+
+    /// The width of a frame in pixels.
+    pub fn width(&self) -> u32
+        ensures value { result ≡ self.now.header.width }
+        ensures bound { result ≤ 16384 }
+    {
+        self.header.width
+    }
+
+    /// The height of a frame in pixels.
+    pub fn height(&self) -> u32
+        ensures value { result ≡ self.now.header.height }
+        ensures bound { result ≤ 16384 }
+    {
+        self.header.height
+    }
+
+    /// The rate in frames a second, as a numerator and a denominator; 0 and 0 where the header has none.
+    pub fn rate(&self) -> (u32, u32)
+        ensures { result ≡ (self.now.header.rate_num, self.now.header.rate_den) }
+    {
+        (self.header.rate_num, self.header.rate_den)
+    }
+
+    /// The bytes of a frame, 16,777,216 at most.
+    pub fn frame_bytes(&self) -> u32
+        ensures value { result ≡ frame_size self.now.header }
+        ensures bound { result ≤ 16777216 }
+    {
+        self.header.frame_bytes()
+    }
+
+    /// Reads the next frame's bytes into `out`, which has a frame's length: the planes Y, Cb and Cr without padding, or Y alone.
+    /// It answers false at the end, and then again. Truncated: the input ends within a frame or its line.
+    /// BadHeader: a line isn't a frame's. Read: the reader failed. After a fault `out` may hold any bytes, and each later call
+    /// answers that fault.
+    pub fn next_frame(&mut self, out: &mut [u8]) -> Result<bool, Y4mFault>
+        requires size { length out.old ≡ frame_size self.old.header }
+        ensures frame { IfSome self.old.rest
+            (λ frames. GivesNext frames result out.new self.new.rest) }
+        ensures kept { OnOk result (self.new ≡ record self.old { rest = self.new.rest }) }
+        ensures failed { IfErr result
+            (λ f. self.new ≡ record self.old { fault = Some f; rest = Some (ends (Some f)) }) }
+        ensures stays { IfSome self.old.fault (λ f. result ≡ Err f) }
+    {
+        if let Some(fault) = self.fault {
+            return Err(fault);
+        }
+        let result = next_frame(&mut self.reader, out);
+        self.fault = result.err();
+        result
+    }
+}
+
+/// Reads the header's line, and judges it.
+fn read_header<R: Read>(reader: &mut R) -> Result<Header, Y4mFault>
+    ensures header { IfSome (R.remaining reader.old)
+        (λ bytes. HeaderIs bytes result (R.remaining reader.new)) }
+    ensures bound { IfOk result IsSmall }
+{
+    let mut line = [0u8; MAX_LINE];
+    let n = read_header_line(reader, &mut line)?;
+    parse_header(&line[n.min(10)..n])
+}
+
+/// Reads the header's line into `line`, and answers how many bytes it has before its 0x0A.
+fn read_header_line<R: Read>(reader: &mut R, line: &mut [u8]) -> Result<usize, Y4mFault>
+    requires { length line.old ≡ MAX_LINE }
+    ensures bound { IfOk result (λ n. n < MAX_LINE) }
+    ensures line { IfSome (R.remaining reader.old)
+        (λ bytes. LineIs (header_line bytes) result line.new (R.remaining reader.new)) }
+{
+    fill(reader, &mut line[..10], Y4mFault::NotY4m)?;
+    if &line[..10] == b"YUV4MPEG2\n".as_slice() {
+        return Ok(9);
+    }
+    if &line[..10] != b"YUV4MPEG2 ".as_slice() {
+        return Err(Y4mFault::NotY4m);
+    }
+    next_line(reader, line, 10)
+}

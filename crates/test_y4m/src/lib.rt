@@ -1,0 +1,12 @@
+//! Tests of loop_y4m: the worked rows of the format, inputs and outputs that are cut, interrupted or fail, what is written read
+//! back, and streams that ffmpeg and mjpegtools wrote.
+#![tactic(auto)]
+
+#[cfg(test)]
+mod fakes;
+#[cfg(test)]
+mod reading;
+#[cfg(test)]
+mod real;
+#[cfg(test)]
+mod writing;

@@ -1,0 +1,253 @@
+//! The rows of the format, as they are read.
+
+use crate::fakes::{Drip, Shape, tell};
+use loop_record::PixelFormat;
+use loop_y4m::Y4mFault;
+use std::io::ErrorKind;
+use std::test::Fail;
+
+/// Two frames of 4 by 2: byte i of frame n is n + i.
+pub const TWO: &[u8; 75] = b"YUV4MPEG2 W4 H2 F25:1 Ip A0:0 C420jpeg\nFRAME\n\
+    \x00\x01\x02\x03\x04\x05\x06\x07\x08\x09\x0A\x0BFRAME\n\
+    \x01\x02\x03\x04\x05\x06\x07\x08\x09\x0A\x0B\x0C";
+
+/// The bytes of its frames.
+pub const PIXELS: &[u8; 24] = b"\x00\x01\x02\x03\x04\x05\x06\x07\x08\x09\x0A\x0B\
+    \x01\x02\x03\x04\x05\x06\x07\x08\x09\x0A\x0B\x0C";
+
+const SMALL: Shape = (PixelFormat::Ym12, 4, 2, (25, 1));
+
+const TRUNCATED: Result<bool, Y4mFault> = Err(Y4mFault::Truncated);
+
+/// The count of bytes that are left, what opening them answers, how many bytes of frames come, and what ends them.
+type Cut = (
+    usize,
+    usize,
+    Result<Shape, Y4mFault>,
+    usize,
+    Result<bool, Y4mFault>,
+);
+
+const CUTS: [Cut; 7] = [
+    (0, 9, Err(Y4mFault::NotY4m), 0, Err(Y4mFault::NotY4m)),
+    (10, 38, Err(Y4mFault::Truncated), 0, TRUNCATED),
+    (39, 39, Ok(SMALL), 0, Ok(false)),
+    (40, 56, Ok(SMALL), 0, TRUNCATED),
+    (57, 57, Ok(SMALL), 12, Ok(false)),
+    (58, 74, Ok(SMALL), 12, TRUNCATED),
+    (75, 75, Ok(SMALL), 24, Ok(false)),
+];
+
+#[test]
+fn an_input_that_is_cut_gives_its_whole_frames_and_then_truncated(
+    rt: HostRuntime,
+) -> Result<(), Fail> {
+    for (first, last, opened, frames, end) in CUTS {
+        for count in first..=last {
+            let bytes = TWO.get(..count).ok_or("too long")?;
+            let whole = tell(rt.alloc(), bytes)?;
+            let input = Drip {
+                bytes,
+                calls: 0,
+                fails: None,
+            };
+            let drip = tell(rt.alloc(), input)?;
+            for told in [whole, drip] {
+                assert_eq!(rt; told.opened, opened, "{count}");
+                assert_eq!(rt;
+                    Some(told.frames.as_slice()),
+                    PIXELS.get(..frames),
+                    "{count}"
+                );
+                assert_eq!(rt; told.ends, [end; 2], "{count}");
+            }
+        }
+    }
+    Ok(())
+}
+
+// One byte a read: the read of number k is that of byte k, and that of number 75 finds the end.
+#[test]
+fn a_read_that_fails_is_answered_then_and_from_then_on(rt: HostRuntime) -> Result<(), Fail> {
+    for number in 0..=75usize {
+        let fails = Some((number, ErrorKind::Other));
+        let input = Drip {
+            bytes: TWO,
+            calls: 0,
+            fails,
+        };
+        let told = tell(rt.alloc(), input)?;
+        let frames = match number {
+            0..=56 => 0,
+            57..=74 => 12,
+            _ => 24,
+        };
+        let opened = if number < 39 {
+            Err(Y4mFault::Read)
+        } else {
+            Ok(SMALL)
+        };
+        assert_eq!(rt; told.opened, opened, "{number}");
+        assert_eq!(rt;
+            Some(told.frames.as_slice()),
+            PIXELS.get(..frames),
+            "{number}"
+        );
+        assert_eq!(rt; told.ends, [Err(Y4mFault::Read); 2], "{number}");
+
+        let input = Drip {
+            bytes: TWO,
+            calls: 0,
+            fails: Some((number, ErrorKind::Interrupted)),
+        };
+        let told = tell(rt.alloc(), input)?;
+        assert_eq!(rt; told.frames.as_slice(), PIXELS.as_slice(), "{number}");
+        assert_eq!(rt; told.ends, [Ok(false); 2], "{number}");
+    }
+    Ok(())
+}
+
+/// Header lines, and what they say.
+const HEADERS: [(&[u8], Result<Shape, Y4mFault>); 36] = [
+    (
+        b"YUV4MPEG2 W4 H2 F25:1 Ip A1:1 C420jpeg XYSCSS=420JPEG\n",
+        Ok(SMALL),
+    ),
+    (
+        b"YUV4MPEG2 W4 H2 F25:1 Ip A1:1 C420mpeg2 XYSCSS=420MPEG2 XCOLORRANGE=LIMITED\n",
+        Ok(SMALL),
+    ),
+    (
+        b"YUV4MPEG2 W4 H2 F25:1 It A1:1 C420jpeg XYSCSS=420JPEG\n",
+        Err(Y4mFault::UnsupportedInterlace),
+    ),
+    (
+        b"YUV4MPEG2 W4 H2 F25:1 Ip A1:1 C411 XYSCSS=420JPEG\n",
+        Err(Y4mFault::UnsupportedColour),
+    ),
+    (b"YUV4", Err(Y4mFault::NotY4m)),
+    (
+        b"YUV4MPEG2 W4 H2 F25:1 Ip A1:1 C420jpeg XYSCSS=420JPEG",
+        Err(Y4mFault::Truncated),
+    ),
+    (b"", Err(Y4mFault::NotY4m)),
+    (b"YUV4MPEG1 W4 H2\n", Err(Y4mFault::NotY4m)),
+    (b"YUV4MPEG2W4 H2\n", Err(Y4mFault::NotY4m)),
+    (b"YUV4MPEG2\tW4 H2\n", Err(Y4mFault::NotY4m)),
+    (b"YUV4MPEG2\n", Err(Y4mFault::BadHeader)),
+    (b"YUV4MPEG2 H2\n", Err(Y4mFault::BadHeader)),
+    (b"YUV4MPEG2 W4\n", Err(Y4mFault::BadHeader)),
+    (b"YUV4MPEG2 W4 H2\n", Ok((PixelFormat::Ym12, 4, 2, (0, 0)))),
+    (b"YUV4MPEG2  W9 H2 W0004 F25:1 Q\n", Ok(SMALL)),
+    (
+        b"YUV4MPEG2 W4 H2 F25:1 F0:0\n",
+        Ok((PixelFormat::Ym12, 4, 2, (0, 0))),
+    ),
+    (b"YUV4MPEG2 W0 H2\n", Err(Y4mFault::BadHeader)),
+    (b"YUV4MPEG2 W16385 H2\n", Err(Y4mFault::BadHeader)),
+    (b"YUV4MPEG2 W16384 H1024\n", Err(Y4mFault::BadHeader)),
+    (
+        b"YUV4MPEG2 W16384 H1024 Cmono\n",
+        Ok((PixelFormat::Grey, 16_384, 1024, (0, 0))),
+    ),
+    (b"YUV4MPEG2 W16384 H1025 Cmono\n", Err(Y4mFault::BadHeader)),
+    (
+        b"YUV4MPEG2 W99999999999999999999999 H2\n",
+        Err(Y4mFault::BadHeader),
+    ),
+    (b"YUV4MPEG2 W4x H2\n", Err(Y4mFault::BadHeader)),
+    (b"YUV4MPEG2 W-4 H2\n", Err(Y4mFault::BadHeader)),
+    (
+        b"YUV4MPEG2 W4 H2 F4294967295:4294967295\n",
+        Ok((PixelFormat::Ym12, 4, 2, (u32::MAX, u32::MAX))),
+    ),
+    (b"YUV4MPEG2 W4 H2 F4294967296:1\n", Err(Y4mFault::BadHeader)),
+    (b"YUV4MPEG2 W4 H2 F25\n", Err(Y4mFault::BadHeader)),
+    (b"YUV4MPEG2 W4 H2 F25:1:1\n", Err(Y4mFault::BadHeader)),
+    (b"YUV4MPEG2 W4 H2 I\n", Err(Y4mFault::BadHeader)),
+    (
+        b"YUV4MPEG2 W4 H2 I? Cmono\n",
+        Ok((PixelFormat::Grey, 4, 2, (0, 0))),
+    ),
+    (b"YUV4MPEG2 W4 H2 Im\n", Err(Y4mFault::UnsupportedInterlace)),
+    (b"YUV4MPEG2 W4 H2 Ix\n", Err(Y4mFault::BadHeader)),
+    (b"YUV4MPEG2 W4 H2 C\n", Err(Y4mFault::UnsupportedColour)),
+    (
+        b"YUV4MPEG2 W4 H2 C444alpha\n",
+        Err(Y4mFault::UnsupportedColour),
+    ),
+    (
+        b"YUV4MPEG2 W4 H2 C420p10\n",
+        Err(Y4mFault::UnsupportedColour),
+    ),
+    (
+        b"YUV4MPEG2 W4 H2 C411 It W0 C420\n",
+        Err(Y4mFault::UnsupportedColour),
+    ),
+];
+
+#[test]
+fn a_header_is_read_or_refused_by_name(rt: HostRuntime) -> Result<(), Fail> {
+    for (line, opened) in HEADERS {
+        let told = tell(rt.alloc(), line)?;
+        let text = String::from_utf8(Vec::from_slice(rt.alloc(), line)?)?;
+        assert_eq!(rt; told.opened, opened, "{text}");
+    }
+    Ok(())
+}
+
+/// What stands behind a header of frames of one byte, the frames' bytes, and what ends them.
+const FRAMES: [(&[u8], &[u8], Result<bool, Y4mFault>); 9] = [
+    (b"", b"", Ok(false)),
+    (b"FRAME\naFRAME Ip Xof them\nb", b"ab", Ok(false)),
+    (b"FRAME \n\n", b"\n", Ok(false)),
+    (b"FRAMES\na", b"", Err(Y4mFault::BadHeader)),
+    (b"FRAME\na\nFRAME\nb", b"a", Err(Y4mFault::BadHeader)),
+    (b"frame\na", b"", Err(Y4mFault::BadHeader)),
+    (b"FRAMES", b"", TRUNCATED),
+    (b"FRAME\naFRAM", b"a", TRUNCATED),
+    (b"FRAME\n", b"", TRUNCATED),
+];
+
+#[test]
+fn frames_are_read_up_to_the_end_or_a_fault(rt: HostRuntime) -> Result<(), Fail> {
+    for (behind, frames, end) in FRAMES {
+        let mut input = Vec::from_slice(rt.alloc(), b"YUV4MPEG2 W1 H1 Cmono\n")?;
+        input.extend_from_slice(behind)?;
+        let told = tell(rt.alloc(), input.as_slice())?;
+        assert_eq!(rt; told.frames.as_slice(), frames);
+        assert_eq!(rt; told.ends, [end; 2]);
+    }
+    Ok(())
+}
+
+// A line is read up to 4,096 bytes, its 0x0A among them.
+#[test]
+fn a_line_of_4_097_bytes_is_too_long(rt: HostRuntime) -> Result<(), Fail> {
+    for (length, is_read) in [(4_096usize, true), (4_097, false), (9_999, false)] {
+        let mut line = Vec::from_slice(rt.alloc(), b"YUV4MPEG2 W1 H1 Cmono X")?;
+        line.resize(length.saturating_sub(1), b'x')?;
+        line.push(b'\n')?;
+        let told = tell(rt.alloc(), line.as_slice())?;
+        assert_eq!(rt;
+            told.opened.err(),
+            if is_read {
+                None
+            } else {
+                Some(Y4mFault::BadHeader)
+            }
+        );
+
+        let mut input = Vec::from_slice(rt.alloc(), b"YUV4MPEG2 W1 H1 Cmono\nFRAME")?;
+        input.resize(length.saturating_add(21), b' ')?;
+        input.extend_from_slice(b"\na")?;
+        let told = tell(rt.alloc(), input.as_slice())?;
+        let end = if is_read {
+            Ok(false)
+        } else {
+            Err(Y4mFault::BadHeader)
+        };
+        assert_eq!(rt; told.ends, [end; 2]);
+    }
+    Ok(())
+}
