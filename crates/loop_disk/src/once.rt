@@ -126,13 +126,12 @@ impl<D: Disk> Disk for OnceDisk<D> {
             → Writes at bytes.now (⟦<OnceDisk<D> as Disk>⟧.medium self.old) (⟦<OnceDisk<D> as Disk>⟧.medium self.new) result }
         ensures passes { is_due self.old.left ≡ false
             → Called (D.medium self.old.inner) (D.medium self.new.inner) (failed_call result) }
-        ensures untouched { is_due self.old.left ≡ true → self.old.torn ≡ None → self.new.inner ≡ self.old.inner }
-        ensures fails { is_due self.old.left ≡ true → IsErr result }
+        ensures fails { is_due self.old.left ≡ true
+            → IsErr result × (self.old.torn ≡ None → self.new.inner ≡ self.old.inner) }
         ensures kept { (D.medium self.old.inner).honest → is_due self.old.left ≡ true → (keep : ℕ)
             → self.old.torn ≡ Some keep
             → IsTorn at bytes.now keep (D.medium self.old.inner) (D.medium self.new.inner) result }
-        ensures left { self.new.left ≡ left_after self.old.left }
-        ensures torn { self.new.torn ≡ self.old.torn }
+        ensures next { (self.new.left ≡ left_after self.old.left) × (self.new.torn ≡ self.old.torn) }
         ensures fault { IfErr result (λ fault. fault ≡ Write) }
         ensures called { Called (⟦<OnceDisk<D> as Disk>⟧.medium self.old) (⟦<OnceDisk<D> as Disk>⟧.medium self.new) (failed_call result) }
     {

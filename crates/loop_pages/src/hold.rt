@@ -86,11 +86,10 @@ impl<A: Allocator> PageLedger<A> {
     ) -> Result<PageHold<A>, (PageFault, PageSeat)>
         requires { IsIdle (arc_value ledger.now) seat }
         ensures count { IfOk result (λ h. IsCount (arc_value ledger.now).words count × (length h.pages ≡ count)) }
-        ensures ledger { IfOk result (λ h. h.ledger ≡ arc_value ledger.now) }
-        ensures pages { IfOk result (λ h. IsRising (arc_value ledger.now).words h.pages) }
+        ensures pages { IfOk result (λ h.
+            (h.ledger ≡ arc_value ledger.now) × IsRising (arc_value ledger.now).words h.pages) }
         ensures tried { IfOk result (λ h.
             IsGot (arc_value ledger.now).words count h.pages h.missed seat.tried h.tried) }
-
         ensures fault { IfErr result (λ e. FaultOfClaim e.0 (IsCount (arc_value ledger.now).words count)) }
         ensures short { IfErr result (λ e. IfNoPages e.0
             ((got : _) × IsShort (arc_value ledger.now).words count got e.1.missed seat.tried e.1.tried)) }
