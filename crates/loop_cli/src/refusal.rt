@@ -1,7 +1,7 @@
 // Refusals, as they are printed.
 ghost use Rattle.std.specs.Prelude.{◌≡◌, ◌++◌, ◌∷◌, [], Some, OnOk};
 ghost use Rattle.std.specs.Io.KnownBytes.{Appends};
-ghost use Rattle.loop_cli.specs.Refusals.{name_of, words_of};
+ghost use Rattle.loop_cli.specs.Refusals.{words_of};
 
 use loop_store::StoreFault;
 use std::io::Write;
@@ -16,7 +16,7 @@ impl fmt::Display for RefusalWords {
 
     fn fmt<W: fmt::Write>(&self, f: &mut fmt::Formatter<W>) -> fmt::Result {
         let number = self.0.number();
-        let name = name_of(self.0);
+        let name = self.0.name();
         match self.0 {
             StoreFault::Damaged(damage) => {
                 let kind = damage.number();
@@ -24,23 +24,6 @@ impl fmt::Display for RefusalWords {
             }
             _ => write!(f, "refused {number} {name}"),
         }
-    }
-}
-
-// The name that a refusal is printed with.
-fn name_of(fault: StoreFault) -> &'static str
-    ensures { result.now ≡ name_of fault }
-{
-    match fault {
-        StoreFault::NoMemory => "NoMemory",
-        StoreFault::Disk(_) => "Disk",
-        StoreFault::MustReopen => "MustReopen",
-        StoreFault::NotFormatted => "NotFormatted",
-        StoreFault::Damaged(_) => "Damaged",
-        StoreFault::AllLocked => "AllLocked",
-        StoreFault::NotHeld => "NotHeld",
-        StoreFault::NumbersSpent => "NumbersSpent",
-        StoreFault::BadGeometry => "BadGeometry",
     }
 }
 

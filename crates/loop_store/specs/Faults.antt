@@ -1,5 +1,5 @@
 -- Refusals: their numbers, and what each says of the disk.
-use Rattle.std.specs.Prelude.{ℕ, Bool, true, false, Option, None, Some, Result, Ok, Err}
+use Rattle.std.specs.Prelude.{ℕ, Bool, true, false, Option, None, Some, Result, Ok, Err, List, codes}
 use Rattle.loop_disk.specs.declared.fault.DiskFault.{DiskFault}
 use Rattle.loop_ring.specs.declared.fault.SlotFault.{SlotFault}
 use Rattle.loop_ring.specs.declared.fault.SlotFault.TheVariants as slot
@@ -18,17 +18,22 @@ fault_number NotHeld = 13
 fault_number NumbersSpent = 14
 fault_number BadGeometry = 16
 
+-- the name of each refusal
+abbrev pub fault_name : StoreFault → List ℕ
+fault_name NoMemory = codes "NoMemory"
+fault_name (Disk fault) = codes "Disk"
+fault_name MustReopen = codes "MustReopen"
+fault_name NotFormatted = codes "NotFormatted"
+fault_name (Damaged damage) = codes "Damaged"
+fault_name AllLocked = codes "AllLocked"
+fault_name NotHeld = codes "NotHeld"
+fault_name NumbersSpent = codes "NumbersSpent"
+fault_name BadGeometry = codes "BadGeometry"
+
 -- a call of the disk has failed
 abbrev pub is_disk : StoreFault → Bool
-is_disk NoMemory = false
 is_disk (Disk fault) = true
-is_disk MustReopen = false
-is_disk NotFormatted = false
-is_disk (Damaged damage) = false
-is_disk NotHeld = false
-is_disk BadGeometry = false
-is_disk NumbersSpent = false
-is_disk AllLocked = false
+is_disk _ = false
 
 -- the answer is that a call of the disk has failed
 abbrev pub answers_disk : {T : Type 0} → Result T StoreFault → Bool
@@ -37,15 +42,8 @@ answers_disk (Err fault) = is_disk fault
 
 -- the call of the disk that failed, if a refusal says that one did
 abbrev pub failed_by : StoreFault → Option DiskFault
-failed_by NoMemory = None
 failed_by (Disk fault) = Some fault
-failed_by MustReopen = None
-failed_by NotFormatted = None
-failed_by (Damaged damage) = None
-failed_by NotHeld = None
-failed_by BadGeometry = None
-failed_by NumbersSpent = None
-failed_by AllLocked = None
+failed_by _ = None
 
 -- and if an answer does
 abbrev pub failed_in : {T : Type 0} → Result T StoreFault → Option DiskFault

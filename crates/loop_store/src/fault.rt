@@ -1,7 +1,7 @@
 //! Refusals.
 
 ghost use Rattle.std.specs.Prelude.{◌≡◌};
-ghost use Rattle.loop_store.specs.Faults.{fault_number, slot_refusal};
+ghost use Rattle.loop_store.specs.Faults.{fault_name, fault_number, slot_refusal};
 ghost use Rattle.loop_store.specs.declared.fault.StoreFault.TheVariants.{NoMemory, Disk, Damaged};
 
 use loop_disk::DiskFault;
@@ -62,7 +62,9 @@ impl StoreFault {
     }
 
     /// The name that a refusal is printed with.
-    pub fn name(self) -> &'static str {
+    pub fn name(self) -> &'static str
+        ensures { result.now ≡ fault_name self }
+    {
         match self {
             StoreFault::NoMemory => "NoMemory",
             StoreFault::Disk(_) => "Disk",
