@@ -1,5 +1,5 @@
 // A formatted store, and the frames that a script makes for it.
-ghost use Rattle.std.specs.Prelude.{◌≡◌, ◌≢◌, ◌⊎◌, ◌↔◌, ◌∷◌, [], All, Err, IsTrue, IfErr, IfOk, OnErr, false, length, map, vec_len};
+ghost use Rattle.std.specs.Prelude.{◌≡◌, ◌⊎◌, ◌↔◌, ◌∷◌, [], All, Err, IsTrue, IfErr, IfOk, OnErr, false, length, map, vec_len};
 ghost use Rattle.loop_record.specs.declared.damage.Damage.TheVariants.{SlotHead};
 ghost use Rattle.loop_record.specs.Geometry.{frame_bytes, is_good};
 ghost use Rattle.loop_record.specs.Plain.{pictures};
