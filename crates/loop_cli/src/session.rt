@@ -42,14 +42,16 @@ impl<A: Allocator + Copy> Model for Session<A> {
 
     ghost view = { λ s. record { store = s.store; accepted = s.accepted; pixels = s.pixels.items } };
 
-    ghost invariant = { λ s. HasRoom s.store.geometry s.group.items s.pixels.items × (s.store.must_reopen ≡ false) };
+    ghost invariant = { λ s. HasRoom s.store.geometry s.group.items s.pixels.items
+        × (s.store.must_reopen ≡ false) };
 }
 
 impl<A: Allocator + Copy> Session<A> {
     /// Formats a fresh disk of the right size. It answers BadGeometry or NoMemory, and then leaves nothing behind.
     pub fn format(alloc: A, geometry: Geometry) -> Result<Self, StoreFault>
         ensures bad { (result ≡ Err StoreFault.BadGeometry) ↔ (is_good geometry ≡ false) }
-        ensures refusals { IfErr result (λ fault. (fault ≡ StoreFault.BadGeometry) ⊎ (fault ≡ StoreFault.NoMemory)) }
+        ensures refusals { IfErr result (λ fault. (fault ≡ StoreFault.BadGeometry)
+            ⊎ (fault ≡ StoreFault.NoMemory)) }
         ensures formatted { IfOk result (λ s. IsFormatted geometry s.store × (s.accepted ≡ 0)) }
         ensures stands { IfOk result (λ s. StandsFor ⟦<MemDisk<A> as Disk>⟧.medium s.store empty) }
     {
@@ -76,9 +78,11 @@ impl<A: Allocator + Copy> Session<A> {
     /// Makes the next frame of the pattern and stores it; answers its number. A refused frame isn't accepted, so the next
     /// call makes it again. It answers NumbersSpent or AllLocked, and then has changed nothing.
     pub fn store_next(&mut self) -> Result<u64, StoreFault>
-        ensures goes { Goes ⟦<MemDisk<A> as Disk>⟧.medium self.old.store self.new.store
-            (appended (pattern_picture self.old.store.geometry self.old.accepted ∷ []) result ∷ []) }
-        ensures refusals { IfErr result (λ fault. (fault ≡ StoreFault.NumbersSpent) ⊎ (fault ≡ StoreFault.AllLocked)) }
+        ensures goes { let frame = pattern_picture self.old.store.geometry self.old.accepted in
+            Goes ⟦<MemDisk<A> as Disk>⟧.medium self.old.store self.new.store
+            (appended (frame ∷ []) result ∷ []) }
+        ensures refusals { IfErr result (λ fault. (fault ≡ StoreFault.NumbersSpent)
+            ⊎ (fault ≡ StoreFault.AllLocked)) }
         ensures unchanged { OnErr result (self.new ≡ self.old) }
         ensures accepted { self.new.accepted ≡ accepted_after self.old.accepted result }
         ensures pixels { self.new.pixels ≡ self.old.pixels }
@@ -132,7 +136,8 @@ impl<A: Allocator + Copy> Session<A> {
     pub fn read(&mut self, number: u64) -> Result<FrameHead, StoreFault>
         ensures goes { Goes ⟦<MemDisk<A> as Disk>⟧.medium self.old.store self.new.store
             (was_read number (read_with result self.new.pixels) ∷ []) }
-        ensures refusals { IfErr result (λ fault. (fault ≡ StoreFault.NotHeld) ⊎ (fault ≡ StoreFault.Damaged SlotHead)) }
+        ensures refusals { IfErr result (λ fault. (fault ≡ StoreFault.NotHeld)
+            ⊎ (fault ≡ StoreFault.Damaged SlotHead)) }
         ensures same { self.new.store ≡ record self.old.store { disk = self.new.store.disk } }
         ensures accepted { self.new.accepted ≡ self.old.accepted }
     {
