@@ -1,5 +1,5 @@
 -- The first line of what a reader has left.
-use Rattle.std.proofs.Common.{◌≡◌, ℕ, zero, suc, ◌+◌, ◌-◌, ◌<◌, ◌==◌, Bool, true, false, cond, List, [], ◌∷◌, ◌++◌, length, take, refl, ap, sym, subst, ◌∙◌, Option, Some, None, IfSome, option_map, nat_lt, arith, rules}
+use Rattle.std.proofs.Common.{◌≡◌, ℕ, zero, suc, ◌+◌, ◌<◌, ◌==◌, true, false, cond, List, [], ◌∷◌, ◌++◌, length, take, refl, ap, subst, ◌∙◌, Option, Some, None, IfSome, option_map, nat_lt, arith, rules}
 use Rattle.std.specs.Io.BufRead.{take_through, strip_last, first_piece}
 use Rattle.std.proofs.lemmas.Grind.{common_steps}
 

@@ -21,8 +21,10 @@ pub fn next_line<R: BufRead, A: Allocator>(
     line: &mut Vec<u8, A>,
 ) -> Result<bool, BadLine>
     ensures most { OnOk result (vec_len line.new ≤ 4096) }
-    ensures line { OnOk result (IfSome (R.remaining input.old) (λ left. line.new.items ≡ first_piece 10 left)) }
-    ensures more { IfOk result (λ more. IfSome (R.remaining input.old) (λ left. more ≡ nat_lt 0 (length left))) }
+    ensures line { OnOk result (IfSome (R.remaining input.old)
+        (λ left. line.new.items ≡ first_piece 10 left)) }
+    ensures more { IfOk result (λ more. IfSome (R.remaining input.old)
+        (λ left. more ≡ nat_lt 0 (length left))) }
 {
     line.clear();
     let mut limited = input.take(MAX_LINE as u64 + 1);

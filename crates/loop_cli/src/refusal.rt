@@ -29,7 +29,8 @@ impl fmt::Display for RefusalWords {
 
 /// Prints a refusal's words on a line.
 pub fn print_refusal<W: Write>(out: &mut W, fault: StoreFault) -> io::Result<()>
-    ensures { OnOk result (Appends (W.contents out.old) (W.contents out.new) (words_of fault ++ 10 ∷ [])) }
+    ensures { OnOk result
+        (Appends (W.contents out.old) (W.contents out.new) (words_of fault ++ 10 ∷ [])) }
 {
     let words = RefusalWords(fault);
     writeln!(out, "{words}")

@@ -1,9 +1,11 @@
 // A formatted store, and the frames that a script makes for it.
-ghost use Rattle.std.specs.Prelude.{◌≡◌, ◌≢◌, ◌⊎◌, ◌↔◌, ◌∷◌, [], All, Err, IsTrue, IfErr, IfOk, false, length, map, vec_len};
+ghost use Rattle.std.specs.Prelude.{◌≡◌, ◌⊎◌, ◌↔◌, ◌∷◌, [], All, Err, IsTrue, IfErr, IfOk, OnErr, false, length, map, vec_len};
+ghost use Rattle.loop_record.specs.declared.damage.Damage.TheVariants.{SlotHead};
 ghost use Rattle.loop_record.specs.Geometry.{frame_bytes, is_good};
 ghost use Rattle.loop_record.specs.Plain.{pictures};
 ghost use Rattle.loop_record.specs.Recording.{Recording, empty};
 ghost use Rattle.loop_store.specs.Calls.{appended, read_with, was_read};
+ghost use Rattle.loop_store.specs.Faults.{is_disk};
 ghost use Rattle.loop_store.specs.Formatted.{IsFormatted};
 ghost use Rattle.loop_store.specs.Goes.{Goes};
 ghost use Rattle.loop_store.specs.Opened.{IsOpened, IsRefusedOpen};
@@ -32,6 +34,7 @@ pub struct Session<A: Allocator + Copy = Global> {
 }
 
 impl<A: Allocator + Copy> Model for Session<A> {
+    ghost use Rattle.std.specs.Prelude.{◌≡◌, false};
     ghost use Rattle.loop_disk.specs.declared.memory.MemDisk.{MemDisk};
     ghost use Rattle.loop_cli.specs.Sessions.{HasRoom, Shown};
 
@@ -39,14 +42,16 @@ impl<A: Allocator + Copy> Model for Session<A> {
 
     ghost view = { λ s. record { store = s.store; accepted = s.accepted; pixels = s.pixels.items } };
 
-    ghost invariant = { λ s. HasRoom s.store.geometry s.group.items s.pixels.items };
+    ghost invariant = { λ s. HasRoom s.store.geometry s.group.items s.pixels.items
+        × (s.store.must_reopen ≡ false) };
 }
 
 impl<A: Allocator + Copy> Session<A> {
     /// Formats a fresh disk of the right size. It answers BadGeometry or NoMemory, and then leaves nothing behind.
     pub fn format(alloc: A, geometry: Geometry) -> Result<Self, StoreFault>
         ensures bad { (result ≡ Err StoreFault.BadGeometry) ↔ (is_good geometry ≡ false) }
-        ensures refusals { IfErr result (λ fault. (fault ≡ StoreFault.BadGeometry) ⊎ (fault ≡ StoreFault.NoMemory)) }
+        ensures refusals { IfErr result (λ fault. (fault ≡ StoreFault.BadGeometry)
+            ⊎ (fault ≡ StoreFault.NoMemory)) }
         ensures formatted { IfOk result (λ s. IsFormatted geometry s.store × (s.accepted ≡ 0)) }
         ensures stands { IfOk result (λ s. StandsFor ⟦<MemDisk<A> as Disk>⟧.medium s.store empty) }
     {
@@ -71,10 +76,14 @@ impl<A: Allocator + Copy> Session<A> {
     }
 
     /// Makes the next frame of the pattern and stores it; answers its number. A refused frame isn't accepted,
-    /// so the next call makes it again.
+    /// so the next call makes it again. It answers NumbersSpent or AllLocked, and then has changed nothing.
     pub fn store_next(&mut self) -> Result<u64, StoreFault>
-        ensures goes { Goes ⟦<MemDisk<A> as Disk>⟧.medium self.old.store self.new.store
-            (appended (pattern_picture self.old.store.geometry self.old.accepted ∷ []) result ∷ []) }
+        ensures goes { let frame = pattern_picture self.old.store.geometry self.old.accepted in
+            Goes ⟦<MemDisk<A> as Disk>⟧.medium self.old.store self.new.store
+            (appended (frame ∷ []) result ∷ []) }
+        ensures refusals { IfErr result (λ fault. (fault ≡ StoreFault.NumbersSpent)
+            ⊎ (fault ≡ StoreFault.AllLocked)) }
+        ensures unchanged { OnErr result (self.new ≡ self.old) }
         ensures accepted { self.new.accepted ≡ accepted_after self.old.accepted result }
         ensures pixels { self.new.pixels ≡ self.old.pixels }
     {
@@ -86,7 +95,7 @@ impl<A: Allocator + Copy> Session<A> {
     }
 
     /// Takes the disk out of the store and finds the store on it again; the frames that were accepted stay so.
-    /// It answers NoMemory or Disk, and then leaves nothing behind. So does a disk that holds no store of this
+    /// It answers NoMemory, and then leaves nothing behind. So does a disk that holds no store of this
     /// geometry, which is refused as NotFormatted, Damaged or BadGeometry.
     pub fn reopen(self, alloc: A) -> Result<Self, StoreFault>
         ensures opened { IfOk result (λ s. IsOpened ⟦<MemDisk<A> as Disk>⟧.medium
@@ -96,6 +105,7 @@ impl<A: Allocator + Copy> Session<A> {
         ensures kept { IfOk result (λ s. (s.accepted ≡ self.accepted) × (s.pixels ≡ self.pixels)) }
         ensures refused { IfErr result (λ fault. (fault ≡ StoreFault.BadGeometry)
             ⊎ IsRefusedOpen (⟦<MemDisk<A> as Disk>⟧.medium self.store.disk).bytes fault) }
+        ensures refusals { IfErr result (λ fault. is_disk fault ≡ false) }
     {
         let Session {
             store,
@@ -121,10 +131,13 @@ impl<A: Allocator + Copy> Session<A> {
         }
     }
 
-    /// Reads a stored frame; its bytes are then in `pixels`. After a refusal these may be any.
+    /// Reads a stored frame; its bytes are then in `pixels`. It answers NotHeld, where there is no such frame;
+    /// or Damaged, which an honest disk never is, and after which `pixels` may have any bytes.
     pub fn read(&mut self, number: u64) -> Result<FrameHead, StoreFault>
         ensures goes { Goes ⟦<MemDisk<A> as Disk>⟧.medium self.old.store self.new.store
             (was_read number (read_with result self.new.pixels) ∷ []) }
+        ensures refusals { IfErr result (λ fault. (fault ≡ StoreFault.NotHeld)
+            ⊎ (fault ≡ StoreFault.Damaged SlotHead)) }
         ensures same { self.new.store ≡ record self.old.store { disk = self.new.store.disk } }
         ensures accepted { self.new.accepted ≡ self.old.accepted }
     {
@@ -145,12 +158,11 @@ impl<A: Allocator + Copy> Session<A> {
         self.store.next()
     }
 
-    /// The held numbers, rising. It answers NoMemory or MustReopen.
+    /// The held numbers, rising. It answers NoMemory.
     pub fn frames(&self, alloc: A) -> Result<Vec<u64, A>, StoreFault>
-        ensures must_reopen { (result ≡ Err StoreFault.MustReopen) ↔ IsTrue self.now.store.must_reopen }
         ensures numbers { (r : Recording) → StandsFor ⟦<MemDisk<A> as Disk>⟧.medium self.now.store r
             → IfOk result (λ numbers. numbers.items ≡ map (λ f. f.0) r.frames) }
-        ensures refusals { IfErr result (λ fault. (fault ≡ StoreFault.MustReopen) ⊎ (fault ≡ StoreFault.NoMemory)) }
+        ensures refusals { IfErr result (λ fault. fault ≡ StoreFault.NoMemory) }
     {
         self.store.frames(alloc)
     }

@@ -126,7 +126,8 @@ impl<F: OpenFile + FileExt + Drop> FileDisk<F> {
     /// then the folder in which it stands. It takes no lock. A file that can't have that size keeps its bytes.
     pub fn fresh_over<G: OpenFile>(file: F, folder: &G, size: u64) -> Result<Self, FileFault>
         ensures size { IfOk result (λ disk. (⟦<FileDisk<F> as Disk>⟧.medium disk).size ≡ size) }
-        ensures counted { IfOk result (λ disk. (⟦<FileDisk<F> as Disk>⟧.medium disk).failures ≡ no_failures) }
+        ensures counted { IfOk result
+            (λ disk. (⟦<FileDisk<F> as Disk>⟧.medium disk).failures ≡ no_failures) }
     {
         file.set_len(size)?;
         file.set_len(0)?;

@@ -43,9 +43,9 @@ fn try_each<A: Allocator>(
     requires count { 0 < count }
     requires pages { (pages.old.items ≡ []) × (count ≤ vec_capacity pages.old) }
     ensures seat { (seat.new.ledger ≡ ledger.now) × (seat.new.pages ≡ pages.new.items) }
-    ensures tried { MatchBool result
-        (IsGot ledger.now.words count pages.new.items seat.new.missed seat.old.tried seat.new.tried)
-        (IsShort ledger.now.words count pages.new.items seat.new.missed seat.old.tried seat.new.tried) }
+    ensures tried { let got = pages.new.items in let words = ledger.now.words in MatchBool result
+        (IsGot words count got seat.new.missed seat.old.tried seat.new.tried)
+        (IsShort words count got seat.new.missed seat.old.tried seat.new.tried) }
 {
     for page in 0..ledger.count() {
         if ledger.take_page(seat, page) {
@@ -91,8 +91,8 @@ impl<A: Allocator> PageLedger<A> {
         ensures tried { IfOk result (λ h.
             IsGot (arc_value ledger.now).words count h.pages h.missed seat.tried h.tried) }
         ensures fault { IfErr result (λ e. FaultOfClaim e.0 (IsCount (arc_value ledger.now).words count)) }
-        ensures short { IfErr result (λ e. IfNoPages e.0
-            ((got : _) × IsShort (arc_value ledger.now).words count got e.1.missed seat.tried e.1.tried)) }
+        ensures short { let words = (arc_value ledger.now).words in IfErr result (λ e. IfNoPages e.0
+            ((got : _) × IsShort words count got e.1.missed seat.tried e.1.tried)) }
         ensures idle { IfErr result (λ e. IsIdle (arc_value ledger.now) e.1) }
         ensures same { IfErr result (λ e. UnlessNoPages e.0 (e.1 ≡ seat)) }
     {

@@ -85,8 +85,10 @@ impl<A: Allocator> PageLedger<A> {
         requires ledger { seat.old.ledger ≡ self.now }
         requires page { page < self.now.words }
         ensures { MatchBool result
-            (seat.new ≡ place self.now (seat.old.pages ++ page ∷ []) (missed_before page seat.old.missed) (seat.old.tried ++ page ∷ []))
-            (seat.new ≡ place self.now seat.old.pages (missed_before page seat.old.missed ++ page ∷ []) (seat.old.tried ++ page ∷ [])) }
+            (seat.new ≡ place self.now (seat.old.pages ++ page ∷ [])
+            (missed_before page seat.old.missed) (seat.old.tried ++ page ∷ []))
+            (seat.new ≡ place self.now seat.old.pages
+            (missed_before page seat.old.missed ++ page ∷ []) (seat.old.tried ++ page ∷ [])) }
     {
         let seat = &mut seat.seat;
         let found = self

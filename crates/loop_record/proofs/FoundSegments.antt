@@ -1,10 +1,10 @@
 -- Open segments as their headers were found.
-use Rattle.std.proofs.Common.{◌≡◌, ℕ, zero, suc, ◌+◌, ◌-◌, ◌*◌, ◌^◌, ◌<◌, ◌≤◌, Bool, true, false, not, ◌&&◌, append_assoc, cond, eqb, leb, Option, Some, None, Result, Ok, Err, List, [], ◌∷◌, ◌++◌, length, take, drop, set, map, refl, sym, ap, ◌∙◌, subst, arith}
-use Rattle.std.proofs.lemmas.List.{length-map, take_all, map-append, length-take, length-drop}
+use Rattle.std.proofs.Common.{◌≡◌, ℕ, zero, suc, ◌+◌, ◌-◌, ◌*◌, ◌^◌, ◌<◌, ◌≤◌, Bool, true, false, not, ◌&&◌, cond, eqb, leb, Option, Some, None, Result, Ok, Err, List, [], ◌∷◌, ◌++◌, length, take, drop, set, map, refl, sym, ap, ◌∙◌, subst, arith}
+use Rattle.std.proofs.lemmas.List.{length-map, take_all, map-append}
 use Rattle.std.proofs.Math.Seq.{take-suc-set}
 use Rattle.std.proofs.lemmas.List.Folds.{list_any-append}
 use Rattle.std.specs.Prelude.{◌||◌, slice_range}
-use Rattle.std.specs.List.{list_any, position_or_len, range_with_len, enumerate_from}
+use Rattle.std.specs.List.{list_any, position_or_len, range_with_len}
 use Rattle.loop_record.specs.declared.clip.Span.{Span}
 use Rattle.loop_record.specs.declared.damage.Damage.{Damage}
 use Rattle.loop_record.specs.declared.damage.Damage.TheVariants.{DiskSize, BlockTooHigh, RepeatedBlock, ClosedGate, SlotHead, ClipRange}
@@ -18,7 +18,7 @@ use Rattle.loop_record.specs.Geometry.{frame_bytes, segment_at, segment_size, sl
 use Rattle.loop_record.specs.Layout.{Slot, Segment, slot_head, is_open, is_slot_of, is_too_high, slot_in, segment_in, whole_frames, entry_at, clip_in, geometry_in, header_at, checked_header}
 use Rattle.loop_record.specs.Reading.{reading, Contents, Holds, contents, with_geometry, shown, checked, recording_of, is_bad_clip, has_bad_clip, parts_of, opened, by_block, in_place, repeats, lacks_frame, hold_from, is_bad_slot, is_high, next_after, all_frames}
 use Rattle.loop_record.specs.Plain.{segment_of, segments_of, found_of, found_at, held_clip, lacks_number, table_clips, with_segment, IsIn, AreIn, IsSomeHigh}
-use Rattle.loop_record.proofs.Fresh.{header_at-slice, slot_in-slice, entry_at-slice}
+use Rattle.loop_record.proofs.Fresh.{header_at-slice, entry_at-slice}
 use Rattle.std.proofs.Math.Nat.{mul-le-mul_right, add-mul}
 use Rattle.loop_record.proofs.Framing.{prefix_range-le, slot_within}
 use Rattle.loop_record.proofs.Gates.{range_append}
@@ -26,8 +26,8 @@ use Rattle.loop_record.proofs.Segments.{any-by_block}
 use Rattle.loop_record.proofs.Decided.{equal, equal_test, differ_test, not_below}
 use Rattle.std.proofs.lemmas.Bool.Decides.{nat_tests}
 use Rattle.byteorder.specs.Endian.{little_from}
-use Rattle.loop_record.proofs.Growth.{enumerate-append, hold_from-append}
-use Rattle.loop_record.specs.Recording.{Picture, picture, head, empty}
+use Rattle.loop_record.proofs.Growth.{hold_from-append}
+use Rattle.loop_record.specs.Recording.{Picture, head, empty}
 use Rattle.loop_record.proofs.Readings.{length-range}
 
 pub insert-in_place : (g : Geometry) (image : List ℕ) (x : Found) (xs : List Found)

@@ -1,21 +1,21 @@
 -- What a slot of an image says of the recording that the image holds.
-use Rattle.std.proofs.Common.{◌≡◌, ℕ, zero, suc, ◌+◌, ◌*◌, ◌<◌, ◌≤◌, Bool, true, false, cond, eqb, ltb, Option, Some, None, List, [], ◌∷◌, ◌++◌, length, map, get_or, set, refl, sym, ap, ◌∙◌, subst, append_assoc, arith}
+use Rattle.std.proofs.Common.{◌≡◌, ℕ, zero, suc, ◌+◌, ◌*◌, ◌<◌, ◌≤◌, Bool, true, false, cond, eqb, Option, Some, None, List, [], ◌∷◌, ◌++◌, length, map, get_or, set, refl, sym, ap, ◌∙◌, arith}
 use Rattle.std.proofs.Math.Nat.{mul-le-mul_right, add-mul}
 use Rattle.std.proofs.lemmas.Bool.Decides.{nat_tests}
 use Rattle.std.proofs.lemmas.List.{length-map, get_or-map, set-get_or}
-use Rattle.std.specs.Prelude.{◌&&◌, ◌||◌}
+use Rattle.std.specs.Prelude.{◌||◌}
 use Rattle.std.specs.List.{list_any, enumerate_from, range_with_len}
 use Rattle.loop_record.specs.declared.geometry.Geometry.{Geometry}
 use Rattle.loop_record.specs.Geometry.{frame_bytes, slot_at}
 use Rattle.loop_record.specs.Recording.{Picture, Recording, frame_under}
 use Rattle.loop_record.specs.Layout.{Slot, Segment, is_open, slot_in, is_slot_of, segment_in, whole_frames}
-use Rattle.loop_record.specs.Reading.{Holds, hold_from, is_bad_slot, frames_of, all_frames, opened, by_block, parts_of, checked, repeats}
+use Rattle.loop_record.specs.Reading.{Holds, hold_from, is_bad_slot, frames_of, all_frames, opened, by_block, parts_of, checked}
 use Rattle.loop_record.proofs.Decided.{both, neither, not_false}
-use Rattle.loop_record.proofs.Parts.{these, reading-stages}
+use Rattle.loop_record.proofs.Parts.{reading-stages}
 use Rattle.loop_record.proofs.Growth.{AllBelow}
 use Rattle.loop_record.proofs.Segments.{placed_there, any_move}
-use Rattle.loop_record.proofs.Changes.{Shown, shown_of, is_overfull, all_frames-append}
-use Rattle.loop_record.proofs.Readings.{length-range, get_or-map_range, overfull_none, whole-length, segments_length, segment_there}
+use Rattle.loop_record.proofs.Changes.{shown_of, is_overfull, all_frames-append}
+use Rattle.loop_record.proofs.Readings.{get_or-map_range, overfull_none, whole-length, segments_length, segment_there}
 
 -- ---- the frames of lower segments
 

@@ -148,7 +148,7 @@ fn short_counts_and_interruptions_are_gone_on_from(rt: HostRuntime) -> Result<()
     Ok(())
 }
 
-// The syncs of a file: how many of its bytes and its length, how many of all that it is, and whether they fail.
+// The syncs of a file: how many of its bytes alone, how many of all that it is, and whether they fail.
 #[derive(Drop)]
 struct Syncs {
     data: Cell<u32>,

@@ -26,7 +26,7 @@ equal a b same =
 pub invariant_of-result : goal.invariant_of-result
 invariant_of-result g c =
     let same = sym c.geometry.ensures.geometry ∙ equal c.geometry.result c.geometry-geometry.result (not-false _ (sym c.if-ne.ensures)) ∙ c.geometry-geometry.ensures.geometry in
-    rw same c.self.invariant
+    (rw same c.self.invariant.0, c.in-Ok.ensures.fine)
 
 pub returns-else-ne-clause-geometry : goal.returns-else-ne-clause-geometry
 returns-else-ne-clause-geometry g c =
