@@ -8,7 +8,7 @@ use crate::session::Session;
 use loop_record::Geometry;
 use loop_store::StoreFault;
 use std::alloc::Allocator;
-use std::io::{BufRead, BufReader, BufWriter, Error, Read, Write};
+use std::io::{BufReader, BufWriter, Error, Read, Write};
 use std::{io, str};
 
 /// The most lines of a script.
@@ -35,7 +35,7 @@ impl From<Error> for ScriptFault {
 /// Runs a script on a disk in memory and answers the program's status: 0 where each line was run, refused or
 /// not; 1 where a line can't be read, which `err` then names, where `out` or `err` fails, and where there is no
 /// memory for the buffers of input and output. Each line is run, and what it prints is printed, before the next
-/// one is read.
+/// one is read; and before the program waits for input, `out` has all of it.
 pub fn simulate<A: Allocator + Copy, R: Read, W: Write, E: Write>(
     alloc: A,
     input: R,
@@ -69,14 +69,15 @@ where
 }
 
 // Runs the lines of a script, up to the first that can't be read.
-fn run_script<A: Allocator + Copy, R: BufRead, W: Write>(
+fn run_script<A: Allocator + Copy, R: Read, W: Write>(
     alloc: A,
-    input: &mut R,
+    input: &mut BufReader<R, A>,
     line: &mut Vec<u8, A>,
     out: &mut W,
 ) -> Result<(), ScriptFault> {
     let mut simulation = Simulation::new(alloc);
     for number in 1..=MAX_LINES {
+        show_before_waiting(input, out)?;
         match next_line(input, line) {
             Err(_) => return Err(ScriptFault::BadLine(number)),
             Ok(false) => return Ok(()),
@@ -91,6 +92,18 @@ fn run_script<A: Allocator + Copy, R: BufRead, W: Write>(
         Ok(false) => Ok(()),
         _ => Err(ScriptFault::BadLine(MAX_LINES + 1)),
     }
+}
+
+// Hands on what was printed, where no whole line of input is there and the next read may wait. Lines that are there
+// already are answered first, in one write.
+fn show_before_waiting<A: Allocator, R: Read, W: Write>(
+    input: &BufReader<R, A>,
+    out: &mut W,
+) -> io::Result<()> {
+    if input.buffer().contains(&b'\n') {
+        return Ok(());
+    }
+    out.flush()
 }
 
 // The store of a script, from its first accepted `format` on, until a `reopen` is refused.

@@ -8,6 +8,7 @@ use loop_disk::DiskFault;
 use loop_record::{Damage, Geometry, PixelFormat};
 use loop_store::StoreFault;
 use std::alloc::{AllocError, Allocator, Global};
+use std::cell::Cell;
 use std::io;
 use std::io::{Error, ErrorKind, Read, Write};
 use std::test::Fail;
@@ -271,6 +272,74 @@ impl Read for Lists {
         buf[..line.len()].copy_from_slice(line);
         Ok(line.len())
     }
+}
+
+// Parts of a script, one a read; and how many bytes, in how many writes, a screen had at each read.
+#[derive(Drop)]
+struct Parts<'a> {
+    parts: &'a [&'a [u8]],
+    next: usize,
+    screen: &'a Cell<(usize, u32)>,
+    seen: &'a Cell<[(usize, u32); 4]>,
+}
+
+impl Read for Parts<'_> {
+    fn read(&mut self, buf: &mut [u8]) -> io::Result<usize> {
+        let mut seen = self.seen.get();
+        if let Some(place) = seen.get_mut(self.next) {
+            *place = self.screen.get();
+        }
+        self.seen.set(seen);
+        let Some(part) = self.parts.get(self.next) else {
+            return Ok(0);
+        };
+        if buf.len() < part.len() {
+            return Ok(0);
+        }
+        self.next = self.next.saturating_add(1);
+        buf[..part.len()].copy_from_slice(part);
+        Ok(part.len())
+    }
+}
+
+#[derive(Drop)]
+struct Screen<'a> {
+    screen: &'a Cell<(usize, u32)>,
+}
+
+impl Write for Screen<'_> {
+    fn write(&mut self, buf: &[u8]) -> io::Result<usize> {
+        let (bytes, writes) = self.screen.get();
+        self.screen.set((bytes.saturating_add(buf.len()), writes.saturating_add(1)));
+        Ok(buf.len())
+    }
+
+    fn flush(&mut self) -> io::Result<()> {
+        Ok(())
+    }
+}
+
+#[test]
+fn what_a_line_printed_is_out_before_the_next_one_is_awaited(rt: HostRuntime) -> Result<(), Fail> {
+    let screen = Cell::new((0, 0));
+    let seen = Cell::new([(9, 9); 4]);
+    let parts: [&[u8]; 3] = [
+        b"format 4 2 YM12 25:1 3 2\n",
+        b"store 1\nstore 1\nli",
+        b"st\n",
+    ];
+    let input = Parts {
+        parts: &parts,
+        next: 0,
+        screen: &screen,
+        seen: &seen,
+    };
+    let mut out = Screen { screen: &screen };
+    assert_eq!(rt; simulate(rt.alloc(), input, &mut out, &mut Broken), 0);
+    // `formatted`; two lines in one write; and `next 2` with `frames 0..1`.
+    assert_eq!(rt; seen.get(), [(0, 0), (10, 1), (34, 2), (53, 3)]);
+    assert_eq!(rt; screen.get(), (53, 3));
+    Ok(())
 }
 
 #[test]
