@@ -11,14 +11,14 @@ use Rattle.loop_disk.specs.declared.crash.DeviceCall.{DeviceCall}
 use Rattle.loop_disk.specs.declared.crash.DeviceCall.TheVariants as call
 use Rattle.loop_disk.specs.declared.crash.Spoil.{Spoil}
 use Rattle.loop_disk.specs.declared.crash.Spoil.TheVariants as spoil
-use Rattle.loop_disk.specs.Medium.{Medium, written}
+use Rattle.loop_disk.specs.Medium.{LeavesEachTorn, Medium, written}
 use Rattle.loop_disk.specs.Calls.{Called, Stays, Writes, Syncs}
 use Rattle.loop_disk.specs.History.{Moment, at_rest, after_write, after_sync, is_within, is_loose, IsLeft, IsLeftSince, medium_of}
 use Rattle.loop_disk.specs.Crashing.{Tape, call_of, after_call, after_calls, moments_from, medium_after, IsWithin, IsSpoiled, spoiled}
 use Rattle.loop_disk.specs.Replay.{IsRecorded, IsReplayed, PutsSpoiled}
 use Rattle.std.proofs.lemmas.Bool.{cases_lt, or_parts}
 use Rattle.loop_disk.proofs.Images.{length-written, get_or-written_there}
-use Rattle.loop_disk.proofs.Calls.{looks, writes, syncs, outside_of, within_not, kept_outside}
+use Rattle.loop_disk.proofs.Calls.{leaves_torn, looks, writes, syncs, outside_of, within_not, kept_outside}
 
 moments-more : (m : Moment) (earlier : List Moment) (calls : List (DeviceCall (List ℕ))) (c : DeviceCall (List ℕ))
     → moments_from m earlier (calls ++ c ∷ []) ≡ fold after_call m calls ∷ moments_from m earlier calls
@@ -83,6 +83,12 @@ pub wrote : (t later : Tape) (at : ℕ) (v : List ℕ) → at + length v ≤ len
 wrote t later at v fits more =
     subst (λ (m : Medium). Writes {T = Unit {0}} at v (medium_after t) m (Ok tt)) (sym (medium-more t later (call.Write at v) more))
     (writes t.failures (after_calls t.start t.calls) (moments_from (at_rest t.start) [] t.calls) v at fits)
+
+-- a crash may leave any bytes in the range
+pub wrote-each : (t later : Tape) (at : ℕ) (v : List ℕ) → at + length v ≤ length (after_calls t.start t.calls).bytes → later ≡ record t { calls = t.calls ++ call.Write at v ∷ [] } → LeavesEachTorn at (length v) (medium_after t) (medium_after later)
+wrote-each t later at v fits more =
+    subst (λ (m : Medium). LeavesEachTorn at (length v) (medium_after t) m) (sym (medium-more t later (call.Write at v) more))
+    (leaves_torn t.failures (after_calls t.start t.calls) (moments_from (at_rest t.start) [] t.calls) v at fits)
 
 pub synced : (t later : Tape) → later ≡ record t { calls = t.calls ++ call.Sync ∷ [] } → Syncs {T = Unit {0}} (medium_after t) (medium_after later) (Ok tt)
 synced t later more =

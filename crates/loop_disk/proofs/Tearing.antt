@@ -1,11 +1,12 @@
 -- A write that is done in part, by several calls of the inner disk.
-use Rattle.std.proofs.Common.{◌≡◌, inl, ℕ, ◌+◌, ◌≤◌, min, List, length, take, Result, Ok, Err, IsErr, OnOk, refl, sym, ◌∙◌, ap, subst, arith}
-use Rattle.std.proofs.lemmas.List.{take_min, length-take}
+use Rattle.std.proofs.lemmas.Bool.{cases_lt}
+use Rattle.std.proofs.Common.{◌≡◌, ◌⊎◌, inl, inr, ℕ, ◌+◌, ◌-◌, ◌<◌, ◌≤◌, min, List, length, take, get_or, Result, Ok, Err, IsErr, OnOk, refl, sym, ◌∙◌, ap, subst, arith}
+use Rattle.std.proofs.lemmas.List.{ext_get_or, take_min, length-take}
 use Rattle.loop_disk.specs.declared.fault.DiskFault.{DiskFault}
-use Rattle.loop_disk.specs.Medium.{Medium, piece, written, SameOutside, TornAt}
+use Rattle.loop_disk.specs.Medium.{IsSound, LeavesEach, LeavesEachTorn, Medium, piece, written, SameOutside, TornAt}
 use Rattle.loop_disk.specs.Calls.{Stays, Writes}
 use Rattle.loop_disk.specs.Failing.{Tears}
-use Rattle.loop_disk.proofs.Images.{length-piece, written-piece, untouched, widened, both}
+use Rattle.loop_disk.proofs.Images.{get_or-piece, get_or-written_there, length-piece, written-piece, written_outside, untouched, widened, both}
 use Rattle.loop_disk.proofs.Moments.{elapses_on, elapses_weaker}
 
 -- a torn image, torn again in the same range
@@ -83,3 +84,56 @@ kept_and_rewritten at keep bytes front old mid new x r is writes rest =
     let first : Tears at (length bytes) (written at front old.bytes) old mid (Ok x) = tears_within at (length front) at (length bytes) (written at front old.bytes) old mid (Ok x) (omega arith) (omega (arith, few)) (written_tears at front old mid (Ok x) writes) in
     tears_same at (length bytes) mid.bytes (written at (take keep bytes) old.bytes) old new r (writes.done ∙ ap (λ (l : List ℕ). written at l old.bytes) kept)
     (tears_then at (length bytes) (written at front old.bytes) mid.bytes old mid new x r first rest)
+
+-- ---- each image of a torn write may be left
+
+-- of no place there is nothing to tear
+pub torn_none : (a n : ℕ) (m : Medium) → n ≡ 0 → LeavesEachTorn a n m m
+torn_none a n m none c torn =
+    subst m.may_leave (ext_get_or 0 torn.0 c (sym torn.2.size) (λ i l. sym (go i (cases_lt i a)))) torn.1
+  where
+    go : (i : ℕ) → (i < a) ⊎ (a ≤ i) → get_or c i 0 ≡ get_or torn.0 i 0
+    go i (inl below) = torn.2.before i below
+    go i (inr above) = torn.2.behind i (omega (arith, above, none))
+
+-- a write behind a read
+pub torn_read : (at n : ℕ) (old mid new : Medium) → LeavesEach old mid → LeavesEachTorn at n mid new → LeavesEachTorn at n old new
+torn_read at n old mid new kept torn c at_old = torn c (at_old.0, kept at_old.0 at_old.1, at_old.2)
+
+-- two ranges, one behind the other
+pub torn_joined : (a m n : ℕ) (old mid new : Medium) → IsSound old → a + m + n ≤ old.size → LeavesEachTorn a m old mid → LeavesEachTorn (a + m) n mid new → LeavesEachTorn a (m + n) old new
+torn_joined a m n old mid new sound room first second c torn = second c (e, first e (d, torn.1, here), rest)
+  where
+    d : List ℕ
+    d = torn.0
+
+    long : length d ≡ old.size
+    long = sound.images_length d torn.1
+
+    p : List ℕ
+    p = piece a m c
+
+    count : length p ≡ m
+    count = omega (arith, length-piece a m c, torn.2.size, long, room)
+
+    fits : a + length p ≤ length d
+    fits = omega (arith, count, long, room)
+
+    e : List ℕ
+    e = written a p d
+
+    here : SameOutside a m d e
+    here = subst (λ (k : ℕ). SameOutside a k d e) count (written_outside a p d fits)
+
+    front : (i : ℕ) → (i < a) ⊎ (a ≤ i) → i < a + m → get_or c i 0 ≡ get_or e i 0
+    front i (inl below) l = torn.2.before i below ∙ sym (here.before i below)
+    front i (inr above) l =
+        let at : a + (i - a) ≡ i = omega (arith, above) in
+        sym (ap (λ (k : ℕ). get_or e k 0) (sym at) ∙ get_or-written_there a p d (i - a) (omega (arith, fits)) (omega (arith, count, l, above)) ∙ get_or-piece a m c (i - a) (omega (arith, l, above)) ∙ ap (λ (k : ℕ). get_or c k 0) at)
+
+    rest : SameOutside (a + m) n e c
+    rest = record {
+      size = torn.2.size ∙ sym here.size;
+      before = λ i l. front i (cases_lt i a) l;
+      behind = λ i l. torn.2.behind i (omega (arith, l)) ∙ sym (here.behind i (omega (arith, l)));
+    }

@@ -1,8 +1,8 @@
 -- Disks that fail calls on purpose, over another disk.
-use Rattle.std.specs.Prelude.{◌≡◌, ℕ, ◌-◌, ◌^◌, ◌<◌, Bool, true, false, ◌==◌, if◌then◌else◌, List, take, Option, Some, None, Result, IsErr, OnOk}
+use Rattle.std.specs.Prelude.{◌≡◌, ℕ, ◌-◌, ◌^◌, ◌<◌, Bool, true, false, ◌==◌, if◌then◌else◌, List, length, take, Option, Some, None, Result, IsErr, OnOk}
 use Rattle.loop_disk.specs.declared.fault.Failures.{Failures}
 use Rattle.loop_disk.specs.declared.fault.DiskFault.{DiskFault}
-use Rattle.loop_disk.specs.Medium.{Medium, written, SameOutside, TornAt, Elapses}
+use Rattle.loop_disk.specs.Medium.{LeavesEachTorn, Medium, written, SameOutside, TornAt, Elapses}
 use Rattle.loop_disk.specs.Calls.{Called, failed_call}
 
 -- A call that is due to fail fails and doesn't reach the inner disk. Any other is the inner disk's own, and
@@ -37,7 +37,8 @@ pub record IsCounting (failures : Failures) : Type 0 where
   pub syncs : failures.syncs < 2 ^ 64 - 1
 
 -- A torn write: it fails, and unless the inner disk failed too, the first bytes are there and those behind them
--- are as they were.
-pub record IsTorn {T : Type 0} (at : ℕ) (bytes : List ℕ) (keep : ℕ) (old new : Medium) (result : Result T DiskFault) : Type 0 where
+-- are as they were; and over a harsh disk a crash may leave any bytes in the whole range.
+pub record IsTorn {T : Type 0} (harsh : Type 0) (at : ℕ) (bytes : List ℕ) (keep : ℕ) (old new : Medium) (result : Result T DiskFault) : Type 0 where
   pub fails : IsErr result
   pub kept : IsCounting old.failures → new.failures ≡ old.failures → new.bytes ≡ written at (take keep bytes) old.bytes
+  pub loose : harsh → IsCounting old.failures → new.failures ≡ old.failures → LeavesEachTorn at (length bytes) old new

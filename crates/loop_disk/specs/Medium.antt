@@ -77,6 +77,10 @@ pub record LeavesOnly (old new : Medium) (P : List ℕ → Type 0) : Type 0 wher
 abbrev pub LeavesEachTorn : ℕ → ℕ → Medium → Medium → Type 0
 LeavesEachTorn at n old new = (c : List ℕ) → TornAt at n old c → new.may_leave c
 
+-- what a crash might have left it still may leave
+abbrev pub LeavesEach : Medium → Medium → Type 0
+LeavesEach old new = (c : List ℕ) → old.may_leave c → new.may_leave c
+
 -- the same bytes, and the same images now and since each moment
 pub record IsSame (old new : Medium) : Type 0 where
   pub bytes : new.bytes ≡ old.bytes

@@ -1,9 +1,9 @@
 // A disk in memory that remembers its calls, so that a test can look at the disk after a crash at each moment.
-ghost use Rattle.std.specs.Prelude.{◌≡◌, ◌≤◌, ◌<◌, ◌+◌, ◌*◌, ◌%◌, ◌^◌, ◌++◌, [], ◌∷◌, ℕ, length, map, take, get_or, IfOk, OnOk, OnErr, IfErr, replicate};
+ghost use Rattle.std.specs.Prelude.{⊤, ◌≡◌, ◌≤◌, ◌<◌, ◌+◌, ◌*◌, ◌%◌, ◌^◌, ◌++◌, [], ◌∷◌, ℕ, length, map, take, get_or, IfOk, OnOk, OnErr, IfErr, replicate};
 ghost use Rattle.std.specs.List.{All};
 ghost use Rattle.loop_disk.specs.declared.fault.DiskFault.TheVariants.{Read, Write, Sync};
 ghost use Rattle.loop_disk.specs.declared.crash.DeviceCall.TheVariants as call;
-ghost use Rattle.loop_disk.specs.Medium.{written, piece, IsSettled};
+ghost use Rattle.loop_disk.specs.Medium.{written, piece, IsSettled, LeavesEach, LeavesEachTorn};
 ghost use Rattle.loop_disk.specs.Calls.{Called, Stays, Writes, Syncs, failed_call, no_failures, with_failed};
 ghost use Rattle.loop_disk.specs.History.{Moment, at_rest};
 ghost use Rattle.loop_disk.specs.Sound.{sound_of};
@@ -127,6 +127,8 @@ impl<A: Allocator + Copy> CrashDisk<A> {
 impl<A: Allocator + Copy> Disk for CrashDisk<A> {
     ghost medium = { medium_after };
 
+    ghost harsh = { λ tape. ⊤ };
+
     ghost sound = { λ tape honest.
         sound_of tape.failures (after_calls tape.start tape.calls) (moments_from (at_rest tape.start) [] tape.calls) };
 
@@ -142,6 +144,7 @@ impl<A: Allocator + Copy> Disk for CrashDisk<A> {
         ensures done { OnOk result (self.new ≡ record self.old { calls = self.old.calls ++ call.Read ∷ [] }) }
         ensures failed { OnErr result (self.new
             ≡ record self.old { failures = with_failed (failed_call result) self.old.failures }) }
+        ensures each { ⟦<CrashDisk<A> as Disk>⟧.harsh self.old → ⟦<CrashDisk<A> as Disk>⟧.harsh self.new × LeavesEach (medium_after self.old) (medium_after self.new) }
         ensures fault { IfErr result (λ fault. fault ≡ Read) }
         ensures called { Called (medium_after self.old) (medium_after self.new) (failed_call result) }
     {
@@ -168,6 +171,8 @@ impl<A: Allocator + Copy> Disk for CrashDisk<A> {
             ≡ record self.old { calls = self.old.calls ++ call.Write at bytes.now ∷ [] }) }
         ensures failed { OnErr result (self.new
             ≡ record self.old { failures = with_failed (failed_call result) self.old.failures }) }
+        ensures each { ⟦<CrashDisk<A> as Disk>⟧.harsh self.old
+            → ⟦<CrashDisk<A> as Disk>⟧.harsh self.new × OnOk result (LeavesEachTorn at (length bytes.now) (medium_after self.old) (medium_after self.new)) }
         ensures fault { IfErr result (λ fault. fault ≡ Write) }
         ensures called { Called (medium_after self.old) (medium_after self.new) (failed_call result) }
     {
@@ -185,6 +190,7 @@ impl<A: Allocator + Copy> Disk for CrashDisk<A> {
         ensures done { OnOk result (self.new ≡ record self.old { calls = self.old.calls ++ call.Sync ∷ [] }) }
         ensures failed { OnErr result (self.new
             ≡ record self.old { failures = with_failed (failed_call result) self.old.failures }) }
+        ensures each { ⟦<CrashDisk<A> as Disk>⟧.harsh self.old → ⟦<CrashDisk<A> as Disk>⟧.harsh self.new }
         ensures fault { IfErr result (λ fault. fault ≡ Sync) }
         ensures called { Called (medium_after self.old) (medium_after self.new) (failed_call result) }
     {

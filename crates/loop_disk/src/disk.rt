@@ -1,7 +1,7 @@
 // A disk of fixed size: what its calls do, and what a crash may leave.
 ghost use Rattle.std.specs.Prelude.{◌≡◌, ◌+◌, ◌≤◌, length, OnOk, IfErr};
 ghost use Rattle.loop_disk.specs.declared.fault.DiskFault.TheVariants.{Read, Write, Sync};
-ghost use Rattle.loop_disk.specs.Medium.{Medium, piece, IsSound};
+ghost use Rattle.loop_disk.specs.Medium.{Medium, piece, IsSound, LeavesEach, LeavesEachTorn};
 ghost use Rattle.loop_disk.specs.Calls.{Called, Stays, Writes, Syncs, failed_call};
 
 use crate::DiskFault;
@@ -19,6 +19,9 @@ pub trait Disk {
     /// may leave.
     ghost medium: { Self → Medium };
 
+    /// Whether it is as bad as the rules allow: a crash may leave each image that they name, and not only some.
+    ghost harsh: { Self → Type 0 };
+
     /// How many bytes it has. This isn't counted as a call, and can't fail.
     fn size(&self) -> u64
         ensures { result ≡ (medium self.now).size };
@@ -29,6 +32,7 @@ pub trait Disk {
         ensures read { (medium self.old).honest
             → OnOk result (buf.new ≡ piece at (length buf.old) (medium self.old).bytes) }
         ensures disk { (medium self.old).honest → Stays (medium self.old) (medium self.new) }
+        ensures each { harsh self.old → harsh self.new × LeavesEach (medium self.old) (medium self.new) }
         ensures fault { IfErr result (λ fault. fault ≡ Read) }
         ensures called { Called (medium self.old) (medium self.new) (failed_call result) };
 
@@ -37,12 +41,15 @@ pub trait Disk {
     fn write_at(&mut self, at: u64, bytes: &[u8]) -> Result<(), DiskFault>
         requires { at + length bytes.now ≤ (medium self.old).size }
         ensures disk { (medium self.old).honest → Writes at bytes.now (medium self.old) (medium self.new) result }
+        ensures each { harsh self.old
+            → harsh self.new × OnOk result (LeavesEachTorn at (length bytes.now) (medium self.old) (medium self.new)) }
         ensures fault { IfErr result (λ fault. fault ≡ Write) }
         ensures called { Called (medium self.old) (medium self.new) (failed_call result) };
 
     /// After it, a crash leaves what a read gives. After a failure nothing is settled.
     fn sync(&mut self) -> Result<(), DiskFault>
         ensures disk { (medium self.old).honest → Syncs (medium self.old) (medium self.new) result }
+        ensures each { harsh self.old → harsh self.new }
         ensures fault { IfErr result (λ fault. fault ≡ Sync) }
         ensures called { Called (medium self.old) (medium self.new) (failed_call result) };
 

@@ -160,6 +160,8 @@ impl<F: OpenFile + FileExt + Drop> FileDisk<F> {
 impl<F: OpenFile + FileExt + Drop> Disk for FileDisk<F> {
     ghost medium = { λ disk. unknown disk.size disk.failures };
 
+    ghost harsh = { λ disk. ⊥ };
+
     ghost sound = { λ disk honest. absurd honest };
 
     fn size(&self) -> u64 {

@@ -1,7 +1,7 @@
 // A disk that fails from some call on, over another disk.
 ghost use Rattle.std.specs.Prelude.{◌≡◌, ◌+◌, ◌-◌, ◌≤◌, ◌==◌, ◌↔◌, length, OnOk, IfErr, IsErr};
 ghost use Rattle.loop_disk.specs.declared.fault.DiskFault.TheVariants.{Read, Write, Sync};
-ghost use Rattle.loop_disk.specs.Medium.{piece};
+ghost use Rattle.loop_disk.specs.Medium.{piece, LeavesEach, LeavesEachTorn};
 ghost use Rattle.loop_disk.specs.Calls.{Called, Stays, Writes, Syncs, failed_call, no_failures, with_failed};
 ghost use Rattle.loop_disk.specs.Sound.{sound_recounted};
 ghost use Rattle.loop_disk.specs.Failing.{FailsOrPasses};
@@ -66,6 +66,8 @@ impl<D> FuseDisk<D> {
 impl<D: Disk> Disk for FuseDisk<D> {
     ghost medium = { λ fuse. record (D.medium fuse.inner) { failures = fuse.failures } };
 
+    ghost harsh = { λ disk. D.harsh disk.inner };
+
     ghost sound = { λ fuse honest. sound_recounted (D.medium fuse.inner) fuse.failures (D.sound fuse.inner honest) };
 
     fn size(&self) -> u64 {
@@ -80,6 +82,8 @@ impl<D: Disk> Disk for FuseDisk<D> {
             → Stays (⟦<FuseDisk<D> as Disk>⟧.medium self.old) (⟦<FuseDisk<D> as Disk>⟧.medium self.new) }
         ensures which { FailsOrPasses D.medium (self.old.left == 0) self.old.inner self.new.inner result }
         ensures left { self.new.left ≡ self.old.left - 1 }
+        ensures each { D.harsh self.old.inner
+            → D.harsh self.new.inner × LeavesEach (⟦<FuseDisk<D> as Disk>⟧.medium self.old) (⟦<FuseDisk<D> as Disk>⟧.medium self.new) }
         ensures fault { IfErr result (λ fault. fault ≡ Read) }
         ensures called { Called (⟦<FuseDisk<D> as Disk>⟧.medium self.old) (⟦<FuseDisk<D> as Disk>⟧.medium self.new) (failed_call result) }
     {
@@ -94,6 +98,8 @@ impl<D: Disk> Disk for FuseDisk<D> {
             → Writes at bytes.now (⟦<FuseDisk<D> as Disk>⟧.medium self.old) (⟦<FuseDisk<D> as Disk>⟧.medium self.new) result }
         ensures which { FailsOrPasses D.medium (self.old.left == 0) self.old.inner self.new.inner result }
         ensures left { self.new.left ≡ self.old.left - 1 }
+        ensures each { D.harsh self.old.inner
+            → D.harsh self.new.inner × OnOk result (LeavesEachTorn at (length bytes.now) (⟦<FuseDisk<D> as Disk>⟧.medium self.old) (⟦<FuseDisk<D> as Disk>⟧.medium self.new)) }
         ensures fault { IfErr result (λ fault. fault ≡ Write) }
         ensures called { Called (⟦<FuseDisk<D> as Disk>⟧.medium self.old) (⟦<FuseDisk<D> as Disk>⟧.medium self.new) (failed_call result) }
     {
@@ -107,6 +113,7 @@ impl<D: Disk> Disk for FuseDisk<D> {
             → Syncs (⟦<FuseDisk<D> as Disk>⟧.medium self.old) (⟦<FuseDisk<D> as Disk>⟧.medium self.new) result }
         ensures which { FailsOrPasses D.medium (self.old.left == 0) self.old.inner self.new.inner result }
         ensures left { self.new.left ≡ self.old.left - 1 }
+        ensures each { D.harsh self.old.inner → D.harsh self.new.inner }
         ensures fault { IfErr result (λ fault. fault ≡ Sync) }
         ensures called { Called (⟦<FuseDisk<D> as Disk>⟧.medium self.old) (⟦<FuseDisk<D> as Disk>⟧.medium self.new) (failed_call result) }
     {

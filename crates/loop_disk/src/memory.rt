@@ -1,7 +1,7 @@
 // A disk in memory. A crash may leave any bytes in each range that was written since the last sync.
-ghost use Rattle.std.specs.Prelude.{◌≡◌, ◌≤◌, ◌+◌, ◌∷◌, length, IfOk, OnOk, IsOk, replicate, IfErr};
+ghost use Rattle.std.specs.Prelude.{⊤, ◌≡◌, ◌≤◌, ◌+◌, ◌∷◌, length, IfOk, OnOk, IsOk, replicate, IfErr};
 ghost use Rattle.loop_disk.specs.declared.fault.DiskFault.TheVariants.{Read, Write, Sync};
-ghost use Rattle.loop_disk.specs.Medium.{written, piece, IsFresh, IsSame, LeavesEachTorn};
+ghost use Rattle.loop_disk.specs.Medium.{written, piece, IsFresh, IsSame, LeavesEach, LeavesEachTorn};
 ghost use Rattle.loop_disk.specs.Calls.{Called, Stays, Writes, Syncs, failed_call, no_failures};
 ghost use Rattle.loop_disk.specs.History.{medium_of};
 ghost use Rattle.loop_disk.specs.Behind.{moment_now};
@@ -53,6 +53,8 @@ impl<A: Allocator> Disk for MemDisk<A> {
     ghost medium = { λ disk.
         medium_of no_failures (moment_now disk.past.behind disk.bytes.items) disk.past.behind.moments };
 
+    ghost harsh = { λ disk. ⊤ };
+
     ghost sound = { λ disk honest.
         sound_of no_failures (moment_now disk.past.behind disk.bytes.items) disk.past.behind.moments };
 
@@ -69,6 +71,7 @@ impl<A: Allocator> Disk for MemDisk<A> {
         ensures disk { (⟦<MemDisk<A> as Disk>⟧.medium self.old).honest
             → Stays (⟦<MemDisk<A> as Disk>⟧.medium self.old) (⟦<MemDisk<A> as Disk>⟧.medium self.new) }
         ensures same { IsSame (⟦<MemDisk<A> as Disk>⟧.medium self.old) (⟦<MemDisk<A> as Disk>⟧.medium self.new) }
+        ensures each { ⟦<MemDisk<A> as Disk>⟧.harsh self.old → ⟦<MemDisk<A> as Disk>⟧.harsh self.new × LeavesEach (⟦<MemDisk<A> as Disk>⟧.medium self.old) (⟦<MemDisk<A> as Disk>⟧.medium self.new) }
         ensures fault { IfErr result (λ fault. fault ≡ Read) }
         ensures called { Called (⟦<MemDisk<A> as Disk>⟧.medium self.old) (⟦<MemDisk<A> as Disk>⟧.medium self.new) (failed_call result) }
     {
@@ -85,6 +88,8 @@ impl<A: Allocator> Disk for MemDisk<A> {
         ensures disk { (⟦<MemDisk<A> as Disk>⟧.medium self.old).honest
             → Writes at bytes.now (⟦<MemDisk<A> as Disk>⟧.medium self.old) (⟦<MemDisk<A> as Disk>⟧.medium self.new) result }
         ensures torn { LeavesEachTorn at (length bytes.now) (⟦<MemDisk<A> as Disk>⟧.medium self.old) (⟦<MemDisk<A> as Disk>⟧.medium self.new) }
+        ensures each { ⟦<MemDisk<A> as Disk>⟧.harsh self.old
+            → ⟦<MemDisk<A> as Disk>⟧.harsh self.new × OnOk result (LeavesEachTorn at (length bytes.now) (⟦<MemDisk<A> as Disk>⟧.medium self.old) (⟦<MemDisk<A> as Disk>⟧.medium self.new)) }
         ensures fault { IfErr result (λ fault. fault ≡ Write) }
         ensures called { Called (⟦<MemDisk<A> as Disk>⟧.medium self.old) (⟦<MemDisk<A> as Disk>⟧.medium self.new) (failed_call result) }
     {
@@ -99,6 +104,7 @@ impl<A: Allocator> Disk for MemDisk<A> {
         ensures always { IsOk result }
         ensures disk { (⟦<MemDisk<A> as Disk>⟧.medium self.old).honest
             → Syncs (⟦<MemDisk<A> as Disk>⟧.medium self.old) (⟦<MemDisk<A> as Disk>⟧.medium self.new) result }
+        ensures each { ⟦<MemDisk<A> as Disk>⟧.harsh self.old → ⟦<MemDisk<A> as Disk>⟧.harsh self.new }
         ensures fault { IfErr result (λ fault. fault ≡ Sync) }
         ensures called { Called (⟦<MemDisk<A> as Disk>⟧.medium self.old) (⟦<MemDisk<A> as Disk>⟧.medium self.new) (failed_call result) }
     {

@@ -1,7 +1,7 @@
 // A disk that fails one call, over another disk.
-ghost use Rattle.std.specs.Prelude.{◌≡◌, ◌+◌, ◌≤◌, ℕ, length, take, true, false, OnOk, Err, IsErr, Some, None, IfErr};
+ghost use Rattle.std.specs.Prelude.{◌≡◌, ◌+◌, ◌-◌, ◌≤◌, ℕ, length, take, true, false, OnOk, Err, IsErr, Some, None, IfErr};
 ghost use Rattle.loop_disk.specs.declared.fault.DiskFault.TheVariants.{Read, Write, Sync};
-ghost use Rattle.loop_disk.specs.Medium.{piece, written};
+ghost use Rattle.loop_disk.specs.Medium.{piece, written, LeavesEach, LeavesEachTorn};
 ghost use Rattle.loop_disk.specs.Calls.{Called, Stays, Writes, Syncs, failed_call, no_failures, with_failed};
 ghost use Rattle.loop_disk.specs.Sound.{sound_recounted};
 ghost use Rattle.loop_disk.specs.Failing.{FailsOrPasses, IsTorn, Tears, is_due, left_after};
@@ -95,6 +95,8 @@ impl<D> OnceDisk<D> {
 impl<D: Disk> Disk for OnceDisk<D> {
     ghost medium = { λ once. record (D.medium once.inner) { failures = once.failures } };
 
+    ghost harsh = { λ disk. D.harsh disk.inner };
+
     ghost sound = { λ once honest. sound_recounted (D.medium once.inner) once.failures (D.sound once.inner honest) };
 
     fn size(&self) -> u64 {
@@ -108,8 +110,9 @@ impl<D: Disk> Disk for OnceDisk<D> {
         ensures disk { (D.medium self.old.inner).honest
             → Stays (⟦<OnceDisk<D> as Disk>⟧.medium self.old) (⟦<OnceDisk<D> as Disk>⟧.medium self.new) }
         ensures which { FailsOrPasses D.medium (is_due self.old.left) self.old.inner self.new.inner result }
-        ensures left { self.new.left ≡ left_after self.old.left }
-        ensures torn { self.new.torn ≡ self.old.torn }
+        ensures next { (self.new.left ≡ left_after self.old.left) × (self.new.torn ≡ self.old.torn) }
+        ensures each { D.harsh self.old.inner
+            → D.harsh self.new.inner × LeavesEach (⟦<OnceDisk<D> as Disk>⟧.medium self.old) (⟦<OnceDisk<D> as Disk>⟧.medium self.new) }
         ensures fault { IfErr result (λ fault. fault ≡ Read) }
         ensures called { Called (⟦<OnceDisk<D> as Disk>⟧.medium self.old) (⟦<OnceDisk<D> as Disk>⟧.medium self.new) (failed_call result) }
     {
@@ -124,14 +127,16 @@ impl<D: Disk> Disk for OnceDisk<D> {
         requires { at + length bytes.now ≤ (D.medium self.old.inner).size }
         ensures disk { (D.medium self.old.inner).honest
             → Writes at bytes.now (⟦<OnceDisk<D> as Disk>⟧.medium self.old) (⟦<OnceDisk<D> as Disk>⟧.medium self.new) result }
-        ensures passes { is_due self.old.left ≡ false
-            → Called (D.medium self.old.inner) (D.medium self.new.inner) (failed_call result) }
-        ensures fails { is_due self.old.left ≡ true
-            → IsErr result × (self.old.torn ≡ None → self.new.inner ≡ self.old.inner) }
+        ensures which { (is_due self.old.left ≡ false
+                → Called (D.medium self.old.inner) (D.medium self.new.inner) (failed_call result))
+            × (is_due self.old.left ≡ true
+                → IsErr result × (self.old.torn ≡ None → self.new.inner ≡ self.old.inner)) }
         ensures kept { (D.medium self.old.inner).honest → is_due self.old.left ≡ true → (keep : ℕ)
             → self.old.torn ≡ Some keep
-            → IsTorn at bytes.now keep (D.medium self.old.inner) (D.medium self.new.inner) result }
+            → IsTorn (D.harsh self.old.inner) at bytes.now keep (D.medium self.old.inner) (D.medium self.new.inner) result }
         ensures next { (self.new.left ≡ left_after self.old.left) × (self.new.torn ≡ self.old.torn) }
+        ensures each { D.harsh self.old.inner
+            → D.harsh self.new.inner × OnOk result (LeavesEachTorn at (length bytes.now) (⟦<OnceDisk<D> as Disk>⟧.medium self.old) (⟦<OnceDisk<D> as Disk>⟧.medium self.new)) }
         ensures fault { IfErr result (λ fault. fault ≡ Write) }
         ensures called { Called (⟦<OnceDisk<D> as Disk>⟧.medium self.old) (⟦<OnceDisk<D> as Disk>⟧.medium self.new) (failed_call result) }
     {
@@ -151,8 +156,8 @@ impl<D: Disk> Disk for OnceDisk<D> {
         ensures disk { (D.medium self.old.inner).honest
             → Syncs (⟦<OnceDisk<D> as Disk>⟧.medium self.old) (⟦<OnceDisk<D> as Disk>⟧.medium self.new) result }
         ensures which { FailsOrPasses D.medium (is_due self.old.left) self.old.inner self.new.inner result }
-        ensures left { self.new.left ≡ left_after self.old.left }
-        ensures torn { self.new.torn ≡ self.old.torn }
+        ensures next { (self.new.left ≡ left_after self.old.left) × (self.new.torn ≡ self.old.torn) }
+        ensures each { D.harsh self.old.inner → D.harsh self.new.inner }
         ensures fault { IfErr result (λ fault. fault ≡ Sync) }
         ensures called { Called (⟦<OnceDisk<D> as Disk>⟧.medium self.old) (⟦<OnceDisk<D> as Disk>⟧.medium self.new) (failed_call result) }
     {
@@ -170,6 +175,9 @@ fn tear<D: Disk>(disk: &mut D, at: u64, bytes: &[u8], keep: usize) -> Result<(),
     requires { at + length bytes.now ≤ (D.medium disk.old).size }
     ensures disk { (D.medium disk.old).honest
         → Tears at (length bytes.now) (written at (take keep bytes.now) (D.medium disk.old).bytes) (D.medium disk.old) (D.medium disk.new) result }
+    ensures harsh { D.harsh disk.old → D.harsh disk.new }
+    ensures each { (D.medium disk.old).honest → D.harsh disk.old
+        → OnOk result (LeavesEachTorn at (length bytes.now) (D.medium disk.old) (D.medium disk.new)) }
     ensures called { Called (D.medium disk.old) (D.medium disk.new) (failed_call result) }
 {
     let keep = keep.min(bytes.len());
@@ -183,6 +191,9 @@ fn rewrite<D: Disk>(disk: &mut D, at: u64, from: usize, count: usize) -> Result<
     requires within { from ≤ count }
     ensures disk { (D.medium disk.old).honest
         → Tears at count (D.medium disk.old).bytes (D.medium disk.old) (D.medium disk.new) result }
+    ensures harsh { D.harsh disk.old → D.harsh disk.new }
+    ensures each { (D.medium disk.old).honest → D.harsh disk.old
+        → OnOk result (LeavesEachTorn (at + from) (count - from) (D.medium disk.old) (D.medium disk.new)) }
     ensures called { Called (D.medium disk.old) (D.medium disk.new) (failed_call result) }
 {
     // The range ends on the disk, so its places are u64s, as the disk's size is.
@@ -202,6 +213,8 @@ fn rewrite_chunk<D: Disk>(disk: &mut D, at: u64, chunk: &mut [u8]) -> Result<(),
     requires { at + length chunk.old ≤ (D.medium disk.old).size }
     ensures disk { (D.medium disk.old).honest
         → Tears at (length chunk.old) (D.medium disk.old).bytes (D.medium disk.old) (D.medium disk.new) result }
+    ensures each { D.harsh disk.old → D.harsh disk.new
+        × OnOk result (LeavesEachTorn at (length chunk.old) (D.medium disk.old) (D.medium disk.new)) }
     ensures called { Called (D.medium disk.old) (D.medium disk.new) (failed_call result) }
 {
     disk.read(at, chunk)?;

@@ -1,5 +1,5 @@
 use Rattle.loop_disk.specs.declared.crash.DeviceCall.TheVariants as call
-use Rattle.loop_disk.proofs.Crashing.{view-more, wrote, written-recorded}
+use Rattle.loop_disk.proofs.Crashing.{view-more, wrote, wrote-each, written-recorded}
 use Rattle.loop_disk.proofs.crash.CrashDiskDisk.write_at.Goals as goal
 
 pub invariant_of-self : goal.invariant_of-self
@@ -11,3 +11,8 @@ pub returns-in-Ok-clause-disk : goal.returns-in-Ok-clause-disk
 returns-in-Ok-clause-disk g c = λ honest.
     let inside = c.self.inside in
     wrote c.args.self.now _ c.args.at c.args.bytes.now c.requires (view-more (λ v. v.items) c.args.self.now inside.start.items inside.calls.items _ inside.failures (call.Write c.args.at c.args.bytes.now) c.self.view_is (c.in-Ok.ensures.call))
+
+pub returns-in-Ok-clause-each : goal.returns-in-Ok-clause-each
+returns-in-Ok-clause-each g c = λ harsh.
+    let inside = c.self.inside in
+    (tt, wrote-each c.args.self.now _ c.args.at c.args.bytes.now c.requires (view-more (λ v. v.items) c.args.self.now inside.start.items inside.calls.items _ inside.failures (call.Write c.args.at c.args.bytes.now) c.self.view_is (c.in-Ok.ensures.call)))
