@@ -144,7 +144,8 @@ impl<A: Allocator + Copy> Disk for CrashDisk<A> {
         ensures done { OnOk result (self.new ≡ record self.old { calls = self.old.calls ++ call.Read ∷ [] }) }
         ensures failed { OnErr result (self.new
             ≡ record self.old { failures = with_failed (failed_call result) self.old.failures }) }
-        ensures each { ⟦<CrashDisk<A> as Disk>⟧.harsh self.old → ⟦<CrashDisk<A> as Disk>⟧.harsh self.new × LeavesEach (medium_after self.old) (medium_after self.new) }
+        ensures each { ⟦<CrashDisk<A> as Disk>⟧.harsh self.old → ⟦<CrashDisk<A> as Disk>⟧.harsh self.new
+            × LeavesEach (medium_after self.old) (medium_after self.new) }
         ensures fault { IfErr result (λ fault. fault ≡ Read) }
         ensures called { Called (medium_after self.old) (medium_after self.new) (failed_call result) }
     {
@@ -172,7 +173,8 @@ impl<A: Allocator + Copy> Disk for CrashDisk<A> {
         ensures failed { OnErr result (self.new
             ≡ record self.old { failures = with_failed (failed_call result) self.old.failures }) }
         ensures each { ⟦<CrashDisk<A> as Disk>⟧.harsh self.old
-            → ⟦<CrashDisk<A> as Disk>⟧.harsh self.new × OnOk result (LeavesEachTorn at (length bytes.now) (medium_after self.old) (medium_after self.new)) }
+            → ⟦<CrashDisk<A> as Disk>⟧.harsh self.new
+            × OnOk result (LeavesEachTorn at (length bytes.now) (medium_after self.old) (medium_after self.new)) }
         ensures fault { IfErr result (λ fault. fault ≡ Write) }
         ensures called { Called (medium_after self.old) (medium_after self.new) (failed_call result) }
     {

@@ -83,7 +83,8 @@ impl<D: Disk> Disk for FuseDisk<D> {
         ensures which { FailsOrPasses D.medium (self.old.left == 0) self.old.inner self.new.inner result }
         ensures left { self.new.left ≡ self.old.left - 1 }
         ensures each { D.harsh self.old.inner
-            → D.harsh self.new.inner × LeavesEach (⟦<FuseDisk<D> as Disk>⟧.medium self.old) (⟦<FuseDisk<D> as Disk>⟧.medium self.new) }
+            → D.harsh self.new.inner
+            × LeavesEach (⟦<FuseDisk<D> as Disk>⟧.medium self.old) (⟦<FuseDisk<D> as Disk>⟧.medium self.new) }
         ensures fault { IfErr result (λ fault. fault ≡ Read) }
         ensures called { Called (⟦<FuseDisk<D> as Disk>⟧.medium self.old) (⟦<FuseDisk<D> as Disk>⟧.medium self.new) (failed_call result) }
     {
@@ -99,7 +100,8 @@ impl<D: Disk> Disk for FuseDisk<D> {
         ensures which { FailsOrPasses D.medium (self.old.left == 0) self.old.inner self.new.inner result }
         ensures left { self.new.left ≡ self.old.left - 1 }
         ensures each { D.harsh self.old.inner
-            → D.harsh self.new.inner × OnOk result (LeavesEachTorn at (length bytes.now) (⟦<FuseDisk<D> as Disk>⟧.medium self.old) (⟦<FuseDisk<D> as Disk>⟧.medium self.new)) }
+            → D.harsh self.new.inner
+            × OnOk result (LeavesEachTorn at (length bytes.now) (⟦<FuseDisk<D> as Disk>⟧.medium self.old) (⟦<FuseDisk<D> as Disk>⟧.medium self.new)) }
         ensures fault { IfErr result (λ fault. fault ≡ Write) }
         ensures called { Called (⟦<FuseDisk<D> as Disk>⟧.medium self.old) (⟦<FuseDisk<D> as Disk>⟧.medium self.new) (failed_call result) }
     {

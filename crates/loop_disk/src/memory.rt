@@ -71,7 +71,8 @@ impl<A: Allocator> Disk for MemDisk<A> {
         ensures disk { (⟦<MemDisk<A> as Disk>⟧.medium self.old).honest
             → Stays (⟦<MemDisk<A> as Disk>⟧.medium self.old) (⟦<MemDisk<A> as Disk>⟧.medium self.new) }
         ensures same { IsSame (⟦<MemDisk<A> as Disk>⟧.medium self.old) (⟦<MemDisk<A> as Disk>⟧.medium self.new) }
-        ensures each { ⟦<MemDisk<A> as Disk>⟧.harsh self.old → ⟦<MemDisk<A> as Disk>⟧.harsh self.new × LeavesEach (⟦<MemDisk<A> as Disk>⟧.medium self.old) (⟦<MemDisk<A> as Disk>⟧.medium self.new) }
+        ensures each { ⟦<MemDisk<A> as Disk>⟧.harsh self.old → ⟦<MemDisk<A> as Disk>⟧.harsh self.new
+            × LeavesEach (⟦<MemDisk<A> as Disk>⟧.medium self.old) (⟦<MemDisk<A> as Disk>⟧.medium self.new) }
         ensures fault { IfErr result (λ fault. fault ≡ Read) }
         ensures called { Called (⟦<MemDisk<A> as Disk>⟧.medium self.old) (⟦<MemDisk<A> as Disk>⟧.medium self.new) (failed_call result) }
     {
@@ -87,9 +88,9 @@ impl<A: Allocator> Disk for MemDisk<A> {
         ensures always { IsOk result }
         ensures disk { (⟦<MemDisk<A> as Disk>⟧.medium self.old).honest
             → Writes at bytes.now (⟦<MemDisk<A> as Disk>⟧.medium self.old) (⟦<MemDisk<A> as Disk>⟧.medium self.new) result }
-        ensures torn { LeavesEachTorn at (length bytes.now) (⟦<MemDisk<A> as Disk>⟧.medium self.old) (⟦<MemDisk<A> as Disk>⟧.medium self.new) }
         ensures each { ⟦<MemDisk<A> as Disk>⟧.harsh self.old
-            → ⟦<MemDisk<A> as Disk>⟧.harsh self.new × OnOk result (LeavesEachTorn at (length bytes.now) (⟦<MemDisk<A> as Disk>⟧.medium self.old) (⟦<MemDisk<A> as Disk>⟧.medium self.new)) }
+            → ⟦<MemDisk<A> as Disk>⟧.harsh self.new
+            × OnOk result (LeavesEachTorn at (length bytes.now) (⟦<MemDisk<A> as Disk>⟧.medium self.old) (⟦<MemDisk<A> as Disk>⟧.medium self.new)) }
         ensures fault { IfErr result (λ fault. fault ≡ Write) }
         ensures called { Called (⟦<MemDisk<A> as Disk>⟧.medium self.old) (⟦<MemDisk<A> as Disk>⟧.medium self.new) (failed_call result) }
     {

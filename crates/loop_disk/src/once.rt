@@ -112,7 +112,8 @@ impl<D: Disk> Disk for OnceDisk<D> {
         ensures which { FailsOrPasses D.medium (is_due self.old.left) self.old.inner self.new.inner result }
         ensures next { (self.new.left ≡ left_after self.old.left) × (self.new.torn ≡ self.old.torn) }
         ensures each { D.harsh self.old.inner
-            → D.harsh self.new.inner × LeavesEach (⟦<OnceDisk<D> as Disk>⟧.medium self.old) (⟦<OnceDisk<D> as Disk>⟧.medium self.new) }
+            → D.harsh self.new.inner
+            × LeavesEach (⟦<OnceDisk<D> as Disk>⟧.medium self.old) (⟦<OnceDisk<D> as Disk>⟧.medium self.new) }
         ensures fault { IfErr result (λ fault. fault ≡ Read) }
         ensures called { Called (⟦<OnceDisk<D> as Disk>⟧.medium self.old) (⟦<OnceDisk<D> as Disk>⟧.medium self.new) (failed_call result) }
     {
@@ -128,15 +129,16 @@ impl<D: Disk> Disk for OnceDisk<D> {
         ensures disk { (D.medium self.old.inner).honest
             → Writes at bytes.now (⟦<OnceDisk<D> as Disk>⟧.medium self.old) (⟦<OnceDisk<D> as Disk>⟧.medium self.new) result }
         ensures which { (is_due self.old.left ≡ false
-                → Called (D.medium self.old.inner) (D.medium self.new.inner) (failed_call result))
+            → Called (D.medium self.old.inner) (D.medium self.new.inner) (failed_call result))
             × (is_due self.old.left ≡ true
-                → IsErr result × (self.old.torn ≡ None → self.new.inner ≡ self.old.inner)) }
+            → IsErr result × (self.old.torn ≡ None → self.new.inner ≡ self.old.inner)) }
         ensures kept { (D.medium self.old.inner).honest → is_due self.old.left ≡ true → (keep : ℕ)
             → self.old.torn ≡ Some keep
             → IsTorn (D.harsh self.old.inner) at bytes.now keep (D.medium self.old.inner) (D.medium self.new.inner) result }
         ensures next { (self.new.left ≡ left_after self.old.left) × (self.new.torn ≡ self.old.torn) }
         ensures each { D.harsh self.old.inner
-            → D.harsh self.new.inner × OnOk result (LeavesEachTorn at (length bytes.now) (⟦<OnceDisk<D> as Disk>⟧.medium self.old) (⟦<OnceDisk<D> as Disk>⟧.medium self.new)) }
+            → D.harsh self.new.inner
+            × OnOk result (LeavesEachTorn at (length bytes.now) (⟦<OnceDisk<D> as Disk>⟧.medium self.old) (⟦<OnceDisk<D> as Disk>⟧.medium self.new)) }
         ensures fault { IfErr result (λ fault. fault ≡ Write) }
         ensures called { Called (⟦<OnceDisk<D> as Disk>⟧.medium self.old) (⟦<OnceDisk<D> as Disk>⟧.medium self.new) (failed_call result) }
     {

@@ -31,6 +31,8 @@ struct Bare<D>(D);
 impl<D: Disk> Disk for Bare<D> {
     ghost medium = { λ disk. record (D.medium disk.0) { honest = ⊥ } };
 
+    ghost harsh = { λ disk. D.harsh disk.0 };
+
     ghost sound = { λ disk honest. absurd honest };
 
     fn size(&self) -> u64 {

@@ -25,6 +25,8 @@ impl<'a, D> Counted<'a, D> {
 impl<'a, D: Disk> Disk for Counted<'a, D> {
     ghost medium = { λ disk. D.medium disk.inner };
 
+    ghost harsh = { λ disk. D.harsh disk.inner };
+
     ghost sound = { λ disk honest. D.sound disk.inner honest };
 
     fn size(&self) -> u64 {
