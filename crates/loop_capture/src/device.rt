@@ -1,6 +1,6 @@
 // The device: a source's frames for a queue's buffers.
 ghost use Rattle.std.specs.Prelude.{◌≡◌, IfErr, IfOk, length};
-ghost use Rattle.loop_capture.specs.Ticks.{Ends, IsNew, Seen, Ticks, sequence_after};
+ghost use Rattle.loop_capture.specs.Ticks.{Ends, IsLongest, IsNew, Seen, Ticks, sequence_after};
 ghost use Rattle.loop_vb2.specs.Planes.{frame_size};
 
 use crate::source::{FrameSource, Next};
@@ -48,7 +48,8 @@ impl<S, A: Allocator + Copy> Model for Device<S, A> {
 }
 
 impl<S: FrameSource, A: Allocator + Copy> Device<S, A> {
-    /// A device for frames of so many bytes. Its buffer is taken here, and no tick takes memory. NoMemory: the buffer was refused.
+    /// A device for frames of so many bytes. Its buffer is taken here, and no tick takes memory. NoMemory: the buffer was
+    /// refused, and the source comes back.
     pub fn new(alloc: A, source: S, frame_bytes: u32) -> Result<Device<S, A>, NoMemory<S>>
         ensures new { IfOk result (IsNew source frame_bytes) }
         ensures back { IfErr result (λ refused. refused.source ≡ source) }
@@ -63,10 +64,10 @@ impl<S: FrameSource, A: Allocator + Copy> Device<S, A> {
         }
     }
 
-    /// One frame period, at `now` (microseconds). WrongSize, then Idle, change nothing. Otherwise the source is asked for a frame. More
-    /// completes the buffer that has been active longest, Bad fails it; without an active buffer the frame is Missed. End is Ended.
-    /// The sequence is 0 at the first frame after a start, and rises by one a frame, modulo 2^32, those that are Bad or Missed
-    /// among them; an End takes no number.
+    /// One frame period, at `now` (microseconds). WrongSize, then Idle, change nothing. Otherwise the source is asked for a
+    /// frame. More completes the buffer that has been active longest, Bad fails it; without an active buffer the frame is
+    /// Missed. End is Ended. The sequence is 0 at the first frame after a start, and rises by one a frame, modulo 2^32, those
+    /// that are Bad or Missed among them; an End takes no number.
     pub fn tick<P: PlaneMemory, B: Allocator + Copy>(
         &mut self,
         queue: &mut Queue<P, B>,
@@ -88,7 +89,8 @@ impl<S: FrameSource, A: Allocator + Copy> Device<S, A> {
             sequence,
             timestamp: now,
         };
-        end_frame(queue, answer, stamp, &self.frame)
+        let active = queue.next_active();
+        end_frame(queue, active, answer, stamp, &self.frame)
     }
 }
 
@@ -113,15 +115,17 @@ fn sequence_after(answer: Next, sequence: u32) -> u32
 // Ends the buffer that has been active longest with what the source answered.
 fn end_frame<P: PlaneMemory, A: Allocator + Copy>(
     queue: &mut Queue<P, A>,
+    active: Option<u32>,
     answer: Next,
     stamp: Stamp,
     bytes: &[u8],
 ) -> Tick
     requires whole { length bytes.now ≡ frame_size queue.old.body.shape }
+    requires active { IsLongest P.plane active queue.old }
     ensures ends { Ends P.plane answer stamp bytes.now result queue.old queue.new }
     ensures shape { queue.new.body.shape ≡ queue.old.body.shape }
 {
-    match (answer, queue.next_active()) {
+    match (answer, active) {
         (Next::End, _) => Tick::Ended,
         (_, None) => Tick::Missed,
         (Next::More, Some(index)) => match queue.complete(index, stamp, bytes) {
