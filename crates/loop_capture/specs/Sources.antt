@@ -1,0 +1,44 @@
+-- What the sources give.
+use Rattle.std.specs.Prelude.{◌≡◌, ℕ, ◌+◌, ◌%◌, Bool, true, false, ◌==◌, List, length, map, IfSome, Result, Ok, Err}
+use Rattle.std.specs.List.{range_with_len}
+use Rattle.loop_capture.specs.declared.source.Next.{Next}
+use Rattle.loop_capture.specs.declared.source.Next.TheVariants.{More, End, Bad}
+use Rattle.loop_y4m.specs.declared.fault.Y4mFault.{Y4mFault}
+use Rattle.loop_y4m.specs.Header.{frame_size}
+use Rattle.loop_y4m.specs.Reader.{GivesNext, Opened}
+
+-- the first bytes of frame n of the pattern: byte i is n + i, modulo 256
+abbrev pub pattern_bytes : ℕ → ℕ → List ℕ
+pattern_bytes n size = map (λ i. (n + i) % 256) (range_with_len 0 size)
+
+-- the pattern gives its next frame
+abbrev pub GivesPattern : ℕ → Next → List ℕ → ℕ → Type 0
+GivesPattern n answer out after = (answer ≡ More) × (out ≡ pattern_bytes n (length out)) × (after ≡ (n + 1) % 256)
+
+-- an input that is read, and whether its end or a fault was answered
+pub record Footage : Type 0 where
+  pub reader : Opened
+  pub over : Bool
+
+-- what a source answers to what its reader answered, and whether it is over then
+abbrev pub next_of : Result Bool Y4mFault → Next
+next_of (Ok true) = More
+next_of (Ok false) = End
+next_of (Err fault) = Bad
+
+abbrev pub over_by : Next → Bool
+over_by More = false
+over_by End = true
+over_by Bad = true
+
+-- a source that is over answers End; else an `out` of another length than a frame is Bad, and one of a frame's length gets
+-- what the reader gives
+abbrev pub GivesBy : (over fits : Bool) → Footage → Next → List ℕ → Footage → Type 0
+GivesBy true fits s answer out t = (answer ≡ End) × (t ≡ s)
+GivesBy false false s answer out t = (answer ≡ Bad) × (t ≡ record s { over = true })
+GivesBy false true s answer out t = (told : Result Bool Y4mFault) × (answer ≡ next_of told)
+    × IfSome s.reader.rest (λ frames. GivesNext frames told out t.reader.rest)
+    × (t ≡ record { reader = record s.reader { fault = t.reader.fault; rest = t.reader.rest }; over = over_by answer })
+
+abbrev pub GivesFootage : Footage → Next → List ℕ → Footage → Type 0
+GivesFootage s answer out t = GivesBy s.over (length out == frame_size s.reader.header) s answer out t

@@ -1,0 +1,78 @@
+-- A tick as one event of the queue's model, and what it makes of the device.
+use Rattle.std.specs.Prelude.{◌≡◌, ◌≢◌, ℕ, ◌+◌, ◌%◌, ◌^◌, true, false, cond, List, replicate, length, Option, Some, None}
+use Rattle.loop_plane.specs.Plane.{Plane}
+use Rattle.loop_capture.specs.declared.device.Tick.{Tick}
+use Rattle.loop_capture.specs.declared.device.Tick.TheVariants.{Idle, Completed, Failed, Missed, Ended, WrongSize}
+use Rattle.loop_capture.specs.declared.source.Next.{Next}
+use Rattle.loop_capture.specs.declared.source.Next.TheVariants.{More, End, Bad}
+use Rattle.loop_vb2.specs.declared.buffer.Stamp.{Stamp}
+use Rattle.loop_vb2.specs.Effects.{completed, failed, longest_active, seen_state}
+use Rattle.loop_vb2.specs.Planes.{frame_size}
+use Rattle.loop_vb2.specs.State.{Lined, QueueState, StandsFor}
+
+-- a device: its source, the bytes in its buffer, and the sequence of its next frame
+pub record Seen (S : Type 0) : Type 0 where
+  pub source : S
+  pub frame : List ℕ
+  pub next : ℕ
+
+-- a new device
+abbrev pub IsNew : {S : Type 0} → S → ℕ → Seen S → Type 0
+IsNew source size d = d ≡ record { source = source; frame = replicate size 0; next = 0 }
+
+-- the sequence of a frame that is taken now: 0 after a start
+abbrev pub sequence_of : ℕ → QueueState → ℕ
+sequence_of next s = cond s.body.fresh 0 next
+
+-- the sequence of the next frame: an End takes none
+abbrev pub sequence_after : Next → ℕ → ℕ
+sequence_after End sequence = sequence
+sequence_after More sequence = (sequence + 1) % 2 ^ 32
+sequence_after Bad sequence = (sequence + 1) % 2 ^ 32
+
+-- what a tick does, for what the source answered and the buffer that has been active longest
+abbrev pub tick_of : Next → Option ℕ → Tick
+tick_of End active = Ended
+tick_of More (Some i) = Completed i
+tick_of Bad (Some i) = Failed i
+tick_of More None = Missed
+tick_of Bad None = Missed
+
+-- the one event of the queue that ends a frame, if the tick has one
+abbrev pub ended_by : Tick → Stamp → List ℕ → QueueState → QueueState
+ended_by (Completed i) stamp bytes s = completed i stamp bytes s
+ended_by (Failed i) stamp bytes s = failed i stamp s
+ended_by tick stamp bytes s = s
+
+-- this buffer, or none, has been active longest
+abbrev pub IsLongest : {P : Type 0} → (P → Plane) → Option ℕ → Lined P → Type 0
+IsLongest meaning active queue = (s : QueueState) → StandsFor meaning queue s → active ≡ longest_active s
+
+-- in each state that the queue stands for: the tick is this one, and the queue stands for the state that it makes
+abbrev pub Ends : {P : Type 0} → (P → Plane) → Next → Stamp → List ℕ → Tick → Lined P → Lined P → Type 0
+Ends meaning answer stamp bytes tick before after =
+    (s : QueueState) → StandsFor meaning before s → (tick ≡ tick_of answer (longest_active s)) × StandsFor meaning after (ended_by tick stamp bytes s)
+
+-- a tick for which the source was asked: the device had a frame's length and had started, the start is noticed, and the frame is ended
+pub record Took {S P : Type 0} (gives : S → Next → List ℕ → S → Type 0) (meaning : P → Plane) (now : ℕ) (tick : Tick)
+    (d e : Seen S) (before after : Lined P) (s : QueueState) : Type 0 where
+  pub fits : length d.frame ≡ frame_size s.body.shape
+  pub started : s.body.started ≡ true
+  pub answer : Next
+  pub given : gives d.source answer e.frame e.source
+  pub tick_is : tick ≡ tick_of answer (longest_active s)
+  pub next : e.next ≡ sequence_after answer (sequence_of d.next s)
+  pub queue : StandsFor meaning after
+      (ended_by tick (record { sequence = sequence_of d.next s; timestamp = now }) e.frame (seen_state s))
+
+-- a tick: WrongSize and Idle change nothing
+abbrev pub Ticked : {S P : Type 0} → (S → Next → List ℕ → S → Type 0) → (P → Plane) → ℕ → Tick → Seen S → Seen S
+    → Lined P → Lined P → QueueState → Type 0
+Ticked gives meaning now WrongSize d e before after s = (length d.frame ≢ frame_size s.body.shape) × (e ≡ d) × (after ≡ before)
+Ticked gives meaning now Idle d e before after s = (length d.frame ≡ frame_size s.body.shape) × (s.body.started ≡ false) × (e ≡ d) × (after ≡ before)
+Ticked gives meaning now tick d e before after s = Took gives meaning now tick d e before after s
+
+-- so in each state that the queue stands for
+abbrev pub Ticks : {S P : Type 0} → (S → Next → List ℕ → S → Type 0) → (P → Plane) → ℕ → Tick → Seen S → Seen S
+    → Lined P → Lined P → Type 0
+Ticks gives meaning now tick d e before after = (s : QueueState) → StandsFor meaning before s → Ticked gives meaning now tick d e before after s

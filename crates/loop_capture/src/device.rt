@@ -1,0 +1,140 @@
+// The device: a source's frames for a queue's buffers.
+ghost use Rattle.std.specs.Prelude.{◌≡◌, IfErr, IfOk, length};
+ghost use Rattle.loop_capture.specs.Ticks.{Ends, IsLongest, IsNew, Seen, Ticks, sequence_after};
+ghost use Rattle.loop_vb2.specs.Planes.{frame_size};
+
+use crate::source::{FrameSource, Next};
+use loop_plane::PlaneMemory;
+use loop_vb2::{Queue, Stamp};
+use std::alloc::{Allocator, Global};
+use std::marker::Model;
+
+/// What a tick did.
+#[derive(Clone, Copy, PartialEq, Eq, Debug)]
+pub enum Tick {
+    /// The device hasn't started. Nothing changed.
+    Idle,
+    /// The buffer of this index was completed with a frame.
+    Completed(u32),
+    /// The buffer of this index was given up, since the frame can't be had.
+    Failed(u32),
+    /// A frame was due, and no buffer was active: it is lost.
+    Missed,
+    /// The source has ended.
+    Ended,
+    /// The queue's frames have another length than the device's. Nothing changed.
+    WrongSize,
+}
+
+/// Memory was refused; the source is handed back.
+#[derive(Drop)]
+pub struct NoMemory<S> {
+    /// The source that was given.
+    pub source: S,
+}
+
+/// A capture device: a source, a buffer for a frame, and the sequence of the next frame.
+#[derive(Drop)]
+pub struct Device<S = Box<dyn FrameSource + Send>, A: Allocator + Copy = Global> {
+    source: S,
+    frame: Vec<u8, A>,
+    next: u32,
+}
+
+impl<S, A: Allocator + Copy> Model for Device<S, A> {
+    ghost Value = { Seen S };
+
+    ghost view = { λ d. record { source = d.source; frame = d.frame.items; next = d.next } };
+}
+
+impl<S: FrameSource, A: Allocator + Copy> Device<S, A> {
+    /// A device for frames of so many bytes. Its buffer is taken here, and no tick takes memory. NoMemory: the buffer was
+    /// refused, and the source comes back.
+    pub fn new(alloc: A, source: S, frame_bytes: u32) -> Result<Device<S, A>, NoMemory<S>>
+        ensures new { IfOk result (IsNew source frame_bytes) }
+        ensures back { IfErr result (λ refused. refused.source ≡ source) }
+    {
+        match vec![in alloc; 0u8; frame_bytes as usize] {
+            Ok(frame) => Ok(Device {
+                source,
+                frame,
+                next: 0,
+            }),
+            Err(_) => Err(NoMemory { source }),
+        }
+    }
+
+    /// One frame period, at `now` (microseconds). WrongSize, then Idle, change nothing. Otherwise the source is asked for a
+    /// frame. More completes the buffer that has been active longest, Bad fails it; without an active buffer the frame is
+    /// Missed. End is Ended. The sequence is 0 at the first frame after a start, and rises by one a frame, modulo 2^32, those
+    /// that are Bad or Missed among them; an End takes no number.
+    pub fn tick<P: PlaneMemory, B: Allocator + Copy>(
+        &mut self,
+        queue: &mut Queue<P, B>,
+        now: u64,
+    ) -> Tick
+        ensures tick { Ticks S.next_gives P.plane now result self.old self.new queue.old queue.new }
+        ensures shape { queue.new.body.shape ≡ queue.old.body.shape }
+    {
+        if queue.frame_bytes() != self.frame.len() as u64 {
+            return Tick::WrongSize;
+        }
+        if !queue.started() {
+            return Tick::Idle;
+        }
+        let sequence = if queue.take_fresh() { 0 } else { self.next };
+        let answer = ask(&mut self.source, &mut self.frame);
+        self.next = sequence_after(answer, sequence);
+        let stamp = Stamp {
+            sequence,
+            timestamp: now,
+        };
+        let active = queue.next_active();
+        end_frame(queue, active, answer, stamp, &self.frame)
+    }
+}
+
+// Asks a source for a frame of the row's length.
+fn ask<S: FrameSource, A: Allocator + Copy>(source: &mut S, frame: &mut Vec<u8, A>) -> Next
+    ensures gives { S.next_gives source.old result frame.new.items source.new }
+    ensures size { length frame.new.items ≡ length frame.old.items }
+{
+    source.next(frame)
+}
+
+// The sequence of the next frame.
+fn sequence_after(answer: Next, sequence: u32) -> u32
+    ensures { result ≡ sequence_after answer sequence }
+{
+    match answer {
+        Next::End => sequence,
+        Next::More | Next::Bad => sequence.wrapping_add(1),
+    }
+}
+
+// Ends the buffer that has been active longest with what the source answered.
+fn end_frame<P: PlaneMemory, A: Allocator + Copy>(
+    queue: &mut Queue<P, A>,
+    active: Option<u32>,
+    answer: Next,
+    stamp: Stamp,
+    bytes: &[u8],
+) -> Tick
+    requires whole { length bytes.now ≡ frame_size queue.old.body.shape }
+    requires active { IsLongest P.plane active queue.old }
+    ensures ends { Ends P.plane answer stamp bytes.now result queue.old queue.new }
+    ensures shape { queue.new.body.shape ≡ queue.old.body.shape }
+{
+    match (answer, active) {
+        (Next::End, _) => Tick::Ended,
+        (_, None) => Tick::Missed,
+        (Next::More, Some(index)) => match queue.complete(index, stamp, bytes) {
+            Ok(()) => Tick::Completed(index),
+            Err(_) => Tick::Missed,
+        },
+        (Next::Bad, Some(index)) => match queue.fail(index, stamp) {
+            Ok(()) => Tick::Failed(index),
+            Err(_) => Tick::Missed,
+        },
+    }
+}

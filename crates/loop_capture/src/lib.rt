@@ -1,0 +1,19 @@
+//! Frame sources, and a modelled device: a tick takes a frame from a source and ends a buffer of a queue with it.
+//!
+//! A tick is one frame period. Its contract is one relation (`specs/Ticks`): what it answers, for what the source answered,
+//! and the one event of the queue's model that it is. `specs/Sources` has what the sources here give.
+//!
+//! - `source`: what a source is, and a box of one; `pattern`: frames that tell which they are; `footage`: frames of a
+//!   YUV4MPEG2 input;
+//! - `device`: the device, and its tick.
+#![tactic(auto)]
+
+mod device;
+mod footage;
+mod pattern;
+mod source;
+
+pub use device::{Device, NoMemory, Tick};
+pub use footage::Y4mSource;
+pub use pattern::Pattern;
+pub use source::{FrameSource, Next};

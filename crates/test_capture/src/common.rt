@@ -1,0 +1,61 @@
+//! What the tests share: a source that answers by a list, sets of planes, and the frame that is dequeued.
+
+ghost use Rattle.std.specs.Prelude.{⊤};
+
+use bitflags::Flags;
+use loop_capture::{FrameSource, Next};
+use loop_plane::{Memory, PlaneMemory};
+use loop_vb2::{PlaneSet, Planes, Queue};
+use std::alloc::Allocator;
+
+/// Answers what stands in its list, then End; byte i of each `out` is the number of the call.
+#[derive(Drop)]
+pub(crate) struct Listed {
+    pub answers: [Next; 5],
+    pub calls: u8,
+}
+
+impl FrameSource for Listed {
+    ghost next_gives = { λ s r out t. ⊤ };
+
+    fn next(&mut self, out: &mut [u8]) -> Next {
+        let call = self.calls;
+        self.calls = self.calls.saturating_add(1);
+        out.fill(call);
+        self.answers
+            .get(call as usize)
+            .copied()
+            .unwrap_or(Next::End)
+    }
+}
+
+/// The set of one plane.
+pub(crate) fn one<P>(plane: P) -> PlaneSet<P> {
+    PlaneSet {
+        count: 1,
+        planes: Planes {
+            y: Some(plane),
+            cb: None,
+            cr: None,
+        },
+        fds: [0; 3],
+    }
+}
+
+/// What is dequeued: index, sequence, timestamp, flags, and the first byte of its first plane.
+pub(crate) type Frame = (u32, u32, u64, u32, u8);
+
+/// Dequeues a frame, and queues its buffer again.
+pub(crate) fn round<P: PlaneMemory, A: Allocator + Copy>(queue: &mut Queue<P, A>) -> Option<Frame> {
+    let frame = queue.dequeue().ok()?;
+    let mut byte = [0];
+    let read = queue.copy_plane(frame.index, 0, 0, &mut byte).is_ok();
+    queue.queue(frame.index, Memory::Mmap, None).ok()?;
+    Some((
+        frame.index,
+        frame.sequence,
+        frame.timestamp,
+        frame.flags.bits(),
+        if read { byte[0] } else { 0xFF },
+    ))
+}

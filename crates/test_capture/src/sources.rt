@@ -1,0 +1,60 @@
+//! What a source answers by itself, and what becomes of it where memory is refused.
+
+use loop_budget::Budget;
+use loop_capture::{Device, FrameSource, Next, Pattern, Y4mSource};
+use loop_y4m::Y4mReader;
+use std::test::Fail;
+
+/// Two frames of one byte.
+const SMALL: &[u8; 42] = b"YUV4MPEG2 W1 H1 F25:1 Cmono\nFRAME\n\x07FRAME\n\x08";
+
+#[test]
+fn the_pattern_tells_its_frames_and_rises_modulo_256(rt: HostRuntime) -> Result<(), Fail> {
+    let mut source = Pattern::new();
+    let mut out = [0; 3];
+    for n in 0..300_u32 {
+        assert_eq!(rt; source.next(&mut out), Next::More);
+        assert_eq!(rt;
+            out,
+            [
+                (n % 256) as u8,
+                ((n + 1) % 256) as u8,
+                ((n + 2) % 256) as u8
+            ]
+        );
+    }
+    Ok(())
+}
+
+#[test]
+fn another_length_is_bad_once_and_then_the_end(rt: HostRuntime) -> Result<(), Fail> {
+    let Ok(reader) = Y4mReader::open(SMALL.as_slice()) else {
+        panic!(rt; "a header")
+    };
+    let mut source = Y4mSource::new(reader);
+    let mut out = [0; 2];
+    assert_eq!(rt; source.next(&mut out[..1]), Next::More);
+    assert_eq!(rt; out, [7, 0]);
+    assert_eq!(rt; source.next(&mut out), Next::Bad);
+    assert_eq!(rt; source.next(&mut out[..1]), Next::End);
+    assert_eq!(rt; source.next(&mut out), Next::End);
+    Ok(())
+}
+
+#[test]
+fn a_device_without_memory_hands_its_source_back(rt: HostRuntime) -> Result<(), Fail> {
+    let budget = Budget::new(rt.alloc());
+    let mut source = Pattern::new();
+    let mut out = [0];
+    source.next(&mut out);
+    budget.allow(0);
+    let Err(refused) = Device::new(&budget, source, 16) else {
+        panic!(rt; "memory was refused")
+    };
+    let mut source = refused.source;
+    source.next(&mut out);
+    assert_eq!(rt; out, [1]);
+    budget.allow(1);
+    assert!(rt; Device::new(&budget, source, 16).is_ok());
+    Ok(())
+}
