@@ -45,7 +45,7 @@ static void sync_file(const struct store *s) {
         exit(1);
 }
 
-/* The store is opened with the reads of `Store::open`: headers, the heads behind open gates, clips. */
+/* The store is opened with the calls of `Store::open`: superblock, headers, heads, clips, and the gates behind the last block's frames. */
 static void open_store(struct store *s, const char *path) {
     uint8_t superblock[512], header[512], head[32], table[2048];
     struct stat data;
@@ -72,6 +72,9 @@ static void open_store(struct store *s, const char *path) {
         for (uint32_t i = 0; i < held[j]; i++)
             read_at(s, 2560 + j * s->segment + 512 + i * (32 + (uint64_t)s->size), head, 32);
     read_at(s, 512, table, 2048);
+    uint32_t last = s->segments - 1;
+    if (held[last] + 1 < s->slots)
+        read_at(s, 2560 + last * s->segment + 256 + held[last] + 1, header, s->slots - held[last] - 1);
 }
 
 /* The slots of a group, one after the other. */
@@ -132,9 +135,11 @@ int main(int argc, char **argv) {
     struct store s;
     open_store(&s, argv[2]);
     uint32_t count = atoi(argv[3]), groups = atoi(argv[4]);
-    uint8_t *frames = calloc(8, s.size), *slots = malloc(8 * (32 + (size_t)s.size));
+    uint8_t *frames = malloc(count * (size_t)s.size), *slots = malloc(8 * (32 + (size_t)s.size));
     if (!frames || !slots || count == 0 || count > 8)
         return 1;
+    /* Pages that were never written would all be the system's one page of zeros, and stay in the cache. */
+    memset(frames, 1, count * (size_t)s.size);
     for (uint32_t n = 0; n < groups; n++)
         (strcmp(argv[1], "bare") ? append : append_bare)(&s, slots, frames, count);
     printf("appended, next %llu\n", (unsigned long long)s.next);

@@ -48,10 +48,11 @@ int main(int argc, char **argv) {
     int makes = argc == 5 && !strcmp(argv[1], "make");
     if (!makes && (argc != 7 || strcmp(argv[1], "append")))
         return 2;
-    int size = atoi(argv[3]), count = makes ? atoi(argv[4]) : atoi(argv[4]), groups = makes ? 1 : atoi(argv[5]), recycled = !makes && atoi(argv[6]);
-    void *bytes = calloc(1, size);
+    int size = atoi(argv[3]), count = atoi(argv[4]), groups = makes ? 1 : atoi(argv[5]), recycled = !makes && atoi(argv[6]);
+    void *bytes = malloc(size);
     if (!bytes || sqlite3_open(argv[2], &db) != SQLITE_OK)
         return 1;
+    memset(bytes, 1, size);
     run("pragma journal_mode=wal");
     run("pragma synchronous=full");
     if (makes)
