@@ -41,13 +41,19 @@ static void format(uint8_t *image, uint32_t w, uint32_t h, uint32_t s, uint32_t 
     sync_image();
 }
 
-static void store(uint8_t *image, uint8_t *slot, uint32_t size, uint64_t n) {
-    static const uint8_t open = 0xA5;
-    if (n == 0) {
-        static uint8_t header[511];
-        write_at(image, 2561, header, 511);
+static void store(uint8_t *image, uint8_t *slot, uint32_t s, uint32_t f, uint32_t size, uint64_t segment, uint64_t n) {
+    static const uint8_t open = 0xA5, closed = 0;
+    uint64_t block = n / f, first = n % f, at = 2560 + block % s * segment;
+    if (first == 0) {
+        static uint8_t header[512];
+        if (block >= s) {
+            write_at(image, at, &closed, 1);
+            sync_image();
+        }
+        put64(header + 8, block);
+        write_at(image, at + 1, header + 1, 511);
         sync_image();
-        write_at(image, 2560, &open, 1);
+        write_at(image, at, &open, 1);
         sync_image();
     }
     put64(slot, n);
@@ -59,9 +65,9 @@ static void store(uint8_t *image, uint8_t *slot, uint32_t size, uint64_t n) {
     uint8_t value = (uint8_t)n;
     for (uint32_t i = 0; i < size; i++)
         slot[32 + i] = value++;
-    write_at(image, 2560 + 512 + n * (32 + (uint64_t)size), slot, 32 + (size_t)size);
+    write_at(image, at + 512 + first * (32 + (uint64_t)size), slot, 32 + (size_t)size);
     sync_image();
-    write_at(image, 2560 + 256 + n, &open, 1);
+    write_at(image, at + 256 + first, &open, 1);
     sync_image();
 }
 
@@ -83,7 +89,7 @@ int main(int argc, char **argv) {
         format(image, w, h, s, f, size, segment);
         puts("formatted");
         for (uint64_t n = 0; n < k; n++)
-            store(image, slot, size, n);
+            store(image, slot, s, f, size, segment, n);
         if (k)
             printf("stored 0..%llu\n", (unsigned long long)(k - 1));
         else

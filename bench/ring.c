@@ -81,9 +81,11 @@ static int append_all(char **argv) {
     uint64_t groups = atoi(argv[7]), rounds = atoi(argv[8]);
     uint32_t size = w * h;
     uint64_t segment = 512 + f * (32 + (uint64_t)size), disk = 2560 + s * segment;
-    uint8_t *frames = calloc(count, size);
+    uint8_t *frames = malloc(count * (size_t)size);
     if (!frames || count > 8)
         return 1;
+    /* Pages that were never written would all be the system's one page of zeros, and stay in the cache. */
+    memset(frames, 1, count * (size_t)size);
     for (uint64_t round = 0; round < rounds; round++) {
         uint8_t *image = malloc(disk), *slots = malloc(8 * (32 + (size_t)size));
         if (!image || !slots)

@@ -1,4 +1,5 @@
-//! What `bench/run` times: appends to a ring in memory, and opening a store in a file. It prints only what was done.
+//! What `bench/run` and `bench/files` time: appends to a ring in memory, and a store in a file that is opened or appended to. It prints
+//! only what was done.
 //!
 //!     append WIDTH HEIGHT SEGMENTS SLOTS GROUP GROUPS ROUNDS
 //!
@@ -6,14 +7,18 @@
 //!
 //!     open PATH ROUNDS
 //!
-//! opens the store in a file, as many times. Without a word it does nothing.
+//! opens the store in a file, as many times;
+//!
+//!     append-file PATH GROUP GROUPS
+//!
+//! opens the store in a file once, and appends so many groups of GROUP frames. Without a word it does nothing.
 #![tactic(auto)]
 
 ghost use Rattle.std.specs.Prelude.{◌≡◌, All, IfOk, IsTrue, length};
 ghost use Rattle.loop_record.specs.Geometry.{frame_bytes, is_good};
 
 use anyhow::{Context, Error, Result, anyhow};
-use loop_disk::{FileDisk, MemDisk};
+use loop_disk::{Disk, FileDisk, MemDisk};
 use loop_record::{Frame, Geometry, PixelFormat};
 use loop_store::{OpenRefused, Store, StoreFault, format};
 use std::alloc::{AllocError, Global};
@@ -75,7 +80,7 @@ fn group_of(alloc: Global, geometry: &Geometry, count: u32) -> Result<Vec<Frame>
 }
 
 // Appends a group so many times.
-fn append_groups(store: &mut Store<MemDisk>, group: &[Frame], groups: u32) -> Result<()>
+fn append_groups<D: Disk + Drop>(store: &mut Store<D>, group: &[Frame], groups: u32) -> Result<()>
     requires { All (λ frame. length frame.bytes.items ≡ frame_bytes store.old.geometry) group.now }
 {
     for _ in 0..groups {
@@ -112,12 +117,12 @@ fn run_append(alloc: Global, words: &mut Args) -> Result<u64> {
     Ok(frames.saturating_mul(u64::from(rounds)))
 }
 
-// Opens the store in a file, and answers the number that its next frame gets.
-fn open_file(rt: &impl Files<File = File>, alloc: Global, path: &str) -> Result<u64> {
+// Opens the store in a file.
+fn open_file(rt: &impl Files<File = File>, alloc: Global, path: &str) -> Result<Store<FileDisk>> {
     let disk = FileDisk::open(rt, path)?;
     match Store::open(alloc, disk) {
         Err(OpenRefused { fault, disk: _ }) => Err(refused(fault)),
-        Ok(store) => Ok(store.next()),
+        Ok(store) => Ok(store),
     }
 }
 
@@ -126,9 +131,18 @@ fn run_open(rt: &impl Files<File = File>, alloc: Global, words: &mut Args) -> Re
     let path = words.next().context("a path is missing")?;
     let mut next = 0;
     for _ in 0..number(words)? {
-        next = open_file(rt, alloc, &path)?;
+        next = open_file(rt, alloc, &path)?.next();
     }
     Ok(next)
+}
+
+// Appends to a file as the next words say, and answers the number of the next frame.
+fn run_append_file(rt: &impl Files<File = File>, alloc: Global, words: &mut Args) -> Result<u64> {
+    let path = words.next().context("a path is missing")?;
+    let mut store = open_file(rt, alloc, &path)?;
+    let group = group_of(alloc, &store.geometry(), number(words)?)?;
+    append_groups(&mut store, &group, number(words)?)?;
+    Ok(store.next())
 }
 
 fn main(rt: HostRuntime) -> Result<()> {
@@ -146,6 +160,11 @@ fn main(rt: HostRuntime) -> Result<()> {
             println!(&rt; "opened, next {next}")?;
             Ok(())
         }
-        Some(_) => Err(anyhow!("append or open")),
+        Some(word) if word.as_str() == "append-file" => {
+            let next = run_append_file(&rt, rt.alloc(), &mut words)?;
+            println!(&rt; "appended, next {next}")?;
+            Ok(())
+        }
+        Some(_) => Err(anyhow!("append, append-file or open")),
     }
 }
