@@ -48,8 +48,8 @@ impl<S, A: Allocator + Copy> Model for Device<S, A> {
 }
 
 impl<S: FrameSource, A: Allocator + Copy> Device<S, A> {
-    /// A device for frames of so many bytes. Its buffer is taken here, and no tick takes memory. NoMemory: the buffer was
-    /// refused, and the source comes back.
+    /// A device for frames of so many bytes. Its buffer is taken here, and no tick takes memory. NoMemory: the
+    /// buffer was refused, and the source comes back.
     pub fn new(alloc: A, source: S, frame_bytes: u32) -> Result<Device<S, A>, NoMemory<S>>
         ensures new { IfOk result (IsNew source frame_bytes) }
         ensures back { IfErr result (λ refused. refused.source ≡ source) }
@@ -64,10 +64,10 @@ impl<S: FrameSource, A: Allocator + Copy> Device<S, A> {
         }
     }
 
-    /// One frame period, at `now` (microseconds). WrongSize, then Idle, change nothing. Otherwise the source is asked for a
-    /// frame. More completes the buffer that has been active longest, Bad fails it; without an active buffer the frame is
-    /// Missed. End is Ended. The sequence is 0 at the first frame after a start, and rises by one a frame, modulo 2^32, those
-    /// that are Bad or Missed among them; an End takes no number.
+    /// One frame period, at `now` (microseconds). WrongSize, then Idle, change nothing. Otherwise the source is
+    /// asked for a frame. More completes the buffer that has been active longest, Bad fails it; without an
+    /// active buffer the frame is Missed. End is Ended. The sequence is 0 at the first frame after a start, and
+    /// rises by one a frame, modulo 2^32, those that are Bad or Missed among them; an End takes no number.
     pub fn tick<P: PlaneMemory, B: Allocator + Copy>(
         &mut self,
         queue: &mut Queue<P, B>,

@@ -7,8 +7,8 @@ use loop_y4m::Y4mReader;
 use std::io::Read;
 use std::marker::Model;
 
-/// A source of an input's frames. A fault of the input, or a call for another length than that of its frames, is Bad once,
-/// and End comes after it. After an End there is nothing but End.
+/// A source of an input's frames. A fault of the input, or a call for another length than that of its frames,
+/// is Bad once, and End comes after it. After an End there is nothing but End.
 #[derive(Drop)]
 pub struct Y4mSource<R: Read + Drop> {
     reader: Y4mReader<R>,

@@ -1,10 +1,12 @@
-//! Frame sources, and a modelled device: a tick takes a frame from a source and ends a buffer of a queue with it.
+//! Frame sources, and a modelled device: a tick takes a frame from a source and ends a buffer of a queue with
+//! it.
 //!
-//! A tick is one frame period. Its contract is one relation (`specs/Ticks`): what it answers, for what the source answered,
-//! and the one event of the queue's model that it is. `specs/Sources` has what the sources here give.
+//! A tick is one frame period. Its contract is one relation (`specs/Ticks`): what it answers, for what the
+//! source answered, and the one event of the queue's model that it is. `specs/Sources` has what the sources
+//! here give.
 //!
-//! - `source`: what a source is, and a box of one; `pattern`: frames that tell which they are; `footage`: frames of a
-//!   YUV4MPEG2 input;
+//! - `source`: what a source is, and a box of one; `pattern`: frames that tell which they are; `footage`:
+//!   frames of a YUV4MPEG2 input;
 //! - `device`: the device, and its tick.
 #![tactic(auto)]
 

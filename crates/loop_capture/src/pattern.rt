@@ -5,8 +5,8 @@ ghost use Rattle.loop_capture.specs.Sources.{GivesPattern, pattern_bytes};
 use crate::source::{FrameSource, Next};
 use std::marker::Model;
 
-/// A source that never ends: byte i of its frame n is n + i, modulo 256, whatever length is asked for. Contracts see the
-/// number of its next frame, modulo 256.
+/// A source that never ends: byte i of its frame n is n + i, modulo 256, whatever length is asked for.
+/// Contracts see the number of its next frame, modulo 256.
 #[derive(Drop)]
 pub struct Pattern {
     first: u8,

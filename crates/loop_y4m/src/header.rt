@@ -147,7 +147,8 @@ fn complete(given: Parameters) -> Result<Header, Y4mFault>
     }
 }
 
-/// Reads a header line behind its `YUV4MPEG2` and a space. The first parameter from the left that can't be read decides.
+/// Reads a header line behind its `YUV4MPEG2` and a space. The first parameter from the left that can't be read
+/// decides.
 #[tactic(auto, using(crate::proofs::Words::last_parameter, crate::proofs::Words::more_parameters))]
 pub(crate) fn parse_header(text: &[u8]) -> Result<Header, Y4mFault>
     ensures value { result ≡ header_of text.now }

@@ -1,14 +1,16 @@
-//! YUV4MPEG2, the text in which raw video is piped between programs (mjpegtools' yuv4mpeg(5)): written for a geometry, and read
-//! from any reader.
+//! YUV4MPEG2, the text in which raw video is piped between programs (mjpegtools' yuv4mpeg(5)): written for a
+//! geometry, and read from any reader.
 //!
-//! `specs/` has the written text (`Text`), how a header line is read (`Header`), how a whole input is (`Stream`) and what an open
-//! reader answers (`Reader`); `Steps` is what private functions say. The code:
+//! `specs/` has the written text (`Text`), how a header line is read (`Header`), how a whole input is
+//! (`Stream`) and what an open reader answers (`Reader`); `Steps` is what private functions say. The code:
 //!
-//! - `reader`: the `Y4mReader`, which gives an input's frames one after another; `fault`: what can be wrong with an input;
+//! - `reader`: the `Y4mReader`, which gives an input's frames one after another; `fault`: what can be wrong
+//!   with an input;
 //! - `header`: what a stream's header line says; `number`: decimal numbers, judged by their value;
 //! - `input`: bytes and lines from a reader; `frame`: a frame's line and its bytes;
 //! - `text`: the header and the frames as they are written;
-//! - `laws`: that what is written is read back, and a run of calls gives all frames: contracts of functions that do nothing.
+//! - `laws`: that what is written is read back, and a run of calls gives all frames: contracts of functions
+//!   that do nothing.
 //!
 //! Nothing here takes memory.
 #![tactic(auto)]

@@ -14,9 +14,9 @@ use loop_record::PixelFormat;
 use std::io::Read;
 use std::marker::Model;
 
-/// An input whose header was read, and its frames one after another: the frames that `parse` has of the input, where the reader
-/// tells its bytes. It reads a byte a call up to the end of a line, and the rest of a frame at once, so who reads a file lends it a
-/// `BufReader`. A read that was interrupted is made again.
+/// An input whose header was read, and its frames one after another: the frames that `parse` has of the input,
+/// where the reader tells its bytes. It reads a byte a call up to the end of a line, and the rest of a frame at
+/// once, so who reads a file lends it a `BufReader`. A read that was interrupted is made again.
 #[derive(Drop)]
 pub struct Y4mReader<R: Read + Drop> {
     reader: R,
@@ -33,9 +33,10 @@ impl<R: Read + Drop> Model for Y4mReader<R> {
 }
 
 impl<R: Read + Drop> Y4mReader<R> {
-    /// Reads the header of an input, and nothing behind its line. NotY4m: the input doesn't begin as one. Truncated: it ends within
-    /// the line. BadHeader, UnsupportedColour, UnsupportedInterlace: what the line says can't be read. Read: the reader failed.
-    /// After each of them the reader is dropped; one that was lent has given an unknown count of bytes.
+    /// Reads the header of an input, and nothing behind its line. NotY4m: the input doesn't begin as one.
+    /// Truncated: it ends within the line. BadHeader, UnsupportedColour, UnsupportedInterlace: what the line
+    /// says can't be read. Read: the reader failed. After each of them the reader is dropped; one that was lent
+    /// has given an unknown count of bytes.
     pub fn open(mut reader: R) -> Result<Self, Y4mFault>
         ensures opened { IfSome (R.remaining reader) (λ bytes. OpensAs bytes result) }
         ensures fresh { IfOk result (λ r. r.fault ≡ None) }
@@ -86,10 +87,10 @@ impl<R: Read + Drop> Y4mReader<R> {
         self.header.frame_bytes()
     }
 
-    /// Reads the next frame's bytes into `out`, which has a frame's length: the planes Y, Cb and Cr without padding, or Y alone.
-    /// It answers false at the end, and then again. Truncated: the input ends within a frame or its line.
-    /// BadHeader: a line isn't a frame's. Read: the reader failed. After a fault `out` may hold any bytes, and each later call
-    /// answers that fault.
+    /// Reads the next frame's bytes into `out`, which has a frame's length: the planes Y, Cb and Cr without
+    /// padding, or Y alone. It answers false at the end, and then again. Truncated: the input ends within a
+    /// frame or its line. BadHeader: a line isn't a frame's. Read: the reader failed. After a fault `out` may
+    /// hold any bytes, and each later call answers that fault.
     pub fn next_frame(&mut self, out: &mut [u8]) -> Result<bool, Y4mFault>
         requires size { length out.old ≡ frame_size self.old.header }
         ensures frame { IfSome self.old.rest

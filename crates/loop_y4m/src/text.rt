@@ -1,5 +1,5 @@
-//! The text that is written: a header, and frames behind it. After a fault, which is the writer's own, a beginning of what the call
-//! writes was written; nothing is flushed.
+//! The text that is written: a header, and frames behind it. After a fault, which is the writer's own, a
+//! beginning of what the call writes was written; nothing is flushed.
 
 ghost use Rattle.std.specs.Prelude.{◌≡◌, ◌++◌, ◌∷◌, [], codes};
 ghost use Rattle.loop_y4m.specs.Text.{Wrote, colour_name, frame, header};
@@ -23,8 +23,8 @@ fn colour_name(format: PixelFormat) -> &'static str
     }
 }
 
-/// Writes the header of a geometry's frames: their size, rate and format, progressive and with an unknown aspect. After a fault a
-/// beginning of it was written.
+/// Writes the header of a geometry's frames: their size, rate and format, progressive and with an unknown
+/// aspect. After a fault a beginning of it was written.
 pub fn write_header<W: Write>(geometry: &Geometry, out: &mut W) -> Result<()>
     ensures { Wrote (W.contents out.old) (W.contents out.new) result (header geometry.now) }
 {
@@ -59,8 +59,8 @@ pub fn write_pixels<W: Write>(bytes: &[u8], out: &mut W) -> Result<()>
     put(bytes, out)
 }
 
-/// Writes a frame: its line, and its bytes, as many as the header's format and size have. Their count isn't looked at. After
-/// a fault a beginning of both was written.
+/// Writes a frame: its line, and its bytes, as many as the header's format and size have. Their count isn't
+/// looked at. After a fault a beginning of both was written.
 pub fn write_frame<W: Write>(bytes: &[u8], out: &mut W) -> Result<()>
     ensures { Wrote (W.contents out.old) (W.contents out.new) result (frame bytes.now) }
 {
@@ -68,8 +68,8 @@ pub fn write_frame<W: Write>(bytes: &[u8], out: &mut W) -> Result<()>
     write_pixels(bytes, out)
 }
 
-/// Writes all of these bytes. A write that was interrupted is made again, as `write_all` does, which doesn't say how much was
-/// written before a fault.
+/// Writes all of these bytes. A write that was interrupted is made again, as `write_all` does, which doesn't
+/// say how much was written before a fault.
 #[tactic(auto, using(crate::proofs::Writing::begins, crate::proofs::Writing::stands, crate::proofs::Writing::whole, crate::proofs::Writing::beginning))]
 fn put<W: Write>(bytes: &[u8], out: &mut W) -> Result<()>
     ensures { Wrote (W.contents out.old) (W.contents out.new) result bytes.now }

@@ -1,4 +1,5 @@
-//! Tests of loop_capture: a device's ticks with the pattern, with an input that is cut, and with a source that follows a list.
+//! Tests of loop_capture: a device's ticks with the pattern, with an input that is cut, and with a source that
+//! follows a list.
 #![tactic(auto)]
 
 #[cfg(test)]

@@ -74,7 +74,8 @@ impl Write for Gutter {
 /// What a header says: the format, the width, the height, and the rate.
 pub type Shape = (PixelFormat, u32, u32, (u32, u32));
 
-/// What an input is read as: its header or why it isn't opened, the bytes of all its frames, and what ends them, asked for twice.
+/// What an input is read as: its header or why it isn't opened, the bytes of all its frames, and what ends
+/// them, asked for twice.
 #[derive(Drop)]
 pub struct Story {
     pub opened: Result<Shape, Y4mFault>,

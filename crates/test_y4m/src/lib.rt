@@ -1,5 +1,5 @@
-//! Tests of loop_y4m: the worked rows of the format, inputs and outputs that are cut, interrupted or fail, what is written read
-//! back, and streams that ffmpeg and mjpegtools wrote.
+//! Tests of loop_y4m: the worked rows of the format, inputs and outputs that are cut, interrupted or fail, what
+//! is written read back, and streams that ffmpeg and mjpegtools wrote.
 #![tactic(auto)]
 
 #[cfg(test)]
