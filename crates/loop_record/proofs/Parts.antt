@@ -11,7 +11,8 @@ use Rattle.loop_record.specs.declared.geometry.Geometry.{Geometry}
 use Rattle.loop_record.specs.declared.geometry.PixelFormat.{PixelFormat}
 use Rattle.loop_record.specs.Geometry.{is_good, disk_size, segment_at, segment_size, clip_at}
 use Rattle.loop_record.specs.Recording.{Recording}
-use Rattle.loop_record.specs.Change.{SameBut, ShowsSegment}
+use Rattle.loop_disk.specs.Medium.{SameOutside}
+use Rattle.loop_record.specs.Change.{ShowsSegment}
 use Rattle.loop_record.specs.Layout.{Segment, segment_in, clip_in, geometry_in, checked_geometry, geometry_fields, format_at, is_formatted, is_super_of}
 use Rattle.loop_record.specs.Reading.{parts_of, shown, Contents, with_geometry, contents, reading}
 use Rattle.loop_record.proofs.Bounds.{limits}
@@ -19,10 +20,10 @@ use Rattle.loop_record.proofs.Framing.{SameWithin, map_range, same_segment, same
 
 -- ---- parts of one image and of the other
 
-pub within_before : (at n from to : ℕ) (old new : List ℕ) → SameBut at n old new → to ≤ at → SameWithin from to new old
+pub within_before : (at n from to : ℕ) (old new : List ℕ) → SameOutside at n old new → to ≤ at → SameWithin from to new old
 within_before at n from to old new s h = record { size = s.size; bytes = λ k l u. s.before k (omega (arith, u, h)) }
 
-pub within_behind : (at n from to : ℕ) (old new : List ℕ) → SameBut at n old new → at + n ≤ from → SameWithin from to new old
+pub within_behind : (at n from to : ℕ) (old new : List ℕ) → SameOutside at n old new → at + n ≤ from → SameWithin from to new old
 within_behind at n from to old new s h = record { size = s.size; bytes = λ k l u. s.behind k (omega (arith, l, h)) }
 
 -- a list over a range, with one element another

@@ -14,7 +14,7 @@ pub const HEADER_SIZE: usize = 512;
 const GATES: usize = 256;
 
 /// No frame has this number or one above it.
-const NUMBERS: u64 = 1 << 62;
+pub const NUMBERS_END: u64 = 1 << 62;
 
 /// What the header of an open segment says.
 #[derive(Clone, Copy, Debug, PartialEq, Eq)]
@@ -36,7 +36,7 @@ pub fn decode_header(geometry: &Geometry, bytes: &[u8]) -> Result<Option<Segment
         return Ok(None);
     }
     let block = u64_at(bytes, 8);
-    if block >= NUMBERS / u64::from(geometry.slots) {
+    if block >= NUMBERS_END / u64::from(geometry.slots) {
         return Err(Damage::BlockTooHigh);
     }
     Ok(Some(SegmentHead {

@@ -11,7 +11,7 @@ ghost use Rattle.loop_store.specs.Recovered.{IsIndex, IsIndexOf, IsNoted, IsOf};
 use crate::StoreFault;
 use crate::place::Place;
 use loop_clips::ClipTable;
-use loop_record::{Geometry, SegmentHead, Span};
+use loop_record::{Geometry, NUMBERS_END, SegmentHead, Span};
 use loop_ring::{Ring, SegmentIndex, victim_block};
 use std::alloc::{AllocError, Allocator};
 
@@ -26,16 +26,13 @@ pub(crate) struct Index<A: Allocator> {
     pub(crate) victim: Option<u64>,
 }
 
-/// No frame has this number or one above it.
-const NUMBERS: u64 = 1 << 62;
-
 /// The number that no frame gets: the first of a block that would reach 2^62.
 fn last_number(geometry: &Geometry) -> u64
     requires { IsTrue (is_good geometry.now) }
     ensures { result ≡ last_number (ring_of geometry.now) }
 {
     let slots = u64::from(geometry.slots);
-    slots * (NUMBERS / slots)
+    slots * (NUMBERS_END / slots)
 }
 
 /// Whether a segment has a frame of a block.
