@@ -1,5 +1,5 @@
 // The clips of a store in memory: the place of a clip is its id.
-ghost use Rattle.std.specs.Prelude.{◌≡◌, ◌≢◌, ◌+◌, ◌*◌, ◌≤◌, ◌<◌, IfOk, IsTrue, List, None, OnErr, OnOk, Option, Some, is_some, length, map, not, position, replicate, slice_index_or, slice_set};
+ghost use Rattle.std.specs.Prelude.{◌≡◌, ◌≢◌, ◌+◌, ◌*◌, ◌≤◌, ◌<◌, IfOk, IfSome, IsTrue, List, None, OnErr, OnOk, Option, Some, is_some, length, map, not, position, replicate, slice_index_or, slice_set};
 ghost use Rattle.std.specs.List.{list_any, range_with_len};
 ghost use Rattle.loop_clips.specs.Table.{IsFirstFree, ShowsClipOrNot, listed};
 ghost use Rattle.loop_disk.specs.Calls.{Called, Stays, failed_call};
@@ -77,7 +77,8 @@ impl ClipTable {
 
     /// The clip of an id, if one stands.
     pub fn get(&self, id: u32) -> Option<Span>
-        ensures { result ≡ slice_index_or self.now id None }
+        ensures clip { result ≡ slice_index_or self.now id None }
+        ensures within { IfSome result (λ span. id < 64) }
     {
         if (id as usize) < CLIPS {
             self.clips[id as usize]

@@ -1,5 +1,5 @@
 -- The calls of a store with their answers, and what they make of a recording: the model of the store.
-use Rattle.std.specs.Prelude.{◌≡◌, ◌≢◌, ◌⊎◌, ℕ, ◌+◌, ◌<◌, ◌≤◌, Bool, true, false, ◌||◌, IsTrue, Option, Some, None, Result, Ok, Err, List, [], length}
+use Rattle.std.specs.Prelude.{◌≡◌, ◌≢◌, ◌⊎◌, ℕ, ◌+◌, ◌<◌, ◌≤◌, Bool, true, false, ◌||◌, IsTrue, Option, Some, None, Result, Ok, Err, List, [], ◌∷◌, length}
 use Rattle.loop_disk.specs.declared.fault.DiskFault.{DiskFault}
 use Rattle.loop_record.specs.declared.clip.Span.{Span}
 use Rattle.loop_record.specs.declared.damage.Damage.TheVariants.{SlotHead}
@@ -87,15 +87,21 @@ pub record IsFirstMissing (r : Recording) (s : Span) (n : ℕ) : Type 0 where
   pub missing : holds r n ≡ false
   pub held : (m : ℕ) → s.from ≤ m → m < n → holds r m ≡ true
 
--- why a lock is refused: it must be reopened, or otherwise the span is empty, or otherwise this is the least of its
--- numbers that isn't held, or otherwise each id has a clip, or otherwise the disk failed
+-- why no clip of a span may be added: it is empty, or otherwise this is the least of its numbers that isn't held, or
+-- otherwise each id has a clip
+abbrev pub RefusesSpan : Recording → Span → StoreFault → Type 0
+RefusesSpan r span fault =
+    (fault ≡ ClipEmpty) × (span.to < span.from)
+    ⊎ (((n : ℕ) × ((fault ≡ ClipNotHeld n) × IsFirstMissing r span n))
+    ⊎ (fault ≡ ClipTableFull) × ((span.from ≤ span.to) × ((holds_all r span ≡ true) × (free_id r ≡ 64))))
+
+-- why a lock is refused: it must be reopened, or otherwise no clip of the span may be added, or otherwise the disk
+-- failed
 abbrev pub RefusesLock : Geometry → StoreState → Span → StoreFault → Type 0
 RefusesLock g s span fault =
     (fault ≡ MustReopen) × (s.must_reopen ≡ true)
-    ⊎ ((fault ≡ ClipEmpty) × ((s.must_reopen ≡ false) × (span.to < span.from))
-    ⊎ ((n : ℕ) × ((fault ≡ ClipNotHeld n) × ((s.must_reopen ≡ false) × IsFirstMissing s.recording span n))
-    ⊎ ((fault ≡ ClipTableFull) × ((s.must_reopen ≡ false) × ((span.from ≤ span.to) × ((holds_all s.recording span ≡ true) × (free_id s.recording ≡ 64))))
-    ⊎ (is_disk fault ≡ true) × ((s.must_reopen ≡ false) × CanLock g s.recording span))))
+    ⊎ ((s.must_reopen ≡ false) × RefusesSpan s.recording span fault
+    ⊎ (is_disk fault ≡ true) × ((s.must_reopen ≡ false) × CanLock g s.recording span))
 
 -- why an unlock is refused: it must be reopened, or otherwise no clip has the id, or otherwise the disk failed
 abbrev pub RefusesUnlock : StoreState → ℕ → StoreFault → Type 0
@@ -164,6 +170,13 @@ count_stored _ = 0
 abbrev pub outline_after : Outline → Call → Outline
 outline_after o call = record { next = o.next + count_stored call; must_reopen = o.must_reopen || has_failed call }
 
+-- why a span may be refused, whatever is held
+abbrev pub CanRefuseSpan : Span → StoreFault → Type 0
+CanRefuseSpan span fault =
+    (fault ≡ ClipEmpty) × (span.to < span.from)
+    ⊎ (((n : ℕ) × ((fault ≡ ClipNotHeld n) × ((span.from ≤ n) × (n ≤ span.to))))
+    ⊎ (fault ≡ ClipTableFull) × (span.from ≤ span.to))
+
 -- the answer is one of those that the call may give there
 abbrev pub IsAllowed : Geometry → Outline → Call → Type 0
 IsAllowed g o (appended group (Ok number)) = (o.must_reopen ≡ false) × ((o.next ≢ last_number (ring_of g)) × (number ≡ o.next))
@@ -174,9 +187,7 @@ IsAllowed g o (appended group (Err fault)) =
 IsAllowed g o (locked span (Ok id)) = (o.must_reopen ≡ false) × (span.from ≤ span.to)
 IsAllowed g o (locked span (Err fault)) =
     (fault ≡ MustReopen) × (o.must_reopen ≡ true)
-    ⊎ ((fault ≡ ClipEmpty) × ((o.must_reopen ≡ false) × (span.to < span.from))
-    ⊎ ((n : ℕ) × ((fault ≡ ClipNotHeld n) × ((span.from ≤ n) × (n ≤ span.to))) ⊎ ((fault ≡ ClipTableFull) ⊎ (is_disk fault ≡ true)))
-    × ((o.must_reopen ≡ false) × (span.from ≤ span.to)))
+    ⊎ (o.must_reopen ≡ false) × (CanRefuseSpan span fault ⊎ (is_disk fault ≡ true) × (span.from ≤ span.to))
 IsAllowed g o (unlocked id (Ok x)) = o.must_reopen ≡ false
 IsAllowed g o (unlocked id (Err fault)) =
     (fault ≡ MustReopen) × (o.must_reopen ≡ true)

@@ -1,0 +1,187 @@
+-- What a lock and an unlock make of an image, of what is known of it, and of a store.
+use Rattle.std.proofs.Common.{◌≡◌, ◌≢◌, inl, inr, ℕ, suc, ◌+◌, ◌*◌, ◌<◌, ◌≤◌, Bool, true, false, not, is_some, Option, None, Some, Result, Ok, Err, OnOk, List, [], ◌∷◌, length, get_or, set, map, refl, sym, ap, ◌∙◌, subst, arith}
+use Rattle.std.proofs.lemmas.List.{length-map, set-get_or}
+use Rattle.std.proofs.lemmas.Result.{on_ok_weaker}
+use Rattle.std.proofs.lemmas.List.Sums.{prefix_len_stops}
+use Rattle.std.specs.List.{All, range_with_len}
+use Rattle.loop_disk.specs.declared.fault.DiskFault.{DiskFault}
+use Rattle.loop_disk.specs.Calls.{Called}
+use Rattle.loop_disk.specs.Medium.{Medium, IsSettled, IsSound, LeavesOnly}
+use Rattle.loop_disk.specs.Steps.{Changes}
+use Rattle.loop_disk.proofs.Moments.{weaker}
+use Rattle.loop_record.specs.declared.clip.Span.{Span}
+use Rattle.loop_record.specs.declared.geometry.Geometry.{Geometry}
+use Rattle.loop_record.specs.declared.segment.SegmentHead.{SegmentHead}
+use Rattle.loop_record.specs.Change.{ShowsClip}
+use Rattle.loop_record.specs.Geometry.{clip_at, disk_size, gate_at, segment_at, segment_size}
+use Rattle.loop_record.specs.Layout.{Segment, clip_in, is_open, segment_in, whole_frames}
+use Rattle.loop_record.specs.Reading.{Holds, Parts, parts_of, shown}
+use Rattle.loop_record.specs.Recording.{Recording, Step, after, clip_of, first_free, free_id, last_number, lock, plain, ring_of, unlock}
+use Rattle.loop_record.proofs.Clips.{clip_of-entry, clips-are, parts-clip, reading-clip, reading-lock, reading-unlock}
+use Rattle.loop_record.proofs.Framing.{same_open, same_segment, same_whole_frames}
+use Rattle.loop_record.proofs.Parts.{reading-stages, within_behind}
+use Rattle.loop_record.proofs.Readings.{get_or-map_range, length-range}
+use Rattle.loop_clips.specs.Table.{ShowsClipOrNot}
+use Rattle.loop_ring.specs.declared.ring.Ring.{Ring as LoopRing}
+use Rattle.loop_ring.specs.Heads.{going_first, heads_of}
+use Rattle.loop_ring.proofs.Heads.{head_of, heads-are}
+use Rattle.loop_store.specs.declared.index.Index.{Index}
+use Rattle.loop_store.specs.Calls.{CanLock}
+use Rattle.loop_store.specs.Held.{HasNoneStray, HoldsFrom, HoldsSome, Makes}
+use Rattle.loop_store.specs.Locks.{IsClipNoted, KeepsSegments, Takes}
+use Rattle.loop_store.specs.Recovered.{IsHeadIn, IsIndex, IsIndexOf}
+use Rattle.loop_store.specs.Seen.{IsKept, IsPresent, StandsFor, seen_with}
+use Rattle.loop_store.proofs.Grown.{held-some}
+use Rattle.loop_store.proofs.Looks.{told-by}
+
+-- ---- an image
+
+-- the segments of an image are the old ones where one entry has changed
+pub segments-kept : (g : Geometry) (id : ℕ) (c : Option Span) (old new : List ℕ) → g.slots ≤ 256 → id < 64 → ShowsClip id c old new → HasNoneStray g old → KeepsSegments g old new
+segments-kept g id c old new few l shows clean = record {
+  heads = heads-are g new ∙ ap (λ (p : Parts). map head_of p.segments) (parts-clip g id c old new few l shows) ∙ sym (heads-are g old);
+  unstray = λ j in_ring there i whole in_slots.
+      let same = same_segment g new old j few (within_behind (clip_at id) 32 (segment_at g j) (segment_at g j + segment_size g) old new shows.outside (omega (arith, l))) in
+      let frames = same_whole_frames g new old j few (within_behind (clip_at id) 32 (segment_at g j) (segment_at g j + 512) old new shows.outside (omega (arith, l))) in
+      let gate = same_open new old (gate_at g j i) (within_behind (clip_at id) 32 (gate_at g j i) (gate_at g j i + 1) old new shows.outside (omega (arith, l))) in
+      gate ∙ clean j in_ring (λ none. there (same ∙ none)) i (omega (arith, whole, frames)) in_slots;
+}
+
+-- an image whose entry is as it was reads the same
+same-held : (g : Geometry) (r : Recording) (id : ℕ) (old c : List ℕ) → Holds g r old → id < 64 → ShowsClip id (clip_in old id) old c → Holds g r c
+same-held g r id old c held l shows =
+    let clips = map (clip_in old) (range_with_len 0 64) in
+    let at : 0 + id ≡ id = omega arith in
+    let there : clip_in old id ≡ get_or clips id None = ap (clip_in old) (sym at) ∙ sym (get_or-map_range (clip_in old) 0 64 id None l) in
+    let same : set clips id (clip_in old id) ≡ clips = ap (λ (x : Option Span). set clips id x) there ∙ set-get_or clips id None in
+    reading-clip g r r id (clip_in old id) old c held l shows (ap (λ (cs : List (Option Span)). shown g (record { segments = (parts_of g old).segments; clips = cs })) same ∙ (reading-stages g r old held).recording)
+
+one-step : (g : Geometry) (r : Recording) (step : Step) (c : List ℕ) → Holds g (after (ring_of g) r step) c → HoldsSome g r (step ∷ []) c
+one-step g r step c held = record { count = 1; enough = omega arith; few = omega arith; held = held }
+
+pub lock-held : (g : Geometry) (r : Recording) (span : Span) (id : ℕ) (old c : List ℕ) → Holds g r old → Takes g span id r → ShowsClip id (Some span) old c → Holds g (after (ring_of g) r (lock span)) c
+lock-held g r span id old c held takes shows = reading-lock g r span old c held takes.legal (subst (λ (k : ℕ). ShowsClip k (Some span) old c) takes.id_is shows)
+
+pub lock-some : (g : Geometry) (r : Recording) (span : Span) (id : ℕ) (old c : List ℕ) → Holds g r old → id < 64 → Takes g span id r → ShowsClipOrNot id (Some span) old c → HoldsSome g r (lock span ∷ []) c
+lock-some g r span id old c held l takes (inl same) = held-some g r (lock span ∷ []) c (same-held g r id old c held l same)
+lock-some g r span id old c held l takes (inr shows) = one-step g r (lock span) c (lock-held g r span id old c held takes shows)
+
+pub unlock-held : (g : Geometry) (r : Recording) (id : ℕ) (old c : List ℕ) → Holds g r old → id < 64 → ShowsClip id None old c → Holds g (after (ring_of g) r (unlock id)) c
+unlock-held g r id old c held l shows = reading-unlock g r id old c held l shows
+
+pub unlock-some : (g : Geometry) (r : Recording) (id : ℕ) (old c : List ℕ) → Holds g r old → id < 64 → ShowsClipOrNot id None old c → HoldsSome g r (unlock id ∷ []) c
+unlock-some g r id old c held l (inl same) = held-some g r (unlock id ∷ []) c (same-held g r id old c held l same)
+unlock-some g r id old c held l (inr shows) = one-step g r (unlock id) c (unlock-held g r id old c held l shows)
+
+-- ---- the calls
+
+pub lock-makes : {T : Type 0} (g : Geometry) (span : Span) (id : ℕ) (old new : Medium) (result : Result T DiskFault) → g.slots ≤ 256 → id < 64 → (old.honest → HasNoneStray g old.bytes)
+    → Changes (ShowsClipOrNot id (Some span) old.bytes) (ShowsClip id (Some span) old.bytes) old new result → Makes g (Takes g span id) (λ r. lock span ∷ []) (KeepsSegments g old.bytes) old new result
+lock-makes g span id old new result few l clean changes = record {
+  moments = λ r one honest held. weaker old new _ _ (changes.moments honest) (λ image some. lock-some g r span id old.bytes image held l one some);
+  held = λ r one honest held. on_ok_weaker result (λ shows. lock-held g r span id old.bytes new.bytes held one shows) (changes.such honest);
+  such = λ honest. on_ok_weaker result (λ shows. segments-kept g id (Some span) old.bytes new.bytes few l shows (clean honest)) (changes.such honest);
+  settled = changes.settled;
+  called = changes.called;
+}
+
+pub unlock-makes : {T : Type 0} (g : Geometry) (id : ℕ) (old new : Medium) (result : Result T DiskFault) → g.slots ≤ 256 → id < 64 → (old.honest → HasNoneStray g old.bytes)
+    → Changes (ShowsClipOrNot id None old.bytes) (ShowsClip id None old.bytes) old new result → Makes g (λ r. clip_of r id ≢ None) (λ r. unlock id ∷ []) (KeepsSegments g old.bytes) old new result
+unlock-makes g id old new result few l clean changes = record {
+  moments = λ r one honest held. weaker old new _ _ (changes.moments honest) (λ image some. unlock-some g r id old.bytes image held l some);
+  held = λ r one honest held. on_ok_weaker result (λ shows. unlock-held g r id old.bytes new.bytes held l shows) (changes.such honest);
+  such = λ honest. on_ok_weaker result (λ shows. segments-kept g id None old.bytes new.bytes few l shows (clean honest)) (changes.such honest);
+  settled = changes.settled;
+  called = changes.called;
+}
+
+-- ---- the entry of an id
+
+-- the first free id has no clip
+free-none : (clips : List (Option Span)) → first_free clips < length clips → get_or clips (first_free clips) None ≡ None
+free-none clips l = go (get_or clips (first_free clips) None) (prefix_len_stops (λ c. not (not (is_some c))) clips None l)
+  where
+    go : (c : Option Span) → not (not (is_some c)) ≡ false → c ≡ None
+    go None e = refl
+    go (Some s) e = absurd cc
+
+-- what an index says of an id stands in the entry
+entry-is : {A : Type 0} (index : Index A) (m : Medium) (id : ℕ) → IsPresent index m → id < 64 → clip_in m.bytes id ≡ get_or index.clips id None
+entry-is index m id present l =
+    let known = present.recorded.known in
+    sym (clip_of-entry index.ring.geometry present.recorded.recording m.bytes id known.held l) ∙ ap (λ (cs : List (Option Span)). get_or cs id None) (sym known.clips_are)
+
+pub entry-closed : {A : Type 0} (index : Index A) (m : Medium) (id : ℕ) → IsPresent index m → id < 64 → id ≡ first_free index.clips → clip_in m.bytes id ≡ None
+entry-closed index m id present l is =
+    let known = present.recorded.known in
+    let size : length index.clips ≡ 64 = ap length (known.clips_are ∙ clips-are index.ring.geometry present.recorded.recording m.bytes known.held) ∙ length-map (range_with_len 0 64) (clip_in m.bytes) ∙ length-range 0 64 in
+    entry-is index m id present l ∙ ap (λ (k : ℕ). get_or index.clips k None) is ∙ free-none index.clips (omega (arith, size, l, is))
+
+pub entry-open : {A : Type 0} (index : Index A) (m : Medium) (id : ℕ) → IsPresent index m → id < 64 → get_or index.clips id None ≢ None → clip_in m.bytes id ≢ None
+entry-open index m id present l some none = some (sym (entry-is index m id present l) ∙ none)
+
+-- ---- what is known
+
+-- what is known where a clip was noted
+pub record Noted {D A : Type 0} (medium : D → Medium) (old new : D) (was now : Index A) (id : ℕ) (clip : Option Span) (IsOne : Recording → Type 0) (step : Step) : Type 0 where
+  pub noted : IsClipNoted was now id clip
+  pub called : Called (medium old) (medium new) None
+  pub segments : (medium old).honest → KeepsSegments was.ring.geometry (medium old).bytes (medium new).bytes
+  pub settled : (medium old).honest → IsSettled (medium new)
+  pub held : (r : Recording) → IsOne r → (medium old).honest → Holds was.ring.geometry r (medium old).bytes → Holds was.ring.geometry (after (ring_of was.ring.geometry) r step) (medium new).bytes
+  pub next : (r : Recording) → (after (ring_of was.ring.geometry) r step).next ≡ r.next
+  pub clips : (r : Recording) → IsOne r → (after (ring_of was.ring.geometry) r step).clips ≡ set r.clips id clip
+
+geometry-same : {A : Type 0} (was now : Index A) (id : ℕ) (clip : Option Span) → IsClipNoted was now id clip → now.ring.geometry ≡ was.ring.geometry
+geometry-same was now id clip noted = ap (λ (x : LoopRing). x.geometry) noted.ring
+
+known-noted : {D A : Type 0} (medium : D → Medium) (old new : D) (was now : Index A) (id : ℕ) (clip : Option Span) (IsOne : Recording → Type 0) (step : Step) (r : Recording) → Noted medium old new was now id clip IsOne step → IsOne r → (medium old).honest
+    → IsIndexOf was r (medium old).bytes → IsIndexOf now (after (ring_of was.ring.geometry) r step) (medium new).bytes
+known-noted medium old new was now id clip IsOne step r n one honest known =
+    let g = was.ring.geometry in
+    let same = geometry-same was now id clip n.noted in record {
+      held = subst (λ (h : Geometry). Holds h (after (ring_of g) r step) (medium new).bytes) (sym same) (n.held r one honest known.held);
+      next_is = n.noted.next ∙ known.next_is ∙ sym (n.next r);
+      heads_are = n.noted.heads ∙ known.heads_are ∙ sym (n.segments honest).heads ∙ ap (λ (h : Geometry). heads_of h (medium new).bytes) (sym same);
+      clips_are = n.noted.clips ∙ ap (λ (cs : List (Option Span)). set cs id clip) known.clips_are ∙ sym (n.clips r one);
+    }
+
+index-noted : {A : Type 0} (was now : Index A) (id : ℕ) (clip : Option Span) → IsClipNoted was now id clip → IsIndex was → IsIndex now
+index-noted was now id clip noted whole =
+    let same = geometry-same was now id clip noted in record {
+      count = ap length noted.heads ∙ whole.count ∙ ap (λ (h : Geometry). h.segments) (sym same);
+      within = subst (λ (h : Geometry). All (IsHeadIn h) now.table) (sym same) (subst (All (IsHeadIn was.ring.geometry)) (sym noted.heads) whole.within);
+      few = subst (λ (h : Geometry). now.next ≤ last_number (ring_of h)) (sym same) (subst (λ (k : ℕ). k ≤ last_number (ring_of was.ring.geometry)) (sym noted.next) whole.few);
+      victim_is = noted.victim ∙ (λ i. going_first (ring_of (sym same i)) now.clips (sym noted.heads i));
+    }
+
+pub kept-noted : {D A : Type 0} (medium : D → Medium) (old new : D) (was now : Index A) (id : ℕ) (clip : Option Span) (IsOne : Recording → Type 0) (step : Step) (must : Bool) → IsKept medium old was must → must ≡ false
+    → ((r : Recording) → (medium old).honest → IsIndexOf was r (medium old).bytes → IsOne r) → Noted medium old new was now id clip IsOne step → IsKept medium new now must
+kept-noted medium old new was now id clip IsOne step must kept fine one n =
+    let same = geometry-same was now id clip n.noted in record {
+      fits = record {
+        size_is = n.called.size ∙ kept.fits.size_is ∙ ap disk_size (sym same);
+        whole = index-noted was now id clip n.noted kept.fits.whole;
+      };
+      present = λ f honest.
+          let back = n.called.honest.1 honest in
+          let there = (kept.present fine back).recorded in record {
+            recorded = record {
+              recording = after (ring_of was.ring.geometry) there.recording step;
+              known = known-noted medium old new was now id clip IsOne step there.recording n (one there.recording back there.known) back there.known;
+            };
+            settled = n.settled back;
+            unstray = subst (λ (h : Geometry). HasNoneStray h (medium new).bytes) (sym same) (n.segments back).unstray;
+          };
+    }
+
+pub stands-noted : {D A : Type 0} (medium : D → Medium) (old new : D) (was now : Index A) (id : ℕ) (clip : Option Span) (IsOne : Recording → Type 0) (step : Step) (must : Bool) (r : Recording) → (medium old).honest → IsIndexOf was r (medium old).bytes → IsOne r → IsIndex was
+    → 1 ≤ was.ring.geometry.slots → Noted medium old new was now id clip IsOne step → StandsFor medium (seen_with new now must) (plain (ring_of was.ring.geometry) r (step ∷ []))
+stands-noted medium old new was now id clip IsOne step must r honest known one whole some n =
+    let g = was.ring.geometry in
+    let after = known-noted medium old new was now id clip IsOne step r n one honest known in
+    let slots : 1 ≤ now.ring.geometry.slots = subst (λ (h : Geometry). 1 ≤ h.slots) (sym (geometry-same was now id clip n.noted)) some in record {
+      told = λ there. told-by new now must (plain (ring_of g) r (step ∷ [])) (medium new).bytes slots (index-noted was now id clip n.noted whole).within after;
+      settled = λ fine there. n.settled honest;
+      held = λ fine there. after.held;
+    }
