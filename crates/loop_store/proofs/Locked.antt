@@ -1,5 +1,5 @@
 -- What a lock and an unlock make of an image, of what is known of it, and of a store.
-use Rattle.std.proofs.Common.{◌≡◌, ◌≢◌, inl, inr, ℕ, suc, ◌+◌, ◌*◌, ◌<◌, ◌≤◌, Bool, true, false, not, is_some, Option, None, Some, Result, Ok, Err, OnOk, List, [], ◌∷◌, length, get_or, set, map, refl, sym, ap, ◌∙◌, subst, arith}
+use Rattle.std.proofs.Common.{◌≡◌, ◌≢◌, inl, inr, ℕ, suc, ◌+◌, ◌*◌, ◌<◌, ◌≤◌, Bool, true, false, not, ◌&&◌, leb, ltb, is_some, Option, None, Some, Result, Ok, Err, OnOk, List, [], ◌∷◌, length, get_or, set, map, refl, sym, ap, ◌∙◌, subst, arith}
 use Rattle.std.proofs.lemmas.List.{length-map, set-get_or}
 use Rattle.std.proofs.lemmas.Result.{on_ok_weaker}
 use Rattle.std.proofs.lemmas.List.Sums.{prefix_len_stops}
@@ -16,15 +16,16 @@ use Rattle.loop_record.specs.Change.{ShowsClip}
 use Rattle.loop_record.specs.Geometry.{clip_at, disk_size, gate_at, segment_at, segment_size}
 use Rattle.loop_record.specs.Layout.{Segment, clip_in, is_open, segment_in, whole_frames}
 use Rattle.loop_record.specs.Reading.{Holds, Parts, parts_of, shown}
-use Rattle.loop_record.specs.Recording.{Recording, Step, after, clip_of, first_free, free_id, last_number, lock, plain, ring_of, unlock}
+use Rattle.loop_record.specs.Recording.{Recording, Step, after, clip_of, first_free, free_id, holds, last_number, lock, plain, ring_of, unlock}
 use Rattle.loop_record.proofs.Clips.{clip_of-entry, clips-are, parts-clip, reading-clip, reading-lock, reading-unlock}
+use Rattle.loop_record.proofs.Decided.{at_most, at_most_test, both}
 use Rattle.loop_record.proofs.Framing.{same_open, same_segment, same_whole_frames}
 use Rattle.loop_record.proofs.Parts.{reading-stages, within_behind}
 use Rattle.loop_record.proofs.Readings.{get_or-map_range, length-range}
 use Rattle.loop_clips.specs.Table.{ShowsClipOrNot}
 use Rattle.loop_ring.specs.declared.ring.Ring.{Ring as LoopRing}
-use Rattle.loop_ring.specs.Heads.{going_first, heads_of}
-use Rattle.loop_ring.proofs.Heads.{head_of, heads-are}
+use Rattle.loop_ring.specs.Heads.{going_first, has_number, heads_of}
+use Rattle.loop_ring.proofs.Heads.{head_of, heads-are, heads-length}
 use Rattle.loop_store.specs.declared.index.Index.{Index}
 use Rattle.loop_store.specs.Calls.{CanLock}
 use Rattle.loop_store.specs.Held.{HasNoneStray, HoldsFrom, HoldsSome, Makes}
@@ -32,7 +33,9 @@ use Rattle.loop_store.specs.Locks.{IsClipNoted, KeepsSegments, Takes}
 use Rattle.loop_store.specs.Recovered.{IsHeadIn, IsIndex, IsIndexOf}
 use Rattle.loop_store.specs.Seen.{IsKept, IsPresent, StandsFor, seen_with}
 use Rattle.loop_store.proofs.Grown.{held-some}
-use Rattle.loop_store.proofs.Looks.{told-by}
+use Rattle.loop_store.specs.Numbers.{is_among}
+use Rattle.loop_store.proofs.Looks.{there-held, told-by}
+use Rattle.loop_store.proofs.Numbers.{among-block, among-range}
 
 -- ---- an image
 
@@ -185,3 +188,22 @@ stands-noted medium old new was now id clip IsOne step must r honest known one w
       settled = λ fine there. n.settled honest;
       held = λ fine there. after.held;
     }
+
+-- ---- runs of held numbers
+
+-- the numbers of a block's frames, from one of them on, are held
+pub run-held : (g : Geometry) (r : Recording) (image : List ℕ) (table : List (Option SegmentHead)) (j n m : ℕ) (h : SegmentHead) → Holds g r image → table ≡ heads_of g image → All (IsHeadIn g) table → j < g.segments → 1 ≤ g.slots
+    → get_or table j None ≡ Some h → has_number g.slots n (get_or table j None) ≡ true → n ≤ m → m < h.block * g.slots + h.frames → holds r m ≡ true
+run-held g r image table j n m h held same within l some there has low high =
+    let few : h.frames ≤ g.slots = (subst (IsHeadIn g) there (within-at j l)).0 in
+    let mine : has_number g.slots n (Some h) ≡ true = subst (λ (o : Option SegmentHead). has_number g.slots n o ≡ true) there has in
+    let from : h.block * g.slots ≤ n = first-le (among-block n g.slots h.block h.frames some few ∙ mine) in
+    let next : has_number g.slots m (Some h) ≡ true = sym (among-block m g.slots h.block h.frames some few) ∙ among-range m (h.block * g.slots) h.frames ∙ (λ i. at_most_test (h.block * g.slots) m (omega (arith, from, low)) i && at_most_test (suc m) (h.block * g.slots + h.frames) (omega (arith, high)) i) in
+    there-held g r image table j m held same l (ap (has_number g.slots m) there ∙ next)
+  where
+    within-at : (j : ℕ) → j < g.segments → IsHeadIn g (get_or table j None)
+    within-at j l = within j None (omega (arith, l, ap length same, heads-length g image))
+
+    first-le : is_among (range_with_len (h.block * g.slots) h.frames) n ≡ true → h.block * g.slots ≤ n
+    first-le e = at_most (h.block * g.slots) n (both (leb (h.block * g.slots) n) (ltb n (h.block * g.slots + h.frames)) (sym (among-range n (h.block * g.slots) h.frames) ∙ e)).0
+
