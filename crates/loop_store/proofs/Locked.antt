@@ -1,5 +1,5 @@
 -- What a lock and an unlock make of an image, of what is known of it, and of a store.
-use Rattle.std.proofs.Common.{◌≡◌, ◌≢◌, inl, inr, ℕ, suc, ◌+◌, ◌*◌, ◌<◌, ◌≤◌, Bool, true, false, not, ◌&&◌, leb, ltb, is_some, Option, None, Some, Result, Ok, Err, OnOk, List, [], ◌∷◌, length, get_or, set, map, refl, sym, ap, ◌∙◌, subst, arith}
+use Rattle.std.proofs.Common.{◌≡◌, ◌≢◌, inl, inr, ℕ, suc, ◌+◌, ◌*◌, ◌<◌, ◌≤◌, Bool, true, false, not, ◌&&◌, leb, ltb, if◌then◌else◌, is_some, Option, None, Some, Result, Ok, Err, OnOk, List, [], ◌∷◌, length, get_or, set, map, refl, sym, ap, ◌∙◌, subst, arith}
 use Rattle.std.proofs.lemmas.List.{length-map, set-get_or}
 use Rattle.std.proofs.lemmas.Result.{on_ok_weaker}
 use Rattle.std.proofs.lemmas.List.Sums.{prefix_len_stops}
@@ -27,14 +27,19 @@ use Rattle.loop_ring.specs.declared.ring.Ring.{Ring as LoopRing}
 use Rattle.loop_ring.specs.Heads.{going_first, has_number, heads_of}
 use Rattle.loop_ring.proofs.Heads.{head_of, heads-are, heads-length}
 use Rattle.loop_store.specs.declared.index.Index.{Index}
-use Rattle.loop_store.specs.Calls.{CanLock}
+use Rattle.loop_store.specs.declared.fault.StoreFault.{StoreFault}
+use Rattle.loop_store.specs.declared.fault.StoreFault.TheVariants.{NoSuchClip}
+use Rattle.loop_store.specs.Calls.{Call, CanRefuseSpan, IsAllowed, IsAnswered, RefusesSpan, StoreState, begun, count_stored, failed_for, has_failed, locked, made, unlocked}
+use Rattle.loop_store.specs.Faults.{failed_by, is_disk}
+use Rattle.loop_store.specs.Goes.{Goes, outline_of}
 use Rattle.loop_store.specs.Held.{HasNoneStray, HoldsFrom, HoldsSome, Makes}
 use Rattle.loop_store.specs.Locks.{IsClipNoted, KeepsSegments, Takes}
 use Rattle.loop_store.specs.Recovered.{IsHeadIn, IsIndex, IsIndexOf}
-use Rattle.loop_store.specs.Seen.{IsKept, IsPresent, StandsFor, seen_with}
+use Rattle.loop_store.specs.Seen.{IsKept, IsPresent, Seen, StandsFor, seen_with}
 use Rattle.loop_store.proofs.Grown.{held-some}
 use Rattle.loop_store.specs.Numbers.{is_among}
-use Rattle.loop_store.proofs.Looks.{there-held, told-by}
+use Rattle.loop_store.proofs.Looks.{known-by, there-held, told-by}
+use Rattle.loop_store.proofs.Once.{goes-done, goes-failed, goes-refused}
 use Rattle.loop_store.proofs.Numbers.{among-block, among-range}
 
 -- ---- an image
@@ -207,3 +212,87 @@ run-held g r image table j n m h held same within l some there has low high =
     first-le : is_among (range_with_len (h.block * g.slots) h.frames) n ≡ true → h.block * g.slots ≤ n
     first-le e = at_most (h.block * g.slots) n (both (leb (h.block * g.slots) n) (ltb n (h.block * g.slots + h.frames)) (sym (among-range n (h.block * g.slots) h.frames) ∙ e)).0
 
+-- ---- a store
+
+-- a call that adds a clip or takes one away, by what it says where it is answered, and of a recording of which it may be made
+pub record IsClipCall (g : Geometry) (c : Call) (IsOne : Recording → Type 0) : Type 0 where
+  pub stored : count_stored c ≡ 0
+  pub answers : (s : StoreState) → s.must_reopen ≡ false → IsOne s.recording → IsAnswered g s c
+
+pub goes-noted : {D A : Type 0} (medium : D → Medium) (old new : D) (was now : Index A) (must : Bool) (id : ℕ) (clip : Option Span) (IsOne : Recording → Type 0) (step : Step) (c : Call) → IsKept medium old was must → must ≡ false → 1 ≤ was.ring.geometry.slots
+    → Noted medium old new was now id clip IsOne step → ((r : Recording) → IsOne r → (medium old).honest → Holds was.ring.geometry r (medium old).bytes → LeavesOnly (medium old) (medium new) (HoldsSome was.ring.geometry r (step ∷ [])))
+    → ((r : Recording) → (medium old).honest → IsIndexOf was r (medium old).bytes → IsOne r) → IsClipCall was.ring.geometry c IsOne → has_failed c ≡ false → failed_for c ≡ None → ((s : StoreState) → made was.ring.geometry s c ≡ step ∷ []) → ((s : StoreState) → begun was.ring.geometry s c ≡ [])
+    → IsAllowed was.ring.geometry (outline_of (seen_with old was must)) c → Goes medium (seen_with old was must) (seen_with new now must) (c ∷ [])
+goes-noted medium old new was now must id clip IsOne step c kept fine some n moments one call unfailed none made_all begun_none allowed =
+    goes-done medium (seen_with old was must) (seen_with new now must) c (λ r. step ∷ []) (record {
+      fine = fine;
+      still = fine;
+      next = omega (arith, n.noted.next, call.stored);
+      geometry = geometry-same was now id clip n.noted;
+      called = n.called;
+      unfailed = unfailed;
+      none = none;
+      made_all = made_all;
+      begun_none = begun_none;
+      answers = λ s stands honest. call.answers s (sym stands.must_reopen ∙ fine) (one s.recording honest (known-by medium old was must s.recording kept stands.recording fine honest));
+      allowed = allowed;
+      moments = λ r stands honest. let known = known-by medium old was must r kept stands fine honest in moments r (one r honest known) honest known.held;
+      stands = λ r stands honest.
+          let known = known-by medium old was must r kept stands fine honest in
+          stands-noted medium old new was now id clip IsOne step must r honest known (one r honest known) kept.fits.whole some n;
+    })
+
+pub goes-unnoted : {D A : Type 0} (medium : D → Medium) (old new : D) (was now : Index A) (must : Bool) (IsOne : Recording → Type 0) (step : Step) (c : Call) (fault : DiskFault) → IsKept medium old was must → must ≡ false → now ≡ was
+    → ((medium new).honest → IsSound (medium new)) → Called (medium old) (medium new) (Some fault) → ((r : Recording) → IsOne r → (medium old).honest → Holds was.ring.geometry r (medium old).bytes → LeavesOnly (medium old) (medium new) (HoldsSome was.ring.geometry r (step ∷ [])))
+    → ((r : Recording) → (medium old).honest → IsIndexOf was r (medium old).bytes → IsOne r) → IsClipCall was.ring.geometry c IsOne → has_failed c ≡ true → failed_for c ≡ Some fault → ((s : StoreState) → made was.ring.geometry s c ≡ []) → ((s : StoreState) → begun was.ring.geometry s c ≡ step ∷ [])
+    → IsAllowed was.ring.geometry (outline_of (seen_with old was must)) c → Goes medium (seen_with old was must) (seen_with new now true) (c ∷ [])
+goes-unnoted medium old new was now must IsOne step c fault kept fine same sound called moments one call has some made_none begun_all allowed =
+    goes-failed medium (seen_with old was must) (seen_with new now true) c (λ r. step ∷ []) fault (record {
+      fine = fine;
+      failed = λ i. seen_with new (same i) true;
+      called = called;
+      sound = sound;
+      has = has;
+      some = some;
+      stored = call.stored;
+      made_none = made_none;
+      begun_all = begun_all;
+      answers = λ s stands honest. call.answers s (sym stands.must_reopen ∙ fine) (one s.recording honest (known-by medium old was must s.recording kept stands.recording fine honest));
+      allowed = allowed;
+      moments = λ r stands honest. let known = known-by medium old was must r kept stands fine honest in moments r (one r honest known) honest known.held;
+    })
+
+-- ---- refusals
+
+-- a span that is refused says nothing of the disk
+pub span-quiet : (span : Span) (fault : StoreFault) → CanRefuseSpan span fault → (is_disk fault ≡ false) × (failed_by fault ≡ None)
+span-quiet span fault (inl x) = (ap is_disk x.0, ap failed_by x.0)
+span-quiet span fault (inr (inl x)) = (ap is_disk x.1.0, ap failed_by x.1.0)
+span-quiet span fault (inr (inr x)) = (ap is_disk x.0, ap failed_by x.0)
+
+pub lock-refused : {D : Type 0} (medium : D → Medium) (s : Seen D) (span : Span) (fault : StoreFault) → ((medium s.disk).honest → IsSound (medium s.disk)) → s.must_reopen ≡ false → CanRefuseSpan span fault
+    → ((r : Recording) → StandsFor medium s r → (medium s.disk).honest → RefusesSpan r span fault) → Goes medium s s (locked span (Err fault) ∷ [])
+lock-refused medium s span fault sound fine can refuses =
+    let quiet = span-quiet span fault can in
+    goes-refused medium s (locked span (Err fault)) sound (record {
+      unfailed = quiet.0;
+      none = quiet.1;
+      stored = refl;
+      made_none = λ g t. refl;
+      begun_none = λ g t. ap (λ (b : Bool). if b then lock span ∷ [] else []) quiet.0;
+    }) (λ t stands honest. inr (inl (sym stands.must_reopen ∙ fine, refuses t.recording stands.recording honest))) (inr (fine, inl can))
+
+pub unlock-refused : {D : Type 0} (medium : D → Medium) (s : Seen D) (id : ℕ) → ((medium s.disk).honest → IsSound (medium s.disk)) → s.must_reopen ≡ false
+    → ((r : Recording) → StandsFor medium s r → (medium s.disk).honest → clip_of r id ≡ None) → Goes medium s s (unlocked id (Err NoSuchClip) ∷ [])
+unlock-refused medium s id sound fine none =
+    goes-refused medium s (unlocked id (Err NoSuchClip)) sound (record {
+      unfailed = refl;
+      none = refl;
+      stored = refl;
+      made_none = λ g t. refl;
+      begun_none = λ g t. refl;
+    }) (λ t stands honest. inr (inl (refl, (sym stands.must_reopen ∙ fine, none t.recording stands.recording honest)))) (inr (inl refl, fine))
+
+-- what an index says of an id is what its recording does
+pub clip-known : {A : Type 0} (index : Index A) (r : Recording) (image : List ℕ) (id : ℕ) → IsIndexOf index r image → clip_of r id ≡ get_or index.clips id None
+clip-known index r image id known = ap (λ (cs : List (Option Span)). get_or cs id None) (sym known.clips_are)

@@ -61,7 +61,7 @@ fn first_missing<A: Allocator>(index: &Index<A>, span: Span) -> Option<u64>
 /// The id under which a clip of a span may be added. `ClipEmpty`, then `ClipNotHeld`, then `ClipTableFull`.
 fn id_for<A: Allocator>(index: &Index<A>, span: Span) -> Result<u32, StoreFault>
     requires { IsIndex index.now }
-    ensures id { IfOk result (λ id. (id < 64) × (id ≡ first_free index.now.clips) × (span.from ≤ span.to)) }
+    ensures id { IfOk result (λ id. ((id < 64) × (id ≡ first_free index.now.clips)) × (span.from ≤ span.to)) }
     ensures refusals { IfErr result (CanRefuseSpan span) }
     ensures answers { (r : Recording) (image : List ℕ) → IsIndexOf index.now r image
         → AnswersSpan index.now.ring.geometry r span result }
