@@ -32,5 +32,6 @@ mod store;
 
 pub use command::{Command, ReadFrame, Reply};
 pub use fault::{OpenRefused, StoreFault};
+pub use loop_clips::Clip;
 pub use make::format;
 pub use store::Store;

@@ -29,16 +29,16 @@ returns-in-Ok-clause-kept g c =
     let makes = c.in-Ok.ensures.makes in
     let noted = c.in-Ok.ensures.noted in (
       kept-noted medium c.args.disk.now c.add_clip.new.disk i c.add_clip.new.index id (Some span) (Takes h span id) (lock span) c.args.must_reopen.now c.requires c.if-must_reopen.false
-      (λ r honest known. let said = c.in_ok-id.ensures.answers r (medium c.args.disk.now).bytes known in record { legal = said.0; id_is = said.1 })
-      (record {
-        noted = noted;
-        called = makes.called;
-        segments = makes.such;
-        settled = makes.settled;
-        held = makes.held;
-        next = λ r. refl;
-        clips = λ r one. ap (λ (k : ℕ). set r.clips k (Some span)) (sym one.id_is);
-      }),
+          (λ r honest known. let said = c.in_ok-id.ensures.answers r (medium c.args.disk.now).bytes known in record { legal = said.0; id_is = said.1 })
+          (record {
+            noted = noted;
+            called = makes.called;
+            segments = makes.such;
+            settled = makes.settled;
+            held = makes.held;
+            next = λ r. refl;
+            clips = λ r one. ap (λ (k : ℕ). set r.clips k (Some span)) (sym one.id_is);
+          }),
       noted.ring,
     )
 
