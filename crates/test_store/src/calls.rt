@@ -7,7 +7,7 @@ ghost use Rattle.loop_store.specs.Runs.{IsOfSize};
 use crate::common::*;
 use loop_budget::Budget;
 use loop_disk::{Disk, DiskFault, FuseDisk, MemDisk, OnceDisk};
-use loop_record::{Damage, Geometry, OPEN};
+use loop_record::{Damage, Geometry, OPEN, Span};
 use loop_store::{Command, Reply, Store, StoreFault, format};
 use std::alloc::{AllocError, Allocator, Global};
 use std::process::Abort;
@@ -60,13 +60,16 @@ fn what_does_not_fit_is_handed_back_uncalled(rt: HostRuntime) -> Result<(), Fail
     Ok(())
 }
 
-/// What a store is asked for, and what it answers: the number of a frame that is stored or read, or why it isn't.
+/// What a store is asked for, and what it answers: the number of a frame that is stored, the id of a clip that is
+/// locked, or why it isn't so.
 enum Asked {
     Store(Result<u64, StoreFault>),
+    Lock(u64, u64, Result<u32, StoreFault>),
+    Unlock(u32, Result<(), StoreFault>),
     Read(u64, Result<(), StoreFault>),
 }
 
-use Asked::{Read, Store as Stored};
+use Asked::{Lock, Read, Store as Stored, Unlock};
 
 /// No call of a test has this number.
 const NEVER: u64 = 1000;
@@ -89,6 +92,11 @@ fn commands(
                 commands.push(Command::Store(frame(alloc, size, number, 0)?))?;
                 number = number.wrapping_add(u64::from(answer.is_ok()));
             }
+            Lock(from, to, _) => commands.push(Command::Lock(Span {
+                from: *from,
+                to: *to,
+            }))?,
+            Unlock(id, _) => commands.push(Command::Unlock(*id))?,
             Read(number, _) => commands.push(Command::Read(*number))?,
         }
     }
@@ -102,7 +110,7 @@ fn fits<A: Allocator>(command: &Command<A>, geometry: &Geometry) -> bool
 {
     match command {
         Command::Store(frame) => frame.bytes.len() == geometry.frame_bytes() as usize,
-        Command::Read(_) => true,
+        _ => true,
     }
 }
 
@@ -131,6 +139,8 @@ pub(crate) fn run<D: Disk + Drop, A: Allocator + Copy>(
 fn answers(rt: &impl Abort, alloc: Global, reply: &Reply, asked: &Asked) -> Result<(), Fail> {
     match (reply, asked) {
         (Reply::Store(answer), Stored(expected)) => assert_eq!(rt; answer, expected),
+        (Reply::Lock(answer), Lock(_, _, expected)) => assert_eq!(rt; answer, expected),
+        (Reply::Unlock(answer), Unlock(_, expected)) => assert_eq!(rt; answer, expected),
         (Reply::Read(Ok(read)), Read(number, Ok(()))) => {
             let expected = frame(alloc, read.bytes.len(), *number, 0)?;
             assert_eq!(rt; read.head.number, *number);
@@ -204,6 +214,22 @@ const FOURTEEN: [Asked; 14] = [
     Read(6, Ok(())),
 ];
 
+// Clips keep their blocks, and let them go.
+const LOCKS: [Asked; 12] = [
+    Lock(2, 2, Ok(0)),
+    Stored(Ok(7)),
+    Stored(Ok(8)),
+    Read(4, Err(StoreFault::NotHeld)),
+    Lock(6, 6, Ok(1)),
+    Lock(5, 6, Err(StoreFault::ClipNotHeld(5))),
+    Stored(Ok(9)),
+    Stored(Err(StoreFault::AllLocked)),
+    Unlock(1, Ok(())),
+    Unlock(1, Err(StoreFault::NoSuchClip)),
+    Stored(Ok(10)),
+    Read(2, Ok(())),
+];
+
 // No block may go.
 const LOCKED: [Asked; 5] = [
     Stored(Err(StoreFault::AllLocked)),
@@ -247,6 +273,8 @@ fn each_command_is_answered_as_its_call(rt: HostRuntime) -> Result<(), Fail> {
     runs(&rt, alloc, &none, NEVER, &FOURTEEN, &[(2, 6)])?;
     let mut six = image_of(&rt, alloc, SMALL, &[1; 6])?;
     // To open six frames takes twelve calls, and to read a frame two.
+    let seven = image_of(&rt, alloc, SMALL, &[1; 7])?;
+    runs(&rt, alloc, &seven, NEVER, &LOCKS, &[(2, 3), (8, 10)])?;
     runs(&rt, alloc, &six, 17, &FAILED_STORE, &[(2, 5)])?;
     runs(&rt, alloc, &six, 12, &FAILED_READ, &[(2, 6)])?;
     put_clip(six.as_mut_slice(), 0, 1, 4);
@@ -315,7 +343,8 @@ fn stores_without_growth<'a>(
     Ok(())
 }
 
-// The list of the numbers, and a list of one command that reads a frame, where each growth is refused in turn.
+// The list of the numbers, a lock and an unlock, the list of the clips, and a list of one command that reads a
+// frame, where each growth is refused in turn.
 fn grows_in_looks<'a>(
     rt: &impl Abort,
     memory: &'a Budget,
@@ -330,6 +359,12 @@ fn grows_in_looks<'a>(
         );
         assert_eq!(rt; memory.left(), 0);
     }
+    memory.allow(0);
+    assert_eq!(rt; store.lock(number, number), Ok(0));
+    assert_eq!(rt; store.clips(memory).err(), Some(StoreFault::NoMemory));
+    assert_eq!(rt; store.unlock(0), Ok(()));
+    memory.allow(1);
+    assert!(rt; store.clips(memory)?.is_empty());
     for (allowed, answer) in [(0, None), (1, Some(false)), (2, Some(true))] {
         memory.allow(allowed);
         let replies = run(rt, memory, store, &[Command::Read(number)]).ok();
@@ -369,6 +404,10 @@ fn a_refusal_has_its_number_and_its_name(rt: HostRuntime) {
         (StoreFault::NotFormatted, 4, "NotFormatted"),
         (StoreFault::Damaged(Damage::SlotHead), 5, "Damaged"),
         (StoreFault::AllLocked, 6, "AllLocked"),
+        (StoreFault::ClipEmpty, 9, "ClipEmpty"),
+        (StoreFault::ClipNotHeld(7), 10, "ClipNotHeld"),
+        (StoreFault::ClipTableFull, 11, "ClipTableFull"),
+        (StoreFault::NoSuchClip, 12, "NoSuchClip"),
         (StoreFault::NotHeld, 13, "NotHeld"),
         (StoreFault::NumbersSpent, 14, "NumbersSpent"),
         (StoreFault::BadGeometry, 16, "BadGeometry"),

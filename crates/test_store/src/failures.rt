@@ -22,8 +22,8 @@ struct Row<'a> {
     after: &'a [(u64, u64)],
 }
 
-// The fault of a call.
-fn fault_of(call: u8) -> StoreFault {
+/// The fault of a call.
+pub(crate) fn fault_of(call: u8) -> StoreFault {
     StoreFault::Disk(match call {
         b'r' => DiskFault::Read,
         b'w' => DiskFault::Write,
@@ -31,8 +31,8 @@ fn fault_of(call: u8) -> StoreFault {
     })
 }
 
-// Each call of a store that has to be opened again is refused, but for those that tell what it knows.
-fn is_stopped<D: Disk + Drop>(
+/// Each call of a store that has to be opened again is refused, but for those that tell what it knows.
+pub(crate) fn is_stopped<D: Disk + Drop>(
     rt: &impl Abort,
     alloc: Global,
     store: &mut Store<D>,
@@ -43,6 +43,9 @@ fn is_stopped<D: Disk + Drop>(
     assert_eq!(rt; read(rt, alloc, store, 0).err(), refused);
     assert_eq!(rt; store.frames(alloc).err(), refused);
     assert_eq!(rt; store.run(alloc, &[Command::Read(0)]).err(), refused);
+    assert_eq!(rt; store.lock(0, 0).err(), refused);
+    assert_eq!(rt; store.unlock(0).err(), refused);
+    assert_eq!(rt; store.clips(alloc).err(), refused);
     assert_eq!(rt; store.next(), next);
     assert!(rt; next == 0 || store.holds(next.wrapping_sub(1)));
     Ok(())
@@ -132,8 +135,8 @@ fn fault_at(row: &Row, call: u64) -> Option<StoreFault> {
     Some(fault_of(*call))
 }
 
-// A disk that fails one call, a write torn after some bytes of it or left out.
-fn failing(disk: MemDisk, call: u64, keep: Option<usize>) -> OnceDisk<MemDisk> {
+/// A disk that fails one call, a write torn after some bytes of it or left out.
+pub(crate) fn failing(disk: MemDisk, call: u64, keep: Option<usize>) -> OnceDisk<MemDisk> {
     match keep {
         Some(keep) => OnceDisk::torn(disk, call, keep),
         None => OnceDisk::new(disk, call),

@@ -7,6 +7,8 @@
 //! - `images`: what openings answer to images of all kinds, and the bytes of a recording;
 //! - `calls`: formatting, lists of commands, refused memory, and the names of the refusals;
 //! - `failures`: each call of the disk fails, once or from a moment on;
+//! - `locks`: clips that are locked and unlocked, with the frames that stay for them, each stop of these and each
+//!   failed call;
 //! - `stops`: each moment of an append, of a list of commands and of a format is a stop, behind which the
 //!   recording goes on.
 #![tactic(auto)]
@@ -21,6 +23,8 @@ mod counted;
 mod failures;
 #[cfg(test)]
 mod images;
+#[cfg(test)]
+mod locks;
 #[cfg(test)]
 mod scripts;
 #[cfg(test)]

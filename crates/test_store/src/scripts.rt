@@ -25,13 +25,17 @@ enum Line {
     Put(usize, &'static [u8], u64),
     /// The entry of this clip is put on the disk: its id, its first number and its last.
     Clip(usize, u64, u64),
+    /// The frames from a number to another are locked in four calls, or refused without a call.
+    Lock(u64, u64, Result<u32, StoreFault>),
+    /// The clip of an id is unlocked in two calls, or refused without a call.
+    Unlock(u32, Result<(), StoreFault>),
     /// The disk has these bytes from a place on.
     Has(usize, &'static [u8]),
     /// This block would go next. To tell it takes no call of the disk.
     Goes(Option<u64>),
 }
 
-use Line::{Clip, Goes, Has, Open, Put, Refused};
+use Line::{Clip, Goes, Has, Lock, Open, Put, Refused, Unlock};
 
 type Recorder<'a> = Store<Counted<'a, MemDisk>>;
 
@@ -167,8 +171,40 @@ fn play_line<'a>(
             assert_eq!(rt; (store.victim(), calls.get()), (*block, 0));
             Ok(store)
         }
+        Lock(from, to, answer) => locks(rt, calls, store, (*from, *to), *answer),
+        Unlock(id, answer) => unlocks(rt, calls, store, *id, *answer),
         _ => changes(rt, alloc, calls, store, line),
     }
+}
+
+// Locks a span.
+fn locks<'a>(
+    rt: &impl Abort,
+    calls: &'a Cell<u64>,
+    store: Recorder<'a>,
+    (from, to): (u64, u64),
+    answer: Result<u32, StoreFault>,
+) -> Result<Recorder<'a>, Fail> {
+    let mut store = store;
+    calls.set(0);
+    assert_eq!(rt; store.lock(from, to), answer, "from {from} to {to}");
+    assert_eq!(rt; calls.get(), if answer.is_ok() { 4 } else { 0 });
+    Ok(store)
+}
+
+// Unlocks the clip of an id.
+fn unlocks<'a>(
+    rt: &impl Abort,
+    calls: &'a Cell<u64>,
+    store: Recorder<'a>,
+    id: u32,
+    answer: Result<(), StoreFault>,
+) -> Result<Recorder<'a>, Fail> {
+    let mut store = store;
+    calls.set(0);
+    assert_eq!(rt; store.unlock(id), answer, "id {id}");
+    assert_eq!(rt; calls.get(), if answer.is_ok() { 2 } else { 0 });
+    Ok(store)
 }
 
 // Plays a script over an image, and answers the image that is left. The disk may be opened again before each line.
@@ -200,7 +236,7 @@ fn plays(rt: &impl Abort, alloc: Global, image: Vec<u8>, lines: &[Line]) -> Resu
 
 // Eleven frames of 12 bytes in three segments of two slots: seven, and then with a clip of frame 2, and another
 // of frame 6.
-const RING: [Line; 24] = [
+const RING: [Line; 31] = [
     Open(6, &[]),
     Has(
         0,
@@ -226,17 +262,50 @@ const RING: [Line; 24] = [
         3116,
         b"\x01\0\0\0\0\0\0\0\x01\0\0\0\0\x20\0\0\x40\x9c\0\0\0\0\0\0\x0c\0\0\0\0\0\0\0\x01\x02\x03\x04\x05\x06\x07\x08\x09\x0a\x0b\x0c\xa5",
     ),
-    Clip(0, 2, 2),
+    Lock(2, 2, Ok(0)),
+    // The entry of the first clip.
+    Has(
+        512,
+        b"\xa5\0\0\0\0\0\0\0\x02\0\0\0\0\0\0\0\x02\0\0\0\0\0\0\0\0\0\0\0\0\0\0\0\0",
+    ),
     Line::Store(1, 4, &[(2, 7)]),
+    Goes(Some(2)),
     Line::Store(1, 10, &[(2, 3), (6, 8)]),
-    Clip(1, 6, 6),
+    Lock(6, 6, Ok(1)),
+    Goes(None),
     Line::Store(1, 4, &[(2, 3), (6, 9)]),
     Refused(StoreFault::AllLocked),
-    // The gate of the second clip is closed.
-    Put(544, &[0], 12),
+    Unlock(1, Ok(())),
+    Has(512, b"\xa5"),
+    Has(544, b"\0\0\0\0\0\0\0\0\x06"),
+    Goes(Some(3)),
     Line::Store(1, 10, &[(2, 3), (8, 10)]),
+    Goes(Some(4)),
     Line::Store(1, 4, &[(2, 3), (8, 11)]),
     Open(12, &[(2, 3), (8, 11)]),
+];
+
+// Seven frames, of which 2 to 6 are held: what is refused is named in its order, and the least free id is taken.
+const REFUSALS: [Line; 19] = [
+    Lock(5, 4, Err(StoreFault::ClipEmpty)),
+    Lock(u64::MAX, 0, Err(StoreFault::ClipEmpty)),
+    Lock(0, 0, Err(StoreFault::ClipNotHeld(0))),
+    Lock(5, 9, Err(StoreFault::ClipNotHeld(7))),
+    Lock(1, 3, Err(StoreFault::ClipNotHeld(1))),
+    Lock(0, u64::MAX, Err(StoreFault::ClipNotHeld(0))),
+    Lock(2, u64::MAX, Err(StoreFault::ClipNotHeld(7))),
+    Lock(u64::MAX, u64::MAX, Err(StoreFault::ClipNotHeld(u64::MAX))),
+    Unlock(0, Err(StoreFault::NoSuchClip)),
+    Lock(2, 6, Ok(0)),
+    Lock(3, 4, Ok(1)),
+    Lock(6, 6, Ok(2)),
+    Unlock(1, Ok(())),
+    Unlock(1, Err(StoreFault::NoSuchClip)),
+    Unlock(64, Err(StoreFault::NoSuchClip)),
+    Unlock(u32::MAX, Err(StoreFault::NoSuchClip)),
+    Lock(2, 2, Ok(1)),
+    Lock(2, 2, Ok(3)),
+    Goes(None),
 ];
 
 // The same ring and no clip.
@@ -282,6 +351,8 @@ fn frames_are_held_as_the_rules_say(rt: HostRuntime) -> Result<(), Fail> {
     let alloc = rt.alloc();
     let six = image_of(&rt, alloc, SMALL, &[1; 6])?;
     plays(&rt, alloc, six, &UNLOCKED)?;
+    let seven = image_of(&rt, alloc, SMALL, &[1; 7])?;
+    plays(&rt, alloc, seven, &REFUSALS)?;
     let rows: [(Geometry, &[Line]); 4] = [
         (SMALL, &RING),
         (TINY, &TWO),
