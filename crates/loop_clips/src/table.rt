@@ -1,5 +1,5 @@
 // The clips of a store in memory: the place of a clip is its id.
-ghost use Rattle.std.specs.Prelude.{◌≡◌, ◌+◌, ◌*◌, ◌≤◌, ◌↔◌, IfOk, IsTrue, List, None, OnOk, Option, length, map, replicate, slice_index_or};
+ghost use Rattle.std.specs.Prelude.{◌≡◌, ◌+◌, ◌*◌, ◌<◌, ◌≤◌, ◌↔◌, IfOk, IsTrue, List, None, OnOk, Option, length, map, replicate, slice_index_or, slice_set};
 ghost use Rattle.std.specs.List.{list_any, range_with_len};
 ghost use Rattle.loop_clips.specs.Table.{listed};
 ghost use Rattle.loop_disk.specs.Calls.{Called, Stays, failed_call};
@@ -67,7 +67,8 @@ impl ClipTable {
 
     /// What stands under each id.
     pub fn as_slice(&self) -> &[Option<Span>]
-        ensures { result.now ≡ self.now }
+        ensures clips { result.now ≡ self.now }
+        ensures count { length result.now ≡ 64 }
     {
         &self.clips
     }
@@ -81,6 +82,14 @@ impl ClipTable {
         } else {
             None
         }
+    }
+
+    /// Notes what stands under an id now: a clip, or none. It takes no memory.
+    pub fn set(&mut self, id: u32, clip: Option<Span>)
+        requires { id < 64 }
+        ensures { self.new ≡ slice_set self.old id clip }
+    {
+        self.clips[id as usize] = clip;
     }
 
     /// Whether some clip has a number of this block.

@@ -21,3 +21,4 @@ pub mod Gone
 pub mod Putting
 pub mod Reading
 pub mod Crashed
+pub mod Noted
