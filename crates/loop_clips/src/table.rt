@@ -1,5 +1,5 @@
 // The clips of a store in memory: the place of a clip is its id.
-ghost use Rattle.std.specs.Prelude.{◌≡◌, ◌≢◌, ◌+◌, ◌*◌, ◌≤◌, ◌<◌, IfOk, IfSome, IsTrue, List, None, OnErr, OnOk, Option, Some, is_some, length, map, not, position, replicate, slice_index_or, slice_set};
+ghost use Rattle.std.specs.Prelude.{◌≡◌, ◌≢◌, ◌+◌, ◌*◌, ◌≤◌, ◌<◌, IfOk, IfSome, IsTrue, List, None, OnOk, Option, Some, is_some, length, map, not, position, replicate, slice_index_or, slice_set};
 ghost use Rattle.std.specs.List.{list_any, range_with_len};
 ghost use Rattle.loop_clips.specs.Table.{IsFirstFree, ShowsClipOrNot, listed};
 ghost use Rattle.loop_disk.specs.Calls.{Called, Stays, failed_call};
@@ -70,7 +70,8 @@ impl ClipTable {
 
     /// What stands under each id.
     pub fn as_slice(&self) -> &[Option<Span>]
-        ensures { result.now ≡ self.now }
+        ensures clips { result.now ≡ self.now }
+        ensures count { length result.now ≡ 64 }
     {
         &self.clips
     }
@@ -97,43 +98,39 @@ impl ClipTable {
         }
     }
 
-    /// Writes a clip under an id that has none, and notes it: the entry behind its gate, a sync, the gate, a
-    /// sync. At Ok it stands; after a failure, as at each moment before, it stands on the disk or it doesn't,
-    /// and the table is as it was.
-    pub fn lock<D: Disk>(&mut self, disk: &mut D, id: u32, span: Span) -> Result<(), DiskFault>
+    /// Writes a clip under an id that has none: the entry behind its gate, a sync, the gate, a sync. At Ok it
+    /// stands; after a failure, as at each moment before, it stands on the disk or it doesn't. What the table
+    /// has in memory is another call's: `set`.
+    pub fn lock<D: Disk>(&self, disk: &mut D, id: u32, span: Span) -> Result<(), DiskFault>
         requires extent { 2560 ≤ (D.medium disk.old).size }
         requires id { id < 64 }
         requires settled { (D.medium disk.old).honest → IsSettled (D.medium disk.old) }
         requires closed { (D.medium disk.old).honest → clip_in (D.medium disk.old).bytes id ≡ None }
-        ensures disk { let old = D.medium disk.old in
+        ensures { let old = D.medium disk.old in
             Changes (ShowsClipOrNot id (Some span) old.bytes) (ShowsClip id (Some span) old.bytes) old (D.medium disk.new) result }
-        ensures noted { OnOk result (self.new ≡ slice_set self.old id (Some span)) }
-        ensures same { OnErr result (self.new ≡ self.old) }
     {
-        let written = write_entry(disk, id, span.from, span.to);
-        if written.is_ok() {
-            self.clips[id as usize] = Some(span);
-        }
-        written
+        write_entry(disk, id, span.from, span.to)
     }
 
-    /// Takes away the clip of an id, and notes it: the entry's gate is closed, and a sync. At Ok it is gone;
-    /// after a failure, as at each moment before, it stands on the disk or it doesn't, and the table is as it was.
-    pub fn unlock<D: Disk>(&mut self, disk: &mut D, id: u32) -> Result<(), DiskFault>
+    /// Takes away the clip of an id: the entry's gate is closed, and a sync. At Ok it is gone; after a failure, as
+    /// at each moment before, it stands on the disk or it doesn't.
+    pub fn unlock<D: Disk>(&self, disk: &mut D, id: u32) -> Result<(), DiskFault>
         requires extent { 2560 ≤ (D.medium disk.old).size }
         requires id { id < 64 }
         requires settled { (D.medium disk.old).honest → IsSettled (D.medium disk.old) }
         requires there { (D.medium disk.old).honest → clip_in (D.medium disk.old).bytes id ≢ None }
-        ensures disk { let old = D.medium disk.old in
+        ensures { let old = D.medium disk.old in
             Changes (ShowsClipOrNot id None old.bytes) (ShowsClip id None old.bytes) old (D.medium disk.new) result }
-        ensures noted { OnOk result (self.new ≡ slice_set self.old id None) }
-        ensures same { OnErr result (self.new ≡ self.old) }
     {
-        let written = close_entry(disk, id);
-        if written.is_ok() {
-            self.clips[id as usize] = None;
-        }
-        written
+        store(disk, entry_place(id), &[0])
+    }
+
+    /// Notes what stands under an id now: a clip, or none. It takes no memory.
+    pub fn set(&mut self, id: u32, clip: Option<Span>)
+        requires { id < 64 }
+        ensures { self.new ≡ slice_set self.old id clip }
+    {
+        self.clips[id as usize] = clip;
     }
 
     /// Whether some clip has a number of this block.
@@ -192,18 +189,6 @@ fn write_entry<D: Disk>(disk: &mut D, id: u32, from: u64, to: u64) -> Result<(),
     put_u64(&mut entry, 15, to);
     let at = entry_place(id);
     store_in_turn(disk, at + 1, &entry, at, &[OPEN])
-}
-
-// Closes the gate of an open entry.
-fn close_entry<D: Disk>(disk: &mut D, id: u32) -> Result<(), DiskFault>
-    requires extent { 2560 ≤ (D.medium disk.old).size }
-    requires id { id < 64 }
-    requires settled { (D.medium disk.old).honest → IsSettled (D.medium disk.old) }
-    requires there { (D.medium disk.old).honest → clip_in (D.medium disk.old).bytes id ≢ None }
-    ensures { let old = D.medium disk.old in
-        Changes (ShowsClipOrNot id None old.bytes) (ShowsClip id None old.bytes) old (D.medium disk.new) result }
-{
-    store(disk, entry_place(id), &[0])
 }
 
 // The clips in entries that lie one behind the other.

@@ -1,5 +1,5 @@
 -- The block that goes, found by the headers of a store's segments.
-use Rattle.std.proofs.Common.{◌≡◌, ◌⊎◌, inl, inr, ℕ, zero, suc, ◌<◌, ◌≤◌, Bool, true, false, not, ◌&&◌, cond, eqb, ltb, min, max, Option, Some, None, List, [], ◌∷◌, length, replicate, set, get_or, refl, sym, ap, ◌∙◌, subst, arith}
+use Rattle.std.proofs.Common.{◌≡◌, ◌⊎◌, inl, inr, ℕ, ◌<◌, ◌≤◌, Bool, true, false, not, ◌&&◌, cond, eqb, ltb, min, max, Option, Some, None, List, [], ◌∷◌, get_or, refl, sym, ap, ◌∙◌, subst, arith}
 use Rattle.std.proofs.lemmas.Bool.{cases_lt}
 use Rattle.std.proofs.lemmas.List.Folds.{list_any_at}
 use Rattle.std.proofs.lemmas.List.Quantifiers.{position-Some}
@@ -10,7 +10,7 @@ use Rattle.loop_record.specs.declared.geometry.Geometry.{Geometry}
 use Rattle.loop_record.specs.declared.segment.SegmentHead.{SegmentHead}
 use Rattle.loop_record.specs.Reading.{Holds}
 use Rattle.loop_record.specs.Recording.{Recording, Ring, ring_of, block, held_blocks, older_blocks, is_locked, victim}
-use Rattle.loop_record.proofs.Decided.{at_most_test, clash, both, not_true, equal, equal_test, differ, differ_test}
+use Rattle.loop_record.proofs.Decided.{clash, both, not_true, equal, equal_test, differ, differ_test}
 use Rattle.loop_record.proofs.Form.{reading-well_formed}
 use Rattle.loop_record.proofs.Rising.{Among}
 use Rattle.loop_record.proofs.Victim.{RiseFrom, blocks-rise, RiseFrom-front, FirstOf, find-first, find-none, front-below, below-front}
@@ -43,9 +43,9 @@ headers-among b (Some h ∷ hs) e = go (ltb 0 h.frames) (eqb h.block b) refl (λ
 
 -- ---- the greatest and the least
 
-record Greatest (xs : List ℕ) (m : ℕ) : Type 0 where
-  among : Among m xs
-  most : (c : ℕ) → Among c xs → c ≤ m
+pub record Greatest (xs : List ℕ) (m : ℕ) : Type 0 where
+  pub among : Among m xs
+  pub most : (c : ℕ) → Among c xs → c ≤ m
 
 pub record Least (xs : List ℕ) (m : ℕ) : Type 0 where
   pub among : Among m xs
@@ -123,7 +123,7 @@ fold-min a (x ∷ xs) = go (fold-min (min a x) xs)
 these : (x y : ℕ) → Some x ≡ Some y → x ≡ y
 these x y e = cc
 
-greatest : (xs : List ℕ) (m : ℕ) → reduce max xs ≡ Some m → Greatest xs m
+pub greatest : (xs : List ℕ) (m : ℕ) → reduce max xs ≡ Some m → Greatest xs m
 greatest [] m e = absurd cc
 greatest (x ∷ xs) m e = subst (Greatest (x ∷ xs)) (these (fold max x xs) m e) (fold-max x xs)
 
@@ -132,7 +132,7 @@ least [] m e = absurd cc
 least (x ∷ xs) m e = subst (Least (x ∷ xs)) (these (fold min x xs) m e) (fold-min x xs)
 
 -- where there is none, there is nothing to choose from
-none-greatest : (xs : List ℕ) (b : ℕ) → reduce max xs ≡ None → Among b xs → ⊥
+pub none-greatest : (xs : List ℕ) (b : ℕ) → reduce max xs ≡ None → Among b xs → ⊥
 none-greatest [] b e at = elim at [ ]
 none-greatest (x ∷ xs) b e at = absurd cc
 
@@ -309,36 +309,3 @@ victim-held g r image heads b e is chosen =
 pub victim-placed : (g : Geometry) (r : Recording) (image : List ℕ) (heads : List (Option SegmentHead)) (b : ℕ) (found : Option ℕ) → Holds g r image → heads ≡ heads_of g image → Some b ≡ victim (ring_of g) r → found ≡ position (is_of b) heads → IsPlaceOf heads (victim (ring_of g) r) found
 victim-placed g r image heads b found e is chosen place =
     subst (λ (v : Option ℕ). IsPlaceOf heads v found) chosen (place-found heads b found (victim-held g r image heads b e is (sym chosen)) place)
-
--- ---- a block that grows
-
--- a place that gives the same as before
-filter_map-set : {X Y : Type 0} (f : X → Option Y) (xs : List X) (i : ℕ) (x d : X) → i < length xs → f x ≡ f (get_or xs i d) → filter_map f (set xs i x) ≡ filter_map f xs
-filter_map-set f [] i x d l e = absurd (omega (arith, l))
-filter_map-set f (y ∷ ys) zero x d l e = ap (λ o. cons_option o (filter_map f ys)) e
-filter_map-set f (y ∷ ys) (suc i) x d l e = ap (cons_option (f y)) (filter_map-set f ys i x d (omega (arith, l)) e)
-
--- where a segment's block has a frame, and has more of them now, the same block goes
-pub first-grown : (ring : Ring) (clips : List (Option Span)) (heads : List (Option SegmentHead)) (j : ℕ) (old new : SegmentHead) → j < length heads → get_or heads j None ≡ Some old → new.block ≡ old.block → 0 < old.frames → 0 < new.frames
-    → going_first ring clips (set heads j (Some new)) ≡ going_first ring clips heads
-first-grown ring clips heads j old new l there block some more =
-    let lit : ltb 0 old.frames ≡ true = at_most_test 1 old.frames (omega (arith, some)) in
-    let lit' : ltb 0 new.frames ≡ true = at_most_test 1 new.frames (omega (arith, more)) in
-    let held : held_block (Some new) ≡ held_block (get_or heads j None) =
-    ap (λ (t : Bool). cond t (Some new.block) None) lit' ∙ ap (λ (n : ℕ). Some n) block ∙ sym (ap (λ (t : Bool). cond t (Some old.block) None) lit) ∙ sym (ap held_block there) in
-    let going : (newest : ℕ) → going_block ring clips newest (Some new) ≡ going_block ring clips newest (get_or heads j None) = λ newest.
-    (λ i. cond (lit' i && is_going ring clips newest (block i)) (Some (block i)) None) ∙ sym (λ i. cond (lit i && is_going ring clips newest old.block) (Some old.block) None) ∙ sym (ap (going_block ring clips newest) there) in
-    let pick : (o : Option ℕ) → least_going ring clips (set heads j (Some new)) o ≡ least_going ring clips heads o = same-least ring clips heads (set heads j (Some new)) (λ newest. filter_map-set (going_block ring clips newest) heads j (Some new) None l (going newest)) in
-    ap (λ (bs : List ℕ). least_going ring clips (set heads j (Some new)) (reduce max bs)) (filter_map-set held_block heads j (Some new) None l held) ∙ pick (reduce max (filter_map held_block heads))
-  where
-    same-least : (ring : Ring) (clips : List (Option Span)) (heads hs : List (Option SegmentHead)) → ((newest : ℕ) → filter_map (going_block ring clips newest) hs ≡ filter_map (going_block ring clips newest) heads) → (o : Option ℕ) → least_going ring clips hs o ≡ least_going ring clips heads o
-    same-least ring clips heads hs same None = refl
-    same-least ring clips heads hs same (Some newest) = ap (reduce min) (same newest)
-
--- where no segment is open, no block goes
-pub first-none : (ring : Ring) (clips : List (Option Span)) (count : ℕ) → going_first ring clips (replicate count None) ≡ None
-first-none ring clips count = ap (λ (bs : List ℕ). least_going ring clips (replicate count None) (reduce max bs)) (none count)
-  where
-    none : (n : ℕ) → filter_map held_block (replicate n None) ≡ []
-    none zero = refl
-    none (suc n) = none n

@@ -12,3 +12,4 @@ pub mod Frames
 pub mod Clearing
 pub mod Indexed
 pub mod Oldest
+pub mod Counted

@@ -1,6 +1,6 @@
 -- The segments of a store as their headers say, in the order in which they lie on the disk.
-use Rattle.std.specs.Prelude.{◌≡◌, ℕ, ◌/◌, ◌%◌, Bool, false, not, ◌&&◌, ◌==◌, nat_lt, max, min, if◌then◌else◌, Option, None, Some, List, map, slice_index_or}
-use Rattle.std.specs.List.{filter_map, list_any, range_with_len, reduce}
+use Rattle.std.specs.Prelude.{◌≡◌, ℕ, ◌+◌, ◌-◌, ◌/◌, ◌%◌, Bool, false, not, ◌&&◌, ◌==◌, nat_lt, max, min, if◌then◌else◌, Option, None, Some, List, map, slice_index_or}
+use Rattle.std.specs.List.{count_by, filter_map, list_any, range_with_len, reduce, zip}
 use Rattle.loop_record.specs.declared.clip.Span.{Span}
 use Rattle.loop_record.specs.declared.geometry.Geometry.{Geometry}
 use Rattle.loop_record.specs.declared.segment.SegmentHead.{SegmentHead}
@@ -49,6 +49,65 @@ least_going ring clips heads (Some newest) = reduce min (filter_map (going_block
 -- the block that goes when room is needed, by the headers and the clips alone
 abbrev pub going_first : Ring → List (Option Span) → List (Option SegmentHead) → Option ℕ
 going_first ring clips heads = least_going ring clips heads (reduce max (filter_map held_block heads))
+
+-- ---- the count of clips of each segment
+
+-- what the header of each segment says, and how many clips meet the block of each
+pub record Segments : Type 0 where
+  pub heads : List (Option SegmentHead)
+  pub clips : List ℕ
+
+-- some number of the clip is of the segment's block
+abbrev pub meets_head : Ring → Option Span → Option SegmentHead → Bool
+meets_head ring clip None = false
+meets_head ring clip (Some head) = meets ring head.block clip
+
+-- how many of the clips meet the segment's block: none where it is closed
+abbrev pub clips_on : Ring → List (Option Span) → Option SegmentHead → ℕ
+clips_on ring clips None = 0
+clips_on ring clips (Some head) = count_by (meets ring head.block) clips
+
+-- so many for each segment
+abbrev pub clip_counts : Ring → List (Option Span) → List (Option SegmentHead) → List ℕ
+clip_counts ring clips heads = map (clips_on ring clips) heads
+
+-- a segment's count once this clip stands too, and once it is gone
+abbrev pub one_more : Ring → Span → Option SegmentHead → ℕ → ℕ
+one_more ring span head count = if meets_head ring (Some span) head then count + 1 else count
+
+abbrev pub one_less : Ring → Span → Option SegmentHead → ℕ → ℕ
+one_less ring span head count = if meets_head ring (Some span) head then count - 1 else count
+
+-- the segments once this clip stands too, and once it is gone
+abbrev pub with_clip : Ring → Span → Segments → Segments
+with_clip ring span s = record s { clips = map (λ x. one_more ring span x.0 x.1) (zip s.heads s.clips) }
+
+abbrev pub without_clip : Ring → Span → Segments → Segments
+without_clip ring span s = record s { clips = map (λ x. one_less ring span x.0 x.1) (zip s.heads s.clips) }
+
+-- the segment has a whole frame, its block isn't the newest one, and no clip meets it
+abbrev pub is_free : ℕ → Option SegmentHead → ℕ → Bool
+is_free newest None count = false
+is_free newest (Some head) count = nat_lt 0 head.frames && not (head.block == newest) && (count == 0)
+
+-- the block of such a segment
+abbrev pub free_block : ℕ → Option SegmentHead → ℕ → Option ℕ
+free_block newest None count = None
+free_block newest (Some head) count = if is_free newest (Some head) count then Some head.block else None
+
+-- the least of these blocks, where this is the newest one, if there is one
+abbrev pub least_free : Segments → Option ℕ → Option ℕ
+least_free s None = None
+least_free s (Some newest) = reduce min (filter_map (λ x. free_block newest x.0 x.1) (zip s.heads s.clips))
+
+-- the block that goes when room is needed, by the headers and the counts alone
+abbrev pub going_free : Segments → Option ℕ
+going_free s = least_free s (reduce max (filter_map held_block s.heads))
+
+-- the segment with so many frames
+abbrev pub grown : ℕ → Option SegmentHead → Option SegmentHead
+grown frames None = None
+grown frames (Some head) = Some (record head { frames = frames })
 
 -- the place of a segment that holds this block, or no place where there is no block
 abbrev pub IsPlaceOf : List (Option SegmentHead) → Option ℕ → Option ℕ → Type 0

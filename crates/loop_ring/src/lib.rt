@@ -13,6 +13,7 @@
 //! are sorted, `proofs/Oldest` that the victim is the first of them that may go.
 #![tactic(auto)]
 
+mod count;
 mod entry;
 mod fault;
 mod group;
@@ -21,8 +22,8 @@ mod ring;
 mod stray;
 mod victim;
 
+pub use count::clips_on;
 pub use fault::SlotFault;
 pub use group::{Group, MAX_GROUP};
 pub use index::SegmentIndex;
 pub use ring::Ring;
-pub use victim::victim_block;

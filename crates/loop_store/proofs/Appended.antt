@@ -1,21 +1,19 @@
 -- The store after an append.
-use Rattle.std.proofs.Common.{◌≡◌, ◌≢◌, ◌⊎◌, inl, inr, ℕ, ◌+◌, ◌*◌, ◌/◌, ◌%◌, ◌^◌, ◌<◌, ◌≤◌, Bool, true, false, ◌&&◌, cond, eqb, ltb, Option, Some, None, All, List, ◌++◌, length, get_or, set, map, refl, sym, ap, ◌∙◌, subst, arith}
+use Rattle.std.proofs.Common.{◌≡◌, ◌≢◌, ◌⊎◌, inl, inr, ℕ, ◌+◌, ◌*◌, ◌/◌, ◌%◌, ◌^◌, ◌<◌, ◌≤◌, Bool, true, false, cond, eqb, Option, Some, None, All, List, ◌++◌, length, set, map, refl, sym, ap, ◌∙◌, subst, arith}
 use Rattle.std.proofs.Math.Nat.{add-mul, div-add-mod', mod-lt, mul-le-mul_right, mul_comm}
 use Rattle.std.proofs.lemmas.Bool.{cases_lt}
 use Rattle.std.proofs.lemmas.List.{length-set}
 use Rattle.std.proofs.lemmas.List.Elements.{All-set}
 use Rattle.loop_disk.specs.Medium.{Medium, IsSettled}
-use Rattle.loop_record.specs.declared.clip.Span.{Span}
 use Rattle.loop_record.specs.declared.geometry.Geometry.{Geometry}
 use Rattle.loop_record.specs.declared.segment.SegmentHead.{SegmentHead}
 use Rattle.loop_record.specs.Geometry.{disk_size}
 use Rattle.loop_record.specs.Layout.{is_too_high}
 use Rattle.loop_record.specs.Reading.{Holds}
 use Rattle.loop_record.specs.Recording.{Picture, Recording, Ring, Step, last_number, needs_recycling, plain, recycling_first, ring_of, steps, store, stores_after, victim}
-use Rattle.loop_record.proofs.Decided.{at_most, both, differ_test, equal, equal_test, not_below_test}
+use Rattle.loop_record.proofs.Decided.{differ_test, equal_test, not_below_test}
 use Rattle.loop_record.proofs.Steps.{plain-append, plain-stores}
-use Rattle.loop_ring.specs.Heads.{going_first, has_frame, heads_of, is_of}
-use Rattle.loop_ring.proofs.Chosen.{first-grown}
+use Rattle.loop_ring.specs.Heads.{clip_counts, heads_of}
 use Rattle.loop_store.proofs.Room.{before-next}
 use Rattle.loop_ring.specs.declared.ring.Ring.{Ring as LoopRing}
 use Rattle.loop_store.specs.declared.index.Index.{Index}
@@ -186,11 +184,11 @@ grown-index was now n j noted whole some unspent room =
     let g = was.ring.geometry in
     let same : now.ring.geometry ≡ g = ap (λ (x : LoopRing). x.geometry) noted.ring in
     let few : was.next + n ≤ last_number (ring_of g) = appended-few g was.next n some whole.few unspent room in
-    let within : All (IsHeadIn g) (set was.table j (Some (head_after g was.next n))) = All-set (IsHeadIn g) was.table j (Some (head_after g was.next n)) (room, appended-low g was.next some whole.few unspent) whole.within in record {
-      count = ap length noted.heads ∙ length-set was.table j (Some (head_after g was.next n)) ∙ whole.count ∙ ap (λ (h : Geometry). h.segments) (sym same);
-      within = subst (λ (h : Geometry). All (IsHeadIn h) now.table) (sym same) (subst (All (IsHeadIn g)) (sym noted.heads) within);
+    let within : All (IsHeadIn g) (set was.table.heads j (Some (head_after g was.next n))) = All-set (IsHeadIn g) was.table.heads j (Some (head_after g was.next n)) (room, appended-low g was.next some whole.few unspent) whole.within in record {
+      count = ap length noted.heads ∙ length-set was.table.heads j (Some (head_after g was.next n)) ∙ whole.count ∙ ap (λ (h : Geometry). h.segments) (sym same);
+      within = subst (λ (h : Geometry). All (IsHeadIn h) now.table.heads) (sym same) (subst (All (IsHeadIn g)) (sym noted.heads) within);
       few = subst (λ (h : Geometry). now.next ≤ last_number (ring_of h)) (sym same) (subst (λ (k : ℕ). k ≤ last_number (ring_of g)) (sym noted.next) few);
-      victim_is = noted.victim ∙ (λ i. going_first (ring_of (sym same i)) (sym noted.clips i) now.table);
+      counted = noted.counted ∙ (λ i. clip_counts (ring_of (sym same i)) (sym noted.clips i) now.table.heads);
     }
 
 pub kept-grown : {D A : Type 0} (medium : D → Medium) (old new : D) (was now : Index A) (n j : ℕ) (ps : List Picture) (must : Bool) → IsKept medium old was must → must ≡ false → IsNoted was now j n → 1 ≤ was.ring.geometry.slots → was.next ≢ last_number (ring_of was.ring.geometry)
@@ -227,13 +225,3 @@ stands-grown {D} {A} medium old new was now n j ps must r honest known noted who
       settled = λ fine there. grew.settled honest;
       held = λ fine there. after.held;
     }
-
--- ---- the victim that is kept
-
--- where a segment had a frame of a block, and has more of them now, the same block goes
-pub victim-kept : (ring : Ring) (clips : List (Option Span)) (heads hs : List (Option SegmentHead)) (j block frames : ℕ) (before : Option SegmentHead) (kept : Option ℕ) → kept ≡ going_first ring clips heads → j < length heads → before ≡ get_or heads j None → (is_of block before && has_frame before) ≡ true
-    → 0 < frames → hs ≡ set heads j (Some (record { block = block; frames = frames })) → kept ≡ going_first ring clips hs
-victim-kept ring clips heads hs j block frames None kept is l there had some noted = absurd cc
-victim-kept ring clips heads hs j block frames (Some old) kept is l there had some noted =
-    let t = both (eqb old.block block) (ltb 0 old.frames) had in
-    is ∙ sym (first-grown ring clips heads j old (record { block = block; frames = frames }) l (sym there) (sym (equal old.block block t.0)) (at_most 1 old.frames t.1) some) ∙ ap (going_first ring clips) (sym noted)

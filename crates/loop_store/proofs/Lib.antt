@@ -23,3 +23,4 @@ pub mod Putting
 pub mod Locked
 pub mod Reading
 pub mod Crashed
+pub mod Noted

@@ -24,7 +24,7 @@ use Rattle.loop_record.proofs.Parts.{reading-stages, within_behind}
 use Rattle.loop_record.proofs.Readings.{get_or-map_range, length-range}
 use Rattle.loop_clips.specs.Table.{ShowsClipOrNot}
 use Rattle.loop_ring.specs.declared.ring.Ring.{Ring as LoopRing}
-use Rattle.loop_ring.specs.Heads.{going_first, has_number, heads_of}
+use Rattle.loop_ring.specs.Heads.{clip_counts, has_number, heads_of}
 use Rattle.loop_ring.proofs.Heads.{head_of, heads-are, heads-length}
 use Rattle.loop_store.specs.declared.index.Index.{Index}
 use Rattle.loop_store.specs.declared.fault.StoreFault.{StoreFault}
@@ -33,8 +33,8 @@ use Rattle.loop_store.specs.Calls.{Call, CanRefuseSpan, IsAllowed, IsAnswered, R
 use Rattle.loop_store.specs.Faults.{failed_by, is_disk}
 use Rattle.loop_store.specs.Goes.{Goes, outline_of}
 use Rattle.loop_store.specs.Held.{HasNoneStray, HoldsFrom, HoldsSome, Makes}
-use Rattle.loop_store.specs.Locks.{IsClipNoted, KeepsSegments, Takes}
-use Rattle.loop_store.specs.Recovered.{IsHeadIn, IsIndex, IsIndexOf}
+use Rattle.loop_store.specs.Locks.{KeepsSegments, Takes}
+use Rattle.loop_store.specs.Recovered.{IsClipNoted, IsHeadIn, IsIndex, IsIndexOf}
 use Rattle.loop_store.specs.Seen.{IsKept, IsPresent, Seen, StandsFor, seen_with}
 use Rattle.loop_store.proofs.Grown.{held-some}
 use Rattle.loop_store.specs.Numbers.{is_among}
@@ -158,9 +158,9 @@ index-noted : {A : Type 0} (was now : Index A) (id : ℕ) (clip : Option Span) �
 index-noted was now id clip noted whole =
     let same = geometry-same was now id clip noted in record {
       count = ap length noted.heads ∙ whole.count ∙ ap (λ (h : Geometry). h.segments) (sym same);
-      within = subst (λ (h : Geometry). All (IsHeadIn h) now.table) (sym same) (subst (All (IsHeadIn was.ring.geometry)) (sym noted.heads) whole.within);
+      within = subst (λ (h : Geometry). All (IsHeadIn h) now.table.heads) (sym same) (subst (All (IsHeadIn was.ring.geometry)) (sym noted.heads) whole.within);
       few = subst (λ (h : Geometry). now.next ≤ last_number (ring_of h)) (sym same) (subst (λ (k : ℕ). k ≤ last_number (ring_of was.ring.geometry)) (sym noted.next) whole.few);
-      victim_is = noted.victim ∙ (λ i. going_first (ring_of (sym same i)) now.clips (sym noted.heads i));
+      counted = noted.counted ∙ (λ i. clip_counts (ring_of (sym same i)) now.clips (sym noted.heads i));
     }
 
 pub kept-noted : {D A : Type 0} (medium : D → Medium) (old new : D) (was now : Index A) (id : ℕ) (clip : Option Span) (IsOne : Recording → Type 0) (step : Step) (must : Bool) → IsKept medium old was must → must ≡ false

@@ -48,11 +48,11 @@ there-held g r image heads j n held same l has =
     ap (λ (o : Option Picture). is_some o) (held-slot g r image j n held l at).held
 
 -- what a store tells is what its index says of an image
-pub told-by : {D A : Type 0} (disk : D) (index : Index A) (must_reopen : Bool) (r : Recording) (image : List ℕ) → 1 ≤ index.ring.geometry.slots → All (IsHeadIn index.ring.geometry) index.table → IsIndexOf index r image
+pub told-by : {D A : Type 0} (disk : D) (index : Index A) (must_reopen : Bool) (r : Recording) (image : List ℕ) → 1 ≤ index.ring.geometry.slots → All (IsHeadIn index.ring.geometry) index.table.heads → IsIndexOf index r image
     → Tells (seen_with disk index must_reopen) r
 told-by disk index must_reopen r image some within known = record {
   next_is = known.next_is;
-  numbers_are = λ n. among-under index.ring.geometry n index.table some within ∙ ap (list_any (has_number index.ring.geometry.slots n)) known.heads_are ∙ held-number index.ring.geometry r image n known.held;
+  numbers_are = λ n. among-under index.ring.geometry n index.table.heads some within ∙ ap (list_any (has_number index.ring.geometry.slots n)) known.heads_are ∙ held-number index.ring.geometry r image n known.held;
   clips_are = known.clips_are;
 }
 

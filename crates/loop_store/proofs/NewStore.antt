@@ -11,9 +11,9 @@ use Rattle.loop_record.specs.Layout.{header_at, open_gates}
 use Rattle.loop_record.specs.Reading.{Holds, IsFresh}
 use Rattle.loop_record.specs.Recording.{empty, ring_of}
 use Rattle.loop_record.proofs.Fresh.{reading-fresh}
-use Rattle.loop_ring.specs.Heads.{going_first, heads_of}
+use Rattle.loop_ring.specs.Heads.{clip_counts, heads_of}
 use Rattle.loop_ring.proofs.Bytes.{closed_none}
-use Rattle.loop_ring.proofs.Chosen.{first-none}
+use Rattle.loop_ring.proofs.Counted.{counts-closed}
 use Rattle.loop_store.specs.declared.index.Index.{Index}
 use Rattle.loop_store.specs.Held.{HasNoneStray}
 use Rattle.loop_store.specs.Numbers.{is_among, numbers_under}
@@ -35,9 +35,9 @@ fresh-heads g image fresh = all-none (λ j. header_at g image (segment_at g j)) 
 pub record IsNew {A : Type 0} (index : Index A) (g : Geometry) : Type 0 where
   pub geometry : index.ring.geometry ≡ g
   pub next : index.next ≡ 0
-  pub closed : index.table ≡ replicate g.segments None
+  pub closed : index.table.heads ≡ replicate g.segments None
   pub none : index.clips ≡ replicate 64 None
-  pub no_victim : index.victim ≡ None
+  pub counts : index.table.clips ≡ replicate g.segments 0
 
 fresh-known : {A : Type 0} (index : Index A) (g : Geometry) (image : List ℕ) → IsNew index g → IsTrue (is_good g) → IsFresh g image → IsIndexOf index empty image
 fresh-known index g image new good fresh = record {
@@ -57,7 +57,7 @@ fresh-kept medium g disk index new good size settled fresh = record {
       count = ap length new.closed ∙ length-replicate g.segments None ∙ ap (λ (h : Geometry). h.segments) (sym new.geometry);
       within = subst (All (IsHeadIn index.ring.geometry)) (sym new.closed) (All-replicate (IsHeadIn index.ring.geometry) g.segments None tt);
       few = omega (arith, new.next);
-      victim_is = new.no_victim ∙ sym (first-none (ring_of index.ring.geometry) index.clips g.segments) ∙ ap (going_first (ring_of index.ring.geometry) index.clips) (sym new.closed);
+      counted = new.counts ∙ counts-closed (ring_of index.ring.geometry) index.clips g.segments ∙ ap (clip_counts (ring_of index.ring.geometry) index.clips) (sym new.closed);
     };
   };
   present = λ fine now. record {

@@ -13,7 +13,7 @@ use Rattle.loop_record.specs.Plain.{segments_of}
 use Rattle.loop_record.specs.Reading.{Holds, all_frames, by_block, is_bad_slot, is_high, lacks_frame, next_after, opened, parts_of, reading, repeats}
 use Rattle.loop_record.specs.Recording.{Recording, last_number, ring_of}
 use Rattle.loop_record.proofs.FoundSegments.{AreFull, IsFoundIn, fault-of, found-low, found-read, read-all, read-bad_clip, reading-bad_slot, reading-high}
-use Rattle.loop_ring.specs.Heads.{going_first, heads_of}
+use Rattle.loop_ring.specs.Heads.{clip_counts, heads_of}
 use Rattle.loop_store.specs.declared.index.Index.{Index}
 use Rattle.loop_store.specs.Recovered.{IsFitting, IsHeadIn, IsOf, IsRecovered, clips_of, some_bad_clip}
 
@@ -64,8 +64,8 @@ fitting index g heads clips next size is size_is count within few = record {
   size_is = size_is ∙ ap disk_size (sym is.geometry);
   whole = record {
     count = ap length is.heads_are ∙ count ∙ ap (λ (h : Geometry). h.segments) (sym is.geometry);
-    within = subst (λ (h : Geometry). All (IsHeadIn h) index.table) (sym is.geometry) (subst (All (IsHeadIn g)) (sym is.heads_are) within);
+    within = subst (λ (h : Geometry). All (IsHeadIn h) index.table.heads) (sym is.geometry) (subst (All (IsHeadIn g)) (sym is.heads_are) within);
     few = subst (λ (h : Geometry). index.next ≤ last_number (ring_of h)) (sym is.geometry) (subst (λ (n : ℕ). n ≤ last_number (ring_of g)) (sym is.next_is) few);
-    victim_is = is.victim_is ∙ (λ i. going_first (ring_of (sym is.geometry i)) (sym is.clips_are i) (sym is.heads_are i));
+    counted = is.counted ∙ (λ i. clip_counts (ring_of (sym is.geometry i)) (sym is.clips_are i) (sym is.heads_are i));
   };
 }

@@ -176,10 +176,10 @@ alike-on old mid new sound stays run = left-now mid new (ReadsAlike mid.bytes) s
 -- ---- the segment of the next number
 
 -- where the index finds it, so does the image
-pub found-place : {A : Type 0} (index : Index A) (slots : ℕ) (image : List ℕ) (found result : Option ℕ) (told : IsRecovered index image) → slots ≡ index.ring.geometry.slots → found ≡ result → found ≡ position (is_of (index.next / slots)) index.table
+pub found-place : {A : Type 0} (index : Index A) (slots : ℕ) (image : List ℕ) (found result : Option ℕ) (told : IsRecovered index image) → slots ≡ index.ring.geometry.slots → found ≡ result → found ≡ position (is_of (index.next / slots)) index.table.heads
     → position (is_of (told.recording.next / index.ring.geometry.slots)) (heads_of index.ring.geometry image) ≡ result
 found-place index slots image found result told same answered said =
-    found-of index.ring.geometry told.recording image index.table index.next slots found result told.known.heads_are (sym told.known.next_is) same answered said
+    found-of index.ring.geometry told.recording image index.table.heads index.next slots found result told.known.heads_are (sym told.known.next_is) same answered said
 
 -- the segment that was found has all the frames before the next number
 pub found-whole : {A : Type 0} (index : Index A) (slots j : ℕ) (image : List ℕ) (told : IsRecovered index image) → slots ≡ index.ring.geometry.slots
@@ -213,7 +213,7 @@ found-present index j old now told found shows clean settled =
 -- ---- the store
 
 -- a store whose disk holds a recording, and reads as an image did, was opened on that image
-pub present-opened : {D A : Type 0} (medium : D → Medium) (disk : D) (index : Index A) (before : List ℕ) → 1 ≤ index.ring.geometry.slots → All (IsHeadIn index.ring.geometry) index.table → IsPresent index (medium disk) → ReadsAlike before (medium disk).bytes
+pub present-opened : {D A : Type 0} (medium : D → Medium) (disk : D) (index : Index A) (before : List ℕ) → 1 ≤ index.ring.geometry.slots → All (IsHeadIn index.ring.geometry) index.table.heads → IsPresent index (medium disk) → ReadsAlike before (medium disk).bytes
     → IsOpened medium before (seen_with disk index false)
 present-opened medium disk index before some within present alike =
     let r = present.recorded.recording in

@@ -1,11 +1,10 @@
 -- Which clips may be locked, and what a lock and an unlock note.
-use Rattle.std.specs.Prelude.{◌≡◌, ℕ, ◌<◌, ◌≤◌, true, Option, None, Some, Result, Ok, Err, List, slice_set}
+use Rattle.std.specs.Prelude.{◌≡◌, ℕ, ◌<◌, ◌≤◌, true, Option, None, Some, Result, Ok, Err, List}
 use Rattle.loop_record.specs.declared.clip.Span.{Span}
 use Rattle.loop_record.specs.declared.geometry.Geometry.{Geometry}
-use Rattle.loop_record.specs.Recording.{Recording, free_id, holds, holds_all, ring_of}
-use Rattle.loop_ring.specs.Heads.{going_first, heads_of}
+use Rattle.loop_record.specs.Recording.{Recording, free_id, holds, holds_all}
+use Rattle.loop_ring.specs.Heads.{heads_of}
 use Rattle.loop_store.specs.declared.fault.StoreFault.{StoreFault}
-use Rattle.loop_store.specs.declared.index.Index.{Index}
 use Rattle.loop_store.specs.Calls.{CanLock, IsFirstMissing, RefusesSpan}
 use Rattle.loop_store.specs.Held.{HasNoneStray}
 
@@ -37,11 +36,3 @@ pub record Takes (g : Geometry) (span : Span) (id : ℕ) (r : Recording) : Type 
 pub record KeepsSegments (g : Geometry) (old new : List ℕ) : Type 0 where
   pub heads : heads_of g new ≡ heads_of g old
   pub unstray : HasNoneStray g new
-
--- a clip, or none, stands under an id
-pub record IsClipNoted {A : Type 0} (old new : Index A) (id : ℕ) (clip : Option Span) : Type 0 where
-  pub ring : new.ring ≡ old.ring
-  pub next : new.next ≡ old.next
-  pub heads : new.table ≡ old.table
-  pub clips : new.clips ≡ slice_set old.clips id clip
-  pub victim : new.victim ≡ going_first (ring_of old.ring.geometry) new.clips old.table

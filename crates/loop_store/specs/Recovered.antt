@@ -11,7 +11,7 @@ use Rattle.loop_record.specs.Layout.{Segment, clip_in, is_too_high}
 use Rattle.loop_record.specs.Plain.{segment_of, segments_of}
 use Rattle.loop_record.specs.Reading.{Holds, all_frames, is_bad_clip}
 use Rattle.loop_record.specs.Recording.{Recording, empty, last_number, ring_of}
-use Rattle.loop_ring.specs.Heads.{going_first, heads_of}
+use Rattle.loop_ring.specs.Heads.{clip_counts, heads_of}
 use Rattle.loop_store.specs.declared.fault.StoreFault.{StoreFault}
 use Rattle.loop_store.specs.declared.index.Index.{Index}
 
@@ -58,16 +58,16 @@ some_bad_clip g image fs = list_any (is_bad_clip (record empty { frames = all_fr
 pub record IsIndexOf {A : Type 0} (index : Index A) (r : Recording) (image : List ℕ) : Type 0 where
   pub held : Holds index.ring.geometry r image
   pub next_is : index.next ≡ r.next
-  pub heads_are : index.table ≡ heads_of index.ring.geometry image
+  pub heads_are : index.table.heads ≡ heads_of index.ring.geometry image
   pub clips_are : index.clips ≡ r.clips
 
 -- the index of a geometry, headers and clips, and of a next number
 pub record IsOf {A : Type 0} (index : Index A) (g : Geometry) (heads : List (Option SegmentHead)) (clips : List (Option Span)) (next : ℕ) : Type 0 where
   pub geometry : index.ring.geometry ≡ g
-  pub heads_are : index.table ≡ heads
+  pub heads_are : index.table.heads ≡ heads
   pub clips_are : index.clips ≡ clips
   pub next_is : index.next ≡ next
-  pub victim_is : index.victim ≡ going_first (ring_of g) clips heads
+  pub counted : index.table.clips ≡ clip_counts (ring_of g) clips heads
 
 -- the image holds a recording, and the index says what the image says
 pub record IsRecovered {A : Type 0} (index : Index A) (image : List ℕ) : Type 0 where
@@ -75,12 +75,12 @@ pub record IsRecovered {A : Type 0} (index : Index A) (image : List ℕ) : Type 
   pub known : IsIndexOf index recording image
 
 -- whatever a disk holds: there is a header for each segment, each may stand there, no block of the numbers
--- below the next one is too high, and the block that is kept as the victim is that of the headers and the clips
+-- below the next one is too high, and the clips that meet each segment's block are counted
 pub record IsIndex {A : Type 0} (index : Index A) : Type 0 where
-  pub count : length index.table ≡ index.ring.geometry.segments
-  pub within : All (IsHeadIn index.ring.geometry) index.table
+  pub count : length index.table.heads ≡ index.ring.geometry.segments
+  pub within : All (IsHeadIn index.ring.geometry) index.table.heads
   pub few : index.next ≤ last_number (ring_of index.ring.geometry)
-  pub victim_is : index.victim ≡ going_first (ring_of index.ring.geometry) index.clips index.table
+  pub counted : index.table.clips ≡ clip_counts (ring_of index.ring.geometry) index.clips index.table.heads
 
 -- so it is, of a disk of this size
 pub record IsFitting {A : Type 0} (index : Index A) (size : ℕ) : Type 0 where
@@ -97,6 +97,16 @@ head_after g next count = record { block = next / g.slots; frames = next % g.slo
 pub record IsNoted {A : Type 0} (old new : Index A) (j count : ℕ) : Type 0 where
   pub ring : new.ring ≡ old.ring
   pub next : new.next ≡ old.next + count
-  pub heads : new.table ≡ slice_set old.table j (Some (head_after old.ring.geometry old.next count))
+  pub heads : new.table.heads ≡ slice_set old.table.heads j (Some (head_after old.ring.geometry old.next count))
   pub clips : new.clips ≡ old.clips
-  pub victim : new.victim ≡ going_first (ring_of old.ring.geometry) old.clips new.table
+  pub counted : new.table.clips ≡ clip_counts (ring_of old.ring.geometry) old.clips new.table.heads
+
+-- ---- what a lock and an unlock note
+
+-- under this id stands this clip, or none
+pub record IsClipNoted {A : Type 0} (old new : Index A) (id : ℕ) (clip : Option Span) : Type 0 where
+  pub ring : new.ring ≡ old.ring
+  pub next : new.next ≡ old.next
+  pub heads : new.table.heads ≡ old.table.heads
+  pub clips : new.clips ≡ slice_set old.clips id clip
+  pub counted : new.table.clips ≡ clip_counts (ring_of old.ring.geometry) new.clips old.table.heads

@@ -30,7 +30,7 @@ seen_with disk index must_reopen = record {
   disk = disk;
   geometry = index.ring.geometry;
   next = index.next;
-  numbers = numbers_under index.ring.geometry.slots index.table;
+  numbers = numbers_under index.ring.geometry.slots index.table.heads;
   clips = index.clips;
   must_reopen = must_reopen;
 }

@@ -1,29 +1,28 @@
 //! What is known in memory of the recording on a disk.
 
-ghost use Rattle.std.specs.Prelude.{◌≡◌, ◌≢◌, ◌⊎◌, ◌&&◌, ◌+◌, ◌/◌, ◌%◌, ◌<◌, ◌≤◌, ◌↔◌, ℕ, Err, IfErr, IfOk, IfSome, IsTrue, List, None, length};
+ghost use Rattle.std.specs.Prelude.{◌≡◌, ◌≢◌, ◌⊎◌, ◌&&◌, ◌+◌, ◌/◌, ◌%◌, ◌<◌, ◌≤◌, ◌↔◌, ℕ, Err, IfErr, IfOk, IfSome, IsTrue, List, None, Some, length, slice_index_or, slice_set};
 ghost use Rattle.std.specs.List.{position};
 ghost use Rattle.loop_record.specs.Geometry.{is_good};
 ghost use Rattle.loop_record.specs.Recording.{Recording, last_number, ring_of, victim};
-ghost use Rattle.loop_ring.specs.Heads.{IsPlaceOf, going_first, has_frame, heads_of, is_of};
+ghost use Rattle.loop_ring.specs.Heads.{IsPlaceOf, clip_counts, has_frame, heads_of, is_of};
 ghost use Rattle.loop_store.specs.Places.{AnswersPlace, IsPlace, segment_of};
-ghost use Rattle.loop_store.specs.Recovered.{IsIndex, IsIndexOf, IsNoted, IsOf};
+ghost use Rattle.loop_store.specs.Recovered.{IsClipNoted, IsIndex, IsIndexOf, IsNoted, IsOf};
 
 use crate::StoreFault;
 use crate::place::Place;
 use loop_clips::ClipTable;
 use loop_record::{Geometry, NUMBERS_END, SegmentHead, Span};
-use loop_ring::{Ring, SegmentIndex, victim_block};
+use loop_ring::{Ring, SegmentIndex, clips_on};
 use std::alloc::{AllocError, Allocator};
 
-/// The geometry, what the header of each segment says, the clip of each id, the number that the next frame
-/// gets, and the block that goes when room is needed.
+/// The geometry, what the header of each segment says with the count of the clips that meet its block, the clip
+/// of each id, and the number that the next frame gets.
 #[derive(Drop)]
 pub(crate) struct Index<A: Allocator> {
     pub(crate) ring: Ring,
     pub(crate) table: SegmentIndex<A>,
     pub(crate) clips: ClipTable,
     pub(crate) next: u64,
-    pub(crate) victim: Option<u64>,
 }
 
 /// The number that no frame gets: the first of a block that would reach 2^62.
@@ -43,7 +42,7 @@ fn has_frame_of(head: Option<SegmentHead>, block: u64) -> bool
 }
 
 /// The index of what was found on a disk. Its only error is want of memory; what is noted in it later takes none.
-pub(crate) fn index_of<A: Allocator>(
+pub(crate) fn index_of<A: Allocator + Copy>(
     alloc: A,
     geometry: Geometry,
     heads: Vec<Option<SegmentHead>, A>,
@@ -54,23 +53,21 @@ pub(crate) fn index_of<A: Allocator>(
     requires count { length heads.items ≡ geometry.segments }
     ensures { IfOk result (λ index. IsOf index geometry heads.items clips next) }
 {
-    let table = SegmentIndex::of(alloc, heads)?;
     let clips = ClipTable::of(clips);
-    let victim = victim_block(&geometry, &table, clips.as_slice());
+    let table = SegmentIndex::of(alloc, &geometry, heads, clips.as_slice())?;
     Ok(Index {
         ring: Ring::new(geometry),
         table,
         clips,
         next,
-        victim,
     })
 }
 
 impl<A: Allocator> Index<A> {
     /// The segment that holds a block, if one does.
     pub(crate) fn find(&self, block: u64) -> Option<u32>
-        ensures place { result ≡ position (is_of block) self.now.table }
-        ensures within { IfSome result (λ segment. segment < length self.now.table) }
+        ensures place { result ≡ position (is_of block) self.now.table.heads }
+        ensures within { IfSome result (λ segment. segment < length self.now.table.heads) }
     {
         self.table.find(block).0
     }
@@ -78,11 +75,11 @@ impl<A: Allocator> Index<A> {
     /// The segment of the block that goes when room is needed, or nothing where no block may go.
     fn victim_segment(&self) -> Option<u32>
         requires { IsIndex self.now }
-        ensures within { IfSome result (λ segment. segment < length self.now.table) }
+        ensures within { IfSome result (λ segment. segment < length self.now.table.heads) }
         ensures place { (r : Recording) (image : List ℕ) → IsIndexOf self.now r image
-            → IsPlaceOf self.now.table (victim (ring_of self.now.ring.geometry) r) result }
+            → IsPlaceOf self.now.table.heads (victim (ring_of self.now.ring.geometry) r) result }
     {
-        let block = self.victim?;
+        let block = self.table.victim()?;
         self.find(block)
     }
 
@@ -142,11 +139,10 @@ impl<A: Allocator> Index<A> {
         }
     }
 
-    /// Notes that a segment has the block of the next number, the frames before it and so many from it on. A
-    /// block that had a frame there leaves the victim as it is; only another one has it looked for.
+    /// Notes that a segment has the block of the next number, the frames before it and so many from it on.
     pub(crate) fn note(&mut self, segment: u32, count: u32)
         requires index { IsIndex self.old }
-        requires segment { segment < length self.old.table }
+        requires segment { segment < length self.old.table.heads }
         requires some { 1 ≤ count }
         requires room { self.old.next % self.old.ring.geometry.slots + count ≤ self.old.ring.geometry.slots }
         ensures { IsNoted self.old self.new segment count }
@@ -154,22 +150,89 @@ impl<A: Allocator> Index<A> {
         let slots = u64::from(self.ring.geometry.slots);
         let block = self.next / slots;
         let frames = (self.next % slots) as u32 + count;
-        let grows = has_frame_of(self.table.get(segment), block);
-        self.table.set(segment, Some(SegmentHead { block, frames }));
-        self.victim = self.victim_after(grows);
+        let head = SegmentHead { block, frames };
+        set_head(
+            &mut self.table,
+            &self.ring,
+            self.clips.as_slice(),
+            segment,
+            head,
+        );
         self.next += u64::from(count);
     }
 
-    /// The block that goes when room is needed, once a segment's header has changed: the one that is kept where
-    /// a block only grows.
-    pub(crate) fn victim_after(&self, grows: bool) -> Option<u64>
-        requires { IsTrue grows
-            → self.now.victim ≡ going_first (ring_of self.now.ring.geometry) self.now.clips self.now.table }
-        ensures { result ≡ going_first (ring_of self.now.ring.geometry) self.now.clips self.now.table }
+    /// Notes what stands under an id: a clip, or none.
+    pub(crate) fn note_clip(&mut self, id: u32, clip: Option<Span>)
+        requires index { IsIndex self.old }
+        requires id { id < 64 }
+        ensures { IsClipNoted self.old self.new id clip }
     {
-        if grows {
-            return self.victim;
-        }
-        victim_block(&self.ring.geometry, &self.table, self.clips.as_slice())
+        uncount_clip(&mut self.table, &self.ring, self.clips.as_slice(), id);
+        self.clips.set(id, None);
+        count_clip(&mut self.table, &self.ring, self.clips.as_slice(), id, clip);
+        self.clips.set(id, clip);
+    }
+}
+
+/// Sets the header of a segment. A block that had a frame there only grows: its clips aren't counted anew.
+fn set_head<A: Allocator>(
+    table: &mut SegmentIndex<A>,
+    ring: &Ring,
+    clips: &[Option<Span>],
+    segment: u32,
+    head: SegmentHead,
+)
+    requires ids { length clips.now ≡ 64 }
+    requires segment { segment < length table.old.heads }
+    requires some { 0 < head.frames }
+    requires counted { table.old.clips ≡ clip_counts (ring_of ring.now.geometry) clips.now table.old.heads }
+    ensures heads { table.new.heads ≡ slice_set table.old.heads segment (Some head) }
+    ensures counted { table.new.clips ≡ clip_counts (ring_of ring.now.geometry) clips.now table.new.heads }
+{
+    if has_frame_of(table.get(segment), head.block) {
+        table.grow(segment, head.frames);
+        return;
+    }
+    let count = clips_on(&ring.geometry, clips, Some(head));
+    table.set(segment, Some(head), count);
+}
+
+/// Takes the clip of an id, if one stands there, out of the counts.
+fn uncount_clip<A: Allocator>(
+    table: &mut SegmentIndex<A>,
+    ring: &Ring,
+    clips: &[Option<Span>],
+    id: u32,
+)
+    requires ids { length clips.now ≡ 64 }
+    requires id { id < 64 }
+    requires counted { table.old.clips ≡ clip_counts (ring_of ring.now.geometry) clips.now table.old.heads }
+    ensures heads { table.new.heads ≡ table.old.heads }
+    ensures counted { table.new.clips
+        ≡ clip_counts (ring_of ring.now.geometry) (slice_set clips.now id None) table.old.heads }
+{
+    if let Some(span) = clips[id as usize] {
+        table.unlock_clip(&ring.geometry, span);
+    }
+}
+
+/// Puts a clip, if there is one, into the counts: it is to stand under an id that is free.
+fn count_clip<A: Allocator>(
+    table: &mut SegmentIndex<A>,
+    ring: &Ring,
+    clips: &[Option<Span>],
+    id: u32,
+    clip: Option<Span>,
+)
+    requires ids { length clips.now ≡ 64 }
+    requires id { id < 64 }
+    requires free { slice_index_or clips.now id None ≡ None }
+    requires counted { table.old.clips ≡ clip_counts (ring_of ring.now.geometry) clips.now table.old.heads }
+    ensures heads { table.new.heads ≡ table.old.heads }
+    ensures counted { table.new.clips
+        ≡ clip_counts (ring_of ring.now.geometry) (slice_set clips.now id clip) table.old.heads }
+{
+    if let Some(span) = clip {
+        table.lock_clip(&ring.geometry, span);
     }
 }

@@ -4,12 +4,11 @@ ghost use Rattle.std.specs.Prelude.{◌≡◌, ◌≢◌, ◌<◌, ◌≤◌, �
 ghost use Rattle.loop_disk.specs.Medium.{IsSettled};
 ghost use Rattle.loop_record.specs.Geometry.{disk_size};
 ghost use Rattle.loop_record.specs.Recording.{Recording, clip_of, first_free, holds, lock, ring_of, unlock};
-ghost use Rattle.loop_ring.specs.Heads.{going_first};
 ghost use Rattle.loop_store.specs.Calls.{CanRefuseSpan, locked, unlocked};
 ghost use Rattle.loop_store.specs.Goes.{Goes};
 ghost use Rattle.loop_store.specs.Held.{Makes};
-ghost use Rattle.loop_store.specs.Locks.{AnswersSpan, AreHeld, IsClipNoted, IsInSpan, IsMissing, KeepsSegments, Takes};
-ghost use Rattle.loop_store.specs.Recovered.{IsIndex, IsIndexOf};
+ghost use Rattle.loop_store.specs.Locks.{AnswersSpan, AreHeld, IsInSpan, IsMissing, KeepsSegments, Takes};
+ghost use Rattle.loop_store.specs.Recovered.{IsClipNoted, IsIndex, IsIndexOf};
 ghost use Rattle.loop_store.specs.Seen.{IsKept, IsPresent, Refused, seen_with};
 
 use crate::StoreFault;
@@ -96,7 +95,7 @@ fn add_clip<D: Disk, A: Allocator>(
 {
     let written = index.clips.lock(disk, id, span);
     if written.is_ok() {
-        index.victim = index.victim_after(false);
+        index.note_clip(id, Some(span));
     }
     written
 }
@@ -118,7 +117,7 @@ fn remove_clip<D: Disk, A: Allocator>(
 {
     let written = index.clips.unlock(disk, id);
     if written.is_ok() {
-        index.victim = index.victim_after(false);
+        index.note_clip(id, None);
     }
     written
 }

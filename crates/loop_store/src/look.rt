@@ -28,7 +28,7 @@ pub(crate) fn segment_with<A: Allocator>(index: &Index<A>, number: u64) -> Optio
     requires { IsIndex index.now }
     ensures within { IfSome result (λ segment. segment < index.now.ring.geometry.segments) }
     ensures there { IfSome result (λ segment.
-        has_number index.now.ring.geometry.slots number (slice_index_or index.now.table segment None) ≡ true) }
+        has_number index.now.ring.geometry.slots number (slice_index_or index.now.table.heads segment None) ≡ true) }
     ensures missing { (r : Recording) (image : List ℕ) → IsIndexOf index.now r image
         → IfNone result (holds r number ≡ false) }
 {

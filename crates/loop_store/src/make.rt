@@ -76,7 +76,6 @@ pub fn format<D: Disk + Drop, A: Allocator + Copy>(
                 table,
                 clips: ClipTable::empty(),
                 next: 0,
-                victim: None,
             },
             group,
             must_reopen: false,

@@ -90,7 +90,7 @@ impl<D: Disk + Drop, A: Allocator> Store<D, A> {
         ensures { (r : Recording) → StandsFor D.medium self.now r → (D.medium self.now.disk).honest
             → self.now.must_reopen ≡ false → result ≡ victim (ring_of self.now.geometry) r }
     {
-        self.index.victim
+        self.index.table.victim()
     }
 
     /// The disk, as the calls left it.
@@ -222,7 +222,7 @@ impl<D: Disk + Drop, A: Allocator> Store<D, A> {
             return Err(StoreFault::MustReopen);
         }
         let geometry = &self.index.ring.geometry;
-        let segments = in_order(alloc, geometry, self.index.table.as_slice())?;
+        let segments = in_order(alloc, geometry, self.index.table.heads())?;
         let numbers = numbers_of(alloc, geometry, segments.as_slice())?;
         Ok(numbers)
     }

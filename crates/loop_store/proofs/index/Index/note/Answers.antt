@@ -1,9 +1,15 @@
-use Rattle.std.proofs.Common.{sym, arith, ◌∙◌}
+use Rattle.std.proofs.Common.{Option, Some, List, ◌+◌, ◌/◌, ◌%◌, set, refl, ap, ◌∙◌}
+use Rattle.loop_record.specs.declared.clip.Span.{Span}
 use Rattle.loop_record.specs.Recording.{ring_of}
-use Rattle.loop_store.proofs.Appended.{victim-kept}
+use Rattle.loop_ring.specs.Heads.{clip_counts}
 use Rattle.loop_store.proofs.index.Index.note.Goals as goal
 
-pub victim_after-self-requires : goal.victim_after-self-requires
-victim_after-self-requires g c = λ yes.
-    let i = c.args.self.now in
-    victim-kept (ring_of i.ring.geometry) i.clips i.table c.set.new.self c.args.segment _ _ c.get.result i.victim c.requires.index.victim_is c.requires.segment c.get.ensures (sym c.has_frame_of-grows.ensures ∙ yes) (omega (arith, c.requires.some)) c.set.ensures
+pub returns : goal.returns
+returns g c =
+    let old = c.args.self.now in record {
+      ring = refl;
+      next = ap (λ n. old.next + n) c.from.ensures;
+      heads = c.set_head.ensures.heads ∙ (λ i. set old.table.heads c.args.segment (Some (record { block = old.next / c.from-slots.ensures i; frames = old.next % c.from-slots.ensures i + c.args.count })));
+      clips = refl;
+      counted = c.set_head.ensures.counted ∙ ap (λ (l : List (Option Span)). clip_counts (ring_of old.ring.geometry) l c.set_head.new.table.heads) c.as_slice.ensures.clips;
+    }

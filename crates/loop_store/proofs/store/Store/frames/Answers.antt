@@ -14,5 +14,5 @@ returns-clause-numbers g c =
     let s = c.self.inside in
     let h = s.index.ring.geometry in
     let known = known-by g.D.Disk.medium s.disk s.index s.must_reopen r c.self.invariant.0 stands c.if-self.false honest in
-    c.in_ok-numbers.ensures ∙ ap (λ (fs : List Found). numbers_in h fs) c.as_slice-2.ensures.value
-    ∙ held-numbers h r (g.D.Disk.medium s.disk).bytes c.in_ok-segments.segments.items known.held (c.in_ok-segments.ensures.order (g.D.Disk.medium s.disk).bytes (c.as_slice.ensures ∙ known.heads_are)))
+    c.in_ok-numbers.ensures ∙ ap (λ (fs : List Found). numbers_in h fs) c.as_slice.ensures.value
+    ∙ held-numbers h r (g.D.Disk.medium s.disk).bytes c.in_ok-segments.segments.items known.held (c.in_ok-segments.ensures.order (g.D.Disk.medium s.disk).bytes (c.heads.ensures ∙ known.heads_are)))

@@ -1,0 +1,87 @@
+// How many clips meet the block of each segment.
+ghost use Rattle.std.specs.Prelude.{◌≡◌, ◌<◌, ◌≤◌, ◌^◌, [], All, IsTrue, length, map, vec_capacity};
+ghost use Rattle.std.specs.List.{zip};
+ghost use Rattle.loop_record.specs.Geometry.{is_good};
+ghost use Rattle.loop_record.specs.Recording.{ring_of};
+ghost use Rattle.loop_ring.specs.Heads.{clip_counts, clips_on, meets_head, one_less, one_more};
+
+use loop_record::{Geometry, SegmentHead, Span, meets};
+use std::alloc::Allocator;
+
+/// How many of these clips meet the block of a segment: none where it is closed.
+pub fn clips_on(geometry: &Geometry, clips: &[Option<Span>], head: Option<SegmentHead>) -> u32
+    requires good { IsTrue (is_good geometry.now) }
+    requires few { length clips.now < 2 ^ 32 }
+    ensures { result ≡ clips_on (ring_of geometry.now) clips.now head }
+{
+    match head {
+        None => 0,
+        Some(head) => clips
+            .iter()
+            .filter(|clip| meets(geometry, head.block, **clip))
+            .count() as u32,
+    }
+}
+
+// Puts the count of each segment into none. It takes no memory.
+pub(crate) fn count_clips<A: Allocator>(
+    counts: &mut Vec<u32, A>,
+    geometry: &Geometry,
+    heads: &[Option<SegmentHead>],
+    clips: &[Option<Span>],
+)
+    requires good { IsTrue (is_good geometry.now) }
+    requires few { length clips.now < 2 ^ 32 }
+    requires none { counts.old.items ≡ [] }
+    requires room { length heads.now ≤ vec_capacity counts.old }
+    ensures { counts.new.items ≡ clip_counts (ring_of geometry.now) clips.now heads.now }
+{
+    for head in heads {
+        counts.push_reserved(clips_on(geometry, clips, *head));
+    }
+}
+
+// Whether some number of a clip is of a segment's block.
+fn meets_head(geometry: &Geometry, clip: Option<Span>, head: Option<SegmentHead>) -> bool
+    requires { IsTrue (is_good geometry.now) }
+    ensures { result ≡ meets_head (ring_of geometry.now) clip head }
+{
+    head.is_some_and(|head| meets(geometry, head.block, clip))
+}
+
+// Raises the counts of the segments whose block a clip meets.
+pub(crate) fn raise_counts(
+    counts: &mut [u32],
+    geometry: &Geometry,
+    heads: &[Option<SegmentHead>],
+    span: Span,
+)
+    requires good { IsTrue (is_good geometry.now) }
+    requires counted { length counts.old ≡ length heads.now }
+    requires few { All (λ count. count < 64) counts.old }
+    ensures { counts.new ≡ map (λ x. one_more (ring_of geometry.now) span x.0 x.1) (zip heads.now counts.old) }
+{
+    for (segment, head) in heads.iter().enumerate() {
+        if meets_head(geometry, Some(span), *head) {
+            counts[segment] += 1;
+        }
+    }
+}
+
+// Lowers the counts of the segments whose block a clip meets.
+pub(crate) fn lower_counts(
+    counts: &mut [u32],
+    geometry: &Geometry,
+    heads: &[Option<SegmentHead>],
+    span: Span,
+)
+    requires good { IsTrue (is_good geometry.now) }
+    requires counted { length counts.old ≡ length heads.now }
+    ensures { counts.new ≡ map (λ x. one_less (ring_of geometry.now) span x.0 x.1) (zip heads.now counts.old) }
+{
+    for (segment, head) in heads.iter().enumerate() {
+        if meets_head(geometry, Some(span), *head) {
+            counts[segment] = counts[segment].saturating_sub(1);
+        }
+    }
+}
