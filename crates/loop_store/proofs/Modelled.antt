@@ -7,7 +7,7 @@ use Rattle.loop_record.proofs.Decided.{clash, neither}
 use Rattle.loop_record.proofs.Steps.{plain-append}
 use Rattle.loop_store.specs.declared.fault.StoreFault.{StoreFault}
 use Rattle.loop_store.specs.Faults.{is_disk}
-use Rattle.loop_store.specs.Calls.{AreAnswered, Call, IsAnswered, RefusesAppend, StoreState, appended, was_read, after, after_calls, asked, begun, begun_in, has_failed, made, made_in}
+use Rattle.loop_store.specs.Calls.{AreAnswered, Call, IsAnswered, RefusesAppend, StoreState, appended, was_read, was_read_part, after, after_calls, asked, begun, begun_in, has_failed, made, made_in}
 
 -- the recording after calls is the one after their steps
 pub recording-after : (g : Geometry) (s : StoreState) (calls : List Call) → (after_calls g s calls).recording ≡ plain (ring_of g) s.recording (made_in g s calls)
@@ -18,6 +18,7 @@ recording-after g s (c ∷ calls) = recording-after g (after g s c) calls ∙ sy
 
 begun-none : (g : Geometry) (s : StoreState) (c : Call) → has_failed c ≡ false → begun g s c ≡ []
 begun-none g s (was_read number result) fine = refl
+begun-none g s (was_read_part number at result) fine = refl
 begun-none g s (appended group result) fine = ap (λ (b : Bool). if b then asked g s.recording group else []) fine
 
 -- nothing has failed before
@@ -48,6 +49,7 @@ idle-append g s group fault must (inr (inr (inr x))) = absurd (clash s.must_reop
 
 idle-one : (g : Geometry) (s : StoreState) (c : Call) → s.must_reopen ≡ true → IsAnswered g s c → IsIdle (made g s c) (begun g s c)
 idle-one g s (was_read number result) must said = record { made = refl; begun = refl }
+idle-one g s (was_read_part number at result) must said = record { made = refl; begun = refl }
 idle-one g s (appended group (Ok number)) must said = absurd (clash s.must_reopen must said.0)
 idle-one g s (appended group (Err fault)) must said = idle-append g s group fault must said
 

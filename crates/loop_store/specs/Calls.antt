@@ -1,6 +1,7 @@
 -- The calls of a store with their answers, and what they make of a recording: the model of the store.
 use Rattle.std.specs.Prelude.{◌≡◌, ◌≢◌, ◌⊎◌, ℕ, ◌+◌, Bool, true, false, ◌||◌, Option, Some, None, Result, Ok, Err, List, [], length}
 use Rattle.loop_disk.specs.declared.fault.DiskFault.{DiskFault}
+use Rattle.loop_disk.specs.Medium.{piece}
 use Rattle.loop_record.specs.declared.damage.Damage.TheVariants.{SlotHead}
 use Rattle.loop_record.specs.declared.frame.FrameHead.{FrameHead}
 use Rattle.loop_record.specs.declared.geometry.Geometry.{Geometry}
@@ -11,15 +12,22 @@ use Rattle.loop_store.specs.declared.fault.StoreFault.TheVariants.{AllLocked, Da
 use Rattle.loop_store.specs.Faults.{answers_disk, failed_in, is_disk}
 use Rattle.loop_store.specs.Steps.{if_answered, if_failed, steps_or_none}
 
--- a call and its answer: an append of a group, and a read of a number with the head and the bytes that it gave
+-- a call and its answer: an append of a group, a read of a number with the head and the bytes that it gave, and a
+-- read of a part of a number's frame, from a byte on, with the bytes that it gave
 pub data Call : Type 0 where
   appended : List Picture → Result ℕ StoreFault → Call
   was_read : ℕ → Result (FrameHead × List ℕ) StoreFault → Call
+  was_read_part : ℕ → ℕ → Result (List ℕ) StoreFault → Call
 
 -- what a read into lent memory answers
 abbrev pub read_with : Result FrameHead StoreFault → List ℕ → Result (FrameHead × List ℕ) StoreFault
 read_with (Ok h) out = Ok (h, out)
 read_with (Err fault) out = Err fault
+
+-- what a read of a part into lent memory answers
+abbrev pub part_with : Result (Unit {0}) StoreFault → List ℕ → Result (List ℕ) StoreFault
+part_with (Ok done) out = Ok out
+part_with (Err fault) out = Err fault
 
 -- what is recorded, and whether a call that writes has failed
 pub record StoreState : Type 0 where
@@ -36,11 +44,13 @@ asked g r group = steps_or_none (steps (ring_of g) r group)
 abbrev pub made : Geometry → StoreState → Call → List Step
 made g s (appended group result) = if_answered result (asked g s.recording group)
 made g s (was_read number result) = []
+made g s (was_read_part number at result) = []
 
 -- the steps that it began, and of which a beginning may stand
 abbrev pub begun : Geometry → StoreState → Call → List Step
 begun g s (appended group result) = if_failed result (asked g s.recording group)
 begun g s (was_read number result) = []
+begun g s (was_read_part number at result) = []
 
 -- ---- the state after a call
 
@@ -48,6 +58,7 @@ begun g s (was_read number result) = []
 abbrev pub has_failed : Call → Bool
 has_failed (appended group result) = answers_disk result
 has_failed (was_read number result) = false
+has_failed (was_read_part number at result) = false
 
 abbrev pub after : Geometry → StoreState → Call → StoreState
 after g s call = record {
@@ -74,6 +85,14 @@ RefusesRead s number fault =
     ⊎ ((fault ≡ NotHeld) × ((s.must_reopen ≡ false) × (holds s.recording number ≡ false))
     ⊎ ((fault ≡ NoMemory) ⊎ (is_disk fault ≡ true)) × ((s.must_reopen ≡ false) × (holds s.recording number ≡ true)))
 
+-- why a read of a part is refused: it must be reopened, or otherwise the number isn't held, or otherwise the disk
+-- failed
+abbrev pub RefusesPart : StoreState → ℕ → StoreFault → Type 0
+RefusesPart s number fault =
+    (fault ≡ MustReopen) × (s.must_reopen ≡ true)
+    ⊎ ((fault ≡ NotHeld) × ((s.must_reopen ≡ false) × (holds s.recording number ≡ false))
+    ⊎ (is_disk fault ≡ true) × ((s.must_reopen ≡ false) × (holds s.recording number ≡ true)))
+
 -- the frame of a number, with this head and these bytes
 pub record IsFrame (r : Recording) (number : ℕ) (h : FrameHead) (bytes : List ℕ) : Type 0 where
   pub picture : Picture
@@ -81,12 +100,20 @@ pub record IsFrame (r : Recording) (number : ℕ) (h : FrameHead) (bytes : List 
   pub head_is : h ≡ head number picture
   pub bytes_are : bytes ≡ picture.bytes
 
+-- the bytes of a number's frame from byte `at` on, as many as there are
+pub record IsPart (r : Recording) (number at : ℕ) (bytes : List ℕ) : Type 0 where
+  pub picture : Picture
+  pub there : frame_under r.frames number ≡ Some picture
+  pub bytes_are : bytes ≡ piece at (length bytes) picture.bytes
+
 -- a call was answered so
 abbrev pub IsAnswered : Geometry → StoreState → Call → Type 0
 IsAnswered g s (appended group (Ok number)) = (s.must_reopen ≡ false) × ((steps (ring_of g) s.recording group ≢ None) × (number ≡ s.recording.next))
 IsAnswered g s (appended group (Err fault)) = RefusesAppend g s group fault
 IsAnswered g s (was_read number (Ok x)) = (s.must_reopen ≡ false) × IsFrame s.recording number x.0 x.1
 IsAnswered g s (was_read number (Err fault)) = RefusesRead s number fault
+IsAnswered g s (was_read_part number at (Ok bytes)) = (s.must_reopen ≡ false) × IsPart s.recording number at bytes
+IsAnswered g s (was_read_part number at (Err fault)) = RefusesPart s number fault
 
 -- ---- lists of calls
 
@@ -118,6 +145,7 @@ abbrev pub count_stored : Call → ℕ
 count_stored (appended group (Ok number)) = length group
 count_stored (appended group (Err fault)) = 0
 count_stored (was_read number result) = 0
+count_stored (was_read_part number at result) = 0
 
 abbrev pub outline_after : Outline → Call → Outline
 outline_after o call = record { next = o.next + count_stored call; must_reopen = o.must_reopen || has_failed call }
@@ -133,8 +161,13 @@ IsAllowed g o (was_read number (Ok x)) = o.must_reopen ≡ false
 IsAllowed g o (was_read number (Err fault)) =
     (fault ≡ MustReopen) × (o.must_reopen ≡ true)
     ⊎ ((fault ≡ NotHeld) ⊎ ((fault ≡ NoMemory) ⊎ ((fault ≡ Damaged SlotHead) ⊎ (is_disk fault ≡ true)))) × (o.must_reopen ≡ false)
+IsAllowed g o (was_read_part number at (Ok bytes)) = o.must_reopen ≡ false
+IsAllowed g o (was_read_part number at (Err fault)) =
+    (fault ≡ MustReopen) × (o.must_reopen ≡ true)
+    ⊎ ((fault ≡ NotHeld) ⊎ ((fault ≡ Damaged SlotHead) ⊎ (is_disk fault ≡ true))) × (o.must_reopen ≡ false)
 
 -- the call of the disk that failed, if the answer says that one did
 abbrev pub failed_for : Call → Option DiskFault
 failed_for (appended group result) = failed_in result
 failed_for (was_read number result) = failed_in result
+failed_for (was_read_part number at result) = failed_in result

@@ -14,7 +14,7 @@ ghost use Rattle.loop_store.specs.declared.fault.StoreFault.TheVariants.{Damaged
 ghost use Rattle.loop_store.specs.Faults.{answers_disk, is_disk, failed_in};
 ghost use Rattle.loop_store.specs.Numbers.{numbers_in};
 ghost use Rattle.loop_store.specs.Recovered.{IsIndex, IsIndexOf};
-ghost use Rattle.loop_store.specs.Reads.{AnswersFrame};
+ghost use Rattle.loop_store.specs.Reads.{AnswersFrame, AnswersFramePart};
 
 use crate::StoreFault;
 use crate::index::Index;
@@ -64,6 +64,32 @@ pub(crate) fn read_held<D: Disk>(
 {
     let slot = (number % u64::from(ring.geometry.slots)) as u32;
     Ok(ring.read_slot(disk, segment, slot, number, out)?)
+}
+
+/// Reads a part of the frame of a number, which its segment has, from byte `at` on.
+pub(crate) fn read_held_part<D: Disk>(
+    disk: &mut D,
+    ring: &Ring,
+    segment: u32,
+    number: u64,
+    at: u32,
+    out: &mut [u8],
+) -> Result<(), StoreFault>
+    requires extent { (D.medium disk.old).size ≡ disk_size ring.now.geometry }
+    requires segment { segment < ring.now.geometry.segments }
+    requires part { at + length out.old ≤ frame_bytes ring.now.geometry }
+    ensures frame { (r : Recording) → (D.medium disk.old).honest
+        → Holds ring.now.geometry r (D.medium disk.old).bytes
+        → has_number ring.now.geometry.slots number (slice_index_or (heads_of ring.now.geometry (D.medium disk.old).bytes) segment None)
+        ≡ true
+        → AnswersFramePart r number at result out.new }
+    ensures refusals { IfErr result (λ fault. (fault ≡ Damaged SlotHead) ⊎ (is_disk fault ≡ true)) }
+    ensures stays { (D.medium disk.old).honest → Stays (D.medium disk.old) (D.medium disk.new) }
+    ensures called { Called (D.medium disk.old) (D.medium disk.new) (failed_in result) }
+{
+    let slot = (number % u64::from(ring.geometry.slots)) as u32;
+    ring.read_part(disk, segment, slot, number, at, out)?;
+    Ok(())
 }
 
 /// Puts the numbers of a segment's frames behind others, in memory that was taken before.

@@ -5,7 +5,7 @@ ghost use Rattle.loop_disk.specs.Calls.{Stays};
 ghost use Rattle.loop_record.specs.Geometry.{frame_bytes, is_good};
 ghost use Rattle.loop_record.specs.Plain.{pictures};
 ghost use Rattle.loop_record.specs.Recording.{Recording, picture, ring_of, room, victim};
-ghost use Rattle.loop_store.specs.Calls.{appended, read_with, was_read};
+ghost use Rattle.loop_store.specs.Calls.{appended, part_with, read_with, was_read, was_read_part};
 ghost use Rattle.loop_store.specs.Goes.{Goes};
 ghost use Rattle.loop_store.specs.Numbers.{is_among};
 ghost use Rattle.loop_store.specs.Seen.{IsGroupFor, IsKept, Refused, Seen, StandsFor, seen_with};
@@ -13,7 +13,7 @@ ghost use Rattle.loop_store.specs.Seen.{IsGroupFor, IsKept, Refused, Seen, Stand
 use crate::StoreFault;
 use crate::found::in_order;
 use crate::index::Index;
-use crate::look::{numbers_of, read_held, segment_with};
+use crate::look::{numbers_of, read_held, read_held_part, segment_with};
 use crate::put::put;
 use loop_disk::Disk;
 use loop_record::{Frame, FrameHead, Geometry};
@@ -167,6 +167,29 @@ impl<D: Disk + Drop, A: Allocator> Store<D, A> {
         }
         match segment_with(&self.index, number) {
             Some(segment) => read_held(&mut self.disk, &self.index.ring, segment, number, out),
+            None => Err(StoreFault::NotHeld),
+        }
+    }
+
+    /// Reads a part of the frame of a number: its bytes from `at` on, as many as `out` has.
+    ///
+    /// `MustReopen` where a call that writes has failed; otherwise `NotHeld`; then `Disk`, or `Damaged` where
+    /// the disk isn't honest. After these two `out` may hold any bytes. It takes no memory.
+    pub fn read_part(&mut self, number: u64, at: u32, out: &mut [u8]) -> Result<(), StoreFault>
+        requires part { at + length out.old ≤ frame_bytes self.old.geometry }
+        ensures goes { Goes D.medium self.old self.new
+            (was_read_part number at (part_with result out.new) ∷ []) }
+        ensures stays { (D.medium self.old.disk).honest → Stays (D.medium self.old.disk) (D.medium self.new.disk) }
+        ensures same { self.new ≡ record self.old { disk = self.new.disk } }
+        ensures out { ((result ≡ Err StoreFault.MustReopen) ⊎ (result ≡ Err StoreFault.NotHeld)) → out.new ≡ out.old }
+    {
+        if self.must_reopen {
+            return Err(StoreFault::MustReopen);
+        }
+        match segment_with(&self.index, number) {
+            Some(segment) => {
+                read_held_part(&mut self.disk, &self.index.ring, segment, number, at, out)
+            }
             None => Err(StoreFault::NotHeld),
         }
     }
