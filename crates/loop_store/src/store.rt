@@ -7,13 +7,13 @@ ghost use Rattle.loop_record.specs.Plain.{pictures};
 ghost use Rattle.loop_record.specs.Recording.{Recording, picture, ring_of, room, victim};
 ghost use Rattle.loop_store.specs.Calls.{appended, part_with, read_with, was_read, was_read_part};
 ghost use Rattle.loop_store.specs.Goes.{Goes};
-ghost use Rattle.loop_store.specs.Numbers.{is_among};
+ghost use Rattle.loop_store.specs.Numbers.{IsLeastFrom, is_among};
 ghost use Rattle.loop_store.specs.Seen.{IsGroupFor, IsKept, Refused, Seen, StandsFor, seen_with};
 
 use crate::StoreFault;
 use crate::found::in_order;
 use crate::index::Index;
-use crate::look::{numbers_of, read_held, read_held_part, segment_with};
+use crate::look::{next_held, numbers_of, read_held, read_held_part, segment_with};
 use crate::put::put;
 use loop_disk::Disk;
 use loop_record::{Frame, FrameHead, Geometry};
@@ -78,6 +78,13 @@ impl<D: Disk + Drop, A: Allocator> Store<D, A> {
         self.index
             .table
             .holds(self.index.ring.geometry.slots, number)
+    }
+
+    /// The least number from this one on that a frame has; nothing where no frame has one.
+    pub fn next_held(&self, number: u64) -> Option<u64>
+        ensures { IsLeastFrom (is_among self.now.numbers) number result }
+    {
+        next_held(&self.index, number)
     }
 
     /// The block that goes when an append needs room: the least block of a held frame that no clip meets and
