@@ -1,13 +1,17 @@
 -- The least number from another one on that passes a test.
 use Rattle.std.proofs.Common.{◌≡◌, ℕ, suc, ◌+◌, ◌*◌, ◌<◌, ◌≤◌, Bool, true, ◌&&◌, leb, ltb, max, Option, Some, None, List, get_or, length, take, sym, ◌∙◌, arith}
-use Rattle.std.specs.Prelude.{◌||◌}
-use Rattle.std.specs.List.{list_any}
+use Rattle.std.proofs.Math.Nat.{add-mul}
+use Rattle.std.proofs.lemmas.Bool.Decides.{nat_tests}
+use Rattle.std.specs.Prelude.{◌||◌, IfSome}
+use Rattle.std.specs.List.{All, list_any}
 use Rattle.std.proofs.lemmas.List.{take_more}
 use Rattle.std.proofs.lemmas.List.Folds.{list_any-append}
 use Rattle.loop_record.specs.declared.geometry.Geometry.{Geometry}
 use Rattle.loop_record.specs.declared.segment.SegmentHead.{SegmentHead}
+use Rattle.loop_record.specs.Recording.{numbers_end}
 use Rattle.loop_record.proofs.Decided.{at_most, at_most_test, both, untrue}
 use Rattle.loop_ring.specs.Heads.{has_number}
+use Rattle.loop_ring.proofs.Heads.{any-index}
 use Rattle.loop_store.specs.Numbers.{IsLeastFrom}
 use Rattle.loop_store.specs.Recovered.{IsHeadIn}
 use Rattle.loop_store.proofs.Numbers.{among-block, among-range}
@@ -50,3 +54,22 @@ least-over g h n first end least some within first_is end_is least_is l = λ k l
 -- some of them, and one more
 pub any-more : (slots k i : ℕ) (heads : List (Option SegmentHead)) → i < length heads → (list_any (has_number slots k) (take i heads) || has_number slots k (get_or heads i None)) ≡ list_any (has_number slots k) (take (i + 1) heads)
 any-more slots k i heads l = grind (arith, list_any-append, take_more heads i None l)
+
+-- ---- none is too high
+
+number-low : (g : Geometry) (o : Option SegmentHead) (n : ℕ) → 1 ≤ g.slots → IsHeadIn g o → has_number g.slots n o ≡ true → n < numbers_end
+number-low g None n some within e = absurd cc
+number-low g (Some h) n some within e =
+    let t = both (leb (h.block * g.slots) n) (ltb n (h.block * g.slots + h.frames)) (numbered g h n some within.0 ∙ e) in
+    let one : (h.block + 1) * g.slots ≡ h.block * g.slots + 1 * g.slots = add-mul h.block 1 g.slots in
+    let most : (h.block + 1) * g.slots ≤ numbers_end = grind (arith, nat_tests, within.1) in
+    omega (arith, less n (h.block * g.slots + h.frames) t.1, one, most, within.0)
+
+any-low : (g : Geometry) (heads : List (Option SegmentHead)) (n : ℕ) → 1 ≤ g.slots → All (IsHeadIn g) heads → list_any (has_number g.slots n) heads ≡ true → n < numbers_end
+any-low g heads n some all e =
+    let k = any-index (has_number g.slots n) heads e in
+    number-low g (get_or heads k.0 None) n some (all k.0 None k.1.0) k.1.1
+
+pub least-low : (g : Geometry) (heads : List (Option SegmentHead)) (n : ℕ) (o : Option ℕ) → 1 ≤ g.slots → All (IsHeadIn g) heads → IsLeastFrom (λ k. list_any (has_number g.slots k) heads) n o → IfSome o (λ m. m < numbers_end)
+least-low g heads n None some all least = tt
+least-low g heads n (Some m) some all least = any-low g heads m some all least.1.0

@@ -1,10 +1,10 @@
 //! A store: a disk that holds a recording, and what is known of it in memory.
 
-ghost use Rattle.std.specs.Prelude.{◌≡◌, ◌≢◌, ◌+◌, ◌-◌, ◌%◌, ◌≤◌, ◌↔◌, ◌⊎◌, ◌∷◌, [], All, Err, IfErr, IfOk, IsTrue, false, length, map};
+ghost use Rattle.std.specs.Prelude.{◌≡◌, ◌≢◌, ◌+◌, ◌-◌, ◌%◌, ◌<◌, ◌≤◌, ◌↔◌, ◌⊎◌, ◌∷◌, [], All, Err, IfErr, IfOk, IfSome, IsTrue, false, length, map};
 ghost use Rattle.loop_disk.specs.Calls.{Stays};
 ghost use Rattle.loop_record.specs.Geometry.{frame_bytes, is_good};
 ghost use Rattle.loop_record.specs.Plain.{pictures};
-ghost use Rattle.loop_record.specs.Recording.{Recording, picture, ring_of, room, victim};
+ghost use Rattle.loop_record.specs.Recording.{Recording, numbers_end, picture, ring_of, room, victim};
 ghost use Rattle.loop_store.specs.Calls.{appended, part_with, read_with, was_read, was_read_part};
 ghost use Rattle.loop_store.specs.Goes.{Goes};
 ghost use Rattle.loop_store.specs.Numbers.{IsLeastFrom, is_among};
@@ -82,7 +82,8 @@ impl<D: Disk + Drop, A: Allocator> Store<D, A> {
 
     /// The least number from this one on that a frame has; nothing where no frame has one.
     pub fn next_held(&self, number: u64) -> Option<u64>
-        ensures { IsLeastFrom (is_among self.now.numbers) number result }
+        ensures least { IsLeastFrom (is_among self.now.numbers) number result }
+        ensures low { IfSome result (λ n. n < numbers_end) }
     {
         next_held(&self.index, number)
     }
