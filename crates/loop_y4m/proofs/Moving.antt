@@ -1,21 +1,23 @@
 -- What is written of a store piece by piece.
-use Rattle.std.proofs.Common.{◌≡◌, ℕ, ◌+◌, Option, None, Result, Ok, Err, List, ◌++◌, take, drop, refl, sym, ap, ◌∙◌, subst, append_assoc}
-use Rattle.std.proofs.KnownBytes.{Appends-trans}
+use Rattle.std.proofs.Common.{◌≡◌, ℕ, ◌+◌, ◌≤◌, Bool, false, Option, Some, None, Result, Ok, Err, List, [], ◌∷◌, ◌++◌, take, drop, refl, sym, ap, ◌∙◌, subst, append_assoc}
+use Rattle.std.proofs.KnownBytes.{Appends-nil, Appends-trans}
 use Rattle.std.proofs.Math.Seq.{take-add}
-use Rattle.std.proofs.lemmas.List.{take-append-drop}
-use Rattle.std.specs.Prelude.{IsErrAnd}
+use Rattle.std.proofs.lemmas.List.{append-nil, take-append-drop}
+use Rattle.std.specs.Prelude.{◌≢◌, IsErrAnd, flat_map}
 use Rattle.std.specs.Io.KnownBytes.{Appends}
 use Rattle.loop_disk.specs.declared.fault.DiskFault.{DiskFault}
 use Rattle.loop_disk.specs.Calls.{with_failed}
 use Rattle.loop_disk.specs.Medium.{Medium, piece}
-use Rattle.loop_record.specs.Recording.{Recording}
+use Rattle.loop_record.specs.Recording.{Recording, RiseBetween}
+use Rattle.loop_record.specs.declared.geometry.Geometry.{Geometry}
 use Rattle.loop_store.specs.Seen.{Seen, StandsFor}
 use Rattle.loop_store.proofs.Looks.{looked-stands, stays_on}
 use Rattle.loop_y4m.specs.declared.fault.ExportFault.{ExportFault}
 use Rattle.loop_y4m.specs.declared.fault.ExportFault.TheVariants as export
-use Rattle.loop_y4m.specs.Export.{OnlyRead, Stopped}
-use Rattle.loop_y4m.specs.Steps.{Moved}
-use Rattle.loop_y4m.specs.Text.{AppendsSome, frame}
+use Rattle.loop_y4m.specs.Export.{IsExport, OnlyRead, Stopped, frames_between}
+use Rattle.loop_y4m.specs.Steps.{IsFirstBetween, Moved, MovedAll}
+use Rattle.loop_y4m.specs.Text.{AppendsSome, frame, header, text}
+use Rattle.loop_y4m.proofs.Ranges.{first_between, frame_there}
 
 -- ---- the store
 
@@ -64,3 +66,38 @@ frame_more at n bytes = ap frame (take-add at n bytes)
 
 pub frame_rest : (at n : ℕ) (bytes : List ℕ) → frame bytes ≡ frame (take at bytes) ++ (piece at n bytes ++ drop (at + n) bytes)
 frame_rest at n bytes = ap frame (sym (take-append-drop (at + n) bytes) ∙ ap (λ (xs : List ℕ). xs ++ drop (at + n) bytes) (take-add at n bytes) ∙ append_assoc (take at bytes) (piece at n bytes) (drop (at + n) bytes))
+
+-- ---- the whole
+
+-- a range with a held number has a frame
+pub some_frames : (r : Recording) (from first to : ℕ) → first ≤ to → RiseBetween 0 r.next r.frames → IsFirstBetween r from to (Some first) → frames_between from to r.frames ≢ []
+some_frames r from first to inner rise is none =
+    let f = frame_there r first is.0 in
+    let some : frames_between from to r.frames ≡ f.0.bytes ∷ frames_between (first + 1) to r.frames = is.1 ∙ first_between first to 0 r.next r.frames f.0 inner rise f.1 in
+    absurd (never f.0.bytes (frames_between (first + 1) to r.frames) (sym some ∙ none))
+  where
+    never : (x : List ℕ) (xs : List (List ℕ)) → x ∷ xs ≡ [] → ⊥
+    never x xs e = absurd cc
+
+-- memory was refused
+pub unwritten : (g : Geometry) (must_reopen : Bool) (frames : List (List ℕ)) (held : Option (List ℕ)) (result : Result ℕ ExportFault) → must_reopen ≡ false → frames ≢ [] → IsErrAnd result (λ made. made ≡ export.NoMemory) → IsExport g must_reopen frames held held result
+unwritten g must_reopen frames held (Ok count) fine some failed = absurd failed
+unwritten g must_reopen frames held (Err fault) fine some failed = subst (λ (f : ExportFault). IsExport g must_reopen frames held held (Err f)) (sym failed) (fine, (some, refl))
+
+-- the header was written, or a beginning of it
+pub unheaded : (g : Geometry) (must_reopen : Bool) (frames : List (List ℕ)) (old new : Option (List ℕ)) (result : Result ℕ ExportFault) → must_reopen ≡ false → frames ≢ [] → IsErrAnd result (λ made. made ≡ export.Write) → AppendsSome old new (header g)
+    → IsExport g must_reopen frames old new result
+unheaded g must_reopen frames old new (Ok count) fine some failed given = absurd failed
+unheaded g must_reopen frames old new (Err fault) fine some failed given =
+    subst (λ (f : ExportFault). IsExport g must_reopen frames old new (Err f)) (sym failed) (fine, (some, some_later old old new [] (header g) (flat_map frame frames) (text g frames) (Appends-nil old) given refl))
+
+-- and the frames behind it
+pub headed : (g : Geometry) (must_reopen : Bool) (frames : List (List ℕ)) (old mid new : Option (List ℕ)) (result : Result ℕ ExportFault) → must_reopen ≡ false → frames ≢ [] → Appends old mid (header g) → MovedAll mid new result frames
+    → IsExport g must_reopen frames old new result
+headed g must_reopen frames old mid new (Ok count) fine some first moved = (fine, (some, (Appends-trans old mid new (header g) (flat_map frame frames) first moved.0, moved.1)))
+headed g must_reopen frames old mid new (Err (export.Disk fault)) fine some first moved = (fine, (some, some_later old mid new (header g) (flat_map frame frames) [] (text g frames) first moved.0 (ap (λ (l : List ℕ). header g ++ l) (sym (append-nil (flat_map frame frames))))))
+headed g must_reopen frames old mid new (Err export.Write) fine some first moved = (fine, (some, some_later old mid new (header g) (flat_map frame frames) [] (text g frames) first moved.0 (ap (λ (l : List ℕ). header g ++ l) (sym (append-nil (flat_map frame frames))))))
+headed g must_reopen frames old mid new (Err export.MustReopen) fine some first moved = elim moved.0 [ ]
+headed g must_reopen frames old mid new (Err export.NotHeld) fine some first moved = elim moved.0 [ ]
+headed g must_reopen frames old mid new (Err export.NoMemory) fine some first moved = elim moved.0 [ ]
+headed g must_reopen frames old mid new (Err (export.Damaged damage)) fine some first moved = elim moved.0 [ ]

@@ -1,8 +1,11 @@
 -- The frames of a range of numbers, and what is written of them.
-use Rattle.std.proofs.Common.{◌≡◌, ◌⊎◌, inl, inr, ℕ, ◌+◌, ◌<◌, ◌≤◌, Bool, true, false, ◌&&◌, cond, eqb, leb, Option, Some, None, Result, Ok, Err, List, [], ◌∷◌, ◌++◌, length, map, is_some, refl, sym, ap, ◌∙◌, subst, arith}
+use Rattle.std.proofs.Common.{◌≡◌, ◌⊎◌, inl, inr, ℕ, ◌+◌, ◌-◌, ◌^◌, ◌<◌, ◌≤◌, Bool, true, false, ◌&&◌, cond, eqb, leb, Option, Some, None, Result, Ok, Err, List, [], ◌∷◌, ◌++◌, length, map, is_some, refl, sym, ap, ◌∙◌, subst, arith}
 use Rattle.std.proofs.lemmas.Bool.Decides.{nat_tests}
-use Rattle.std.proofs.KnownBytes.{Appends-nil}
-use Rattle.std.specs.Prelude.{IsErrAnd}
+use Rattle.std.proofs.KnownBytes.{Appends-nil, Appends-trans}
+use Rattle.std.proofs.lemmas.List.{append-nil, append_assoc, length-append}
+use Rattle.std.proofs.lemmas.List.Concat.{flat_map-append}
+use Rattle.std.specs.Prelude.{IfOk, IfSome, IsErrAnd, flat_map}
+use Rattle.std.specs.Io.KnownBytes.{Appends}
 use Rattle.std.specs.List.{filter}
 use Rattle.loop_disk.specs.Medium.{piece}
 use Rattle.loop_record.specs.declared.geometry.Geometry.{Geometry}
@@ -12,11 +15,12 @@ use Rattle.loop_record.proofs.Rising.{RiseBetween-lower, among-range, held-among
 use Rattle.loop_store.specs.declared.fault.StoreFault.{StoreFault}
 use Rattle.loop_store.specs.declared.fault.StoreFault.TheVariants as store
 use Rattle.loop_store.specs.Calls.{IsAnswered, IsPart, StoreState, was_read_part}
+use Rattle.loop_store.specs.Numbers.{IsLeastFrom}
 use Rattle.loop_y4m.specs.declared.fault.ExportFault.{ExportFault}
 use Rattle.loop_y4m.specs.declared.fault.ExportFault.TheVariants.{Write}
 use Rattle.loop_y4m.specs.Export.{Stopped, frames_between}
-use Rattle.loop_y4m.specs.Steps.{Moved, fault_of}
-use Rattle.loop_y4m.specs.Text.{AppendsSome}
+use Rattle.loop_y4m.specs.Steps.{IsFirstBetween, Moved, MovedAll, fault_of, frames_left}
+use Rattle.loop_y4m.specs.Text.{AppendsSome, frame}
 
 -- ---- the frames of a range
 
@@ -96,6 +100,57 @@ first_between first to low high (f ∷ fs) p inner rise there = go (eqb f.0 firs
         ∙ rest at
         ∙ ap (λ (l : List (List ℕ)). p.bytes ∷ l) (sym (taken (first + 1) to f fs false (grind (arith, nat_tests, above))))
 
+-- the least held number of a range, and where there is none
+pub first_held : (r : Recording) (from m to : ℕ) → IsLeastFrom (holds r) from (Some m) → IsFirstBetween r from to (Some m)
+first_held r from m to least = (least.1.0, later_between from m to r.frames least.0 least.1.1)
+
+pub none_held : (r : Recording) (from to : ℕ) (least : Option ℕ) → ((m : ℕ) → least ≡ Some m → to < m) → IsLeastFrom (holds r) from least → IsFirstBetween r from to None
+none_held r from to None above none = (tt, none_between from to r.frames (λ k l u. none k l))
+none_held r from to (Some m) above least = (tt, none_between from to r.frames (λ k l u. least.1.1 k l (omega (arith, u, above m refl))))
+
+-- a held number has a frame
+pub frame_there : (r : Recording) (n : ℕ) → holds r n ≡ true → (p : Picture) × (frame_under r.frames n ≡ Some p)
+frame_there r n held = go (frame_under r.frames n) refl held
+  where
+    go : (o : Option Picture) → frame_under r.frames n ≡ o → is_some o ≡ true → (p : Picture) × (frame_under r.frames n ≡ Some p)
+    go None is e = absurd cc
+    go (Some p) is e = (p, is)
+
+-- ---- the frames so far
+
+-- so many frames of a range were written, and those from this number on are left
+pub record Given (r : Recording) (first to count : ℕ) (next : Option ℕ) (old now : Option (List ℕ)) : Type 0 where
+  pub done : List (List ℕ)
+  pub are : frames_between first to r.frames ≡ done ++ frames_left next to r.frames
+  pub counted : length done ≡ count
+  pub given : Appends old now (flat_map frame done)
+
+-- none yet
+pub given_none : (r : Recording) (first to : ℕ) (old : Option (List ℕ)) → Given r first to 0 (Some first) old old
+given_none r first to old = record { done = []; are = refl; counted = refl; given = Appends-nil old }
+
+-- one more
+pub given_more : (r : Recording) (first to count n high : ℕ) (p : Picture) (next : Option ℕ) (old mid new : Option (List ℕ)) → n ≤ to → RiseBetween 0 high r.frames → frame_under r.frames n ≡ Some p → Given r first to count (Some n) old mid → Appends mid new (frame p.bytes)
+    → IsFirstBetween r (n + 1) to next → Given r first to (count + 1) next old new
+given_more r first to count n high p next old mid new inner rise there before more after = record {
+  done = before.done ++ p.bytes ∷ [];
+  are = before.are ∙ ap (λ (l : List (List ℕ)). before.done ++ l) (first_between n to 0 high r.frames p inner rise there ∙ ap (λ (l : List (List ℕ)). p.bytes ∷ l) after.1) ∙ sym (append_assoc before.done (p.bytes ∷ []) (frames_left next to r.frames));
+  counted = omega (arith, length-append before.done (p.bytes ∷ []), before.counted);
+  given = subst (λ (bytes : List ℕ). Appends old new bytes) (sym (flat_map-append frame before.done (p.bytes ∷ []) ∙ ap (λ (bytes : List ℕ). flat_map frame before.done ++ bytes) (append-nil (frame p.bytes)))) (Appends-trans old mid new (flat_map frame before.done) (frame p.bytes) before.given more);
+}
+
+-- all of them
+pub given_all : (r : Recording) (first to count : ℕ) (old now : Option (List ℕ)) → Given r first to count None old now → MovedAll old now (Ok count) (frames_between first to r.frames)
+given_all r first to count old now all =
+    let are = all.are ∙ append-nil all.done in
+    (subst (λ (l : List (List ℕ)). Appends old now (flat_map frame l)) (sym are) all.given, sym all.counted ∙ ap (λ (l : List (List ℕ)). length l) (sym are))
+
+-- the whole text is that of the frames so far, the next frame's and that of those behind it
+pub given_rest : (r : Recording) (first to count n high : ℕ) (p : Picture) (old mid : Option (List ℕ)) → n ≤ to → RiseBetween 0 high r.frames → frame_under r.frames n ≡ Some p → (before : Given r first to count (Some n) old mid)
+    → flat_map frame (frames_between first to r.frames) ≡ flat_map frame before.done ++ (frame p.bytes ++ flat_map frame (frames_between (n + 1) to r.frames))
+given_rest r first to count n high p old mid inner rise there before =
+    ap (flat_map frame) (before.are ∙ ap (λ (l : List (List ℕ)). before.done ++ l) (first_between n to 0 high r.frames p inner rise there)) ∙ flat_map-append frame before.done (p.bytes ∷ frames_between (n + 1) to r.frames)
+
 -- ---- a part of a frame
 
 nothing_yet : (held : Option (List ℕ)) (bytes : List ℕ) → AppendsSome held held bytes
@@ -123,3 +178,18 @@ writer_failed old new (Err fault) bytes text failed some is = subst (λ (f : Exp
 -- the state of a store that needn't be reopened
 abbrev pub running : Recording → StoreState
 running r = record { recording = r; must_reopen = false }
+
+-- how many numbers there are from one on
+abbrev pub numbers_left : Option ℕ → ℕ
+numbers_left None = 0
+numbers_left (Some n) = 2 ^ 62 - n
+
+-- what holds of a number that is there
+pub if_some : (P Q : ℕ → Type 0) (o : Option ℕ) → ((n : ℕ) → P n → Q n) → IfSome o P → IfSome o Q
+if_some P Q None more p = tt
+if_some P Q (Some n) more p = more n p
+
+-- a fault isn't Ok
+pub not_ok : {T E : Type 0} (P : E → Type 0) (Q : T → Type 0) (result : Result T E) → IsErrAnd result P → IfOk result Q
+not_ok P Q (Ok x) failed = absurd failed
+not_ok P Q (Err fault) failed = tt
