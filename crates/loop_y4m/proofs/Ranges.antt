@@ -1,17 +1,18 @@
 -- The frames of a range of numbers, and what is written of them.
-use Rattle.std.proofs.Common.{◌≡◌, ◌⊎◌, inl, inr, ℕ, ◌+◌, ◌-◌, ◌^◌, ◌<◌, ◌≤◌, Bool, true, false, ◌&&◌, cond, eqb, leb, Option, Some, None, Result, Ok, Err, List, [], ◌∷◌, ◌++◌, length, map, is_some, refl, sym, ap, ◌∙◌, subst, arith}
+use Rattle.std.proofs.Common.{◌≡◌, inl, inr, ℕ, ◌+◌, ◌-◌, ◌^◌, ◌<◌, ◌≤◌, Bool, true, false, ◌&&◌, cond, eqb, leb, Option, Some, None, Result, Ok, Err, List, [], ◌∷◌, ◌++◌, length, map, is_some, refl, sym, ap, ◌∙◌, subst, arith}
 use Rattle.std.proofs.lemmas.Bool.Decides.{nat_tests}
 use Rattle.std.proofs.KnownBytes.{Appends-nil, Appends-trans}
 use Rattle.std.proofs.lemmas.List.{append-nil, append_assoc, length-append}
 use Rattle.std.proofs.lemmas.List.Concat.{flat_map-append}
+use Rattle.std.proofs.lemmas.List.Elements.{All-cons}
 use Rattle.std.specs.Prelude.{IfOk, IfSome, IsErrAnd, flat_map}
 use Rattle.std.specs.Io.KnownBytes.{Appends}
-use Rattle.std.specs.List.{filter}
+use Rattle.std.specs.List.{All, filter}
 use Rattle.loop_disk.specs.Medium.{piece}
 use Rattle.loop_record.specs.declared.geometry.Geometry.{Geometry}
 use Rattle.loop_record.specs.Recording.{Picture, Recording, RiseBetween, frame_under, holds}
 use Rattle.loop_record.proofs.Decided.{clash, equal, equal_test}
-use Rattle.loop_record.proofs.Rising.{RiseBetween-lower, among-range, held-among}
+use Rattle.loop_record.proofs.Rising.{among-range, held-among}
 use Rattle.loop_store.specs.declared.fault.StoreFault.{StoreFault}
 use Rattle.loop_store.specs.declared.fault.StoreFault.TheVariants as store
 use Rattle.loop_store.specs.Calls.{IsAnswered, IsPart, StoreState, was_read_part}
@@ -115,6 +116,25 @@ frame_there r n held = go (frame_under r.frames n) refl held
     go : (o : Option Picture) → frame_under r.frames n ≡ o → is_some o ≡ true → (p : Picture) × (frame_under r.frames n ≡ Some p)
     go None is e = absurd cc
     go (Some p) is e = (p, is)
+
+-- what holds of each frame under its number holds of each of a range
+pub each_between : (P : List ℕ → Type 0) (from to low high : ℕ) (fs : List (ℕ × Picture)) → RiseBetween low high fs → ((n : ℕ) (p : Picture) → frame_under fs n ≡ Some p → P p.bytes) → All P (frames_between from to fs)
+each_between P from to low high [] rise each = λ k d l. absurd (omega (arith, l))
+each_between P from to low high (f ∷ fs) rise each =
+    subst (All P) (sym (taken from to f fs (inside from to f) refl)) (go (inside from to f) (each_between P from to (f.0 + 1) high fs rise.1 (λ n p there. each n p (later n p there))))
+  where
+    first : frame_under (f ∷ fs) f.0 ≡ Some f.1
+    first = ap (λ (b : Bool). cond b (Some f.1) (frame_under fs f.0)) (equal_test f.0 f.0 refl)
+
+    later : (n : ℕ) (p : Picture) → frame_under fs n ≡ Some p → frame_under (f ∷ fs) n ≡ Some p
+    later n p there =
+        let above : f.0 + 1 ≤ n = (among-range (f.0 + 1) high n fs rise.1 (held-among n fs (ap (λ (o : Option Picture). is_some o) there))).0 in
+        let other : eqb f.0 n ≡ false = grind (arith, nat_tests, above) in
+        ap (λ (b : Bool). cond b (Some f.1) (frame_under fs n)) other ∙ there
+
+    go : (b : Bool) → All P (frames_between from to fs) → All P (cond b (f.1.bytes ∷ frames_between from to fs) (frames_between from to fs))
+    go false all = all
+    go true all = All-cons P f.1.bytes (frames_between from to fs) (each f.0 f.1 first) all
 
 -- ---- the frames so far
 

@@ -1,10 +1,8 @@
-use Rattle.std.proofs.Common.{◌≡◌, ◌<◌, ◌≤◌, ◌^◌, ℕ, Bool, Option, Some, List, [], false, sym, ap, ◌∙◌, subst}
-use Rattle.std.specs.Prelude.{◌≢◌, IfSome}
+use Rattle.std.proofs.Common.{◌≡◌, ◌<◌, ◌≤◌, ◌^◌, ℕ, Option, List, false, sym, ◌∙◌, subst}
+use Rattle.std.specs.Prelude.{IfSome}
 use Rattle.std.specs.Io.KnownBytes.{Appends}
 use Rattle.loop_record.specs.declared.geometry.Geometry.{Geometry}
-use Rattle.loop_record.specs.Recording.{Recording}
 use Rattle.loop_record.proofs.Form.{reading-well_formed}
-use Rattle.loop_store.specs.Seen.{StandsFor}
 use Rattle.loop_y4m.specs.Export.{frames_between}
 use Rattle.loop_y4m.specs.Steps.{IsFirstBetween, MovedAll}
 use Rattle.loop_y4m.specs.Text.{AppendsSome, header}

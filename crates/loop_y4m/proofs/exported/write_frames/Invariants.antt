@@ -1,4 +1,4 @@
-use Rattle.std.proofs.Common.{◌≡◌, ◌-◌, ◌<◌, ◌≤◌, ◌^◌, ℕ, Option, None, Some, true}
+use Rattle.std.proofs.Common.{◌≡◌, ◌<◌, ◌≤◌, ◌^◌, None, true}
 use Rattle.std.specs.Prelude.{IfSome}
 use Rattle.loop_record.specs.Recording.{Recording, holds}
 use Rattle.loop_store.specs.Seen.{StandsFor}
