@@ -1,6 +1,7 @@
 -- What a read of a slot answers.
-use Rattle.std.specs.Prelude.{◌≡◌, ℕ, List, Option, None, Some, Result, Ok, Err, OnOk}
+use Rattle.std.specs.Prelude.{◌≡◌, ℕ, List, length, Option, None, Some, Result, Ok, Err, OnOk}
 use Rattle.loop_disk.specs.declared.fault.DiskFault.{DiskFault}
+use Rattle.loop_disk.specs.Medium.{piece}
 use Rattle.loop_record.specs.declared.damage.Damage.{Damage}
 use Rattle.loop_record.specs.declared.frame.FrameHead.{FrameHead}
 use Rattle.loop_record.specs.declared.geometry.Geometry.{Geometry}
@@ -22,6 +23,10 @@ AnswersHead said (Err (Disk fault)) = Unit {0}
 -- so it is for frame `number` of n bytes, and where the head is answered, the pixels were read
 abbrev pub AnswersSlot : ℕ → ℕ → Slot → Result FrameHead SlotFault → List ℕ → Type 0
 AnswersSlot n number slot result out = AnswersHead (slot_head n number slot) result × OnOk result (out ≡ slot.picture.bytes)
+
+-- so it is for such a frame, and where the head is answered, its pixels from byte `at` on were read, as many as there are
+abbrev pub AnswersPart : ℕ → ℕ → Slot → ℕ → Result FrameHead SlotFault → List ℕ → Type 0
+AnswersPart n number slot at result out = AnswersHead (slot_head n number slot) result × OnOk result (out ≡ piece at (length out) slot.picture.bytes)
 
 -- the call of the disk that failed, if the answer is that one did
 abbrev pub failed_read : {T : Type 0} → Result T SlotFault → Option DiskFault

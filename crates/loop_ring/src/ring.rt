@@ -8,7 +8,7 @@ ghost use Rattle.loop_record.specs.declared.damage.Damage.{Damage};
 ghost use Rattle.loop_record.specs.Geometry.{disk_size, frame_bytes, is_good};
 ghost use Rattle.loop_record.specs.Layout.{segment_in, whole_frames};
 ghost use Rattle.loop_record.specs.Reading.{begun};
-ghost use Rattle.loop_ring.specs.Reads.{AnswersSlot, failed_read, slot_of};
+ghost use Rattle.loop_ring.specs.Reads.{AnswersSlot, failed_read, slot_of, AnswersPart};
 ghost use Rattle.loop_ring.specs.Writes.{HasNoStray, ShowsBeginning, ShowsFrames, ShowsOrNot};
 
 use crate::group::MAX_GROUP;
@@ -123,11 +123,36 @@ impl Ring {
         ensures disk { (D.medium disk.old).honest → Stays (D.medium disk.old) (D.medium disk.new) }
         ensures called { Called (D.medium disk.old) (D.medium disk.new) (failed_read result) }
     {
-        let at = self.geometry.slot_at(segment, slot);
+        self.read_part(disk, segment, slot, number, 0, out)
+    }
+
+    /// Reads a part of the pixels of a slot that should hold frame `number`: from byte `at` of them on, as many
+    /// as `out` has. At most two reads, of the head and of that part. After a refusal `out` may hold any bytes.
+    pub fn read_part<D: Disk>(
+        &self,
+        disk: &mut D,
+        segment: u32,
+        slot: u32,
+        number: u64,
+        at: u32,
+        out: &mut [u8],
+    ) -> Result<FrameHead, SlotFault>
+        requires extent { (D.medium disk.old).size ≡ disk_size self.now.geometry }
+        requires segment { segment < self.now.geometry.segments }
+        requires slot { slot < self.now.geometry.slots }
+        requires part { at + length out.old ≤ frame_bytes self.now.geometry }
+        ensures part { (D.medium disk.old).honest
+            → AnswersPart (frame_bytes self.now.geometry) number
+            (slot_of self.now.geometry (D.medium disk.old).bytes segment slot) at result out.new }
+        ensures damage { (damage : Damage) → result ≡ Err (SlotFault.Damaged damage) → damage ≡ Damage.SlotHead }
+        ensures disk { (D.medium disk.old).honest → Stays (D.medium disk.old) (D.medium disk.new) }
+        ensures called { Called (D.medium disk.old) (D.medium disk.new) (failed_read result) }
+    {
+        let place = self.geometry.slot_at(segment, slot);
         let mut bytes = [0; HEAD_SIZE];
-        disk.read(at, &mut bytes)?;
+        disk.read(place, &mut bytes)?;
         let head = decode_head(&bytes, number, self.geometry.frame_bytes())?;
-        disk.read(at + HEAD_SIZE as u64, out)?;
+        disk.read(place + HEAD_SIZE as u64 + u64::from(at), out)?;
         Ok(head)
     }
 }

@@ -8,6 +8,8 @@ pub mod Room
 pub mod Looked
 pub mod Looks
 pub mod Numbers
+pub mod Least
+pub mod Sized
 pub mod Stands
 pub mod Appended
 pub mod Reopened

@@ -6,6 +6,7 @@ use Rattle.std.proofs.lemmas.List.Folds.{list_any_at}
 use Rattle.std.proofs.lemmas.List.Quantifiers.{position-Some}
 use Rattle.std.specs.Prelude.{◌&&◌}
 use Rattle.std.specs.List.{list_any, position}
+use Rattle.loop_disk.specs.Medium.{piece}
 use Rattle.loop_record.specs.declared.damage.Damage.{Damage}
 use Rattle.loop_record.specs.declared.damage.Damage.TheVariants.{SlotHead}
 use Rattle.loop_record.specs.declared.frame.FrameHead.{FrameHead}
@@ -25,7 +26,7 @@ use Rattle.loop_ring.specs.declared.fault.SlotFault.TheVariants as slot
 use Rattle.loop_ring.proofs.Heads.{any-index, head-some, head-there, one-entry, position-none, there}
 use Rattle.loop_ring.proofs.Held.{held-number}
 use Rattle.loop_store.specs.Faults.{slot_refusal}
-use Rattle.loop_store.specs.Reads.{AnswersFrame}
+use Rattle.loop_store.specs.Reads.{AnswersFrame, AnswersFramePart}
 
 below : (m n : ℕ) → ltb m n ≡ true → m < n
 below m n e = grind (arith, nat_tests, e)
@@ -131,3 +132,10 @@ answers-ok g r number s h out is said bytes = record {
 pub answers-err : (g : Geometry) (r : Recording) (number : ℕ) (s : Slot) (fault : SlotFault) (out : List ℕ) → IsSlotOf g r number s → AnswersHead (slot_head (frame_bytes g) number s) (Err fault) → AnswersFrame r number (Err (slot_refusal fault)) out
 answers-err g r number s (slot.Disk fault) out is said = (refl, ap (λ (o : Option Picture). is_some o) is.held)
 answers-err g r number s (slot.Damaged damage) out is said = absurd (not_damaged (head number s.picture) damage (sym (right-head (frame_bytes g) number s is.right) ∙ said))
+
+-- so it is with a read of a part of it
+pub part-ok : (g : Geometry) (r : Recording) (number at : ℕ) (s : Slot) (out : List ℕ) → IsSlotOf g r number s → out ≡ piece at (length out) s.picture.bytes → AnswersFramePart r number at (Ok tt) out
+part-ok g r number at s out is bytes = record { picture = s.picture; there = is.held; bytes_are = bytes }
+
+pub part-err : (g : Geometry) (r : Recording) (number at : ℕ) (s : Slot) (fault : SlotFault) (out : List ℕ) → IsSlotOf g r number s → AnswersHead (slot_head (frame_bytes g) number s) (Err fault) → AnswersFramePart r number at (Err (slot_refusal fault)) out
+part-err g r number at s fault out is said = answers-err g r number s fault out is said

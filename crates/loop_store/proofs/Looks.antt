@@ -9,6 +9,7 @@ use Rattle.loop_record.specs.Reading.{Holds}
 use Rattle.loop_record.specs.Recording.{Picture, Recording, holds}
 use Rattle.loop_ring.specs.Heads.{has_number, heads_of}
 use Rattle.loop_ring.proofs.Held.{held-number}
+pub use Rattle.loop_ring.proofs.SlotReads.{stays_on}
 use Rattle.loop_store.specs.Held.{HasNoneStray}
 use Rattle.loop_store.specs.declared.index.Index.{Index}
 use Rattle.loop_store.specs.Recovered.{IsFitting, IsHeadIn, IsIndexOf, IsRecovered}

@@ -8,7 +8,7 @@ use Rattle.loop_record.proofs.Decided.{clash, neither}
 use Rattle.loop_record.proofs.Steps.{plain-append}
 use Rattle.loop_store.specs.declared.fault.StoreFault.{StoreFault}
 use Rattle.loop_store.specs.Faults.{is_disk}
-use Rattle.loop_store.specs.Calls.{AreAnswered, Call, IsAnswered, RefusesAppend, RefusesLock, RefusesUnlock, StoreState, appended, locked, unlocked, was_read, after, after_calls, asked, begun, begun_in, has_failed, made, made_in}
+use Rattle.loop_store.specs.Calls.{AreAnswered, Call, IsAnswered, RefusesAppend, RefusesLock, RefusesUnlock, StoreState, appended, locked, unlocked, was_read, after, after_calls, asked, begun, begun_in, has_failed, made, made_in, was_read_part}
 
 -- the recording after calls is the one after their steps
 pub recording-after : (g : Geometry) (s : StoreState) (calls : List Call) → (after_calls g s calls).recording ≡ plain (ring_of g) s.recording (made_in g s calls)
@@ -21,6 +21,7 @@ begun-none : (g : Geometry) (s : StoreState) (c : Call) → has_failed c ≡ fal
 begun-none g s (was_read number result) fine = refl
 begun-none g s (locked span result) fine = ap (λ (b : Bool). if b then lock span ∷ [] else []) fine
 begun-none g s (unlocked id result) fine = ap (λ (b : Bool). if b then unlock id ∷ [] else []) fine
+begun-none g s (was_read_part number at result) fine = refl
 begun-none g s (appended group result) fine = ap (λ (b : Bool). if b then asked g s.recording group else []) fine
 
 -- nothing has failed before
@@ -65,6 +66,7 @@ idle-one g s (locked span (Ok id)) must said = absurd (clash s.must_reopen must 
 idle-one g s (locked span (Err fault)) must said = idle-lock g s span fault must said
 idle-one g s (unlocked id (Ok x)) must said = absurd (clash s.must_reopen must said.0)
 idle-one g s (unlocked id (Err fault)) must said = idle-unlock s id fault must said
+idle-one g s (was_read_part number at result) must said = record { made = refl; begun = refl }
 idle-one g s (appended group (Ok number)) must said = absurd (clash s.must_reopen must said.0)
 idle-one g s (appended group (Err fault)) must said = idle-append g s group fault must said
 

@@ -1,6 +1,7 @@
 -- The calls of a store with their answers, and what they make of a recording: the model of the store.
 use Rattle.std.specs.Prelude.{◌≡◌, ◌≢◌, ◌⊎◌, ℕ, ◌+◌, ◌<◌, ◌≤◌, Bool, true, false, ◌||◌, IsTrue, Option, Some, None, Result, Ok, Err, List, [], ◌∷◌, length}
 use Rattle.loop_disk.specs.declared.fault.DiskFault.{DiskFault}
+use Rattle.loop_disk.specs.Medium.{piece}
 use Rattle.loop_record.specs.declared.clip.Span.{Span}
 use Rattle.loop_record.specs.declared.damage.Damage.TheVariants.{SlotHead}
 use Rattle.loop_record.specs.declared.frame.FrameHead.{FrameHead}
@@ -12,18 +13,25 @@ use Rattle.loop_store.specs.declared.fault.StoreFault.TheVariants.{AllLocked, Cl
 use Rattle.loop_store.specs.Faults.{answers_disk, failed_in, is_disk}
 use Rattle.loop_store.specs.Steps.{if_answered, if_failed, steps_or_none}
 
--- a call and its answer: an append of a group, a lock of a span with the clip's id, an unlock of an id, and a
--- read of a number with the head and the bytes that it gave
+-- a call and its answer: an append of a group, a lock of a span with the clip's id, an unlock of an id, a read of a
+-- number with the head and the bytes that it gave, and a read of a part of a number's frame, from a byte on, with
+-- the bytes that it gave
 pub data Call : Type 0 where
   appended : List Picture → Result ℕ StoreFault → Call
   locked : Span → Result ℕ StoreFault → Call
   unlocked : ℕ → Result (Unit {0}) StoreFault → Call
   was_read : ℕ → Result (FrameHead × List ℕ) StoreFault → Call
+  was_read_part : ℕ → ℕ → Result (List ℕ) StoreFault → Call
 
 -- what a read into lent memory answers
 abbrev pub read_with : Result FrameHead StoreFault → List ℕ → Result (FrameHead × List ℕ) StoreFault
 read_with (Ok h) out = Ok (h, out)
 read_with (Err fault) out = Err fault
+
+-- what a read of a part into lent memory answers
+abbrev pub part_with : Result (Unit {0}) StoreFault → List ℕ → Result (List ℕ) StoreFault
+part_with (Ok done) out = Ok out
+part_with (Err fault) out = Err fault
 
 -- what is recorded, and whether a call that writes has failed
 pub record StoreState : Type 0 where
@@ -42,6 +50,7 @@ made g s (appended group result) = if_answered result (asked g s.recording group
 made g s (locked span result) = if_answered result (lock span ∷ [])
 made g s (unlocked id result) = if_answered result (unlock id ∷ [])
 made g s (was_read number result) = []
+made g s (was_read_part number at result) = []
 
 -- the steps that it began, and of which a beginning may stand
 abbrev pub begun : Geometry → StoreState → Call → List Step
@@ -49,6 +58,7 @@ begun g s (appended group result) = if_failed result (asked g s.recording group)
 begun g s (locked span result) = if_failed result (lock span ∷ [])
 begun g s (unlocked id result) = if_failed result (unlock id ∷ [])
 begun g s (was_read number result) = []
+begun g s (was_read_part number at result) = []
 
 -- ---- the state after a call
 
@@ -58,6 +68,7 @@ has_failed (appended group result) = answers_disk result
 has_failed (locked span result) = answers_disk result
 has_failed (unlocked id result) = answers_disk result
 has_failed (was_read number result) = false
+has_failed (was_read_part number at result) = false
 
 abbrev pub after : Geometry → StoreState → Call → StoreState
 after g s call = record {
@@ -118,12 +129,26 @@ RefusesRead s number fault =
     ⊎ ((fault ≡ NotHeld) × ((s.must_reopen ≡ false) × (holds s.recording number ≡ false))
     ⊎ ((fault ≡ NoMemory) ⊎ (is_disk fault ≡ true)) × ((s.must_reopen ≡ false) × (holds s.recording number ≡ true)))
 
+-- why a read of a part is refused: it must be reopened, or otherwise the number isn't held, or otherwise the disk
+-- failed
+abbrev pub RefusesPart : StoreState → ℕ → StoreFault → Type 0
+RefusesPart s number fault =
+    (fault ≡ MustReopen) × (s.must_reopen ≡ true)
+    ⊎ ((fault ≡ NotHeld) × ((s.must_reopen ≡ false) × (holds s.recording number ≡ false))
+    ⊎ (is_disk fault ≡ true) × ((s.must_reopen ≡ false) × (holds s.recording number ≡ true)))
+
 -- the frame of a number, with this head and these bytes
 pub record IsFrame (r : Recording) (number : ℕ) (h : FrameHead) (bytes : List ℕ) : Type 0 where
   pub picture : Picture
   pub there : frame_under r.frames number ≡ Some picture
   pub head_is : h ≡ head number picture
   pub bytes_are : bytes ≡ picture.bytes
+
+-- the bytes of a number's frame from byte `at` on, as many as there are
+pub record IsPart (r : Recording) (number at : ℕ) (bytes : List ℕ) : Type 0 where
+  pub picture : Picture
+  pub there : frame_under r.frames number ≡ Some picture
+  pub bytes_are : bytes ≡ piece at (length bytes) picture.bytes
 
 -- a call was answered so
 abbrev pub IsAnswered : Geometry → StoreState → Call → Type 0
@@ -135,6 +160,8 @@ IsAnswered g s (unlocked id (Ok x)) = (s.must_reopen ≡ false) × (clip_of s.re
 IsAnswered g s (unlocked id (Err fault)) = RefusesUnlock s id fault
 IsAnswered g s (was_read number (Ok x)) = (s.must_reopen ≡ false) × IsFrame s.recording number x.0 x.1
 IsAnswered g s (was_read number (Err fault)) = RefusesRead s number fault
+IsAnswered g s (was_read_part number at (Ok bytes)) = (s.must_reopen ≡ false) × IsPart s.recording number at bytes
+IsAnswered g s (was_read_part number at (Err fault)) = RefusesPart s number fault
 
 -- ---- lists of calls
 
@@ -196,6 +223,10 @@ IsAllowed g o (was_read number (Ok x)) = o.must_reopen ≡ false
 IsAllowed g o (was_read number (Err fault)) =
     (fault ≡ MustReopen) × (o.must_reopen ≡ true)
     ⊎ ((fault ≡ NotHeld) ⊎ ((fault ≡ NoMemory) ⊎ ((fault ≡ Damaged SlotHead) ⊎ (is_disk fault ≡ true)))) × (o.must_reopen ≡ false)
+IsAllowed g o (was_read_part number at (Ok bytes)) = o.must_reopen ≡ false
+IsAllowed g o (was_read_part number at (Err fault)) =
+    (fault ≡ MustReopen) × (o.must_reopen ≡ true)
+    ⊎ ((fault ≡ NotHeld) ⊎ ((fault ≡ Damaged SlotHead) ⊎ (is_disk fault ≡ true))) × (o.must_reopen ≡ false)
 
 -- the call of the disk that failed, if the answer says that one did
 abbrev pub failed_for : Call → Option DiskFault
@@ -203,3 +234,4 @@ failed_for (appended group result) = failed_in result
 failed_for (locked span result) = failed_in result
 failed_for (unlocked id result) = failed_in result
 failed_for (was_read number result) = failed_in result
+failed_for (was_read_part number at result) = failed_in result

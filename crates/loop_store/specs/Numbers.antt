@@ -1,5 +1,5 @@
 -- The numbers of the frames of segments.
-use Rattle.std.specs.Prelude.{ℕ, ◌*◌, ◌==◌, Bool, Option, None, Some, List, [], ◌∷◌, ◌++◌}
+use Rattle.std.specs.Prelude.{◌≡◌, ℕ, ◌*◌, ◌==◌, ◌<◌, ◌≤◌, Bool, false, true, Option, None, Some, List, [], ◌∷◌, ◌++◌}
 use Rattle.std.specs.List.{list_any, range_with_len}
 use Rattle.loop_record.specs.declared.geometry.Geometry.{Geometry}
 use Rattle.loop_record.specs.declared.image.Found.{Found}
@@ -19,3 +19,8 @@ numbers_under slots (Some head ∷ heads) = range_with_len (head.block * slots) 
 -- a number is among others
 abbrev pub is_among : List ℕ → ℕ → Bool
 is_among numbers number = list_any (λ n. n == number) numbers
+
+-- the least number from n on that passes a test, or nothing where none passes it
+abbrev pub IsLeastFrom : (ℕ → Bool) → ℕ → Option ℕ → Type 0
+IsLeastFrom p n None = (k : ℕ) → n ≤ k → p k ≡ false
+IsLeastFrom p n (Some m) = (n ≤ m) × ((p m ≡ true) × ((k : ℕ) → n ≤ k → k < m → p k ≡ false))

@@ -1,7 +1,7 @@
 //! What a read of a frame looks at.
 
-ghost use Rattle.std.specs.Prelude.{◌≡◌, ◌<◌, ◌≤◌, ◌+◌, ◌*◌, ◌++◌, ◌↔◌, ◌⊎◌, ℕ, List, IfErr, IfNone, IfOk, IfSome, IsTrue, None, false, length, slice_index_or, true, vec_capacity};
-ghost use Rattle.std.specs.List.{range_with_len};
+ghost use Rattle.std.specs.Prelude.{◌≡◌, ◌<◌, ◌≤◌, ◌+◌, ◌*◌, ◌++◌, ◌↔◌, ◌⊎◌, ◌||◌, Bool, ℕ, List, IfErr, IfNone, IfOk, IfSome, IsTrue, None, false, length, slice_index_or, true, vec_capacity};
+ghost use Rattle.std.specs.List.{list_any, range_with_len};
 ghost use Rattle.loop_disk.specs.Calls.{Called, Stays};
 ghost use Rattle.loop_record.specs.Geometry.{disk_size, frame_bytes, is_good};
 ghost use Rattle.loop_record.specs.Layout.{is_too_high};
@@ -12,14 +12,14 @@ ghost use Rattle.loop_record.specs.declared.damage.Damage.TheVariants.{SlotHead}
 ghost use Rattle.loop_ring.specs.Heads.{has_number, heads_of};
 ghost use Rattle.loop_store.specs.declared.fault.StoreFault.TheVariants.{Damaged};
 ghost use Rattle.loop_store.specs.Faults.{answers_disk, is_disk, failed_in};
-ghost use Rattle.loop_store.specs.Numbers.{numbers_in};
-ghost use Rattle.loop_store.specs.Recovered.{IsIndex, IsIndexOf};
-ghost use Rattle.loop_store.specs.Reads.{AnswersFrame};
+ghost use Rattle.loop_store.specs.Numbers.{IsLeastFrom, numbers_in};
+ghost use Rattle.loop_store.specs.Recovered.{IsHeadIn, IsIndex, IsIndexOf};
+ghost use Rattle.loop_store.specs.Reads.{AnswersFrame, AnswersFramePart};
 
 use crate::StoreFault;
 use crate::index::Index;
 use loop_disk::Disk;
-use loop_record::{Found, FrameHead, Geometry};
+use loop_record::{Found, FrameHead, Geometry, SegmentHead};
 use loop_ring::Ring;
 use std::alloc::{AllocError, Allocator};
 
@@ -40,6 +40,47 @@ pub(crate) fn segment_with<A: Allocator>(index: &Index<A>, number: u64) -> Optio
     } else {
         None
     }
+}
+
+/// The lesser of two numbers, where there are two.
+fn lesser(first: Option<u64>, second: Option<u64>) -> Option<u64>
+    ensures { (p q : ℕ → Bool) (n : ℕ) → IsLeastFrom p n first → IsLeastFrom q n second
+        → IsLeastFrom (λ k. p k || q k) n result }
+{
+    match (first, second) {
+        (Some(first), Some(second)) => Some(first.min(second)),
+        (None, least) | (least, None) => least,
+    }
+}
+
+/// The least number from this one on whose frame a segment has, by its header.
+fn least_in(geometry: &Geometry, head: Option<SegmentHead>, number: u64) -> Option<u64>
+    requires good { IsTrue (is_good geometry.now) }
+    requires within { IsHeadIn geometry.now head }
+    ensures { IsLeastFrom (λ n. has_number geometry.now.slots n head) number result }
+{
+    let head = head?;
+    let first = head.block * u64::from(geometry.slots);
+    let end = first + u64::from(head.frames);
+    let least = first.max(number);
+    if least < end { Some(least) } else { None }
+}
+
+/// The least number from this one on whose frame some segment has. Only where that isn't the number itself does
+/// it look at all segments.
+pub(crate) fn next_held<A: Allocator>(index: &Index<A>, number: u64) -> Option<u64>
+    requires { IsIndex index.now }
+    ensures { IsLeastFrom (λ n. list_any (has_number index.now.ring.geometry.slots n) index.now.table.heads)
+        number result }
+{
+    if segment_with(index, number).is_some() {
+        return Some(number);
+    }
+    let mut least = None;
+    for head in index.table.heads() {
+        least = lesser(least, least_in(&index.ring.geometry, *head, number));
+    }
+    least
 }
 
 /// Reads the frame of a number, which its segment has.
@@ -64,6 +105,32 @@ pub(crate) fn read_held<D: Disk>(
 {
     let slot = (number % u64::from(ring.geometry.slots)) as u32;
     Ok(ring.read_slot(disk, segment, slot, number, out)?)
+}
+
+/// Reads a part of the frame of a number, which its segment has, from byte `at` on.
+pub(crate) fn read_held_part<D: Disk>(
+    disk: &mut D,
+    ring: &Ring,
+    segment: u32,
+    number: u64,
+    at: u32,
+    out: &mut [u8],
+) -> Result<(), StoreFault>
+    requires extent { (D.medium disk.old).size ≡ disk_size ring.now.geometry }
+    requires segment { segment < ring.now.geometry.segments }
+    requires part { at + length out.old ≤ frame_bytes ring.now.geometry }
+    ensures frame { (r : Recording) → (D.medium disk.old).honest
+        → Holds ring.now.geometry r (D.medium disk.old).bytes
+        → has_number ring.now.geometry.slots number (slice_index_or (heads_of ring.now.geometry (D.medium disk.old).bytes) segment None)
+        ≡ true
+        → AnswersFramePart r number at result out.new }
+    ensures refusals { IfErr result (λ fault. (fault ≡ Damaged SlotHead) ⊎ (is_disk fault ≡ true)) }
+    ensures stays { (D.medium disk.old).honest → Stays (D.medium disk.old) (D.medium disk.new) }
+    ensures called { Called (D.medium disk.old) (D.medium disk.new) (failed_in result) }
+{
+    let slot = (number % u64::from(ring.geometry.slots)) as u32;
+    ring.read_part(disk, segment, slot, number, at, out)?;
+    Ok(())
 }
 
 /// Puts the numbers of a segment's frames behind others, in memory that was taken before.

@@ -1,21 +1,21 @@
 //! A store: a disk that holds a recording, and what is known of it in memory.
 
-ghost use Rattle.std.specs.Prelude.{◌≡◌, ◌≢◌, ◌+◌, ◌-◌, ◌%◌, ◌≤◌, ◌↔◌, ◌⊎◌, ◌∷◌, [], All, Err, IfErr, IfOk, IsTrue, false, length, map};
+ghost use Rattle.std.specs.Prelude.{◌≡◌, ◌≢◌, ◌+◌, ◌-◌, ◌%◌, ◌≤◌, ◌↔◌, ◌⊎◌, ◌∷◌, [], All, Err, IfErr, IfOk, IsTrue, false, length, map, ◌<◌, IfSome};
 ghost use Rattle.loop_clips.specs.Table.{listed};
 ghost use Rattle.loop_disk.specs.Calls.{Stays};
 ghost use Rattle.loop_record.specs.Geometry.{frame_bytes, is_good};
 ghost use Rattle.loop_record.specs.Plain.{pictures};
-ghost use Rattle.loop_record.specs.Recording.{Recording, picture, ring_of, room, victim};
-ghost use Rattle.loop_store.specs.Calls.{appended, locked, read_with, unlocked, was_read};
+ghost use Rattle.loop_record.specs.Recording.{Recording, picture, ring_of, room, victim, numbers_end};
+ghost use Rattle.loop_store.specs.Calls.{appended, locked, read_with, unlocked, was_read, part_with, was_read_part};
 ghost use Rattle.loop_store.specs.Goes.{Goes};
-ghost use Rattle.loop_store.specs.Numbers.{is_among};
+ghost use Rattle.loop_store.specs.Numbers.{IsLeastFrom, is_among};
 ghost use Rattle.loop_store.specs.Seen.{IsGroupFor, IsKept, Refused, Seen, StandsFor, seen_with};
 
 use crate::StoreFault;
 use crate::found::in_order;
 use crate::index::Index;
 use crate::lock::{lock_clip, unlock_clip};
-use crate::look::{numbers_of, read_held, segment_with};
+use crate::look::{next_held, numbers_of, read_held, read_held_part, segment_with};
 use crate::put::put;
 use loop_clips::Clip;
 use loop_disk::Disk;
@@ -81,6 +81,14 @@ impl<D: Disk + Drop, A: Allocator> Store<D, A> {
         self.index
             .table
             .holds(self.index.ring.geometry.slots, number)
+    }
+
+    /// The least number from this one on that a frame has; nothing where no frame has one.
+    pub fn next_held(&self, number: u64) -> Option<u64>
+        ensures least { IsLeastFrom (is_among self.now.numbers) number result }
+        ensures low { IfSome result (λ n. n < numbers_end) }
+    {
+        next_held(&self.index, number)
     }
 
     /// The block that goes when an append needs room: the least block of a held frame that no clip meets and
@@ -206,6 +214,29 @@ impl<D: Disk + Drop, A: Allocator> Store<D, A> {
         }
         match segment_with(&self.index, number) {
             Some(segment) => read_held(&mut self.disk, &self.index.ring, segment, number, out),
+            None => Err(StoreFault::NotHeld),
+        }
+    }
+
+    /// Reads a part of the frame of a number: its bytes from `at` on, as many as `out` has.
+    ///
+    /// `MustReopen` where a call that writes has failed; otherwise `NotHeld`; then `Disk`, or `Damaged` where
+    /// the disk isn't honest. After these two `out` may hold any bytes. It takes no memory.
+    pub fn read_part(&mut self, number: u64, at: u32, out: &mut [u8]) -> Result<(), StoreFault>
+        requires part { at + length out.old ≤ frame_bytes self.old.geometry }
+        ensures goes { Goes D.medium self.old self.new
+            (was_read_part number at (part_with result out.new) ∷ []) }
+        ensures stays { (D.medium self.old.disk).honest → Stays (D.medium self.old.disk) (D.medium self.new.disk) }
+        ensures same { self.new ≡ record self.old { disk = self.new.disk } }
+        ensures out { ((result ≡ Err StoreFault.MustReopen) ⊎ (result ≡ Err StoreFault.NotHeld)) → out.new ≡ out.old }
+    {
+        if self.must_reopen {
+            return Err(StoreFault::MustReopen);
+        }
+        match segment_with(&self.index, number) {
+            Some(segment) => {
+                read_held_part(&mut self.disk, &self.index.ring, segment, number, at, out)
+            }
             None => Err(StoreFault::NotHeld),
         }
     }

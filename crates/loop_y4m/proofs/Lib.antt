@@ -10,3 +10,5 @@ pub mod Frames
 pub mod Opening
 pub mod Digits
 pub mod Written
+pub mod Ranges
+pub mod Moving

@@ -1,5 +1,6 @@
 pub mod Header
 pub mod Stream
 pub mod Text
+pub mod Export
 pub mod Reader
 pub mod Steps

@@ -1,13 +1,18 @@
 -- What private functions say; no caller needs it.
-use Rattle.std.specs.Prelude.{◌≡◌, ◌≤◌, ◌<◌, ℕ, Bool, Option, Some, None, Result, Ok, Err, List, ◌++◌, length, take, IfSome, ⊤, true, false}
+use Rattle.std.specs.Prelude.{◌≡◌, ◌≤◌, ◌<◌, ℕ, Bool, Option, Some, None, Result, Ok, Err, List, [], ◌++◌, flat_map, length, take, IfOk, IfSome, ⊤, true, false}
 use Rattle.std.specs.Io.KnownBytes.{Appends}
 use Rattle.std.specs.List.{position_or_len}
+use Rattle.loop_record.specs.Recording.{Picture, Recording, holds}
+use Rattle.loop_store.specs.declared.fault.StoreFault.{StoreFault}
+use Rattle.loop_y4m.specs.declared.fault.ExportFault.{ExportFault}
 use Rattle.loop_y4m.specs.declared.fault.Y4mFault.{Y4mFault}
 use Rattle.loop_y4m.specs.declared.fault.Y4mFault.TheVariants.{Read}
 use Rattle.loop_y4m.specs.declared.header.Header.{Header}
 use Rattle.loop_y4m.specs.declared.header.Parameters.{Parameters}
+use Rattle.loop_y4m.specs.Export.{Stopped, frames_between}
 use Rattle.loop_y4m.specs.Header.{frame_size}
 use Rattle.loop_y4m.specs.Stream.{headed, is_newline, next_frame}
+use Rattle.loop_y4m.specs.Text.{frame}
 
 -- each side that is given has its limit
 abbrev pub HasSmallSides : Parameters → Type 0
@@ -49,3 +54,40 @@ HeaderIs bytes (Ok header) left = (rest : List ℕ) × (headed bytes ≡ Ok (hea
 -- the writer was given all that stands before these bytes
 abbrev pub IsGiven : Option (List ℕ) → Option (List ℕ) → List ℕ → List ℕ → Type 0
 IsGiven old now bytes rest = (done : List ℕ) × (bytes ≡ done ++ rest) × Appends old now done
+
+-- ---- the export of a store
+
+-- what was written of these bytes: all of them, or a beginning of them where a read or the writer failed
+abbrev pub Moved : {T : Type 0} → Option (List ℕ) → Option (List ℕ) → Result T ExportFault → List ℕ → Type 0
+Moved old new (Ok x) bytes = Appends old new bytes
+Moved old new (Err fault) bytes = Stopped fault old new bytes
+
+-- so it was of the text of these frames, and at Ok they are counted
+abbrev pub MovedAll : Option (List ℕ) → Option (List ℕ) → Result ℕ ExportFault → List (List ℕ) → Type 0
+MovedAll old new result frames = Moved old new result (flat_map frame frames) × IfOk result (λ count. count ≡ length frames)
+
+-- the bytes of the frames from a number on to another, where there are any
+abbrev pub frames_left : Option ℕ → ℕ → List (ℕ × Picture) → List (List ℕ)
+frames_left None to frames = []
+frames_left (Some n) to frames = frames_between n to frames
+
+-- the least number of a range that a frame has: it is held, and the frames of the range begin with its own
+abbrev pub IsFirstBetween : Recording → ℕ → ℕ → Option ℕ → Type 0
+IsFirstBetween r from to first =
+    IfSome first (λ n. holds r n ≡ true) × (frames_between from to r.frames ≡ frames_left first to r.frames)
+
+-- a read of a part is refused so
+abbrev pub is_of_read : StoreFault → Bool
+is_of_read StoreFault.MustReopen = true
+is_of_read StoreFault.NotHeld = true
+is_of_read (StoreFault.Damaged damage) = true
+is_of_read (StoreFault.Disk fault) = true
+is_of_read _ = false
+
+-- the export's fault that such a refusal is
+abbrev pub fault_of : StoreFault → ExportFault
+fault_of StoreFault.MustReopen = ExportFault.MustReopen
+fault_of StoreFault.NotHeld = ExportFault.NotHeld
+fault_of (StoreFault.Damaged damage) = ExportFault.Damaged damage
+fault_of (StoreFault.Disk fault) = ExportFault.Disk fault
+fault_of _ = ExportFault.NoMemory

@@ -2,6 +2,9 @@
 
 ghost use Rattle.std.specs.Prelude.{◌≡◌, All, IsTrue, List, None, Ok, Option, length, ℕ};
 ghost use Rattle.loop_record.specs.Geometry.{frame_bytes, is_good};
+ghost use Rattle.loop_record.specs.Reading.{Holds};
+ghost use Rattle.loop_record.specs.Recording.{Recording};
+ghost use Rattle.loop_y4m.specs.Export.{frames_between};
 ghost use Rattle.loop_y4m.specs.Reader.{Gives};
 ghost use Rattle.loop_y4m.specs.Stream.{Frames, ends, ends_after, frames_by, frames_in, next_frame, parse};
 ghost use Rattle.loop_y4m.specs.declared.fault.Y4mFault.{Y4mFault};
@@ -15,6 +18,15 @@ pub fn written_text_is_read(geometry: &Geometry)
         → All (λ frame. length frame ≡ frame_bytes geometry.now) frames
         → parse (text geometry.now frames)
         ≡ Ok (described geometry.now, ends_after frames None) }
+{}
+
+/// The text of the frames that are exported of a recording is read as the format, size and rate of the store,
+/// then these frames' bytes, then the end.
+pub fn exported_text_is_read(geometry: &Geometry)
+    ensures { (r : Recording) (image : List ℕ) (from to : ℕ) → IsTrue (is_good geometry.now)
+        → Holds geometry.now r image
+        → parse (text geometry.now (frames_between from to r.frames))
+        ≡ Ok (described geometry.now, ends_after (frames_between from to r.frames) None) }
 {}
 
 /// The frames of an input are the next one and those behind it, up to the end or a fault: the count that bounds

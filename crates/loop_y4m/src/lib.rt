@@ -1,20 +1,21 @@
 //! YUV4MPEG2, the text in which raw video is piped between programs (mjpegtools' yuv4mpeg(5)): written for a
-//! geometry, and read from any reader.
+//! geometry or from a store, and read from any reader.
 //!
-//! `specs/` has the written text (`Text`), how a header line is read (`Header`), how a whole input is
+//! `specs/` has the written text (`Text`), what is exported of a store (`Export`), how a header line is read (`Header`), how a whole input is
 //! (`Stream`) and what an open reader answers (`Reader`); `Steps` is what private functions say. The code:
 //!
 //! - `reader`: the `Y4mReader`, which gives an input's frames one after another; `fault`: what can be wrong
-//!   with an input;
+//!   with an input, and why an export ends;
 //! - `header`: what a stream's header line says; `number`: decimal numbers, judged by their value;
 //! - `input`: bytes and lines from a reader; `frame`: a frame's line and its bytes;
-//! - `text`: the header and the frames as they are written;
+//! - `text`: the header and the frames as they are written; `exported`: the held frames of a store, so written;
 //! - `laws`: that what is written is read back, and a run of calls gives all frames: contracts of functions
 //!   that do nothing.
 //!
-//! Nothing here takes memory.
+//! Only `export` takes memory, for one piece of a frame.
 #![tactic(auto)]
 
+mod exported;
 mod fault;
 mod frame;
 mod header;
@@ -24,7 +25,8 @@ mod number;
 mod reader;
 mod text;
 
-pub use fault::Y4mFault;
+pub use exported::export;
+pub use fault::{ExportFault, Y4mFault};
 pub use header::Header;
 pub use reader::Y4mReader;
 pub use text::{write_frame, write_frame_line, write_header, write_pixels};

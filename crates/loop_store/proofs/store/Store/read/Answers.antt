@@ -7,7 +7,7 @@ use Rattle.loop_store.specs.Calls.{read_with, was_read}
 use Rattle.loop_store.specs.Goes.{Goes, outline_of}
 use Rattle.loop_store.specs.Seen.{Seen, seen_with}
 use Rattle.loop_store.proofs.Looks.{known-by, looked-kept}
-use Rattle.loop_store.proofs.Reading.{goes-looked, goes-unread, read-allowed, read-answered, read-failed}
+use Rattle.loop_store.proofs.Reading.{goes-looked, goes-unread, look-read, read-allowed, read-answered, read-failed}
 use Rattle.loop_store.proofs.store.Store.read.Goals as goal
 
 pub invariant_of-self : goal.invariant_of-self
@@ -20,7 +20,7 @@ returns-in-Some-clause-goes g c =
     let medium = g.D.Disk.medium in
     let old : Seen g.row.D.Denot = seen_with s.disk s.index s.must_reopen in
     subst (λ (v : Seen g.row.D.Denot). Goes medium v (record old { disk = c.read_held.new.disk }) (was_read c.args.number (read_with c.read_held.result c.read_held.new.out) ∷ [])) c.self.view_is
-    (goes-looked medium old c.read_held.new.disk c.args.number (read_with c.read_held.result c.read_held.new.out) (λ honest. g.met.D.Disk.sound s.disk honest)
+    (goes-looked medium old c.read_held.new.disk (was_read c.args.number (read_with c.read_held.result c.read_held.new.out)) (look-read c.args.number (read_with c.read_held.result c.read_held.new.out)) (λ honest. g.met.D.Disk.sound s.disk honest)
     (record {
       answers = λ t stands honest.
           let known = known-by medium s.disk s.index s.must_reopen t.recording c.self.invariant.0 stands.recording c.if-self.false honest in
@@ -37,7 +37,7 @@ returns-in-None-clause-goes g c =
     let s = c.self.inside in
     let medium = g.D.Disk.medium in
     subst (λ (v : Seen g.row.D.Denot). Goes medium v v (was_read c.args.number (Err NotHeld) ∷ [])) c.self.view_is
-    (goes-unread medium (seen_with s.disk s.index s.must_reopen) c.args.number NotHeld (λ honest. g.met.D.Disk.sound s.disk honest) refl
+    (goes-unread medium (seen_with s.disk s.index s.must_reopen) (was_read c.args.number (Err NotHeld)) (look-read c.args.number (Err NotHeld)) (λ honest. g.met.D.Disk.sound s.disk honest) refl
     (λ t stands honest.
     let known = known-by medium s.disk s.index s.must_reopen t.recording c.self.invariant.0 stands.recording c.if-self.false honest in
     inr (inl (refl, (sym stands.must_reopen ∙ c.if-self.false, c.in-None.ensures.missing t.recording (medium s.disk).bytes known))))

@@ -1,0 +1,54 @@
+-- What the export of a store writes, and what it leaves.
+use Rattle.std.specs.Prelude.{◌≡◌, ◌≢◌, ℕ, Bool, true, false, ◌&&◌, nat_le, Option, None, Some, Result, Ok, Err, List, [], length, map}
+use Rattle.std.specs.List.{filter}
+use Rattle.std.specs.Io.KnownBytes.{Appends}
+use Rattle.loop_disk.specs.declared.fault.DiskFault.{DiskFault}
+use Rattle.loop_disk.specs.Calls.{Called, Stays}
+use Rattle.loop_disk.specs.Medium.{Medium}
+use Rattle.loop_record.specs.declared.geometry.Geometry.{Geometry}
+use Rattle.loop_record.specs.Recording.{Picture}
+use Rattle.loop_store.specs.declared.fault.StoreFault.{StoreFault}
+use Rattle.loop_store.specs.Seen.{Seen}
+use Rattle.loop_y4m.specs.declared.fault.ExportFault.{ExportFault}
+use Rattle.loop_y4m.specs.declared.fault.ExportFault.TheVariants.{Damaged, Disk, MustReopen, NoMemory, NotHeld, Write}
+use Rattle.loop_y4m.specs.Text.{AppendsSome, text}
+
+-- the bytes of the frames whose numbers are from one to another, in their order
+abbrev pub frames_between : ℕ → ℕ → List (ℕ × Picture) → List (List ℕ)
+frames_between from to frames = map (λ f. f.1.bytes) (filter (λ f. nat_le from f.0 && nat_le f.0 to) frames)
+
+-- a read or the writer failed, when a beginning of these bytes was written
+abbrev pub Stopped : ExportFault → Option (List ℕ) → Option (List ℕ) → List ℕ → Type 0
+Stopped (Disk fault) old new bytes = AppendsSome old new bytes
+Stopped Write old new bytes = AppendsSome old new bytes
+Stopped _ old new bytes = ⊥
+
+-- The answer to an export of these frames: it must be reopened, or otherwise there is none of them, or otherwise
+-- memory was refused, and then nothing was written; otherwise their text was, or a beginning of it, and they are
+-- counted.
+abbrev pub IsExport : Geometry → Bool → List (List ℕ) → Option (List ℕ) → Option (List ℕ) → Result ℕ ExportFault → Type 0
+IsExport g must_reopen frames old new (Err MustReopen) = (must_reopen ≡ true) × (new ≡ old)
+IsExport g must_reopen frames old new (Err NotHeld) = (must_reopen ≡ false) × ((frames ≡ []) × (new ≡ old))
+IsExport g must_reopen frames old new (Err NoMemory) = (must_reopen ≡ false) × ((frames ≢ []) × (new ≡ old))
+IsExport g must_reopen frames old new (Err fault) = (must_reopen ≡ false) × ((frames ≢ []) × Stopped fault old new (text g frames))
+IsExport g must_reopen frames old new (Ok count) = (must_reopen ≡ false) × ((frames ≢ []) × (Appends old new (text g frames) × (count ≡ length frames)))
+
+-- the call of the disk that failed, if the answer is that one did
+abbrev pub failed_in : {T : Type 0} → Result T ExportFault → Option DiskFault
+failed_in (Err (Disk fault)) = Some fault
+failed_in _ = None
+
+-- the store's refusal that a fault is
+abbrev pub refusal : ExportFault → Option StoreFault
+refusal MustReopen = Some StoreFault.MustReopen
+refusal NotHeld = Some StoreFault.NotHeld
+refusal NoMemory = Some StoreFault.NoMemory
+refusal (Damaged damage) = Some (StoreFault.Damaged damage)
+refusal (Disk fault) = Some (StoreFault.Disk fault)
+refusal Write = None
+
+-- the store is as it was but for its disk, which was only read, and of whose calls this one failed, or none did
+pub record OnlyRead {D : Type 0} (medium : D → Medium) (old new : Seen D) (failed : Option DiskFault) : Type 0 where
+  pub same : new ≡ record old { disk = new.disk }
+  pub stays : (medium old.disk).honest → Stays (medium old.disk) (medium new.disk)
+  pub called : Called (medium old.disk) (medium new.disk) failed

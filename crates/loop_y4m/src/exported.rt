@@ -1,0 +1,155 @@
+//! The held frames of a store, written as a text.
+
+ghost use Rattle.std.specs.Prelude.{◌≡◌, ◌+◌, ◌<◌, ◌≤◌, ◌^◌, IfSome, IsTrue, Some, false, length, true};
+ghost use Rattle.loop_disk.specs.Medium.{piece};
+ghost use Rattle.loop_record.specs.Geometry.{frame_bytes};
+ghost use Rattle.loop_record.specs.Recording.{Picture, Recording, frame_under, holds};
+ghost use Rattle.loop_store.specs.Seen.{StandsFor};
+ghost use Rattle.loop_y4m.specs.Export.{IsExport, OnlyRead, failed_in, frames_between};
+ghost use Rattle.loop_y4m.specs.Steps.{IsFirstBetween, Moved, MovedAll, fault_of, is_of_read};
+ghost use Rattle.loop_y4m.specs.Text.{frame};
+
+use crate::ExportFault;
+use crate::text::{write_frame_line, write_header, write_pixels};
+use loop_disk::Disk;
+use loop_store::{Store, StoreFault};
+use std::alloc::Allocator;
+use std::io::Write;
+
+/// The most bytes of a frame that are moved at once.
+const MAX_PIECE: u32 = 65_536;
+
+/// Writes the held frames whose numbers are from `from` to `to`, in rising order, behind a header, and answers
+/// how many they are.
+///
+/// `MustReopen` where a call of the store that writes has failed; otherwise `NotHeld` where no frame has such a
+/// number; then `NoMemory`. Nothing was written then. Afterwards `Disk` where a read fails, `Damaged` where the
+/// disk isn't honest, and `Write` where the writer fails; a beginning of the text was written then. Nothing is
+/// flushed.
+///
+/// Frames are moved in pieces of at most 65,536 bytes. Memory is taken for one piece, before anything is
+/// written.
+pub fn export<D: Disk + Drop, A: Allocator + Copy, W: Write>(
+    alloc: A,
+    store: &mut Store<D, A>,
+    from: u64,
+    to: u64,
+    out: &mut W,
+) -> Result<u64, ExportFault>
+    ensures exported { (r : Recording) → StandsFor D.medium store.old r → (D.medium store.old.disk).honest
+        → IsExport store.old.geometry store.old.must_reopen (frames_between from to r.frames)
+        (W.contents out.old) (W.contents out.new) result }
+    ensures store { OnlyRead D.medium store.old store.new (failed_in result) }
+{
+    if store.must_reopen() {
+        return Err(ExportFault::MustReopen);
+    }
+    let first = held_between(store, from, to).ok_or(ExportFault::NotHeld)?;
+    let geometry = store.geometry();
+    let size = geometry.frame_bytes().min(MAX_PIECE);
+    let mut piece = vec![in alloc; 0; size as usize]?;
+    write_header(&geometry, out)?;
+    write_frames(store, first, to, &mut piece, out)
+}
+
+/// The least number from `from` to `to` that a frame has.
+fn held_between<D: Disk + Drop, A: Allocator>(
+    store: &Store<D, A>,
+    from: u64,
+    to: u64,
+) -> Option<u64>
+    ensures within { IfSome result (λ n. (from ≤ n) × ((n ≤ to) × (n < 2 ^ 62))) }
+    ensures frames { (r : Recording) → StandsFor D.medium store.now r → (D.medium store.now.disk).honest
+        → IsFirstBetween r from to result }
+{
+    match store.next_held(from) {
+        Some(number) if number <= to => Some(number),
+        _ => None,
+    }
+}
+
+/// Writes the held frames from `first`, which is held, to `to`, and answers how many they are.
+fn write_frames<D: Disk + Drop, A: Allocator, W: Write>(
+    store: &mut Store<D, A>,
+    first: u64,
+    to: u64,
+    piece: &mut [u8],
+    out: &mut W,
+) -> Result<u64, ExportFault>
+    requires open { store.old.must_reopen ≡ false }
+    requires some { 1 ≤ length piece.old }
+    requires first { (first ≤ to) × (first < 2 ^ 62) }
+    ensures moved { (r : Recording) → StandsFor D.medium store.old r → (D.medium store.old.disk).honest
+        → holds r first ≡ true
+        → MovedAll (W.contents out.old) (W.contents out.new) result (frames_between first to r.frames) }
+    ensures store { OnlyRead D.medium store.old store.new (failed_in result) }
+{
+    let mut next = Some(first);
+    let mut count = 0;
+    while let Some(number) = next {
+        write_held(store, number, piece, out)?;
+        count += 1;
+        next = held_between(store, number + 1, to);
+    }
+    Ok(count)
+}
+
+/// Writes a frame of the store, piece by piece.
+fn write_held<D: Disk + Drop, A: Allocator, W: Write>(
+    store: &mut Store<D, A>,
+    number: u64,
+    piece: &mut [u8],
+    out: &mut W,
+) -> Result<(), ExportFault>
+    requires open { store.old.must_reopen ≡ false }
+    requires some { 1 ≤ length piece.old }
+    ensures moved { (r : Recording) (p : Picture) → StandsFor D.medium store.old r → (D.medium store.old.disk).honest
+        → frame_under r.frames number ≡ Some p → Moved (W.contents out.old) (W.contents out.new) result (frame p.bytes) }
+    ensures store { OnlyRead D.medium store.old store.new (failed_in result) }
+{
+    write_frame_line(out)?;
+    let size = store.geometry().frame_bytes();
+    let mut at = 0;
+    while at < size {
+        let count = piece.len().min((size - at) as usize);
+        move_part(store, number, at, &mut piece[..count], out)?;
+        at += count as u32;
+    }
+    Ok(())
+}
+
+/// Writes a part of a frame of the store, from byte `at` on: as many bytes as `part` has.
+fn move_part<D: Disk + Drop, A: Allocator, W: Write>(
+    store: &mut Store<D, A>,
+    number: u64,
+    at: u32,
+    part: &mut [u8],
+    out: &mut W,
+) -> Result<(), ExportFault>
+    requires open { store.old.must_reopen ≡ false }
+    requires within { at + length part.old ≤ frame_bytes store.old.geometry }
+    ensures moved { (r : Recording) (p : Picture) → StandsFor D.medium store.old r → (D.medium store.old.disk).honest
+        → frame_under r.frames number ≡ Some p
+        → Moved (W.contents out.old) (W.contents out.new) result (piece at (length part.old) p.bytes) }
+    ensures store { OnlyRead D.medium store.old store.new (failed_in result) }
+{
+    if let Err(fault) = store.read_part(number, at, part) {
+        return Err(of_read(fault));
+    }
+    write_pixels(part, out)?;
+    Ok(())
+}
+
+/// The fault that a refused read of a part is.
+fn of_read(fault: StoreFault) -> ExportFault
+    requires { IsTrue (is_of_read fault) }
+    ensures { result ≡ fault_of fault }
+{
+    match fault {
+        StoreFault::MustReopen => ExportFault::MustReopen,
+        StoreFault::NotHeld => ExportFault::NotHeld,
+        StoreFault::Damaged(damage) => ExportFault::Damaged(damage),
+        StoreFault::Disk(fault) => ExportFault::Disk(fault),
+        _ => unreachable!(),
+    }
+}
