@@ -5,7 +5,7 @@ use Rattle.std.proofs.lemmas.List.{ext_get_or, get_or-map, get_or-set_other, get
 use Rattle.std.proofs.lemmas.List.Sums.{count_by-le-length, sum_by-cons, sum_by-set}
 use Rattle.std.proofs.lemmas.Slice.Zip.{get_or-zip, length-zip}
 use Rattle.std.specs.List.{cons_option, count_by, filter_map, list_any, push, reduce, zip}
-use Rattle.std.specs.Prelude.{◌||◌}
+use Rattle.std.specs.Prelude.{◌||◌, is_some}
 use Rattle.loop_record.specs.declared.clip.Span.{Span}
 use Rattle.loop_record.specs.declared.segment.SegmentHead.{SegmentHead}
 use Rattle.loop_record.specs.declared.geometry.Geometry.{Geometry}
@@ -83,6 +83,16 @@ less-met ring span h n t is so = ap (λ (b : Bool). cond b (n - 1) n) (sym so �
 pub counts-more : (ring : Ring) (clips : List (Option Span)) (heads : List (Option SegmentHead)) (i n : ℕ) (items : List ℕ) → items ≡ clip_counts ring clips (take i heads) → i < length heads → n ≡ clips_on ring clips (get_or heads i None) → push items n ≡ clip_counts ring clips (take (i + 1) heads)
 counts-more ring clips heads i n items are l is =
     (λ k. are k ++ is k ∷ []) ∙ sym (map-append (clips_on ring clips) (take i heads) (get_or heads i None ∷ [])) ∙ ap (map (clips_on ring clips)) (sym (take_more heads i None l))
+
+-- where no clip stands, none meets a segment
+pub counts-empty : (ring : Ring) (clips : List (Option Span)) (h : Option SegmentHead) → list_any is_some clips ≡ false → 0 ≡ clips_on ring clips h
+counts-empty ring clips None none = refl
+counts-empty ring clips (Some h) none = go clips none
+  where
+    go : (cs : List (Option Span)) → list_any is_some cs ≡ false → 0 ≡ count_by (meets ring h.block) cs
+    go [] e = refl
+    go (None ∷ cs) e = let rest = go cs e in omega (arith, rest, sum_by-cons (λ c. mark (meets ring h.block c)) None cs)
+    go (Some s ∷ cs) e = absurd cc
 
 -- ---- a clip more, and a clip less
 

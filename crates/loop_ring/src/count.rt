@@ -1,6 +1,6 @@
 // How many clips meet the block of each segment.
-ghost use Rattle.std.specs.Prelude.{◌≡◌, ◌<◌, ◌≤◌, ◌^◌, [], All, IsTrue, length, map, vec_capacity};
-ghost use Rattle.std.specs.List.{zip};
+ghost use Rattle.std.specs.Prelude.{◌≡◌, ◌<◌, ◌≤◌, ◌^◌, [], All, IsTrue, is_some, length, map, vec_capacity};
+ghost use Rattle.std.specs.List.{list_any, zip};
 ghost use Rattle.loop_record.specs.Geometry.{is_good};
 ghost use Rattle.loop_record.specs.Recording.{ring_of};
 ghost use Rattle.loop_ring.specs.Heads.{clip_counts, clips_on, meets_head, one_less, one_more};
@@ -14,6 +14,10 @@ pub fn clips_on(geometry: &Geometry, clips: &[Option<Span>], head: Option<Segmen
     requires few { length clips.now < 2 ^ 32 }
     ensures { result ≡ clips_on (ring_of geometry.now) clips.now head }
 {
+    // Where no clip stands, none has to be asked.
+    if !some_stands(clips) {
+        return 0;
+    }
     match head {
         None => 0,
         Some(head) => clips
@@ -21,6 +25,13 @@ pub fn clips_on(geometry: &Geometry, clips: &[Option<Span>], head: Option<Segmen
             .filter(|clip| meets(geometry, head.block, **clip))
             .count() as u32,
     }
+}
+
+// Whether a clip stands under some id.
+fn some_stands(clips: &[Option<Span>]) -> bool
+    ensures { result ≡ list_any is_some clips.now }
+{
+    clips.iter().any(|clip| clip.is_some())
 }
 
 // Puts the count of each segment into none. It takes no memory.

@@ -1,12 +1,12 @@
 //! The segments and the clips in memory.
 
-ghost use Rattle.std.specs.Prelude.{◌≡◌, IfOk, length, vec_len};
+ghost use Rattle.std.specs.Prelude.{◌≡◌, ◌<◌, All, IfOk, length, vec_len};
 
 use loop_budget::Budget;
 use loop_clips::{CLIPS, Clip, ClipTable};
 use loop_disk::{DiskFault, FuseDisk, MemDisk};
 use loop_record::{Geometry, OPEN, PixelFormat, SegmentHead, Span};
-use loop_ring::{SegmentIndex, victim_block};
+use loop_ring::{SegmentIndex, clips_on};
 use std::alloc::{AllocError, Allocator, Global};
 use std::process::Abort;
 use std::test::Fail;
@@ -22,17 +22,17 @@ const SMALL: Geometry = Geometry {
     slots: 2,
 };
 
-// An index of three segments.
+// An index of three segments that no clip meets.
 fn index<A: Allocator + Copy>(
     alloc: A,
     heads: [Option<SegmentHead>; 3],
 ) -> Result<SegmentIndex<A>, AllocError>
-    ensures { IfOk result (λ index. length index ≡ 3) }
+    ensures { IfOk result (λ index. (length index.heads ≡ 3) × All (λ count. count < 64) index.clips) }
 {
     let mut index = SegmentIndex::new(alloc, 3)?;
-    index.set(0, heads[0]);
-    index.set(1, heads[1]);
-    index.set(2, heads[2]);
+    index.set(0, heads[0], 0);
+    index.set(1, heads[1], 0);
+    index.set(2, heads[2], 0);
     Ok(index)
 }
 
@@ -52,14 +52,14 @@ fn clip(number: u64) -> Option<Span> {
 // What is found in the index of a block 3 with one frame, a closed segment, and a block 2 with both frames; and
 // once block 4 is begun in the closed one.
 fn finds<A: Allocator>(rt: &impl Abort, index: &mut SegmentIndex<A>)
-    requires { length index.old ≡ 3 }
+    requires { length index.old.heads ≡ 3 }
 {
     assert_eq!(rt; (index.find(2).0, index.find(1).0), (Some(2), None));
     assert_eq!(rt; index.first_closed(), Some(1));
     for (number, held) in [(3, false), (5, true), (6, true), (7, false)] {
         assert_eq!(rt; index.holds(2, number), held, "{number}");
     }
-    index.set(1, open(4, 0));
+    index.set(1, open(4, 0), 0);
     assert_eq!(rt; index.get(1), open(4, 0));
     assert_eq!(rt; (index.first_closed(), index.held_blocks()), (None, 2));
 }
@@ -67,15 +67,15 @@ fn finds<A: Allocator>(rt: &impl Abort, index: &mut SegmentIndex<A>)
 #[test]
 fn segments_are_found_by_what_they_hold(rt: HostRuntime) -> Result<(), Fail> {
     let memory = Budget::new(rt.alloc());
-    for blocks in 0..2 {
+    for blocks in 0..3 {
         memory.allow(blocks);
         assert!(rt; SegmentIndex::new(&memory, 3).is_err(), "{blocks}");
     }
-    memory.allow(2);
+    memory.allow(3);
     let heads = [open(3, 1), None, open(2, 2)];
     let mut index = index(&memory, heads)?;
     memory.allow(0);
-    assert!(rt; index.as_slice().iter().eq(heads.iter()));
+    assert!(rt; index.heads().iter().eq(heads.iter()));
     finds(&rt, &mut index);
     Ok(())
 }
@@ -85,16 +85,16 @@ fn mixed_block(segment: u32) -> u64 {
     u64::from(segment) * 37 % 64 * 3 + 10
 }
 
-// 64 segments in that order. The second block of memory is the sorted entries'.
+// 64 segments in that order. The second and the third block of memory are the counts' and the sorted entries'.
 fn mixed(memory: &Budget<Global>) -> Result<SegmentIndex<&Budget<Global>>, AllocError>
-    ensures { IfOk result (λ index. length index ≡ 64) }
+    ensures { IfOk result (λ index. length index.heads ≡ 64) }
 {
     let mut heads = [None; 64];
     for (segment, head) in heads.iter_mut().enumerate() {
         *head = open(mixed_block(segment as u32), 1);
     }
     let heads = Vec::from_slice(memory, &heads)?;
-    SegmentIndex::of(memory, heads)
+    SegmentIndex::of(memory, &SMALL, heads, &[])
 }
 
 // What is found of some blocks, each by at most seven looks.
@@ -109,9 +109,11 @@ fn finds_soon<A: Allocator>(rt: &impl Abort, index: &SegmentIndex<A>, rows: &[(u
 #[test]
 fn a_block_is_found_by_few_looks(rt: HostRuntime) -> Result<(), Fail> {
     let memory = Budget::new(rt.alloc());
-    memory.allow(1);
-    assert!(rt; mixed(&memory).is_err());
-    memory.allow(2);
+    for blocks in 1..3 {
+        memory.allow(blocks);
+        assert!(rt; mixed(&memory).is_err(), "{blocks}");
+    }
+    memory.allow(3);
     let mut index = mixed(&memory)?;
     memory.allow(0);
     for segment in 0..64 {
@@ -126,9 +128,9 @@ fn a_block_is_found_by_few_looks(rt: HostRuntime) -> Result<(), Fail> {
     ];
     finds_soon(&rt, &index, &absent);
     // Segment 5 had block 10 + 3 * 57; 6 moves behind all blocks, and then 50 to the block of 20.
-    index.set(5, None);
-    index.set(6, open(u64::MAX, 0));
-    index.set(50, open(mixed_block(20), 2));
+    index.set(5, None, 0);
+    index.set(6, open(u64::MAX, 0), 0);
+    index.set(50, open(mixed_block(20), 2), 0);
     let moved = [
         (181, None),
         (100, None),
@@ -139,10 +141,10 @@ fn a_block_is_found_by_few_looks(rt: HostRuntime) -> Result<(), Fail> {
     ];
     finds_soon(&rt, &index, &moved);
     // 5 opens again, as the first of three with that block; without it and 20 the third is found.
-    index.set(5, open(mixed_block(20), 1));
+    index.set(5, open(mixed_block(20), 1), 0);
     finds_soon(&rt, &index, &[(mixed_block(20), Some(5))]);
-    index.set(5, None);
-    index.set(20, None);
+    index.set(5, None, 0);
+    index.set(20, None, 0);
     finds_soon(&rt, &index, &[(mixed_block(20), Some(50))]);
     Ok(())
 }
@@ -151,10 +153,11 @@ fn a_block_is_found_by_few_looks(rt: HostRuntime) -> Result<(), Fail> {
 fn goes(
     alloc: Global,
     heads: [Option<SegmentHead>; 3],
-    clips: &[Option<Span>],
+    clips: &[Option<Span>; 2],
 ) -> Result<Option<(u64, u32)>, AllocError> {
-    let index = index(alloc, heads)?;
-    let block = victim_block(&SMALL, &index, clips);
+    let heads = Vec::from_slice(alloc, &heads)?;
+    let index = SegmentIndex::of(alloc, &SMALL, heads, clips)?;
+    let block = index.victim();
     let segment = block.and_then(|block| index.find(block).0);
     Ok(block.zip(segment))
 }
@@ -166,22 +169,53 @@ fn the_least_block_that_no_clip_meets_goes(rt: HostRuntime) -> Result<(), Fail> 
     let begun = [open(3, 0), open(1, 2), open(2, 2)];
     let full = [open(3, 2), open(1, 2), open(2, 2)];
     let later = [open(3, 2), open(1, 2), open(4, 2)];
-    let rows: [(
-        [Option<SegmentHead>; 3],
-        &[Option<Span>],
-        Option<(u64, u32)>,
-    ); 7] = [
-        ([None, None, open(0, 2)], &[], None),
-        (begun, &[], Some((1, 1))),
-        ([open(1, 0), open(0, 2), None], &[], None),
-        (full, &[None, clip(2)], Some((2, 2))),
-        (later, &[clip(2), clip(6)], None),
-        (later, &[clip(2), None], Some((3, 0))),
-        (later, &[clip(8), None], Some((1, 1))),
+    let rows = [
+        ([None, None, open(0, 2)], [None, None], None),
+        (begun, [None, None], Some((1, 1))),
+        ([open(1, 0), open(0, 2), None], [None, None], None),
+        (full, [None, clip(2)], Some((2, 2))),
+        (later, [clip(2), clip(6)], None),
+        (later, [clip(2), None], Some((3, 0))),
+        (later, [clip(8), None], Some((1, 1))),
     ];
     for (heads, clips, expected) in rows {
-        assert_eq!(rt; goes(alloc, heads, clips)?, expected, "{heads:?}");
+        assert_eq!(rt; goes(alloc, heads, &clips)?, expected, "{heads:?}");
     }
+    Ok(())
+}
+
+// The clip of one frame.
+fn span(number: u64) -> Span {
+    Span {
+        from: number,
+        to: number,
+    }
+}
+
+#[test]
+fn the_victim_follows_locks_and_appends(rt: HostRuntime) -> Result<(), Fail> {
+    let memory = Budget::new(rt.alloc());
+    memory.allow(3);
+    let mut index = index(&memory, [open(3, 2), open(1, 2), open(4, 1)])?;
+    memory.allow(0);
+    assert_eq!(rt; index.victim(), Some(1));
+    index.lock_clip(&SMALL, span(2));
+    assert_eq!(rt; index.victim(), Some(3));
+    // Blocks 1 and 3 are locked, and 4 is the newest.
+    let clips = [clip(2), clip(6)];
+    index.set(0, open(3, 2), clips_on(&SMALL, &clips, open(3, 2)));
+    assert_eq!(rt; index.victim(), None);
+    index.unlock_clip(&SMALL, span(6));
+    assert_eq!(rt; index.victim(), Some(3));
+    // Block 5 is begun in the segment of 3, and grows.
+    let frames = 1;
+    let head = Some(SegmentHead { block: 5, frames });
+    index.set(0, head, clips_on(&SMALL, &[clip(2), None], head));
+    assert_eq!(rt; (index.victim(), index.held_blocks()), (Some(4), 3));
+    index.grow(0, 2);
+    assert_eq!(rt; (index.get(0), index.victim()), (open(5, 2), Some(4)));
+    index.unlock_clip(&SMALL, span(2));
+    assert_eq!(rt; index.victim(), Some(1));
     Ok(())
 }
 

@@ -386,9 +386,9 @@ fn has_read<A: Allocator>(replies: &[Reply<A>]) -> bool {
 fn each_growth_is_refused_in_turn(rt: HostRuntime) -> Result<(), Fail> {
     let alloc = rt.alloc();
     let memory = Budget::new(alloc);
-    grows_in_format(&rt, alloc, &memory, 3)?;
+    grows_in_format(&rt, alloc, &memory, 4)?;
     let seven = image_of(&rt, alloc, SMALL, &[1; 7])?;
-    let mut store = grows_in_open(&rt, alloc, &memory, &seven, 4)?;
+    let mut store = grows_in_open(&rt, alloc, &memory, &seven, 5)?;
     stores_without_growth(&rt, alloc, &memory, &mut store)?;
     stores_without_growth(&rt, alloc, &memory, &mut store)?;
     holds(&rt, alloc, &mut store, &[(4, 8)])?;
