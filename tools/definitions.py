@@ -13,7 +13,7 @@ STORE = "crates/loop_store/src/"
 CALLS = {
     STORE + "make.rt": ["format"],
     STORE + "reopen.rt": ["open"],
-    STORE + "store.rt": ["append", "read", "next", "room", "holds", "victim", "frames", "geometry", "must_reopen", "into_disk"],
+    STORE + "store.rt": ["append", "read", "read_part", "next", "next_held", "room", "holds", "victim", "frames", "geometry", "must_reopen", "into_disk"],
     STORE + "command.rt": ["read_frame", "run"],
 }
 BEGIN = re.compile(r"^(?:abbrev pub|pub record|pub data|abbrev|record|data|pub) ([^ :({]+)")

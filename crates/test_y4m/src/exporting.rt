@@ -157,7 +157,11 @@ fn a_writer_that_fails_has_a_beginning_of_the_text(rt: HostRuntime) -> Result<()
     let alloc = rt.alloc();
     let mut store = stored(&rt, alloc, SMALL, 2)?;
     for number in 0..=75usize {
-        for kind in [None, Some(ErrorKind::BrokenPipe), Some(ErrorKind::Interrupted)] {
+        for kind in [
+            None,
+            Some(ErrorKind::BrokenPipe),
+            Some(ErrorKind::Interrupted),
+        ] {
             let mut out = Gutter::new(alloc, Some((number, kind)));
             let answer = export(alloc, &mut store, 0, 1, &mut out);
             let (want, left) = if number == 75 || kind == Some(ErrorKind::Interrupted) {
@@ -166,7 +170,11 @@ fn a_writer_that_fails_has_a_beginning_of_the_text(rt: HostRuntime) -> Result<()
                 (Err(ExportFault::Write), number)
             };
             assert_eq!(rt; answer, want, "{number} {kind:?}");
-            assert_eq!(rt; Some(out.got.as_slice()), TWO.get(..left), "{number} {kind:?}");
+            assert_eq!(rt;
+                Some(out.got.as_slice()),
+                TWO.get(..left),
+                "{number} {kind:?}"
+            );
         }
     }
     Ok(())
