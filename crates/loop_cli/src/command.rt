@@ -1,6 +1,6 @@
 // The lines of a script.
 ghost use Rattle.std.specs.Prelude.{◌≡◌, ◌∷◌};
-ghost use Rattle.loop_cli.specs.Script.{behind, format_named, geometry_said, rate_said, said, words};
+ghost use Rattle.loop_cli.specs.Script.{behind, format_named, geometry_of, geometry_said, rate_said, said, small_number as said_number, words};
 
 use crate::number::{number, small_number};
 use loop_record::{Geometry, PixelFormat};
@@ -64,6 +64,21 @@ fn geometry(text: &str) -> Option<Geometry>
     if rest.is_some() {
         return None;
     }
+    geometry_in(width, height, format, rate, segments, slots)
+}
+
+/// The geometry that six words name.
+pub fn geometry_in(
+    width: &str,
+    height: &str,
+    format: &str,
+    rate: &str,
+    segments: &str,
+    slots: &str,
+) -> Option<Geometry>
+    ensures { result ≡ geometry_of (said_number width.now) (said_number height.now) (format_named format.now)
+        (rate_said rate.now) (said_number segments.now) (said_number slots.now) }
+{
     let width = small_number(width)?;
     let height = small_number(height)?;
     let format = pixel_format(format)?;

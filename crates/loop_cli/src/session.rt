@@ -151,20 +151,11 @@ impl<A: Allocator + Copy> Session<A> {
         &self.pixels
     }
 
-    /// The number of the next frame.
-    pub fn next(&self) -> u64
-        ensures { result ≡ self.now.store.next }
+    /// The store.
+    pub fn store(&self) -> &Store<MemDisk<A>, A>
+        ensures { result.now ≡ self.now.store }
     {
-        self.store.next()
-    }
-
-    /// The held numbers, rising. It answers NoMemory.
-    pub fn frames(&self, alloc: A) -> Result<Vec<u64, A>, StoreFault>
-        ensures numbers { (r : Recording) → StandsFor ⟦<MemDisk<A> as Disk>⟧.medium self.now.store r
-            → IfOk result (λ numbers. numbers.items ≡ map (λ f. f.0) r.frames) }
-        ensures refusals { IfErr result (λ fault. fault ≡ StoreFault.NoMemory) }
-    {
-        self.store.frames(alloc)
+        &self.store
     }
 }
 

@@ -2,8 +2,8 @@
 
 use crate::command::{Command, read_command};
 use crate::lines::{MAX_LINE, next_line};
+use crate::listing::Listing;
 use crate::refusal::print_refusal;
-use crate::runs::run_length;
 use crate::session::Session;
 use loop_record::Geometry;
 use loop_store::StoreFault;
@@ -215,31 +215,14 @@ fn read<A: Allocator + Copy, W: Write>(
     }
 }
 
-// Prints the next number and each longest run of held ones.
+// Prints what is listed of the store.
 fn list<A: Allocator + Copy, W: Write>(
     session: &Session<A>,
     alloc: A,
     out: &mut W,
 ) -> io::Result<()> {
-    match session.frames(alloc) {
+    match Listing::of(session.store(), alloc) {
         Err(fault) => print_refusal(out, fault),
-        Ok(numbers) => {
-            let next = session.next();
-            writeln!(out, "next {next}")?;
-            print_runs(&numbers, out)
-        }
+        Ok(listing) => listing.print(out),
     }
-}
-
-// Prints each longest run of numbers that follow one another.
-fn print_runs<W: Write>(numbers: &[u64], out: &mut W) -> io::Result<()> {
-    let mut rest = numbers;
-    while !rest.is_empty() {
-        let (run, behind) = rest.split_at(run_length(rest));
-        let first = run[0];
-        let last = run[run.len() - 1];
-        writeln!(out, "frames {first}..{last}")?;
-        rest = behind;
-    }
-    Ok(())
 }
