@@ -1,17 +1,20 @@
 // The clips of a store in memory: the place of a clip is its id.
-ghost use Rattle.std.specs.Prelude.{◌≡◌, ◌+◌, ◌*◌, ◌≤◌, ◌↔◌, IfOk, IsTrue, List, None, OnOk, Option, length, map, replicate, slice_index_or};
+ghost use Rattle.std.specs.Prelude.{◌≡◌, ◌≢◌, ◌+◌, ◌*◌, ◌≤◌, ◌<◌, IfOk, IfSome, IsTrue, List, None, OnErr, OnOk, Option, Some, is_some, length, map, not, position, replicate, slice_index_or, slice_set};
 ghost use Rattle.std.specs.List.{list_any, range_with_len};
-ghost use Rattle.loop_clips.specs.Table.{listed};
+ghost use Rattle.loop_clips.specs.Table.{IsFirstFree, ShowsClipOrNot, listed};
 ghost use Rattle.loop_disk.specs.Calls.{Called, Stays, failed_call};
+ghost use Rattle.loop_disk.specs.Medium.{IsSettled};
+ghost use Rattle.loop_disk.specs.Steps.{Changes};
+ghost use Rattle.loop_record.specs.Change.{ShowsClip};
 ghost use Rattle.loop_disk.specs.declared.fault.DiskFault.TheVariants.{Read};
 ghost use Rattle.loop_record.specs.declared.clip.Span.{Span};
-ghost use Rattle.loop_record.specs.Geometry.{is_good};
+ghost use Rattle.loop_record.specs.Geometry.{clip_at, is_good};
 ghost use Rattle.loop_record.specs.Layout.{clip_in, entry_at};
 ghost use Rattle.loop_record.specs.Recording.{meets, ring_of};
 
 use crate::Clip;
-use loop_disk::{Disk, DiskFault};
-use loop_record::{CLIP_SIZE, Geometry, OPEN, SUPER_SIZE, Span, is_locked, u64_at};
+use loop_disk::{Disk, DiskFault, store, store_in_turn};
+use loop_record::{CLIP_SIZE, Geometry, OPEN, SUPER_SIZE, Span, is_locked, put_u64, u64_at};
 use std::alloc::{AllocError, Allocator};
 use std::marker::Model;
 
@@ -74,13 +77,63 @@ impl ClipTable {
 
     /// The clip of an id, if one stands.
     pub fn get(&self, id: u32) -> Option<Span>
-        ensures { result ≡ slice_index_or self.now id None }
+        ensures clip { result ≡ slice_index_or self.now id None }
+        ensures within { IfSome result (λ span. id < 64) }
     {
         if (id as usize) < CLIPS {
             self.clips[id as usize]
         } else {
             None
         }
+    }
+
+    /// The least id that has no clip, if one has none.
+    pub fn free_id(&self) -> Option<u32>
+        ensures { IsFirstFree self.now result }
+    {
+        match free_place(&self.clips) {
+            Some(place) => Some(place as u32),
+            None => None,
+        }
+    }
+
+    /// Writes a clip under an id that has none, and notes it: the entry behind its gate, a sync, the gate, a
+    /// sync. At Ok it stands; after a failure, as at each moment before, it stands on the disk or it doesn't,
+    /// and the table is as it was.
+    pub fn lock<D: Disk>(&mut self, disk: &mut D, id: u32, span: Span) -> Result<(), DiskFault>
+        requires extent { 2560 ≤ (D.medium disk.old).size }
+        requires id { id < 64 }
+        requires settled { (D.medium disk.old).honest → IsSettled (D.medium disk.old) }
+        requires closed { (D.medium disk.old).honest → clip_in (D.medium disk.old).bytes id ≡ None }
+        ensures disk { let old = D.medium disk.old in
+            Changes (ShowsClipOrNot id (Some span) old.bytes) (ShowsClip id (Some span) old.bytes) old (D.medium disk.new) result }
+        ensures noted { OnOk result (self.new ≡ slice_set self.old id (Some span)) }
+        ensures same { OnErr result (self.new ≡ self.old) }
+    {
+        let written = write_entry(disk, id, span.from, span.to);
+        if written.is_ok() {
+            self.clips[id as usize] = Some(span);
+        }
+        written
+    }
+
+    /// Takes away the clip of an id, and notes it: the entry's gate is closed, and a sync. At Ok it is gone;
+    /// after a failure, as at each moment before, it stands on the disk or it doesn't, and the table is as it was.
+    pub fn unlock<D: Disk>(&mut self, disk: &mut D, id: u32) -> Result<(), DiskFault>
+        requires extent { 2560 ≤ (D.medium disk.old).size }
+        requires id { id < 64 }
+        requires settled { (D.medium disk.old).honest → IsSettled (D.medium disk.old) }
+        requires there { (D.medium disk.old).honest → clip_in (D.medium disk.old).bytes id ≢ None }
+        ensures disk { let old = D.medium disk.old in
+            Changes (ShowsClipOrNot id None old.bytes) (ShowsClip id None old.bytes) old (D.medium disk.new) result }
+        ensures noted { OnOk result (self.new ≡ slice_set self.old id None) }
+        ensures same { OnErr result (self.new ≡ self.old) }
+    {
+        let written = close_entry(disk, id);
+        if written.is_ok() {
+            self.clips[id as usize] = None;
+        }
+        written
     }
 
     /// Whether some clip has a number of this block.
@@ -107,6 +160,50 @@ impl ClipTable {
         }
         Ok(list)
     }
+}
+
+// The first place without a clip.
+fn free_place(clips: &[Option<Span>]) -> Option<usize>
+    ensures { result ≡ position (λ clip. not (is_some clip)) clips.now }
+{
+    clips.iter().position(|clip| clip.is_none())
+}
+
+// Where the entry of an id lies on a disk.
+fn entry_place(id: u32) -> u64
+    requires { id < 64 }
+    ensures { result ≡ clip_at id }
+{
+    SUPER_SIZE as u64 + u64::from(id) * CLIP_SIZE as u64
+}
+
+// Writes the entry of a clip and, once it is on the disk, opens its gate.
+fn write_entry<D: Disk>(disk: &mut D, id: u32, from: u64, to: u64) -> Result<(), DiskFault>
+    requires extent { 2560 ≤ (D.medium disk.old).size }
+    requires id { id < 64 }
+    requires settled { (D.medium disk.old).honest → IsSettled (D.medium disk.old) }
+    requires closed { (D.medium disk.old).honest → clip_in (D.medium disk.old).bytes id ≡ None }
+    ensures { let old = D.medium disk.old in let clip = Some (record { from = from; to = to }) in
+        Changes (ShowsClipOrNot id clip old.bytes) (ShowsClip id clip old.bytes) old (D.medium disk.new) result }
+{
+    // Everything behind the gate: zeros, the first number and the last one.
+    let mut entry = [0; CLIP_SIZE - 1];
+    put_u64(&mut entry, 7, from);
+    put_u64(&mut entry, 15, to);
+    let at = entry_place(id);
+    store_in_turn(disk, at + 1, &entry, at, &[OPEN])
+}
+
+// Closes the gate of an open entry.
+fn close_entry<D: Disk>(disk: &mut D, id: u32) -> Result<(), DiskFault>
+    requires extent { 2560 ≤ (D.medium disk.old).size }
+    requires id { id < 64 }
+    requires settled { (D.medium disk.old).honest → IsSettled (D.medium disk.old) }
+    requires there { (D.medium disk.old).honest → clip_in (D.medium disk.old).bytes id ≢ None }
+    ensures { let old = D.medium disk.old in
+        Changes (ShowsClipOrNot id None old.bytes) (ShowsClip id None old.bytes) old (D.medium disk.new) result }
+{
+    store(disk, entry_place(id), &[0])
 }
 
 // The clips in entries that lie one behind the other.

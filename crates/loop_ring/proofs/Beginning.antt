@@ -13,8 +13,9 @@ use Rattle.loop_record.specs.Change.{ShowsSegment}
 use Rattle.loop_record.specs.Geometry.{frame_bytes, segment_size, segment_at, gate_at, slot_at}
 use Rattle.loop_record.specs.Layout.{is_open, slot_in, whole_frames, segment_in}
 use Rattle.loop_record.specs.Reading.{begun}
+use Rattle.loop_record.proofs.Fields.{moved_number}
 use Rattle.loop_ring.specs.Writes.{ShowsOrNot, HasNoStray}
-use Rattle.loop_ring.proofs.Bytes.{shows, torn_at, closed_none, none_closed, moved_number}
+use Rattle.loop_ring.proofs.Bytes.{shows, torn_at, closed_none, none_closed}
 
 -- what the header of an empty segment of a block has behind its gate
 pub record IsHeader (block : ℕ) (header : List ℕ) : Type 0 where

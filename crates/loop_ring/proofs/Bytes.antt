@@ -10,6 +10,7 @@ use Rattle.loop_record.specs.declared.geometry.Geometry.{Geometry}
 use Rattle.loop_record.specs.Change.{ShowsSegment}
 use Rattle.loop_record.specs.Geometry.{frame_bytes, segment_size, segment_at, gate_at, slot_at}
 use Rattle.loop_record.specs.Layout.{Segment, is_open, slot_in, whole_frames, segment_in}
+use Rattle.loop_record.proofs.Fields.{moved_number}
 use Rattle.loop_record.proofs.Framing.{SameWithin, SameWithin-part, prefix_range, prefix_range-le, map_range, slot_within, same_open, same_number, same_slot}
 
 -- an image with the same bytes outside a segment shows what stands in the segment
@@ -70,18 +71,6 @@ prefix_open p lo (suc n) i l = go (p lo) refl i l (λ k. prefix_open p (lo + 1) 
     go true e (suc i) l rest = ap p (omega arith) ∙ rest i (omega (arith, l))
 
 -- ---- bytes at another place
-
-pub moved_number : (n p q : ℕ) (a b : List ℕ) → ((k : ℕ) → k < n → get_or a (p + k) 0 ≡ get_or b (q + k) 0) → little_from p n a ≡ little_from q n b
-moved_number zero p q a b same = refl
-moved_number (suc n) p q a b same =
-    let left : p ≡ p + 0 = omega arith in
-    let right : q + 0 ≡ q = omega arith in
-    let first : get_or a p 0 ≡ get_or b q 0 = ap (λ (k : ℕ). get_or a k 0) left ∙ same 0 (omega arith) ∙ ap (λ (k : ℕ). get_or b k 0) right in
-    let rest = moved_number n (suc p) (suc q) a b (λ k l.
-    let l' : suc p + k ≡ p + suc k = omega arith in
-    let r' : q + suc k ≡ suc q + k = omega arith in
-    ap (λ (x : ℕ). get_or a x 0) l' ∙ same (suc k) (omega (arith, l)) ∙ ap (λ (x : ℕ). get_or b x 0) r') in
-    rw (first, rest) refl
 
 moved_slice : (n p q : ℕ) (a b : List ℕ) → p + n ≤ length a → q + n ≤ length b → ((k : ℕ) → k < n → get_or a (p + k) 0 ≡ get_or b (q + k) 0) → slice_range a p (p + n) ≡ slice_range b q (q + n)
 moved_slice n p q a b fa fb same =

@@ -19,7 +19,8 @@ use Rattle.loop_record.specs.Recording.{Picture}
 use Rattle.loop_record.proofs.Framing.{SameWithin, prefix_range, map_range, same_open, same_number, same_slot}
 use Rattle.loop_record.proofs.Gates.{first_closed_between, segment_in-more, slots_from}
 use Rattle.loop_ring.specs.Writes.{ShowsFrames, ShowsBeginning, HasNoStray, IsGroup, slots_in, slots_of, with_more}
-use Rattle.loop_ring.proofs.Bytes.{shows, torn_at, closed_none, prefix_open, moved_number, moved_slot}
+use Rattle.loop_record.proofs.Fields.{moved_number}
+use Rattle.loop_ring.proofs.Bytes.{shows, torn_at, closed_none, prefix_open, moved_slot}
 use Rattle.loop_ring.proofs.Staging.{slots-beginning}
 
 -- what is known of a commit before its first write

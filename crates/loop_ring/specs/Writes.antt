@@ -1,9 +1,6 @@
 -- What the writes to one segment leave of an image.
-use Rattle.std.specs.Prelude.{◌≡◌, ◌⊎◌, ℕ, ◌+◌, ◌*◌, ◌<◌, ◌≤◌, false, List, [], ◌∷◌, ◌++◌, length, take, map, Option, Some, None, Result, OnOk}
+use Rattle.std.specs.Prelude.{◌≡◌, ◌⊎◌, ℕ, ◌+◌, ◌*◌, ◌<◌, ◌≤◌, false, List, [], ◌∷◌, ◌++◌, length, take, map, Option, Some, None}
 use Rattle.std.specs.List.{range_with_len}
-use Rattle.loop_disk.specs.declared.fault.DiskFault.{DiskFault}
-use Rattle.loop_disk.specs.Calls.{Called, failed_call}
-use Rattle.loop_disk.specs.Medium.{IsSettled, LeavesOnly, Medium}
 use Rattle.loop_record.specs.declared.geometry.Geometry.{Geometry}
 use Rattle.loop_record.specs.Change.{ShowsSegment}
 use Rattle.loop_record.specs.Geometry.{frame_bytes, gate_at}
@@ -48,11 +45,3 @@ slots_in n bytes k = map (λ i. slot_in n bytes (i * (32 + n))) (range_with_len 
 pub record IsGroup (g : Geometry) (number : ℕ) (frames : List Picture) (bytes : List ℕ) (count : ℕ) : Type 0 where
   pub count_is : count ≡ length frames
   pub slots : slots_in (frame_bytes g) bytes count ≡ slots_of (frame_bytes g) number frames
-
--- What a call that writes changed: whatever the moment of a stop, the image is one of the first; at Ok it is
--- one of the second, and a crash leaves nothing else.
-pub record Changes {T : Type 0} (IsLeft IsSuch : List ℕ → Type 0) (old new : Medium) (result : Result T DiskFault) : Type 0 where
-  pub moments : old.honest → LeavesOnly old new IsLeft
-  pub such : old.honest → OnOk result (IsSuch new.bytes)
-  pub settled : old.honest → OnOk result (IsSettled new)
-  pub called : Called old new (failed_call result)

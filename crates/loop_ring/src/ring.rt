@@ -2,13 +2,14 @@
 ghost use Rattle.std.specs.Prelude.{◌≡◌, ◌≢◌, ◌+◌, ◌<◌, ◌≤◌, IsTrue, Err, None, Some, length};
 ghost use Rattle.loop_disk.specs.Calls.{Called, Stays};
 ghost use Rattle.loop_disk.specs.Medium.{IsSettled};
+ghost use Rattle.loop_disk.specs.Steps.{Changes};
 ghost use Rattle.loop_record.specs.Change.{ShowsSegment};
 ghost use Rattle.loop_record.specs.declared.damage.Damage.{Damage};
 ghost use Rattle.loop_record.specs.Geometry.{disk_size, frame_bytes, is_good};
 ghost use Rattle.loop_record.specs.Layout.{segment_in, whole_frames};
 ghost use Rattle.loop_record.specs.Reading.{begun};
 ghost use Rattle.loop_ring.specs.Reads.{AnswersSlot, failed_read, slot_of};
-ghost use Rattle.loop_ring.specs.Writes.{Changes, HasNoStray, ShowsBeginning, ShowsFrames, ShowsOrNot};
+ghost use Rattle.loop_ring.specs.Writes.{HasNoStray, ShowsBeginning, ShowsFrames, ShowsOrNot};
 
 use crate::group::MAX_GROUP;
 use crate::{Group, SlotFault};

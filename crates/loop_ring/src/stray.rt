@@ -3,10 +3,11 @@ ghost use Rattle.std.specs.Prelude.{◌≡◌, ◌+◌, ◌<◌, ◌≤◌, ◌=
 ghost use Rattle.std.specs.List.{list_any};
 ghost use Rattle.loop_disk.specs.Calls.{Stays};
 ghost use Rattle.loop_disk.specs.Medium.{IsSettled, SameOutside};
+ghost use Rattle.loop_disk.specs.Steps.{Changes};
 ghost use Rattle.loop_record.specs.Change.{ShowsSegment};
 ghost use Rattle.loop_record.specs.Geometry.{disk_size};
 ghost use Rattle.loop_record.specs.Layout.{segment_in, whole_frames};
-ghost use Rattle.loop_ring.specs.Writes.{AreClosed, Changes, HasNoStray};
+ghost use Rattle.loop_ring.specs.Writes.{AreClosed, HasNoStray};
 
 use crate::Ring;
 use loop_disk::{Disk, DiskFault, store};

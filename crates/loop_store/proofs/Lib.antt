@@ -18,6 +18,8 @@ pub mod RecoveredWhole
 pub mod Leaves
 pub mod Modelled
 pub mod Gone
+pub mod Once
 pub mod Putting
+pub mod Locked
 pub mod Reading
 pub mod Crashed

@@ -1,13 +1,14 @@
 -- Calls of the model of a store, one after the other.
-use Rattle.std.proofs.Common.{◌≡◌, inl, inr, Bool, true, false, Ok, Err, List, [], ◌∷◌, ◌++◌, if◌then◌else◌, refl, sym, ap, ◌∙◌}
+use Rattle.std.proofs.Common.{◌≡◌, inl, inr, ℕ, Bool, true, false, Ok, Err, List, [], ◌∷◌, ◌++◌, if◌then◌else◌, refl, sym, ap, ◌∙◌}
 use Rattle.std.specs.Prelude.{◌||◌}
 use Rattle.loop_record.specs.declared.geometry.Geometry.{Geometry}
-use Rattle.loop_record.specs.Recording.{Picture, Step, plain, ring_of}
+use Rattle.loop_record.specs.declared.clip.Span.{Span}
+use Rattle.loop_record.specs.Recording.{Picture, Step, lock, plain, ring_of, unlock}
 use Rattle.loop_record.proofs.Decided.{clash, neither}
 use Rattle.loop_record.proofs.Steps.{plain-append}
 use Rattle.loop_store.specs.declared.fault.StoreFault.{StoreFault}
 use Rattle.loop_store.specs.Faults.{is_disk}
-use Rattle.loop_store.specs.Calls.{AreAnswered, Call, IsAnswered, RefusesAppend, StoreState, appended, was_read, after, after_calls, asked, begun, begun_in, has_failed, made, made_in}
+use Rattle.loop_store.specs.Calls.{AreAnswered, Call, IsAnswered, RefusesAppend, RefusesLock, RefusesUnlock, StoreState, appended, locked, unlocked, was_read, after, after_calls, asked, begun, begun_in, has_failed, made, made_in}
 
 -- the recording after calls is the one after their steps
 pub recording-after : (g : Geometry) (s : StoreState) (calls : List Call) → (after_calls g s calls).recording ≡ plain (ring_of g) s.recording (made_in g s calls)
@@ -18,6 +19,8 @@ recording-after g s (c ∷ calls) = recording-after g (after g s c) calls ∙ sy
 
 begun-none : (g : Geometry) (s : StoreState) (c : Call) → has_failed c ≡ false → begun g s c ≡ []
 begun-none g s (was_read number result) fine = refl
+begun-none g s (locked span result) fine = ap (λ (b : Bool). if b then lock span ∷ [] else []) fine
+begun-none g s (unlocked id result) fine = ap (λ (b : Bool). if b then unlock id ∷ [] else []) fine
 begun-none g s (appended group result) fine = ap (λ (b : Bool). if b then asked g s.recording group else []) fine
 
 -- nothing has failed before
@@ -46,8 +49,22 @@ idle-append g s group fault must (inr (inl x)) = absurd (clash s.must_reopen mus
 idle-append g s group fault must (inr (inr (inl x))) = absurd (clash s.must_reopen must x.1.0)
 idle-append g s group fault must (inr (inr (inr x))) = absurd (clash s.must_reopen must x.1.0)
 
+idle-lock : (g : Geometry) (s : StoreState) (span : Span) (fault : StoreFault) → s.must_reopen ≡ true → RefusesLock g s span fault → IsIdle [] (if is_disk fault then lock span ∷ [] else [])
+idle-lock g s span fault must (inl x) = record { made = refl; begun = ap (λ (f : StoreFault). if is_disk f then lock span ∷ [] else []) x.0 }
+idle-lock g s span fault must (inr (inl x)) = absurd (clash s.must_reopen must x.0)
+idle-lock g s span fault must (inr (inr x)) = absurd (clash s.must_reopen must x.1.0)
+
+idle-unlock : (s : StoreState) (id : ℕ) (fault : StoreFault) → s.must_reopen ≡ true → RefusesUnlock s id fault → IsIdle [] (if is_disk fault then unlock id ∷ [] else [])
+idle-unlock s id fault must (inl x) = record { made = refl; begun = ap (λ (f : StoreFault). if is_disk f then unlock id ∷ [] else []) x.0 }
+idle-unlock s id fault must (inr (inl x)) = absurd (clash s.must_reopen must x.1.0)
+idle-unlock s id fault must (inr (inr x)) = absurd (clash s.must_reopen must x.1.0)
+
 idle-one : (g : Geometry) (s : StoreState) (c : Call) → s.must_reopen ≡ true → IsAnswered g s c → IsIdle (made g s c) (begun g s c)
 idle-one g s (was_read number result) must said = record { made = refl; begun = refl }
+idle-one g s (locked span (Ok id)) must said = absurd (clash s.must_reopen must said.0)
+idle-one g s (locked span (Err fault)) must said = idle-lock g s span fault must said
+idle-one g s (unlocked id (Ok x)) must said = absurd (clash s.must_reopen must said.0)
+idle-one g s (unlocked id (Err fault)) must said = idle-unlock s id fault must said
 idle-one g s (appended group (Ok number)) must said = absurd (clash s.must_reopen must said.0)
 idle-one g s (appended group (Err fault)) must said = idle-append g s group fault must said
 

@@ -97,12 +97,12 @@ same-test false true there back = back refl
 same-test false false there back = refl
 
 -- a number is among those of a range where it lies between its ends
-among-range : (n a count : ℕ) → is_among (range_with_len a count) n ≡ (leb a n && ltb n (a + count))
+pub among-range : (n a count : ℕ) → is_among (range_with_len a count) n ≡ (leb a n && ltb n (a + count))
 among-range n a zero = same-test false (leb a n && ltb n (a + 0)) (λ e. absurd cc) (λ e. absurd (let t = both (leb a n) (ltb n (a + 0)) e in omega (arith, at_most a n t.0, below n (a + 0) t.1)))
 among-range n a (suc count) = ap (λ (t : Bool). eqb a n || t) (among-range n (a + 1) count) ∙ grind (arith, nat_tests)
 
 -- so it is with the numbers of a block's frames
-among-block : (n slots b frames : ℕ) → 1 ≤ slots → frames ≤ slots → is_among (range_with_len (b * slots) frames) n ≡ (eqb b (n / slots) && ltb (n % slots) frames)
+pub among-block : (n slots b frames : ℕ) → 1 ≤ slots → frames ≤ slots → is_among (range_with_len (b * slots) frames) n ≡ (eqb b (n / slots) && ltb (n % slots) frames)
 among-block n slots b frames some few = among-range n (b * slots) frames ∙ same-test (leb (b * slots) n && ltb n (b * slots + frames)) (eqb b (n / slots) && ltb (n % slots) frames) there back
   where
     split : n / slots * slots + n % slots ≡ n

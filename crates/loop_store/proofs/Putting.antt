@@ -19,40 +19,19 @@ use Rattle.loop_store.specs.Places.{RefusesPlace}
 use Rattle.loop_store.specs.Seen.{HasFailed, Seen, StandsFor}
 use Rattle.loop_store.specs.Steps.{LeavesSteps}
 use Rattle.loop_store.proofs.Appended.{place-none}
-use Rattle.loop_store.proofs.Asked.{each-now, failed-stands, holds-all}
-use Rattle.loop_store.proofs.Gone.{goes-once}
-use Rattle.loop_store.proofs.Leaves.{leaves-none, leaves-same}
-
-or-false : (b : Bool) → (b || false) ≡ b
-or-false true = refl
-or-false false = refl
-
-or-true : (b : Bool) → (b || true) ≡ true
-or-true true = refl
-or-true false = refl
+use Rattle.loop_store.proofs.Once.{goes-done, goes-failed, goes-refused}
 
 -- ---- refused before the disk was called
 
-or-quiet : (b t : Bool) → t ≡ false → (b || t) ≡ b
-or-quiet b t quiet = ap (λ (x : Bool). b || x) quiet ∙ or-false b
-
 pub put-refused : {D : Type 0} (medium : D → Medium) (s : Seen D) (ps : List Picture) (fault : StoreFault) → ((medium s.disk).honest → IsSound (medium s.disk)) → is_disk fault ≡ false → failed_by fault ≡ None
     → ((t : StoreState) → Stands medium s t → (medium s.disk).honest → RefusesAppend s.geometry t ps fault) → IsAllowed s.geometry (outline_of s) (appended ps (Err fault)) → Goes medium s s (appended ps (Err fault) ∷ [])
-put-refused {D} medium s ps fault sound quiet none answers allowed = goes-once medium s s (appended ps (Err fault)) (record {
-  answers = answers;
-  stands = λ t stands now. record { recording = stands.recording; must_reopen = stands.must_reopen ∙ sym (or-quiet t.must_reopen (is_disk fault) quiet) };
-  leaves = λ t stands now fine.
-      let still : s.must_reopen ≡ false = stands.must_reopen ∙ fine in
-      leaves-same s.geometry t.recording [] [] [] (if is_disk fault then asked s.geometry t.recording ps else []) (medium s.disk) (medium s.disk) refl (sym (ap (λ (b : Bool). if b then asked s.geometry t.recording ps else []) quiet))
-      (leaves-none s.geometry t.recording (medium s.disk) (sound now) (stands.recording.settled still now) (stands.recording.held still now));
-  idle = λ must. refl;
-  allowed = allowed;
-  outline =
-      let zero : s.next ≡ s.next + 0 = omega arith in
-      λ i. record { next = zero i; must_reopen = sym (or-quiet s.must_reopen (is_disk fault) quiet) i };
-  geometry = refl;
-  called = subst (λ (f : Option DiskFault). Called (medium s.disk) (medium s.disk) f) (sym none) (record { size = refl; honest = (λ h. h, λ h. h); failures = refl });
-})
+put-refused medium s ps fault sound quiet none answers allowed = goes-refused medium s (appended ps (Err fault)) sound (record {
+  unfailed = quiet;
+  none = none;
+  stored = refl;
+  made_none = λ g t. refl;
+  begun_none = λ g t. ap (λ (b : Bool). if b then asked g t.recording ps else []) quiet;
+}) answers allowed
 
 -- where there is no place
 pub place-refused : {D : Type 0} (medium : D → Medium) (s : Seen D) (ps : List Picture) (fault : StoreFault) → ((medium s.disk).honest → IsSound (medium s.disk)) → s.must_reopen ≡ false → (fault ≡ NumbersSpent) ⊎ (fault ≡ AllLocked)
@@ -81,13 +60,6 @@ place-refused {D} medium s ps fault sound fine either spent unspent known = put-
 
 -- ---- stored
 
-stored-leaves : (g : Geometry) (r : Recording) (ps : List Picture) (old new : Medium) → LeavesOnly old new (HoldsSome g r (asked g r ps)) → IsSettled new → Holds g (plain (ring_of g) r (asked g r ps)) new.bytes → LeavesSteps g r (asked g r ps) [] old new
-stored-leaves g r ps old new run settled held =
-    let steps = asked g r ps in record {
-      moments = subst (λ (l : List Step). LeavesOnly old new (HoldsSome g r l)) (sym (append-nil steps)) run;
-      now = λ c left. subst (λ (image : List ℕ). HoldsFrom g r (length steps) (steps ++ []) image) (sym (settled c left)) (holds-all g r steps [] new.bytes held);
-    }
-
 -- what is known where the frames were stored
 pub record Stored {D : Type 0} (medium : D → Medium) (old new : Seen D) (ps : List Picture) : Type 0 where
   pub fine : old.must_reopen ≡ false
@@ -101,23 +73,20 @@ pub record Stored {D : Type 0} (medium : D → Medium) (old new : Seen D) (ps : 
   pub stands : (r : Recording) → StandsFor medium old r → (medium old.disk).honest → StandsFor medium new (plain (ring_of old.geometry) r (asked old.geometry r ps))
 
 pub put-stored : {D : Type 0} (medium : D → Medium) (old new : Seen D) (ps : List Picture) → Stored medium old new ps → Goes medium old new (appended ps (Ok old.next) ∷ [])
-put-stored {D} medium old new ps stored = goes-once medium old new (appended ps (Ok old.next)) (record {
-  answers = λ s stands now. (sym stands.must_reopen ∙ stored.fine, (stored.some s.recording stands.recording now, (stands.recording.told now).next_is));
-  stands = λ s stands now. record {
-    recording = stored.stands s.recording stands.recording now;
-    must_reopen = stored.still ∙ sym (or-false s.must_reopen ∙ sym stands.must_reopen ∙ stored.fine);
-  };
-  leaves = λ s stands now fine.
-      let r = s.recording in
-      let later = stored.stands r stands.recording now in
-      let there = stored.called.honest.0 now in
-      stored-leaves old.geometry r ps (medium old.disk) (medium new.disk) (stored.moments r stands.recording now) (later.settled stored.still there)
-      (subst (λ (g : Geometry). Holds g (plain (ring_of old.geometry) r (asked old.geometry r ps)) (medium new.disk).bytes) stored.geometry (later.held stored.still there));
-  idle = λ must. absurd (clash old.must_reopen must stored.fine);
-  allowed = (stored.fine, (stored.unspent, refl));
-  outline = λ i. record { next = stored.next i; must_reopen = (stored.still ∙ sym (or-false old.must_reopen ∙ stored.fine)) i };
+put-stored medium old new ps stored = goes-done medium old new (appended ps (Ok old.next)) (λ r. asked old.geometry r ps) (record {
+  fine = stored.fine;
+  still = stored.still;
+  next = stored.next;
   geometry = stored.geometry;
   called = stored.called;
+  unfailed = refl;
+  none = refl;
+  made_all = λ s. refl;
+  begun_none = λ s. refl;
+  answers = λ s stands now. (sym stands.must_reopen ∙ stored.fine, (stored.some s.recording stands.recording now, (stands.recording.told now).next_is));
+  allowed = (stored.fine, (stored.unspent, refl));
+  moments = stored.moments;
+  stands = stored.stands;
 })
 
 -- ---- the disk failed
@@ -133,22 +102,17 @@ pub record Failed {D : Type 0} (medium : D → Medium) (old new : Seen D) (ps : 
   pub moments : (r : Recording) → StandsFor medium old r → (medium old.disk).honest → LeavesOnly (medium old.disk) (medium new.disk) (HoldsSome old.geometry r (asked old.geometry r ps))
 
 pub put-failed : {D : Type 0} (medium : D → Medium) (old new : Seen D) (ps : List Picture) (fault : DiskFault) → Failed medium old new ps fault → Goes medium old new (appended ps (Err (Disk fault)) ∷ [])
-put-failed {D} medium old new ps fault failed = goes-once medium old new (appended ps (Err (Disk fault))) (record {
-  answers = λ s stands now. inr (inr (inr (refl, (sym stands.must_reopen ∙ failed.fine, failed.some s.recording stands.recording now))));
-  stands = λ s stands now. record {
-    recording = failed-stands medium old new s.recording failed.has_failed failed.called.honest.1 stands.recording;
-    must_reopen = ap (λ (x : Seen D). x.must_reopen) failed.has_failed ∙ sym (or-true s.must_reopen);
-  };
-  leaves = λ s stands now fine.
-      let run = failed.moments s.recording stands.recording now in record {
-        moments = run;
-        now = each-now (medium old.disk) (medium new.disk) (HoldsSome old.geometry s.recording (asked old.geometry s.recording ps)) (failed.sound (failed.called.honest.0 now)) run;
-      };
-  idle = λ must. absurd (clash old.must_reopen must failed.fine);
-  allowed = inr (inr (inr refl, (failed.fine, failed.unspent)));
-  outline =
-      let zero : old.next ≡ old.next + 0 = omega arith in
-      λ i. record { next = (ap (λ (x : Seen D). x.next) failed.has_failed ∙ zero) i; must_reopen = (ap (λ (x : Seen D). x.must_reopen) failed.has_failed ∙ sym (or-true old.must_reopen)) i };
-  geometry = ap (λ (x : Seen D). x.geometry) failed.has_failed;
+put-failed medium old new ps fault failed = goes-failed medium old new (appended ps (Err (Disk fault))) (λ r. asked old.geometry r ps) fault (record {
+  fine = failed.fine;
+  failed = failed.has_failed;
   called = failed.called;
+  sound = failed.sound;
+  has = refl;
+  some = refl;
+  stored = refl;
+  made_none = λ s. refl;
+  begun_all = λ s. refl;
+  answers = λ s stands now. inr (inr (inr (refl, (sym stands.must_reopen ∙ failed.fine, failed.some s.recording stands.recording now))));
+  allowed = inr (inr (inr refl, (failed.fine, failed.unspent)));
+  moments = failed.moments;
 })

@@ -57,6 +57,10 @@ recovers-on {T} {U} (Err x) e P P' Q Q' h made said = subst (λ (y : StoreFault)
     go StoreFault.BadGeometry said = said
     go StoreFault.NumbersSpent said = said
     go StoreFault.AllLocked said = said
+    go StoreFault.ClipEmpty said = said
+    go (StoreFault.ClipNotHeld number) said = said
+    go StoreFault.ClipTableFull said = said
+    go StoreFault.NoSuchClip said = said
 
 -- ---- the superblock
 

@@ -1,19 +1,23 @@
 -- The calls of a store with their answers, and what they make of a recording: the model of the store.
-use Rattle.std.specs.Prelude.{◌≡◌, ◌≢◌, ◌⊎◌, ℕ, ◌+◌, Bool, true, false, ◌||◌, Option, Some, None, Result, Ok, Err, List, [], length}
+use Rattle.std.specs.Prelude.{◌≡◌, ◌≢◌, ◌⊎◌, ℕ, ◌+◌, ◌<◌, ◌≤◌, Bool, true, false, ◌||◌, IsTrue, Option, Some, None, Result, Ok, Err, List, [], ◌∷◌, length}
 use Rattle.loop_disk.specs.declared.fault.DiskFault.{DiskFault}
+use Rattle.loop_record.specs.declared.clip.Span.{Span}
 use Rattle.loop_record.specs.declared.damage.Damage.TheVariants.{SlotHead}
 use Rattle.loop_record.specs.declared.frame.FrameHead.{FrameHead}
 use Rattle.loop_record.specs.declared.geometry.Geometry.{Geometry}
-use Rattle.loop_record.specs.Recording.{Picture, Recording, Step, frame_under, head, holds, last_number, plain, ring_of, steps}
+use Rattle.loop_record.specs.Recording.{Picture, Recording, Step, clip_of, frame_under, free_id, head, holds, holds_all, is_legal, last_number, lock, plain, ring_of, steps, unlock}
 use Rattle.loop_record.specs.Turns.{after_all, told_in, EachIn}
 use Rattle.loop_store.specs.declared.fault.StoreFault.{StoreFault}
-use Rattle.loop_store.specs.declared.fault.StoreFault.TheVariants.{AllLocked, Damaged, NoMemory, MustReopen, NotHeld, NumbersSpent}
+use Rattle.loop_store.specs.declared.fault.StoreFault.TheVariants.{AllLocked, ClipEmpty, ClipNotHeld, ClipTableFull, Damaged, NoMemory, NoSuchClip, MustReopen, NotHeld, NumbersSpent}
 use Rattle.loop_store.specs.Faults.{answers_disk, failed_in, is_disk}
 use Rattle.loop_store.specs.Steps.{if_answered, if_failed, steps_or_none}
 
--- a call and its answer: an append of a group, and a read of a number with the head and the bytes that it gave
+-- a call and its answer: an append of a group, a lock of a span with the clip's id, an unlock of an id, and a
+-- read of a number with the head and the bytes that it gave
 pub data Call : Type 0 where
   appended : List Picture → Result ℕ StoreFault → Call
+  locked : Span → Result ℕ StoreFault → Call
+  unlocked : ℕ → Result (Unit {0}) StoreFault → Call
   was_read : ℕ → Result (FrameHead × List ℕ) StoreFault → Call
 
 -- what a read into lent memory answers
@@ -35,11 +39,15 @@ asked g r group = steps_or_none (steps (ring_of g) r group)
 -- the steps that a call made, as it answered
 abbrev pub made : Geometry → StoreState → Call → List Step
 made g s (appended group result) = if_answered result (asked g s.recording group)
+made g s (locked span result) = if_answered result (lock span ∷ [])
+made g s (unlocked id result) = if_answered result (unlock id ∷ [])
 made g s (was_read number result) = []
 
 -- the steps that it began, and of which a beginning may stand
 abbrev pub begun : Geometry → StoreState → Call → List Step
 begun g s (appended group result) = if_failed result (asked g s.recording group)
+begun g s (locked span result) = if_failed result (lock span ∷ [])
+begun g s (unlocked id result) = if_failed result (unlock id ∷ [])
 begun g s (was_read number result) = []
 
 -- ---- the state after a call
@@ -47,6 +55,8 @@ begun g s (was_read number result) = []
 -- the disk failed in a call that writes
 abbrev pub has_failed : Call → Bool
 has_failed (appended group result) = answers_disk result
+has_failed (locked span result) = answers_disk result
+has_failed (unlocked id result) = answers_disk result
 has_failed (was_read number result) = false
 
 abbrev pub after : Geometry → StoreState → Call → StoreState
@@ -65,6 +75,40 @@ RefusesAppend g s group fault =
     ⊎ ((fault ≡ NumbersSpent) × ((s.must_reopen ≡ false) × (s.recording.next ≡ last_number (ring_of g)))
     ⊎ ((fault ≡ AllLocked) × ((s.must_reopen ≡ false) × ((s.recording.next ≢ last_number (ring_of g)) × (steps (ring_of g) s.recording group ≡ None)))
     ⊎ (is_disk fault ≡ true) × ((s.must_reopen ≡ false) × (steps (ring_of g) s.recording group ≢ None))))
+
+-- a clip of a span may be added: it isn't empty, each of its numbers is held, and an id is free
+abbrev pub CanLock : Geometry → Recording → Span → Type 0
+CanLock g r span = IsTrue (is_legal (ring_of g) r (lock span))
+
+-- n is the least number of a span that isn't held
+pub record IsFirstMissing (r : Recording) (s : Span) (n : ℕ) : Type 0 where
+  pub from : s.from ≤ n
+  pub to : n ≤ s.to
+  pub missing : holds r n ≡ false
+  pub held : (m : ℕ) → s.from ≤ m → m < n → holds r m ≡ true
+
+-- why no clip of a span may be added: it is empty, or otherwise this is the least of its numbers that isn't held, or
+-- otherwise each id has a clip
+abbrev pub RefusesSpan : Recording → Span → StoreFault → Type 0
+RefusesSpan r span fault =
+    (fault ≡ ClipEmpty) × (span.to < span.from)
+    ⊎ (((n : ℕ) × ((fault ≡ ClipNotHeld n) × IsFirstMissing r span n))
+    ⊎ (fault ≡ ClipTableFull) × ((span.from ≤ span.to) × ((holds_all r span ≡ true) × (free_id r ≡ 64))))
+
+-- why a lock is refused: it must be reopened, or otherwise no clip of the span may be added, or otherwise the disk
+-- failed
+abbrev pub RefusesLock : Geometry → StoreState → Span → StoreFault → Type 0
+RefusesLock g s span fault =
+    (fault ≡ MustReopen) × (s.must_reopen ≡ true)
+    ⊎ ((s.must_reopen ≡ false) × RefusesSpan s.recording span fault
+    ⊎ (is_disk fault ≡ true) × ((s.must_reopen ≡ false) × CanLock g s.recording span))
+
+-- why an unlock is refused: it must be reopened, or otherwise no clip has the id, or otherwise the disk failed
+abbrev pub RefusesUnlock : StoreState → ℕ → StoreFault → Type 0
+RefusesUnlock s id fault =
+    (fault ≡ MustReopen) × (s.must_reopen ≡ true)
+    ⊎ ((fault ≡ NoSuchClip) × ((s.must_reopen ≡ false) × (clip_of s.recording id ≡ None))
+    ⊎ (is_disk fault ≡ true) × ((s.must_reopen ≡ false) × (clip_of s.recording id ≢ None)))
 
 -- why a read is refused: it must be reopened, or otherwise the number isn't held, or otherwise memory was
 -- refused or the disk failed
@@ -85,6 +129,10 @@ pub record IsFrame (r : Recording) (number : ℕ) (h : FrameHead) (bytes : List 
 abbrev pub IsAnswered : Geometry → StoreState → Call → Type 0
 IsAnswered g s (appended group (Ok number)) = (s.must_reopen ≡ false) × ((steps (ring_of g) s.recording group ≢ None) × (number ≡ s.recording.next))
 IsAnswered g s (appended group (Err fault)) = RefusesAppend g s group fault
+IsAnswered g s (locked span (Ok id)) = (s.must_reopen ≡ false) × (CanLock g s.recording span × (id ≡ free_id s.recording))
+IsAnswered g s (locked span (Err fault)) = RefusesLock g s span fault
+IsAnswered g s (unlocked id (Ok x)) = (s.must_reopen ≡ false) × (clip_of s.recording id ≢ None)
+IsAnswered g s (unlocked id (Err fault)) = RefusesUnlock s id fault
 IsAnswered g s (was_read number (Ok x)) = (s.must_reopen ≡ false) × IsFrame s.recording number x.0 x.1
 IsAnswered g s (was_read number (Err fault)) = RefusesRead s number fault
 
@@ -117,10 +165,17 @@ pub record Outline : Type 0 where
 abbrev pub count_stored : Call → ℕ
 count_stored (appended group (Ok number)) = length group
 count_stored (appended group (Err fault)) = 0
-count_stored (was_read number result) = 0
+count_stored _ = 0
 
 abbrev pub outline_after : Outline → Call → Outline
 outline_after o call = record { next = o.next + count_stored call; must_reopen = o.must_reopen || has_failed call }
+
+-- why a span may be refused, whatever is held
+abbrev pub CanRefuseSpan : Span → StoreFault → Type 0
+CanRefuseSpan span fault =
+    (fault ≡ ClipEmpty) × (span.to < span.from)
+    ⊎ (((n : ℕ) × ((fault ≡ ClipNotHeld n) × ((span.from ≤ n) × (n ≤ span.to))))
+    ⊎ (fault ≡ ClipTableFull) × (span.from ≤ span.to))
 
 -- the answer is one of those that the call may give there
 abbrev pub IsAllowed : Geometry → Outline → Call → Type 0
@@ -129,6 +184,14 @@ IsAllowed g o (appended group (Err fault)) =
     (fault ≡ MustReopen) × (o.must_reopen ≡ true)
     ⊎ ((fault ≡ NumbersSpent) × ((o.must_reopen ≡ false) × (o.next ≡ last_number (ring_of g)))
     ⊎ ((fault ≡ AllLocked) ⊎ (is_disk fault ≡ true)) × ((o.must_reopen ≡ false) × (o.next ≢ last_number (ring_of g))))
+IsAllowed g o (locked span (Ok id)) = (o.must_reopen ≡ false) × (span.from ≤ span.to)
+IsAllowed g o (locked span (Err fault)) =
+    (fault ≡ MustReopen) × (o.must_reopen ≡ true)
+    ⊎ (o.must_reopen ≡ false) × (CanRefuseSpan span fault ⊎ (is_disk fault ≡ true) × (span.from ≤ span.to))
+IsAllowed g o (unlocked id (Ok x)) = o.must_reopen ≡ false
+IsAllowed g o (unlocked id (Err fault)) =
+    (fault ≡ MustReopen) × (o.must_reopen ≡ true)
+    ⊎ ((fault ≡ NoSuchClip) ⊎ (is_disk fault ≡ true)) × (o.must_reopen ≡ false)
 IsAllowed g o (was_read number (Ok x)) = o.must_reopen ≡ false
 IsAllowed g o (was_read number (Err fault)) =
     (fault ≡ MustReopen) × (o.must_reopen ≡ true)
@@ -137,4 +200,6 @@ IsAllowed g o (was_read number (Err fault)) =
 -- the call of the disk that failed, if the answer says that one did
 abbrev pub failed_for : Call → Option DiskFault
 failed_for (appended group result) = failed_in result
+failed_for (locked span result) = failed_in result
+failed_for (unlocked id result) = failed_in result
 failed_for (was_read number result) = failed_in result

@@ -43,12 +43,17 @@ EachNow m P = (image : List ℕ) → m.may_leave image → P image
 abbrev pub HasNoneStray : Geometry → List ℕ → Type 0
 HasNoneStray g image = (j : ℕ) → j < g.segments → segment_in g image j ≢ None → HasNoStray g j image
 
--- A call made these steps of each recording with this next number that the disk held: whatever the moment of a
--- stop, the image reads as that recording after a beginning of the steps; and at Ok the disk holds it after all
--- of them, the image is such, and a crash leaves nothing else.
-pub record Makes {T : Type 0} (g : Geometry) (next : ℕ) (steps : Recording → List Step) (IsSuch : List ℕ → Type 0) (old new : Medium) (result : Result T DiskFault) : Type 0 where
-  pub moments : (r : Recording) → r.next ≡ next → old.honest → Holds g r old.bytes → LeavesOnly old new (HoldsSome g r (steps r))
-  pub held : (r : Recording) → r.next ≡ next → old.honest → Holds g r old.bytes → OnOk result (Holds g (plain (ring_of g) r (steps r)) new.bytes)
+-- the next number of a recording is this one
+abbrev pub HasNext : ℕ → Recording → Type 0
+HasNext next r = r.next ≡ next
+
+-- A call made these steps of each such recording that the disk held: whatever the moment of a stop, the image reads
+-- as that recording after a beginning of the steps; and at Ok the disk holds it after all of them, the image is
+-- such, and a crash leaves nothing else.
+pub record Makes {T : Type 0} (g : Geometry) (IsOne : Recording → Type 0) (steps : Recording → List Step)
+    (IsSuch : List ℕ → Type 0) (old new : Medium) (result : Result T DiskFault) : Type 0 where
+  pub moments : (r : Recording) → IsOne r → old.honest → Holds g r old.bytes → LeavesOnly old new (HoldsSome g r (steps r))
+  pub held : (r : Recording) → IsOne r → old.honest → Holds g r old.bytes → OnOk result (Holds g (plain (ring_of g) r (steps r)) new.bytes)
   pub such : old.honest → OnOk result (IsSuch new.bytes)
   pub settled : old.honest → OnOk result (IsSettled new)
   pub called : Called old new (failed_call result)

@@ -11,3 +11,4 @@ pub mod Steps
 pub mod Calls
 pub mod Goes
 pub mod Reads
+pub mod Locks

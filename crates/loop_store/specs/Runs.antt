@@ -11,14 +11,14 @@ use Rattle.loop_store.specs.declared.command.ReadFrame.{ReadFrame}
 use Rattle.loop_store.specs.declared.command.Reply.{Reply}
 use Rattle.loop_store.specs.declared.command.Reply.TheVariants as reply
 use Rattle.loop_store.specs.declared.fault.StoreFault.{StoreFault}
-use Rattle.loop_store.specs.Calls.{Call, appended, was_read}
+use Rattle.loop_store.specs.Calls.{Call, appended, locked, unlocked, was_read}
 use Rattle.loop_store.specs.Goes.{Goes}
 use Rattle.loop_store.specs.Seen.{Seen}
 
 -- a frame that is to be stored has the size of the geometry's
 abbrev pub IsOfSize : {A : Type 0} → Geometry → Command A → Type 0
 IsOfSize g (command.Store frame) = length frame.bytes.items ≡ frame_bytes g
-IsOfSize g (command.Read number) = Unit {0}
+IsOfSize g _ = Unit {0}
 
 -- what a read into memory of its own answers, without where its bytes lie
 abbrev pub read_of : {A : Type 0} → Result (ReadFrame A) StoreFault → Result (FrameHead × List ℕ) StoreFault
@@ -28,6 +28,8 @@ read_of (Err fault) = Err fault
 -- a command and its reply are this call of the model
 abbrev pub IsCall : {A : Type 0} → Command A → Reply A → Call → Type 0
 IsCall (command.Store frame) (reply.Store result) call = call ≡ appended (picture frame ∷ []) result
+IsCall (command.Lock span) (reply.Lock result) call = call ≡ locked span result
+IsCall (command.Unlock id) (reply.Unlock result) call = call ≡ unlocked id result
 IsCall (command.Read number) (reply.Read result) call = call ≡ was_read number (read_of result)
 IsCall _ _ call = ⊥
 

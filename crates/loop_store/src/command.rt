@@ -7,7 +7,7 @@ ghost use Rattle.loop_store.specs.Runs.{IsCall, IsOfSize, Ran, read_of};
 
 use crate::{Store, StoreFault};
 use loop_disk::Disk;
-use loop_record::{Frame, FrameHead};
+use loop_record::{Frame, FrameHead, Span};
 use std::alloc::{Allocator, Global};
 
 /// What a store is asked for.
@@ -15,6 +15,10 @@ use std::alloc::{Allocator, Global};
 pub enum Command<A: Allocator = Global> {
     /// Store a frame.
     Store(Frame<A>),
+    /// Lock the frames of a span.
+    Lock(Span),
+    /// Unlock the clip of an id.
+    Unlock(u32),
     /// Read the frame of a number.
     Read(u64),
 }
@@ -33,6 +37,10 @@ pub struct ReadFrame<A: Allocator = Global> {
 pub enum Reply<A: Allocator = Global> {
     /// The number of a stored frame.
     Store(Result<u64, StoreFault>),
+    /// The id of the clip that was locked.
+    Lock(Result<u32, StoreFault>),
+    /// The clip was unlocked.
+    Unlock(Result<(), StoreFault>),
     /// The frame that was read.
     Read(Result<ReadFrame<A>, StoreFault>),
 }
@@ -64,6 +72,8 @@ impl<D: Disk + Drop, A: Allocator + Copy> Store<D, A> {
     {
         match command {
             Command::Store(frame) => Reply::Store(self.append_one(frame)),
+            Command::Lock(span) => Reply::Lock(self.lock(span.from, span.to)),
+            Command::Unlock(id) => Reply::Unlock(self.unlock(*id)),
             Command::Read(number) => Reply::Read(self.read_frame(alloc, *number)),
         }
     }

@@ -41,6 +41,18 @@ pub enum StoreFault {
     /// A block has to be recycled first, and there is none that may go: each is locked by a clip or is the newest.
     #[error("no block may go")]
     AllLocked,
+    /// The clip's first number is above its last one.
+    #[error("the clip is empty")]
+    ClipEmpty,
+    /// No frame has this number, which is the clip's least one of which that is so.
+    #[error("the clip has a number that isn't held")]
+    ClipNotHeld(u64),
+    /// Each of the 64 ids has a clip.
+    #[error("as many clips stand as there may be")]
+    ClipTableFull,
+    /// No clip has this id.
+    #[error("no clip has this id")]
+    NoSuchClip,
 }
 
 impl StoreFault {
@@ -55,6 +67,10 @@ impl StoreFault {
             StoreFault::NotFormatted => 4,
             StoreFault::Damaged(_) => 5,
             StoreFault::AllLocked => 6,
+            StoreFault::ClipEmpty => 9,
+            StoreFault::ClipNotHeld(_) => 10,
+            StoreFault::ClipTableFull => 11,
+            StoreFault::NoSuchClip => 12,
             StoreFault::NotHeld => 13,
             StoreFault::NumbersSpent => 14,
             StoreFault::BadGeometry => 16,
@@ -72,6 +88,10 @@ impl StoreFault {
             StoreFault::NotFormatted => "NotFormatted",
             StoreFault::Damaged(_) => "Damaged",
             StoreFault::AllLocked => "AllLocked",
+            StoreFault::ClipEmpty => "ClipEmpty",
+            StoreFault::ClipNotHeld(_) => "ClipNotHeld",
+            StoreFault::ClipTableFull => "ClipTableFull",
+            StoreFault::NoSuchClip => "NoSuchClip",
             StoreFault::NotHeld => "NotHeld",
             StoreFault::NumbersSpent => "NumbersSpent",
             StoreFault::BadGeometry => "BadGeometry",

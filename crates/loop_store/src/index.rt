@@ -162,7 +162,7 @@ impl<A: Allocator> Index<A> {
 
     /// The block that goes when room is needed, once a segment's header has changed: the one that is kept where
     /// a block only grows.
-    fn victim_after(&self, grows: bool) -> Option<u64>
+    pub(crate) fn victim_after(&self, grows: bool) -> Option<u64>
         requires { IsTrue grows
             → self.now.victim ≡ going_first (ring_of self.now.ring.geometry) self.now.clips self.now.table }
         ensures { result ≡ going_first (ring_of self.now.ring.geometry) self.now.clips self.now.table }

@@ -7,7 +7,7 @@
 //! - `make`: formats a disk; `fresh`: the writes of it;
 //! - `reopen`: finds the recording on a disk again; `recover` and `found`: what a disk's image reads as;
 //! - `store`: the store and its calls; `index`: what it knows in memory; `put`: the append of a group, `place`:
-//!   where it goes, `grow`: what it writes there; `look`: what is read;
+//!   where it goes, `grow`: what it writes there; `lock`: locks and unlocks of clips; `look`: what is read;
 //! - `command`: lists of commands, and the replies;
 //! - `laws`: what calls leave, one after the other; `chain`: calls in a row, across a crash;
 //! - `fault`: the refusals, with their numbers and names.
@@ -21,6 +21,7 @@ mod fresh;
 mod grow;
 mod index;
 pub mod laws;
+mod lock;
 mod look;
 mod make;
 mod place;
@@ -31,5 +32,6 @@ mod store;
 
 pub use command::{Command, ReadFrame, Reply};
 pub use fault::{OpenRefused, StoreFault};
+pub use loop_clips::Clip;
 pub use make::format;
 pub use store::Store;

@@ -1,11 +1,12 @@
 //! A store: a disk that holds a recording, and what is known of it in memory.
 
 ghost use Rattle.std.specs.Prelude.{◌≡◌, ◌≢◌, ◌+◌, ◌-◌, ◌%◌, ◌≤◌, ◌↔◌, ◌⊎◌, ◌∷◌, [], All, Err, IfErr, IfOk, IsTrue, false, length, map};
+ghost use Rattle.loop_clips.specs.Table.{listed};
 ghost use Rattle.loop_disk.specs.Calls.{Stays};
 ghost use Rattle.loop_record.specs.Geometry.{frame_bytes, is_good};
 ghost use Rattle.loop_record.specs.Plain.{pictures};
 ghost use Rattle.loop_record.specs.Recording.{Recording, picture, ring_of, room, victim};
-ghost use Rattle.loop_store.specs.Calls.{appended, read_with, was_read};
+ghost use Rattle.loop_store.specs.Calls.{appended, locked, read_with, unlocked, was_read};
 ghost use Rattle.loop_store.specs.Goes.{Goes};
 ghost use Rattle.loop_store.specs.Numbers.{is_among};
 ghost use Rattle.loop_store.specs.Seen.{IsGroupFor, IsKept, Refused, Seen, StandsFor, seen_with};
@@ -13,10 +14,12 @@ ghost use Rattle.loop_store.specs.Seen.{IsGroupFor, IsKept, Refused, Seen, Stand
 use crate::StoreFault;
 use crate::found::in_order;
 use crate::index::Index;
+use crate::lock::{lock_clip, unlock_clip};
 use crate::look::{numbers_of, read_held, segment_with};
 use crate::put::put;
+use loop_clips::Clip;
 use loop_disk::Disk;
-use loop_record::{Frame, FrameHead, Geometry};
+use loop_record::{Frame, FrameHead, Geometry, Span};
 use loop_ring::Group;
 use std::alloc::{Allocator, Global};
 use std::marker::Model;
@@ -150,6 +153,42 @@ impl<D: Disk + Drop, A: Allocator> Store<D, A> {
 }
 
 impl<D: Disk + Drop, A: Allocator> Store<D, A> {
+    /// Locks the frames from a number to another, both among them, so that their blocks stay until the clip is
+    /// unlocked, and answers its id: the least one that is free.
+    ///
+    /// `MustReopen` where a call that writes has failed; otherwise `ClipEmpty` where `from` is above `to`; then
+    /// `ClipNotHeld` with the least of the numbers that isn't held; then `ClipTableFull` where 64 clips stand. It
+    /// takes no memory, and looks at each held block once, so that no range is too long for it. After `Disk` the
+    /// store has to be opened again, and tells what it told before.
+    ///
+    /// Four calls of the disk: the entry behind its gate, a sync, the gate, a sync.
+    pub fn lock(&mut self, from: u64, to: u64) -> Result<u32, StoreFault>
+        ensures goes { Goes D.medium self.old self.new (locked (record { from = from; to = to }) result ∷ []) }
+        ensures refused { Refused self.old self.new result }
+    {
+        lock_clip(
+            &mut self.disk,
+            &mut self.index,
+            &mut self.must_reopen,
+            Span { from, to },
+        )
+    }
+
+    /// Unlocks the clip of an id.
+    ///
+    /// `MustReopen` where a call that writes has failed; otherwise `NoSuchClip` where no clip has the id. It takes
+    /// no memory. After `Disk` the store has to be opened again, and tells what it told before.
+    ///
+    /// Two calls of the disk: the gate of the entry, a sync.
+    pub fn unlock(&mut self, id: u32) -> Result<(), StoreFault>
+        ensures goes { Goes D.medium self.old self.new (unlocked id result ∷ []) }
+        ensures refused { Refused self.old self.new result }
+    {
+        unlock_clip(&mut self.disk, &mut self.index, &mut self.must_reopen, id)
+    }
+}
+
+impl<D: Disk + Drop, A: Allocator> Store<D, A> {
     /// Reads the frame of a number: its head, and its bytes into `out`, which has the size of a frame.
     ///
     /// `MustReopen` where a call that writes has failed; otherwise `NotHeld`; then `Disk`, or `Damaged` where
@@ -186,5 +225,17 @@ impl<D: Disk + Drop, A: Allocator> Store<D, A> {
         let segments = in_order(alloc, geometry, self.index.table.as_slice())?;
         let numbers = numbers_of(alloc, geometry, segments.as_slice())?;
         Ok(numbers)
+    }
+
+    /// The clips that stand, by rising id. `MustReopen` where a call that writes has failed; otherwise `NoMemory`.
+    pub fn clips<B: Allocator>(&self, alloc: B) -> Result<Vec<Clip, B>, StoreFault>
+        ensures must_reopen { (result ≡ Err StoreFault.MustReopen) ↔ IsTrue self.now.must_reopen }
+        ensures clips { IfOk result (λ clips. clips.items ≡ listed 0 self.now.clips) }
+        ensures refusals { IfErr result (λ fault. (fault ≡ StoreFault.MustReopen) ⊎ (fault ≡ StoreFault.NoMemory)) }
+    {
+        if self.must_reopen {
+            return Err(StoreFault::MustReopen);
+        }
+        Ok(self.index.clips.list(alloc)?)
     }
 }

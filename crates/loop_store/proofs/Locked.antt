@@ -1,0 +1,298 @@
+-- What a lock and an unlock make of an image, of what is known of it, and of a store.
+use Rattle.std.proofs.Common.{◌≡◌, ◌≢◌, inl, inr, ℕ, suc, ◌+◌, ◌*◌, ◌<◌, ◌≤◌, Bool, true, false, not, ◌&&◌, leb, ltb, if◌then◌else◌, is_some, Option, None, Some, Result, Ok, Err, OnOk, List, [], ◌∷◌, length, get_or, set, map, refl, sym, ap, ◌∙◌, subst, arith}
+use Rattle.std.proofs.lemmas.List.{length-map, set-get_or}
+use Rattle.std.proofs.lemmas.Result.{on_ok_weaker}
+use Rattle.std.proofs.lemmas.List.Sums.{prefix_len_stops}
+use Rattle.std.specs.List.{All, range_with_len}
+use Rattle.loop_disk.specs.declared.fault.DiskFault.{DiskFault}
+use Rattle.loop_disk.specs.Calls.{Called}
+use Rattle.loop_disk.specs.Medium.{Medium, IsSettled, IsSound, LeavesOnly}
+use Rattle.loop_disk.specs.Steps.{Changes}
+use Rattle.loop_disk.proofs.Moments.{weaker}
+use Rattle.loop_record.specs.declared.clip.Span.{Span}
+use Rattle.loop_record.specs.declared.geometry.Geometry.{Geometry}
+use Rattle.loop_record.specs.declared.segment.SegmentHead.{SegmentHead}
+use Rattle.loop_record.specs.Change.{ShowsClip}
+use Rattle.loop_record.specs.Geometry.{clip_at, disk_size, gate_at, segment_at, segment_size}
+use Rattle.loop_record.specs.Layout.{Segment, clip_in, is_open, segment_in, whole_frames}
+use Rattle.loop_record.specs.Reading.{Holds, Parts, parts_of, shown}
+use Rattle.loop_record.specs.Recording.{Recording, Step, after, clip_of, first_free, free_id, holds, last_number, lock, plain, ring_of, unlock}
+use Rattle.loop_record.proofs.Clips.{clip_of-entry, clips-are, parts-clip, reading-clip, reading-lock, reading-unlock}
+use Rattle.loop_record.proofs.Decided.{at_most, at_most_test, both}
+use Rattle.loop_record.proofs.Framing.{same_open, same_segment, same_whole_frames}
+use Rattle.loop_record.proofs.Parts.{reading-stages, within_behind}
+use Rattle.loop_record.proofs.Readings.{get_or-map_range, length-range}
+use Rattle.loop_clips.specs.Table.{ShowsClipOrNot}
+use Rattle.loop_ring.specs.declared.ring.Ring.{Ring as LoopRing}
+use Rattle.loop_ring.specs.Heads.{going_first, has_number, heads_of}
+use Rattle.loop_ring.proofs.Heads.{head_of, heads-are, heads-length}
+use Rattle.loop_store.specs.declared.index.Index.{Index}
+use Rattle.loop_store.specs.declared.fault.StoreFault.{StoreFault}
+use Rattle.loop_store.specs.declared.fault.StoreFault.TheVariants.{NoSuchClip}
+use Rattle.loop_store.specs.Calls.{Call, CanRefuseSpan, IsAllowed, IsAnswered, RefusesSpan, StoreState, begun, count_stored, failed_for, has_failed, locked, made, unlocked}
+use Rattle.loop_store.specs.Faults.{failed_by, is_disk}
+use Rattle.loop_store.specs.Goes.{Goes, outline_of}
+use Rattle.loop_store.specs.Held.{HasNoneStray, HoldsFrom, HoldsSome, Makes}
+use Rattle.loop_store.specs.Locks.{IsClipNoted, KeepsSegments, Takes}
+use Rattle.loop_store.specs.Recovered.{IsHeadIn, IsIndex, IsIndexOf}
+use Rattle.loop_store.specs.Seen.{IsKept, IsPresent, Seen, StandsFor, seen_with}
+use Rattle.loop_store.proofs.Grown.{held-some}
+use Rattle.loop_store.specs.Numbers.{is_among}
+use Rattle.loop_store.proofs.Looks.{known-by, there-held, told-by}
+use Rattle.loop_store.proofs.Once.{goes-done, goes-failed, goes-refused}
+use Rattle.loop_store.proofs.Numbers.{among-block, among-range}
+
+-- ---- an image
+
+-- the segments of an image are the old ones where one entry has changed
+pub segments-kept : (g : Geometry) (id : ℕ) (c : Option Span) (old new : List ℕ) → g.slots ≤ 256 → id < 64 → ShowsClip id c old new → HasNoneStray g old → KeepsSegments g old new
+segments-kept g id c old new few l shows clean = record {
+  heads = heads-are g new ∙ ap (λ (p : Parts). map head_of p.segments) (parts-clip g id c old new few l shows) ∙ sym (heads-are g old);
+  unstray = λ j in_ring there i whole in_slots.
+      let same = same_segment g new old j few (within_behind (clip_at id) 32 (segment_at g j) (segment_at g j + segment_size g) old new shows.outside (omega (arith, l))) in
+      let frames = same_whole_frames g new old j few (within_behind (clip_at id) 32 (segment_at g j) (segment_at g j + 512) old new shows.outside (omega (arith, l))) in
+      let gate = same_open new old (gate_at g j i) (within_behind (clip_at id) 32 (gate_at g j i) (gate_at g j i + 1) old new shows.outside (omega (arith, l))) in
+      gate ∙ clean j in_ring (λ none. there (same ∙ none)) i (omega (arith, whole, frames)) in_slots;
+}
+
+-- an image whose entry is as it was reads the same
+same-held : (g : Geometry) (r : Recording) (id : ℕ) (old c : List ℕ) → Holds g r old → id < 64 → ShowsClip id (clip_in old id) old c → Holds g r c
+same-held g r id old c held l shows =
+    let clips = map (clip_in old) (range_with_len 0 64) in
+    let at : 0 + id ≡ id = omega arith in
+    let there : clip_in old id ≡ get_or clips id None = ap (clip_in old) (sym at) ∙ sym (get_or-map_range (clip_in old) 0 64 id None l) in
+    let same : set clips id (clip_in old id) ≡ clips = ap (λ (x : Option Span). set clips id x) there ∙ set-get_or clips id None in
+    reading-clip g r r id (clip_in old id) old c held l shows (ap (λ (cs : List (Option Span)). shown g (record { segments = (parts_of g old).segments; clips = cs })) same ∙ (reading-stages g r old held).recording)
+
+one-step : (g : Geometry) (r : Recording) (step : Step) (c : List ℕ) → Holds g (after (ring_of g) r step) c → HoldsSome g r (step ∷ []) c
+one-step g r step c held = record { count = 1; enough = omega arith; few = omega arith; held = held }
+
+pub lock-held : (g : Geometry) (r : Recording) (span : Span) (id : ℕ) (old c : List ℕ) → Holds g r old → Takes g span id r → ShowsClip id (Some span) old c → Holds g (after (ring_of g) r (lock span)) c
+lock-held g r span id old c held takes shows = reading-lock g r span old c held takes.legal (subst (λ (k : ℕ). ShowsClip k (Some span) old c) takes.id_is shows)
+
+pub lock-some : (g : Geometry) (r : Recording) (span : Span) (id : ℕ) (old c : List ℕ) → Holds g r old → id < 64 → Takes g span id r → ShowsClipOrNot id (Some span) old c → HoldsSome g r (lock span ∷ []) c
+lock-some g r span id old c held l takes (inl same) = held-some g r (lock span ∷ []) c (same-held g r id old c held l same)
+lock-some g r span id old c held l takes (inr shows) = one-step g r (lock span) c (lock-held g r span id old c held takes shows)
+
+pub unlock-held : (g : Geometry) (r : Recording) (id : ℕ) (old c : List ℕ) → Holds g r old → id < 64 → ShowsClip id None old c → Holds g (after (ring_of g) r (unlock id)) c
+unlock-held g r id old c held l shows = reading-unlock g r id old c held l shows
+
+pub unlock-some : (g : Geometry) (r : Recording) (id : ℕ) (old c : List ℕ) → Holds g r old → id < 64 → ShowsClipOrNot id None old c → HoldsSome g r (unlock id ∷ []) c
+unlock-some g r id old c held l (inl same) = held-some g r (unlock id ∷ []) c (same-held g r id old c held l same)
+unlock-some g r id old c held l (inr shows) = one-step g r (unlock id) c (unlock-held g r id old c held l shows)
+
+-- ---- the calls
+
+pub lock-makes : {T : Type 0} (g : Geometry) (span : Span) (id : ℕ) (old new : Medium) (result : Result T DiskFault) → g.slots ≤ 256 → id < 64 → (old.honest → HasNoneStray g old.bytes)
+    → Changes (ShowsClipOrNot id (Some span) old.bytes) (ShowsClip id (Some span) old.bytes) old new result → Makes g (Takes g span id) (λ r. lock span ∷ []) (KeepsSegments g old.bytes) old new result
+lock-makes g span id old new result few l clean changes = record {
+  moments = λ r one honest held. weaker old new _ _ (changes.moments honest) (λ image some. lock-some g r span id old.bytes image held l one some);
+  held = λ r one honest held. on_ok_weaker result (λ shows. lock-held g r span id old.bytes new.bytes held one shows) (changes.such honest);
+  such = λ honest. on_ok_weaker result (λ shows. segments-kept g id (Some span) old.bytes new.bytes few l shows (clean honest)) (changes.such honest);
+  settled = changes.settled;
+  called = changes.called;
+}
+
+pub unlock-makes : {T : Type 0} (g : Geometry) (id : ℕ) (old new : Medium) (result : Result T DiskFault) → g.slots ≤ 256 → id < 64 → (old.honest → HasNoneStray g old.bytes)
+    → Changes (ShowsClipOrNot id None old.bytes) (ShowsClip id None old.bytes) old new result → Makes g (λ r. clip_of r id ≢ None) (λ r. unlock id ∷ []) (KeepsSegments g old.bytes) old new result
+unlock-makes g id old new result few l clean changes = record {
+  moments = λ r one honest held. weaker old new _ _ (changes.moments honest) (λ image some. unlock-some g r id old.bytes image held l some);
+  held = λ r one honest held. on_ok_weaker result (λ shows. unlock-held g r id old.bytes new.bytes held l shows) (changes.such honest);
+  such = λ honest. on_ok_weaker result (λ shows. segments-kept g id None old.bytes new.bytes few l shows (clean honest)) (changes.such honest);
+  settled = changes.settled;
+  called = changes.called;
+}
+
+-- ---- the entry of an id
+
+-- the first free id has no clip
+free-none : (clips : List (Option Span)) → first_free clips < length clips → get_or clips (first_free clips) None ≡ None
+free-none clips l = go (get_or clips (first_free clips) None) (prefix_len_stops (λ c. not (not (is_some c))) clips None l)
+  where
+    go : (c : Option Span) → not (not (is_some c)) ≡ false → c ≡ None
+    go None e = refl
+    go (Some s) e = absurd cc
+
+-- what an index says of an id stands in the entry
+entry-is : {A : Type 0} (index : Index A) (m : Medium) (id : ℕ) → IsPresent index m → id < 64 → clip_in m.bytes id ≡ get_or index.clips id None
+entry-is index m id present l =
+    let known = present.recorded.known in
+    sym (clip_of-entry index.ring.geometry present.recorded.recording m.bytes id known.held l) ∙ ap (λ (cs : List (Option Span)). get_or cs id None) (sym known.clips_are)
+
+pub entry-closed : {A : Type 0} (index : Index A) (m : Medium) (id : ℕ) → IsPresent index m → id < 64 → id ≡ first_free index.clips → clip_in m.bytes id ≡ None
+entry-closed index m id present l is =
+    let known = present.recorded.known in
+    let size : length index.clips ≡ 64 = ap length (known.clips_are ∙ clips-are index.ring.geometry present.recorded.recording m.bytes known.held) ∙ length-map (range_with_len 0 64) (clip_in m.bytes) ∙ length-range 0 64 in
+    entry-is index m id present l ∙ ap (λ (k : ℕ). get_or index.clips k None) is ∙ free-none index.clips (omega (arith, size, l, is))
+
+pub entry-open : {A : Type 0} (index : Index A) (m : Medium) (id : ℕ) → IsPresent index m → id < 64 → get_or index.clips id None ≢ None → clip_in m.bytes id ≢ None
+entry-open index m id present l some none = some (sym (entry-is index m id present l) ∙ none)
+
+-- ---- what is known
+
+-- what is known where a clip was noted
+pub record Noted {D A : Type 0} (medium : D → Medium) (old new : D) (was now : Index A) (id : ℕ) (clip : Option Span) (IsOne : Recording → Type 0) (step : Step) : Type 0 where
+  pub noted : IsClipNoted was now id clip
+  pub called : Called (medium old) (medium new) None
+  pub segments : (medium old).honest → KeepsSegments was.ring.geometry (medium old).bytes (medium new).bytes
+  pub settled : (medium old).honest → IsSettled (medium new)
+  pub held : (r : Recording) → IsOne r → (medium old).honest → Holds was.ring.geometry r (medium old).bytes → Holds was.ring.geometry (after (ring_of was.ring.geometry) r step) (medium new).bytes
+  pub next : (r : Recording) → (after (ring_of was.ring.geometry) r step).next ≡ r.next
+  pub clips : (r : Recording) → IsOne r → (after (ring_of was.ring.geometry) r step).clips ≡ set r.clips id clip
+
+geometry-same : {A : Type 0} (was now : Index A) (id : ℕ) (clip : Option Span) → IsClipNoted was now id clip → now.ring.geometry ≡ was.ring.geometry
+geometry-same was now id clip noted = ap (λ (x : LoopRing). x.geometry) noted.ring
+
+known-noted : {D A : Type 0} (medium : D → Medium) (old new : D) (was now : Index A) (id : ℕ) (clip : Option Span) (IsOne : Recording → Type 0) (step : Step) (r : Recording) → Noted medium old new was now id clip IsOne step → IsOne r → (medium old).honest
+    → IsIndexOf was r (medium old).bytes → IsIndexOf now (after (ring_of was.ring.geometry) r step) (medium new).bytes
+known-noted medium old new was now id clip IsOne step r n one honest known =
+    let g = was.ring.geometry in
+    let same = geometry-same was now id clip n.noted in record {
+      held = subst (λ (h : Geometry). Holds h (after (ring_of g) r step) (medium new).bytes) (sym same) (n.held r one honest known.held);
+      next_is = n.noted.next ∙ known.next_is ∙ sym (n.next r);
+      heads_are = n.noted.heads ∙ known.heads_are ∙ sym (n.segments honest).heads ∙ ap (λ (h : Geometry). heads_of h (medium new).bytes) (sym same);
+      clips_are = n.noted.clips ∙ ap (λ (cs : List (Option Span)). set cs id clip) known.clips_are ∙ sym (n.clips r one);
+    }
+
+index-noted : {A : Type 0} (was now : Index A) (id : ℕ) (clip : Option Span) → IsClipNoted was now id clip → IsIndex was → IsIndex now
+index-noted was now id clip noted whole =
+    let same = geometry-same was now id clip noted in record {
+      count = ap length noted.heads ∙ whole.count ∙ ap (λ (h : Geometry). h.segments) (sym same);
+      within = subst (λ (h : Geometry). All (IsHeadIn h) now.table) (sym same) (subst (All (IsHeadIn was.ring.geometry)) (sym noted.heads) whole.within);
+      few = subst (λ (h : Geometry). now.next ≤ last_number (ring_of h)) (sym same) (subst (λ (k : ℕ). k ≤ last_number (ring_of was.ring.geometry)) (sym noted.next) whole.few);
+      victim_is = noted.victim ∙ (λ i. going_first (ring_of (sym same i)) now.clips (sym noted.heads i));
+    }
+
+pub kept-noted : {D A : Type 0} (medium : D → Medium) (old new : D) (was now : Index A) (id : ℕ) (clip : Option Span) (IsOne : Recording → Type 0) (step : Step) (must : Bool) → IsKept medium old was must → must ≡ false
+    → ((r : Recording) → (medium old).honest → IsIndexOf was r (medium old).bytes → IsOne r) → Noted medium old new was now id clip IsOne step → IsKept medium new now must
+kept-noted medium old new was now id clip IsOne step must kept fine one n =
+    let same = geometry-same was now id clip n.noted in record {
+      fits = record {
+        size_is = n.called.size ∙ kept.fits.size_is ∙ ap disk_size (sym same);
+        whole = index-noted was now id clip n.noted kept.fits.whole;
+      };
+      present = λ f honest.
+          let back = n.called.honest.1 honest in
+          let there = (kept.present fine back).recorded in record {
+            recorded = record {
+              recording = after (ring_of was.ring.geometry) there.recording step;
+              known = known-noted medium old new was now id clip IsOne step there.recording n (one there.recording back there.known) back there.known;
+            };
+            settled = n.settled back;
+            unstray = subst (λ (h : Geometry). HasNoneStray h (medium new).bytes) (sym same) (n.segments back).unstray;
+          };
+    }
+
+pub stands-noted : {D A : Type 0} (medium : D → Medium) (old new : D) (was now : Index A) (id : ℕ) (clip : Option Span) (IsOne : Recording → Type 0) (step : Step) (must : Bool) (r : Recording) → (medium old).honest → IsIndexOf was r (medium old).bytes → IsOne r → IsIndex was
+    → 1 ≤ was.ring.geometry.slots → Noted medium old new was now id clip IsOne step → StandsFor medium (seen_with new now must) (plain (ring_of was.ring.geometry) r (step ∷ []))
+stands-noted medium old new was now id clip IsOne step must r honest known one whole some n =
+    let g = was.ring.geometry in
+    let after = known-noted medium old new was now id clip IsOne step r n one honest known in
+    let slots : 1 ≤ now.ring.geometry.slots = subst (λ (h : Geometry). 1 ≤ h.slots) (sym (geometry-same was now id clip n.noted)) some in record {
+      told = λ there. told-by new now must (plain (ring_of g) r (step ∷ [])) (medium new).bytes slots (index-noted was now id clip n.noted whole).within after;
+      settled = λ fine there. n.settled honest;
+      held = λ fine there. after.held;
+    }
+
+-- ---- runs of held numbers
+
+-- the numbers of a block's frames, from one of them on, are held
+pub run-held : (g : Geometry) (r : Recording) (image : List ℕ) (table : List (Option SegmentHead)) (j n m : ℕ) (h : SegmentHead) → Holds g r image → table ≡ heads_of g image → All (IsHeadIn g) table → j < g.segments → 1 ≤ g.slots
+    → get_or table j None ≡ Some h → has_number g.slots n (get_or table j None) ≡ true → n ≤ m → m < h.block * g.slots + h.frames → holds r m ≡ true
+run-held g r image table j n m h held same within l some there has low high =
+    let few : h.frames ≤ g.slots = (subst (IsHeadIn g) there (within-at j l)).0 in
+    let mine : has_number g.slots n (Some h) ≡ true = subst (λ (o : Option SegmentHead). has_number g.slots n o ≡ true) there has in
+    let from : h.block * g.slots ≤ n = first-le (among-block n g.slots h.block h.frames some few ∙ mine) in
+    let next : has_number g.slots m (Some h) ≡ true = sym (among-block m g.slots h.block h.frames some few) ∙ among-range m (h.block * g.slots) h.frames ∙ (λ i. at_most_test (h.block * g.slots) m (omega (arith, from, low)) i && at_most_test (suc m) (h.block * g.slots + h.frames) (omega (arith, high)) i) in
+    there-held g r image table j m held same l (ap (has_number g.slots m) there ∙ next)
+  where
+    within-at : (j : ℕ) → j < g.segments → IsHeadIn g (get_or table j None)
+    within-at j l = within j None (omega (arith, l, ap length same, heads-length g image))
+
+    first-le : is_among (range_with_len (h.block * g.slots) h.frames) n ≡ true → h.block * g.slots ≤ n
+    first-le e = at_most (h.block * g.slots) n (both (leb (h.block * g.slots) n) (ltb n (h.block * g.slots + h.frames)) (sym (among-range n (h.block * g.slots) h.frames) ∙ e)).0
+
+-- ---- a store
+
+-- a call that adds a clip or takes one away, by what it says where it is answered, and of a recording of which it may be made
+pub record IsClipCall (g : Geometry) (c : Call) (IsOne : Recording → Type 0) : Type 0 where
+  pub stored : count_stored c ≡ 0
+  pub answers : (s : StoreState) → s.must_reopen ≡ false → IsOne s.recording → IsAnswered g s c
+
+pub goes-noted : {D A : Type 0} (medium : D → Medium) (old new : D) (was now : Index A) (must : Bool) (id : ℕ) (clip : Option Span) (IsOne : Recording → Type 0) (step : Step) (c : Call) → IsKept medium old was must → must ≡ false → 1 ≤ was.ring.geometry.slots
+    → Noted medium old new was now id clip IsOne step → ((r : Recording) → IsOne r → (medium old).honest → Holds was.ring.geometry r (medium old).bytes → LeavesOnly (medium old) (medium new) (HoldsSome was.ring.geometry r (step ∷ [])))
+    → ((r : Recording) → (medium old).honest → IsIndexOf was r (medium old).bytes → IsOne r) → IsClipCall was.ring.geometry c IsOne → has_failed c ≡ false → failed_for c ≡ None → ((s : StoreState) → made was.ring.geometry s c ≡ step ∷ []) → ((s : StoreState) → begun was.ring.geometry s c ≡ [])
+    → IsAllowed was.ring.geometry (outline_of (seen_with old was must)) c → Goes medium (seen_with old was must) (seen_with new now must) (c ∷ [])
+goes-noted medium old new was now must id clip IsOne step c kept fine some n moments one call unfailed none made_all begun_none allowed =
+    goes-done medium (seen_with old was must) (seen_with new now must) c (λ r. step ∷ []) (record {
+      fine = fine;
+      still = fine;
+      next = omega (arith, n.noted.next, call.stored);
+      geometry = geometry-same was now id clip n.noted;
+      called = n.called;
+      unfailed = unfailed;
+      none = none;
+      made_all = made_all;
+      begun_none = begun_none;
+      answers = λ s stands honest. call.answers s (sym stands.must_reopen ∙ fine) (one s.recording honest (known-by medium old was must s.recording kept stands.recording fine honest));
+      allowed = allowed;
+      moments = λ r stands honest. let known = known-by medium old was must r kept stands fine honest in moments r (one r honest known) honest known.held;
+      stands = λ r stands honest.
+          let known = known-by medium old was must r kept stands fine honest in
+          stands-noted medium old new was now id clip IsOne step must r honest known (one r honest known) kept.fits.whole some n;
+    })
+
+pub goes-unnoted : {D A : Type 0} (medium : D → Medium) (old new : D) (was now : Index A) (must : Bool) (IsOne : Recording → Type 0) (step : Step) (c : Call) (fault : DiskFault) → IsKept medium old was must → must ≡ false → now ≡ was
+    → ((medium new).honest → IsSound (medium new)) → Called (medium old) (medium new) (Some fault) → ((r : Recording) → IsOne r → (medium old).honest → Holds was.ring.geometry r (medium old).bytes → LeavesOnly (medium old) (medium new) (HoldsSome was.ring.geometry r (step ∷ [])))
+    → ((r : Recording) → (medium old).honest → IsIndexOf was r (medium old).bytes → IsOne r) → IsClipCall was.ring.geometry c IsOne → has_failed c ≡ true → failed_for c ≡ Some fault → ((s : StoreState) → made was.ring.geometry s c ≡ []) → ((s : StoreState) → begun was.ring.geometry s c ≡ step ∷ [])
+    → IsAllowed was.ring.geometry (outline_of (seen_with old was must)) c → Goes medium (seen_with old was must) (seen_with new now true) (c ∷ [])
+goes-unnoted medium old new was now must IsOne step c fault kept fine same sound called moments one call has some made_none begun_all allowed =
+    goes-failed medium (seen_with old was must) (seen_with new now true) c (λ r. step ∷ []) fault (record {
+      fine = fine;
+      failed = λ i. seen_with new (same i) true;
+      called = called;
+      sound = sound;
+      has = has;
+      some = some;
+      stored = call.stored;
+      made_none = made_none;
+      begun_all = begun_all;
+      answers = λ s stands honest. call.answers s (sym stands.must_reopen ∙ fine) (one s.recording honest (known-by medium old was must s.recording kept stands.recording fine honest));
+      allowed = allowed;
+      moments = λ r stands honest. let known = known-by medium old was must r kept stands fine honest in moments r (one r honest known) honest known.held;
+    })
+
+-- ---- refusals
+
+-- a span that is refused says nothing of the disk
+pub span-quiet : (span : Span) (fault : StoreFault) → CanRefuseSpan span fault → (is_disk fault ≡ false) × (failed_by fault ≡ None)
+span-quiet span fault (inl x) = (ap is_disk x.0, ap failed_by x.0)
+span-quiet span fault (inr (inl x)) = (ap is_disk x.1.0, ap failed_by x.1.0)
+span-quiet span fault (inr (inr x)) = (ap is_disk x.0, ap failed_by x.0)
+
+pub lock-refused : {D : Type 0} (medium : D → Medium) (s : Seen D) (span : Span) (fault : StoreFault) → ((medium s.disk).honest → IsSound (medium s.disk)) → s.must_reopen ≡ false → CanRefuseSpan span fault
+    → ((r : Recording) → StandsFor medium s r → (medium s.disk).honest → RefusesSpan r span fault) → Goes medium s s (locked span (Err fault) ∷ [])
+lock-refused medium s span fault sound fine can refuses =
+    let quiet = span-quiet span fault can in
+    goes-refused medium s (locked span (Err fault)) sound (record {
+      unfailed = quiet.0;
+      none = quiet.1;
+      stored = refl;
+      made_none = λ g t. refl;
+      begun_none = λ g t. ap (λ (b : Bool). if b then lock span ∷ [] else []) quiet.0;
+    }) (λ t stands honest. inr (inl (sym stands.must_reopen ∙ fine, refuses t.recording stands.recording honest))) (inr (fine, inl can))
+
+pub unlock-refused : {D : Type 0} (medium : D → Medium) (s : Seen D) (id : ℕ) → ((medium s.disk).honest → IsSound (medium s.disk)) → s.must_reopen ≡ false
+    → ((r : Recording) → StandsFor medium s r → (medium s.disk).honest → clip_of r id ≡ None) → Goes medium s s (unlocked id (Err NoSuchClip) ∷ [])
+unlock-refused medium s id sound fine none =
+    goes-refused medium s (unlocked id (Err NoSuchClip)) sound (record {
+      unfailed = refl;
+      none = refl;
+      stored = refl;
+      made_none = λ g t. refl;
+      begun_none = λ g t. refl;
+    }) (λ t stands honest. inr (inl (refl, (sym stands.must_reopen ∙ fine, none t.recording stands.recording honest)))) (inr (inl refl, fine))
+
+-- what an index says of an id is what its recording does
+pub clip-known : {A : Type 0} (index : Index A) (r : Recording) (image : List ℕ) (id : ℕ) → IsIndexOf index r image → clip_of r id ≡ get_or index.clips id None
+clip-known index r image id known = ap (λ (cs : List (Option Span)). get_or cs id None) (sym known.clips_are)

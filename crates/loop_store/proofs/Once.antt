@@ -1,0 +1,150 @@
+-- One call that writes: it was refused before the disk was called, or it was done, or the disk failed.
+use Rattle.std.proofs.Common.{◌≡◌, ℕ, ◌+◌, Bool, true, false, Option, None, Some, List, [], ◌∷◌, ◌++◌, length, refl, sym, ap, ◌∙◌, subst, arith}
+use Rattle.std.proofs.lemmas.List.{append-nil}
+use Rattle.std.specs.Prelude.{◌||◌}
+use Rattle.loop_disk.specs.declared.fault.DiskFault.{DiskFault}
+use Rattle.loop_disk.specs.Calls.{Called}
+use Rattle.loop_disk.specs.Medium.{Medium, IsSettled, IsSound, LeavesOnly}
+use Rattle.loop_record.specs.declared.geometry.Geometry.{Geometry}
+use Rattle.loop_record.specs.Reading.{Holds}
+use Rattle.loop_record.specs.Recording.{Recording, Step, plain, ring_of}
+use Rattle.loop_record.proofs.Decided.{clash}
+use Rattle.loop_store.specs.Calls.{Call, IsAllowed, IsAnswered, StoreState, begun, count_stored, failed_for, has_failed, made}
+use Rattle.loop_store.specs.Goes.{Goes, Stands, outline_of}
+use Rattle.loop_store.specs.Held.{HoldsFrom, HoldsSome}
+use Rattle.loop_store.specs.Seen.{HasFailed, Seen, StandsFor}
+use Rattle.loop_store.specs.Steps.{LeavesSteps}
+use Rattle.loop_store.proofs.Asked.{each-now, failed-stands, holds-all}
+use Rattle.loop_store.proofs.Gone.{goes-once}
+use Rattle.loop_store.proofs.Leaves.{leaves-none, leaves-same}
+
+or-false : (b : Bool) → (b || false) ≡ b
+or-false true = refl
+or-false false = refl
+
+or-true : (b : Bool) → (b || true) ≡ true
+or-true true = refl
+or-true false = refl
+
+or-quiet : (b t : Bool) → t ≡ false → (b || t) ≡ b
+or-quiet b t quiet = ap (λ (x : Bool). b || x) quiet ∙ or-false b
+
+or-loud : (b t : Bool) → t ≡ true → (b || t) ≡ true
+or-loud b t loud = ap (λ (x : Bool). b || x) loud ∙ or-true b
+
+-- ---- refused before the disk was called
+
+-- the answer says that nothing was done, and that no call of the disk failed
+pub record IsQuiet (c : Call) : Type 0 where
+  pub unfailed : has_failed c ≡ false
+  pub none : failed_for c ≡ None
+  pub stored : count_stored c ≡ 0
+  pub made_none : (g : Geometry) (s : StoreState) → made g s c ≡ []
+  pub begun_none : (g : Geometry) (s : StoreState) → begun g s c ≡ []
+
+pub goes-refused : {D : Type 0} (medium : D → Medium) (s : Seen D) (c : Call) → ((medium s.disk).honest → IsSound (medium s.disk)) → IsQuiet c
+    → ((t : StoreState) → Stands medium s t → (medium s.disk).honest → IsAnswered s.geometry t c) → IsAllowed s.geometry (outline_of s) c → Goes medium s s (c ∷ [])
+goes-refused {D} medium s c sound quiet answers allowed = goes-once medium s s c (record {
+  answers = answers;
+  stands = λ t stands now. record {
+    recording = subst (λ (steps : List Step). StandsFor medium s (plain (ring_of s.geometry) t.recording steps)) (sym (quiet.made_none s.geometry t)) stands.recording;
+    must_reopen = stands.must_reopen ∙ sym (or-quiet t.must_reopen (has_failed c) quiet.unfailed);
+  };
+  leaves = λ t stands now fine.
+      let still : s.must_reopen ≡ false = stands.must_reopen ∙ fine in
+      leaves-same s.geometry t.recording [] (made s.geometry t c) [] (begun s.geometry t c) (medium s.disk) (medium s.disk) (sym (quiet.made_none s.geometry t)) (sym (quiet.begun_none s.geometry t))
+      (leaves-none s.geometry t.recording (medium s.disk) (sound now) (stands.recording.settled still now) (stands.recording.held still now));
+  idle = λ must. refl;
+  allowed = allowed;
+  outline =
+      let zero : s.next ≡ s.next + count_stored c = omega (arith, quiet.stored) in
+      λ i. record { next = zero i; must_reopen = sym (or-quiet s.must_reopen (has_failed c) quiet.unfailed) i };
+  geometry = refl;
+  called = subst (λ (f : Option DiskFault). Called (medium s.disk) (medium s.disk) f) (sym quiet.none) (record { size = refl; honest = (λ h. h, λ h. h); failures = refl });
+})
+
+-- ---- done
+
+done-leaves : (g : Geometry) (r : Recording) (steps : List Step) (old new : Medium) → LeavesOnly old new (HoldsSome g r steps) → IsSettled new → Holds g (plain (ring_of g) r steps) new.bytes → LeavesSteps g r steps [] old new
+done-leaves g r steps old new run settled held = record {
+  moments = subst (λ (l : List Step). LeavesOnly old new (HoldsSome g r l)) (sym (append-nil steps)) run;
+  now = λ c left. subst (λ (image : List ℕ). HoldsFrom g r (length steps) (steps ++ []) image) (sym (settled c left)) (holds-all g r steps [] new.bytes held);
+}
+
+-- what is known where the call made its steps
+pub record Done {D : Type 0} (medium : D → Medium) (old new : Seen D) (c : Call) (steps : Recording → List Step) : Type 0 where
+  pub fine : old.must_reopen ≡ false
+  pub still : new.must_reopen ≡ false
+  pub next : new.next ≡ old.next + count_stored c
+  pub geometry : new.geometry ≡ old.geometry
+  pub called : Called (medium old.disk) (medium new.disk) None
+  pub unfailed : has_failed c ≡ false
+  pub none : failed_for c ≡ None
+  pub made_all : (s : StoreState) → made old.geometry s c ≡ steps s.recording
+  pub begun_none : (s : StoreState) → begun old.geometry s c ≡ []
+  pub answers : (s : StoreState) → Stands medium old s → (medium old.disk).honest → IsAnswered old.geometry s c
+  pub allowed : IsAllowed old.geometry (outline_of old) c
+  pub moments : (r : Recording) → StandsFor medium old r → (medium old.disk).honest → LeavesOnly (medium old.disk) (medium new.disk) (HoldsSome old.geometry r (steps r))
+  pub stands : (r : Recording) → StandsFor medium old r → (medium old.disk).honest → StandsFor medium new (plain (ring_of old.geometry) r (steps r))
+
+pub goes-done : {D : Type 0} (medium : D → Medium) (old new : Seen D) (c : Call) (steps : Recording → List Step) → Done medium old new c steps → Goes medium old new (c ∷ [])
+goes-done {D} medium old new c steps done = goes-once medium old new c (record {
+  answers = done.answers;
+  stands = λ s stands now. record {
+    recording = subst (λ (l : List Step). StandsFor medium new (plain (ring_of old.geometry) s.recording l)) (sym (done.made_all s)) (done.stands s.recording stands.recording now);
+    must_reopen = done.still ∙ sym (or-quiet s.must_reopen (has_failed c) done.unfailed ∙ sym stands.must_reopen ∙ done.fine);
+  };
+  leaves = λ s stands now fine.
+      let r = s.recording in
+      let later = done.stands r stands.recording now in
+      let there = done.called.honest.0 now in
+      leaves-same old.geometry r (steps r) (made old.geometry s c) [] (begun old.geometry s c) (medium old.disk) (medium new.disk) (sym (done.made_all s)) (sym (done.begun_none s))
+      (done-leaves old.geometry r (steps r) (medium old.disk) (medium new.disk) (done.moments r stands.recording now) (later.settled done.still there)
+      (subst (λ (g : Geometry). Holds g (plain (ring_of old.geometry) r (steps r)) (medium new.disk).bytes) done.geometry (later.held done.still there)));
+  idle = λ must. absurd (clash old.must_reopen must done.fine);
+  allowed = done.allowed;
+  outline = λ i. record { next = done.next i; must_reopen = (done.still ∙ sym (or-quiet old.must_reopen (has_failed c) done.unfailed ∙ done.fine)) i };
+  geometry = done.geometry;
+  called = subst (λ (f : Option DiskFault). Called (medium old.disk) (medium new.disk) f) (sym done.none) done.called;
+})
+
+-- ---- the disk failed
+
+-- what is known where the disk failed
+pub record Failed {D : Type 0} (medium : D → Medium) (old new : Seen D) (c : Call) (steps : Recording → List Step) (fault : DiskFault) : Type 0 where
+  pub fine : old.must_reopen ≡ false
+  pub failed : HasFailed old new
+  pub called : Called (medium old.disk) (medium new.disk) (Some fault)
+  pub sound : (medium new.disk).honest → IsSound (medium new.disk)
+  pub has : has_failed c ≡ true
+  pub some : failed_for c ≡ Some fault
+  pub stored : count_stored c ≡ 0
+  pub made_none : (s : StoreState) → made old.geometry s c ≡ []
+  pub begun_all : (s : StoreState) → begun old.geometry s c ≡ steps s.recording
+  pub answers : (s : StoreState) → Stands medium old s → (medium old.disk).honest → IsAnswered old.geometry s c
+  pub allowed : IsAllowed old.geometry (outline_of old) c
+  pub moments : (r : Recording) → StandsFor medium old r → (medium old.disk).honest → LeavesOnly (medium old.disk) (medium new.disk) (HoldsSome old.geometry r (steps r))
+
+pub goes-failed : {D : Type 0} (medium : D → Medium) (old new : Seen D) (c : Call) (steps : Recording → List Step) (fault : DiskFault) → Failed medium old new c steps fault → Goes medium old new (c ∷ [])
+goes-failed {D} medium old new c steps fault failed = goes-once medium old new c (record {
+  answers = failed.answers;
+  stands = λ s stands now. record {
+    recording =
+        subst (λ (l : List Step). StandsFor medium new (plain (ring_of old.geometry) s.recording l)) (sym (failed.made_none s))
+        (failed-stands medium old new s.recording failed.failed failed.called.honest.1 stands.recording);
+    must_reopen = ap (λ (x : Seen D). x.must_reopen) failed.failed ∙ sym (or-loud s.must_reopen (has_failed c) failed.has);
+  };
+  leaves = λ s stands now fine.
+      let run = failed.moments s.recording stands.recording now in
+      leaves-same old.geometry s.recording [] (made old.geometry s c) (steps s.recording) (begun old.geometry s c) (medium old.disk) (medium new.disk) (sym (failed.made_none s)) (sym (failed.begun_all s)) (record {
+        moments = run;
+        now = each-now (medium old.disk) (medium new.disk) (HoldsSome old.geometry s.recording (steps s.recording)) (failed.sound (failed.called.honest.0 now)) run;
+      });
+  idle = λ must. absurd (clash old.must_reopen must failed.fine);
+  allowed = failed.allowed;
+  outline =
+      let zero : old.next ≡ old.next + count_stored c = omega (arith, failed.stored) in
+      λ i. record { next = (ap (λ (x : Seen D). x.next) failed.failed ∙ zero) i; must_reopen = (ap (λ (x : Seen D). x.must_reopen) failed.failed ∙ sym (or-loud old.must_reopen (has_failed c) failed.has)) i };
+  geometry = ap (λ (x : Seen D). x.geometry) failed.failed;
+  called = subst (λ (f : Option DiskFault). Called (medium old.disk) (medium new.disk) f) (sym failed.some) failed.called;
+})

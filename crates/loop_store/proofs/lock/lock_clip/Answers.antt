@@ -1,0 +1,78 @@
+use Rattle.std.proofs.Common.{ℕ, Ok, Err, None, Some, List, set, inr, refl, sym, ap, ◌∙◌}
+use Rattle.std.proofs.lemmas.Result.{err_from_is_err_and}
+use Rattle.loop_record.specs.Recording.{Recording, lock}
+use Rattle.loop_record.proofs.Bounds.{limits}
+use Rattle.loop_store.specs.declared.fault.StoreFault.TheVariants.{Disk}
+use Rattle.loop_store.specs.Calls.{locked}
+use Rattle.loop_store.specs.Locks.{Takes}
+use Rattle.loop_store.specs.Recovered.{IsIndexOf}
+use Rattle.loop_store.specs.Seen.{seen_with}
+use Rattle.loop_store.proofs.Locked.{Noted, goes-noted, goes-unnoted, kept-noted, lock-refused}
+use Rattle.loop_store.proofs.Looks.{known-by}
+use Rattle.loop_store.proofs.lock.lock_clip.Goals as goal
+
+pub returns-in_err-id-clause-goes : goal.returns-in_err-id-clause-goes
+returns-in_err-id-clause-goes g c =
+    let i = c.args.index.now in
+    let medium = g.D.Disk.medium in
+    let p = err_from_is_err_and c.from_residual.result c.from_residual.ensures.1 in
+    rw (p.1, p.2) (lock-refused medium (seen_with c.args.disk.now i c.args.must_reopen.now) c.args.span c.in_err-id.field-0.0 (λ honest. g.met.D.Disk.sound c.args.disk.now honest) c.if-must_reopen.false c.in_err-id.ensures.refusals
+    (λ r stands honest. c.in_err-id.ensures.answers r (medium c.args.disk.now).bytes (known-by medium c.args.disk.now i c.args.must_reopen.now r c.requires stands c.if-must_reopen.false honest)))
+
+pub returns-in-Ok-clause-kept : goal.returns-in-Ok-clause-kept
+returns-in-Ok-clause-kept g c =
+    let i = c.args.index.now in
+    let h = i.ring.geometry in
+    let medium = g.D.Disk.medium in
+    let id = c.in_ok-id.id in
+    let span = c.args.span in
+    let makes = c.in-Ok.ensures.makes in
+    let noted = c.in-Ok.ensures.noted in (
+      kept-noted medium c.args.disk.now c.add_clip.new.disk i c.add_clip.new.index id (Some span) (Takes h span id) (lock span) c.args.must_reopen.now c.requires c.if-must_reopen.false
+          (λ r honest known. let said = c.in_ok-id.ensures.answers r (medium c.args.disk.now).bytes known in record { legal = said.0; id_is = said.1 })
+          (record {
+            noted = noted;
+            called = makes.called;
+            segments = makes.such;
+            settled = makes.settled;
+            held = makes.held;
+            next = λ r. refl;
+            clips = λ r one. ap (λ (k : ℕ). set r.clips k (Some span)) (sym one.id_is);
+          }),
+      noted.ring,
+    )
+
+pub returns-in-Ok-clause-goes : goal.returns-in-Ok-clause-goes
+returns-in-Ok-clause-goes g c =
+    let i = c.args.index.now in
+    let h = i.ring.geometry in
+    let medium = g.D.Disk.medium in
+    let id = c.in_ok-id.id in
+    let span = c.args.span in
+    let makes = c.in-Ok.ensures.makes in
+    goes-noted medium c.args.disk.now c.add_clip.new.disk i c.add_clip.new.index c.args.must_reopen.now id (Some span) (Takes h span id) (lock span) (locked span (Ok id)) c.requires c.if-must_reopen.false (limits h i.ring.good).slots.0
+    (record {
+      noted = c.in-Ok.ensures.noted;
+      called = makes.called;
+      segments = makes.such;
+      settled = makes.settled;
+      held = makes.held;
+      next = λ r. refl;
+      clips = λ r one. ap (λ (k : ℕ). set r.clips k (Some span)) (sym one.id_is);
+    })
+    makes.moments
+    (λ r honest known. let said = c.in_ok-id.ensures.answers r (medium c.args.disk.now).bytes known in record { legal = said.0; id_is = said.1 })
+    (record { stored = refl; answers = λ s still one. (still, (one.legal, one.id_is)) }) refl refl (λ s. refl) (λ s. refl) (c.if-must_reopen.false, c.in_ok-id.ensures.id.1)
+
+pub returns-in-Err-clause-goes : goal.returns-in-Err-clause-goes
+returns-in-Err-clause-goes g c =
+    let i = c.args.index.now in
+    let h = i.ring.geometry in
+    let medium = g.D.Disk.medium in
+    let id = c.in_ok-id.id in
+    let span = c.args.span in
+    let makes = c.in-Err.ensures.makes in
+    goes-unnoted medium c.args.disk.now c.add_clip.new.disk i c.add_clip.new.index c.args.must_reopen.now (Takes h span id) (lock span) (locked span (Err (Disk c.in-Err.fault))) c.in-Err.fault c.requires c.if-must_reopen.false c.in-Err.ensures.same
+    (λ honest. g.met.D.Disk.sound c.add_clip.new.disk honest) makes.called makes.moments
+    (λ r honest known. let said = c.in_ok-id.ensures.answers r (medium c.args.disk.now).bytes known in record { legal = said.0; id_is = said.1 })
+    (record { stored = refl; answers = λ s still one. inr (inr (refl, (still, one.legal))) }) refl refl (λ s. refl) (λ s. refl) (inr (c.if-must_reopen.false, inr (refl, c.in_ok-id.ensures.id.1)))

@@ -1,0 +1,15 @@
+use Rattle.std.proofs.Common.{◌≡◌, ◌+◌, ◌*◌, ◌<◌, ℕ, sym, ◌∙◌, subst}
+use Rattle.loop_record.proofs.Bounds.{limits}
+use Rattle.loop_store.proofs.Locked.{run-held}
+use Rattle.loop_store.proofs.lock.run_end.Goals as goal
+
+pub returns-in-Some-get-clause-held : goal.returns-in-Some-get-clause-held
+returns-in-Some-get-clause-held g c = λ r image known m low high.
+    let h = c.args.index.now.ring.geometry in
+    let head = c.in-Some-get.head in
+    let end : m < head.block * h.slots + head.frames = subst (λ (k : ℕ). m < head.block * h.slots + k) c.from-in-Some-get.ensures (subst (λ (k : ℕ). m < head.block * k + c.from-in-Some-get.result) c.from.ensures high) in
+    run-held h r image c.args.index.now.table c.in-Some.segment c.args.number m head known.held known.heads_are c.requires.within c.in-Some.ensures.within (limits h c.args.index.now.ring.good).slots.0
+    (sym c.get.ensures ∙ c.in-Some-get.is) c.in-Some.ensures.there low end
+
+pub returns-in-None-clause-missing : goal.returns-in-None-clause-missing
+returns-in-None-clause-missing g c = λ r image known same. c.in-None.ensures.missing r image known

@@ -1,0 +1,76 @@
+use Rattle.std.proofs.Common.{◌≡◌, ◌≢◌, ℕ, Option, Ok, Err, None, Some, List, get_or, inl, inr, refl, sym, ap, ◌∙◌}
+use Rattle.loop_record.specs.declared.clip.Span.{Span}
+use Rattle.loop_record.specs.Recording.{Recording, clip_of, unlock}
+use Rattle.loop_record.proofs.Bounds.{limits}
+use Rattle.loop_store.specs.declared.fault.StoreFault.TheVariants.{Disk}
+use Rattle.loop_store.specs.Calls.{unlocked}
+use Rattle.loop_store.specs.Seen.{seen_with}
+use Rattle.loop_store.proofs.Locked.{clip-known, goes-noted, goes-unnoted, kept-noted, unlock-refused}
+use Rattle.loop_store.proofs.Looks.{known-by}
+use Rattle.loop_store.proofs.lock.unlock_clip.Goals as goal
+
+some : (o : Option Span) (s : Span) → o ≡ Some s → o ≢ None
+some None s e none = absurd cc
+some (Some t) s e none = absurd cc
+
+pub returns-in_default-clause-goes : goal.returns-in_default-clause-goes
+returns-in_default-clause-goes g c =
+    let i = c.args.index.now in
+    let medium = g.D.Disk.medium in
+    unlock-refused medium (seen_with c.args.disk.now i c.args.must_reopen.now) c.args.id (λ honest. g.met.D.Disk.sound c.args.disk.now honest) c.if-must_reopen.false
+    (λ r stands honest. clip-known i r (medium c.args.disk.now).bytes c.args.id (known-by medium c.args.disk.now i c.args.must_reopen.now r c.requires stands c.if-must_reopen.false honest) ∙ sym c.in_default.ensures.clip)
+
+pub remove_clip-requires-clause-id : goal.remove_clip-requires-clause-id
+remove_clip-requires-clause-id g c = (c.in-Some.ensures.within, some _ c.in-Some.field-0 (sym c.in-Some.ensures.clip))
+
+pub remove_clip-requires-clause-present : goal.remove_clip-requires-clause-present
+remove_clip-requires-clause-present g c = λ honest. c.requires.present c.if-must_reopen.false honest
+
+pub returns-in-Ok-clause-kept : goal.returns-in-Ok-clause-kept
+returns-in-Ok-clause-kept g c =
+    let i = c.args.index.now in
+    let medium = g.D.Disk.medium in
+    let id = c.args.id in
+    let makes = c.in-Ok.ensures.makes in (
+      kept-noted medium c.args.disk.now c.remove_clip.new.disk i c.remove_clip.new.index id None (λ r. clip_of r id ≢ None) (unlock id) c.args.must_reopen.now c.requires c.if-must_reopen.false
+          (λ r honest known. some _ c.in-Some.field-0 (clip-known i r (medium c.args.disk.now).bytes id known ∙ sym c.in-Some.ensures.clip)) (record {
+            noted = c.in-Ok.ensures.noted;
+            called = makes.called;
+            segments = makes.such;
+            settled = makes.settled;
+            held = makes.held;
+            next = λ r. refl;
+            clips = λ r one. refl;
+          }),
+      c.in-Ok.ensures.noted.ring,
+    )
+
+pub returns-in-Ok-clause-goes : goal.returns-in-Ok-clause-goes
+returns-in-Ok-clause-goes g c =
+    let i = c.args.index.now in
+    let medium = g.D.Disk.medium in
+    let id = c.args.id in
+    let makes = c.in-Ok.ensures.makes in
+    goes-noted medium c.args.disk.now c.remove_clip.new.disk i c.remove_clip.new.index c.args.must_reopen.now id None (λ r. clip_of r id ≢ None) (unlock id) (unlocked id (Ok tt)) c.requires c.if-must_reopen.false (limits i.ring.geometry i.ring.good).slots.0
+    (record {
+      noted = c.in-Ok.ensures.noted;
+      called = makes.called;
+      segments = makes.such;
+      settled = makes.settled;
+      held = makes.held;
+      next = λ r. refl;
+      clips = λ r one. refl;
+    }) makes.moments
+    (λ r honest known. some _ c.in-Some.field-0 (clip-known i r (medium c.args.disk.now).bytes id known ∙ sym c.in-Some.ensures.clip))
+    (record { stored = refl; answers = λ s still one. (still, one) }) refl refl (λ s. refl) (λ s. refl) c.if-must_reopen.false
+
+pub returns-in-Err-clause-goes : goal.returns-in-Err-clause-goes
+returns-in-Err-clause-goes g c =
+    let i = c.args.index.now in
+    let medium = g.D.Disk.medium in
+    let id = c.args.id in
+    let makes = c.in-Err.ensures.makes in
+    goes-unnoted medium c.args.disk.now c.remove_clip.new.disk i c.remove_clip.new.index c.args.must_reopen.now (λ r. clip_of r id ≢ None) (unlock id) (unlocked id (Err (Disk c.in-Err.fault))) c.in-Err.fault c.requires c.if-must_reopen.false c.in-Err.ensures.same
+    (λ honest. g.met.D.Disk.sound c.remove_clip.new.disk honest) makes.called makes.moments
+    (λ r honest known. some _ c.in-Some.field-0 (clip-known i r (medium c.args.disk.now).bytes id known ∙ sym c.in-Some.ensures.clip))
+    (record { stored = refl; answers = λ s still one. inr (inr (refl, (still, one))) }) refl refl (λ s. refl) (λ s. refl) (inr (inr refl, c.if-must_reopen.false))

@@ -1,0 +1,180 @@
+//! Locks and unlocks: which are refused, what they write, and what is noted of them.
+
+ghost use Rattle.std.specs.Prelude.{◌≡◌, ◌≢◌, ◌<◌, ◌≤◌, ◌∷◌, ℕ, [], Err, IfErr, IfOk, List, None, Ok, OnErr, OnOk, Some, false, slice_index_or};
+ghost use Rattle.loop_disk.specs.Medium.{IsSettled};
+ghost use Rattle.loop_record.specs.Geometry.{disk_size};
+ghost use Rattle.loop_record.specs.Recording.{Recording, clip_of, first_free, holds, lock, ring_of, unlock};
+ghost use Rattle.loop_ring.specs.Heads.{going_first};
+ghost use Rattle.loop_store.specs.Calls.{CanRefuseSpan, locked, unlocked};
+ghost use Rattle.loop_store.specs.Goes.{Goes};
+ghost use Rattle.loop_store.specs.Held.{Makes};
+ghost use Rattle.loop_store.specs.Locks.{AnswersSpan, AreHeld, IsClipNoted, IsInSpan, IsMissing, KeepsSegments, Takes};
+ghost use Rattle.loop_store.specs.Recovered.{IsIndex, IsIndexOf};
+ghost use Rattle.loop_store.specs.Seen.{IsKept, IsPresent, Refused, seen_with};
+
+use crate::StoreFault;
+use crate::index::Index;
+use crate::look::segment_with;
+use loop_disk::{Disk, DiskFault};
+use loop_record::Span;
+use std::alloc::Allocator;
+
+/// The first number from this one on that isn't held, if it is one of its block, or the one behind the block: the
+/// number itself where that isn't held.
+fn run_end<A: Allocator>(index: &Index<A>, number: u64) -> u64
+    requires { IsIndex index.now }
+    ensures from { number ≤ result }
+    ensures held { (r : Recording) (image : List ℕ) → IsIndexOf index.now r image → AreHeld r number result }
+    ensures missing { (r : Recording) (image : List ℕ) → IsIndexOf index.now r image → result ≡ number
+        → holds r number ≡ false }
+{
+    match segment_with(index, number) {
+        Some(segment) => match index.table.get(segment) {
+            Some(head) => {
+                head.block * u64::from(index.ring.geometry.slots) + u64::from(head.frames)
+            }
+            None => number,
+        },
+        None => number,
+    }
+}
+
+/// The least number of a span that isn't held. It looks at each held block of the span once, and at no number of
+/// it alone.
+fn first_missing<A: Allocator>(index: &Index<A>, span: Span) -> Option<u64>
+    requires index { IsIndex index.now }
+    requires some { span.from ≤ span.to }
+    ensures within { IsInSpan span result }
+    ensures missing { (r : Recording) (image : List ℕ) → IsIndexOf index.now r image → IsMissing r span result }
+{
+    let mut next = span.from;
+    while next <= span.to {
+        let end = run_end(index, next);
+        if end == next {
+            return Some(next);
+        }
+        next = end;
+    }
+    None
+}
+
+/// The id under which a clip of a span may be added. `ClipEmpty`, then `ClipNotHeld`, then `ClipTableFull`.
+fn id_for<A: Allocator>(index: &Index<A>, span: Span) -> Result<u32, StoreFault>
+    requires { IsIndex index.now }
+    ensures id { IfOk result (λ id. ((id < 64) × (id ≡ first_free index.now.clips)) × (span.from ≤ span.to)) }
+    ensures refusals { IfErr result (CanRefuseSpan span) }
+    ensures answers { (r : Recording) (image : List ℕ) → IsIndexOf index.now r image
+        → AnswersSpan index.now.ring.geometry r span result }
+{
+    if span.to < span.from {
+        return Err(StoreFault::ClipEmpty);
+    }
+    if let Some(number) = first_missing(index, span) {
+        return Err(StoreFault::ClipNotHeld(number));
+    }
+    match index.clips.free_id() {
+        Some(id) => Ok(id),
+        None => Err(StoreFault::ClipTableFull),
+    }
+}
+
+/// Writes a clip under the least free id, and notes it.
+fn add_clip<D: Disk, A: Allocator>(
+    disk: &mut D,
+    index: &mut Index<A>,
+    id: u32,
+    span: Span,
+) -> Result<(), DiskFault>
+    requires extent { (D.medium disk.old).size ≡ disk_size index.old.ring.geometry }
+    requires index { IsIndex index.old }
+    requires id { (id < 64) × (id ≡ first_free index.old.clips) }
+    requires present { (D.medium disk.old).honest → IsPresent index.old (D.medium disk.old) }
+    ensures makes { let g = index.old.ring.geometry in let old = D.medium disk.old in
+        Makes g (Takes g span id) (λ r. lock span ∷ []) (KeepsSegments g old.bytes) old (D.medium disk.new) result }
+    ensures noted { OnOk result (IsClipNoted index.old index.new id (Some span)) }
+    ensures same { OnErr result (index.new ≡ index.old) }
+{
+    let written = index.clips.lock(disk, id, span);
+    if written.is_ok() {
+        index.victim = index.victim_after(false);
+    }
+    written
+}
+
+/// Takes away the clip of an id, and notes it.
+fn remove_clip<D: Disk, A: Allocator>(
+    disk: &mut D,
+    index: &mut Index<A>,
+    id: u32,
+) -> Result<(), DiskFault>
+    requires extent { (D.medium disk.old).size ≡ disk_size index.old.ring.geometry }
+    requires index { IsIndex index.old }
+    requires id { (id < 64) × (slice_index_or index.old.clips id None ≢ None) }
+    requires present { (D.medium disk.old).honest → IsPresent index.old (D.medium disk.old) }
+    ensures makes { let g = index.old.ring.geometry in let old = D.medium disk.old in
+        Makes g (λ r. clip_of r id ≢ None) (λ r. unlock id ∷ []) (KeepsSegments g old.bytes) old (D.medium disk.new) result }
+    ensures noted { OnOk result (IsClipNoted index.old index.new id None) }
+    ensures same { OnErr result (index.new ≡ index.old) }
+{
+    let written = index.clips.unlock(disk, id);
+    if written.is_ok() {
+        index.victim = index.victim_after(false);
+    }
+    written
+}
+
+/// Adds a clip of a span, and answers its id. `MustReopen`, then `ClipEmpty`, `ClipNotHeld`, `ClipTableFull`, as
+/// `Store::lock` has them; after `Disk` the store must be reopened.
+pub(crate) fn lock_clip<D: Disk, A: Allocator>(
+    disk: &mut D,
+    index: &mut Index<A>,
+    must_reopen: &mut bool,
+    span: Span,
+) -> Result<u32, StoreFault>
+    requires { IsKept D.medium disk.old index.old must_reopen.old }
+    ensures kept { IsKept D.medium disk.new index.new must_reopen.new × (index.new.ring ≡ index.old.ring) }
+    ensures goes { Goes D.medium (seen_with disk.old index.old must_reopen.old) (seen_with disk.new index.new must_reopen.new)
+        (locked span result ∷ []) }
+    ensures refused { Refused (seen_with disk.old index.old must_reopen.old) (seen_with disk.new index.new must_reopen.new) result }
+{
+    if *must_reopen {
+        return Err(StoreFault::MustReopen);
+    }
+    let id = id_for(index, span)?;
+    match add_clip(disk, index, id, span) {
+        Ok(()) => Ok(id),
+        Err(fault) => {
+            *must_reopen = true;
+            Err(StoreFault::Disk(fault))
+        }
+    }
+}
+
+/// Takes away the clip of an id. `MustReopen`, then `NoSuchClip`, as `Store::unlock` has them; after `Disk` the store
+/// must be reopened.
+pub(crate) fn unlock_clip<D: Disk, A: Allocator>(
+    disk: &mut D,
+    index: &mut Index<A>,
+    must_reopen: &mut bool,
+    id: u32,
+) -> Result<(), StoreFault>
+    requires { IsKept D.medium disk.old index.old must_reopen.old }
+    ensures kept { IsKept D.medium disk.new index.new must_reopen.new × (index.new.ring ≡ index.old.ring) }
+    ensures goes { Goes D.medium (seen_with disk.old index.old must_reopen.old) (seen_with disk.new index.new must_reopen.new)
+        (unlocked id result ∷ []) }
+    ensures refused { Refused (seen_with disk.old index.old must_reopen.old) (seen_with disk.new index.new must_reopen.new) result }
+{
+    if *must_reopen {
+        return Err(StoreFault::MustReopen);
+    }
+    let Some(_) = index.clips.get(id) else {
+        return Err(StoreFault::NoSuchClip);
+    };
+    match remove_clip(disk, index, id) {
+        Ok(()) => Ok(()),
+        Err(fault) => {
+            *must_reopen = true;
+            Err(StoreFault::Disk(fault))
+        }
+    }
+}
