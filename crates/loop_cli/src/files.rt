@@ -80,6 +80,14 @@ fn perform<'a, R: AllocGlobal + Files<File = File>, W: Write>(
             let store = open(rt, path)?;
             Listing::of(&store, rt.alloc())?.print(&mut out)?;
         }
+        FileCommand::Lock(from, to) => {
+            let id = open(rt, path)?.lock(from, to)?;
+            writeln!(out, "locked {id}")?;
+        }
+        FileCommand::Unlock(id) => {
+            open(rt, path)?.unlock(id)?;
+            writeln!(out, "unlocked {id}")?;
+        }
     }
     out.flush()?;
     Ok(())

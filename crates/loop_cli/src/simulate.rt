@@ -129,6 +129,8 @@ impl<A: Allocator + Copy> Simulation<A> {
             (_, None) => print_refusal(out, StoreFault::NotFormatted),
             (Command::Store(count), Some(session)) => store(session, count, out),
             (Command::Read(number), Some(session)) => read(session, number, out),
+            (Command::Lock(from, to), Some(session)) => lock(session, from, to, out),
+            (Command::Unlock(id), Some(session)) => unlock(session, id, out),
             (Command::List, Some(session)) => list(session, self.alloc, out),
         }
     }
@@ -212,6 +214,31 @@ fn read<A: Allocator + Copy, W: Write>(
             }
             writeln!(out)
         }
+    }
+}
+
+// Locks a clip, and prints its id.
+fn lock<A: Allocator + Copy, W: Write>(
+    session: &mut Session<A>,
+    from: u64,
+    to: u64,
+    out: &mut W,
+) -> io::Result<()> {
+    match session.lock(from, to) {
+        Err(fault) => print_refusal(out, fault),
+        Ok(id) => writeln!(out, "locked {id}"),
+    }
+}
+
+// Unlocks a clip.
+fn unlock<A: Allocator + Copy, W: Write>(
+    session: &mut Session<A>,
+    id: u32,
+    out: &mut W,
+) -> io::Result<()> {
+    match session.unlock(id) {
+        Err(fault) => print_refusal(out, fault),
+        Ok(()) => writeln!(out, "unlocked {id}"),
     }
 }
 

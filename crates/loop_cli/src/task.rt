@@ -3,6 +3,7 @@ ghost use Rattle.std.specs.Prelude.{◌≡◌};
 ghost use Rattle.loop_cli.specs.Tasks.{on_file_said, task_said};
 
 use crate::command::geometry_in;
+use crate::number::{number, small_number};
 use loop_record::Geometry;
 
 /// What the words ask for.
@@ -21,6 +22,10 @@ pub enum FileCommand {
     Format(Geometry),
     /// `list PATH`: as the line of a script.
     List,
+    /// `lock PATH A B`: as the line of a script.
+    Lock(u64, u64),
+    /// `unlock PATH ID`: as the line of a script.
+    Unlock(u32),
 }
 
 /// What a name and the words behind it ask for; `None` where they can't be read.
@@ -40,6 +45,8 @@ fn read_file_command(name: &str, words: &[&str]) -> Option<FileCommand>
 {
     match words {
         [] if name == "list" => Some(FileCommand::List),
+        [id] if name == "unlock" => Some(FileCommand::Unlock(small_number(id)?)),
+        [from, to] if name == "lock" => Some(FileCommand::Lock(number(from)?, number(to)?)),
         [width, height, format, rate, segments, slots] if name == "format" => {
             let geometry = geometry_in(width, height, format, rate, segments, slots)?;
             Some(FileCommand::Format(geometry))
