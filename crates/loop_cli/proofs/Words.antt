@@ -1,5 +1,5 @@
 -- The words of a line, first word by first word.
-use Rattle.std.proofs.Common.{◌≡◌, ℕ, ◌<◌, ◌==◌, List, [], ◌∷◌, length, true, false, cond, ap, refl, get_or, ◌≢◌, Option, Some, None, codes, arith, rules, tests}
+use Rattle.std.proofs.Common.{◌≡◌, ℕ, ◌<◌, ◌≤◌, ◌==◌, List, [], ◌∷◌, length, true, false, cond, ap, refl, get_or, ◌≢◌, Option, Some, None, codes, arith, rules, tests}
 use Rattle.std.specs.List.{position_or_len, before_first, after_first, onto_first}
 use Rattle.std.specs.Option.{is_some}
 use Rattle.std.specs.Str.{bytes_eq}
@@ -7,7 +7,8 @@ use Rattle.std.proofs.lemmas.Bool.{false≢true}
 use denote.Ref.{Bor}
 use Rattle.std.proofs.lemmas.List.Splits.{slice_split_first, slice_split_none}
 use Rattle.std.proofs.lemmas.Grind.{common_steps}
-use Rattle.loop_cli.specs.Script.{behind, geometry_said, said, words}
+use Rattle.loop_cli.specs.Tasks.{on_file_said}
+use Rattle.loop_cli.specs.Script.{behind, geometry_said, lock_said, said, words}
 
 -- a line with a space: its first word, and the words behind that space
 pub words-parted : (line word rest : List ℕ) → word ≡ before_first (λ b. b == 32) line → rest ≡ after_first (λ b. b == 32) line → position_or_len (λ b. b == 32) line < length line → words line ≡ word ∷ words rest
@@ -30,11 +31,31 @@ words-some (b ∷ line) =
       | false ↦ (b ∷ some.0, some.1, ap (onto_first b) some.2)
     ]
 
--- a name and more words than a number can't be read, but for a geometry
-pub said-long : (name argument rest : List ℕ) → bytes_eq name (codes "format") ≡ false → said (name ∷ argument ∷ words rest) ≡ None
-said-long name argument rest other = let some = words-some rest in rw (some.2, other) refl
+-- a name and more words than a number can't be read, but for a geometry and a lock
+pub said-long : (name argument rest : List ℕ) → bytes_eq name (codes "format") ≡ false → bytes_eq name (codes "lock") ≡ false → said (name ∷ argument ∷ words rest) ≡ None
+said-long name argument rest other also = let some = words-some rest in rw (some.2, other, also) refl
+
+-- a lock's two numbers
+pub said-lock : (name argument rest : List ℕ) → bytes_eq name (codes "format") ≡ false → bytes_eq name (codes "lock") ≡ true → said (name ∷ argument ∷ words rest) ≡ lock_said argument (words rest)
+said-lock name argument rest other is = let some = words-some rest in rw (some.2, other, is) refl
+
+-- more than one word behind the first number name no lock
+pub lock-long : (from to : List ℕ) (rest : Option (Bor (List ℕ))) → is_some rest ≡ true → lock_said from (to ∷ behind rest) ≡ None
+lock-long from to None there = absurd (false≢true there)
+lock-long from to (Some rest) there = let some = words-some rest.now in rw some.2 refl
 
 -- more than six words name no geometry
 pub geometry-long : (a b c d e f : List ℕ) (rest : Option (Bor (List ℕ))) → is_some rest ≡ true → geometry_said (a ∷ b ∷ c ∷ d ∷ e ∷ f ∷ behind rest) ≡ None
 geometry-long a b c d e f None there = absurd (false≢true there)
 geometry-long a b c d e f (Some rest) there = let some = words-some rest.now in rw some.2 refl
+
+-- six words or more behind a path name nothing but a geometry
+pub six-words : (name : List ℕ) (words : List (Bor (List ℕ))) → 6 ≤ length words → bytes_eq name (codes "format") ≡ false → on_file_said name words ≡ None
+six-words name [] many other = absurd (omega (arith, many))
+six-words name (a ∷ []) many other = absurd (omega (arith, many))
+six-words name (a ∷ b ∷ []) many other = absurd (omega (arith, many))
+six-words name (a ∷ b ∷ c ∷ []) many other = absurd (omega (arith, many))
+six-words name (a ∷ b ∷ c ∷ d ∷ []) many other = absurd (omega (arith, many))
+six-words name (a ∷ b ∷ c ∷ d ∷ e ∷ []) many other = absurd (omega (arith, many))
+six-words name (a ∷ b ∷ c ∷ d ∷ e ∷ f ∷ []) many other = rw other refl
+six-words name (a ∷ b ∷ c ∷ d ∷ e ∷ f ∷ g ∷ more) many other = refl

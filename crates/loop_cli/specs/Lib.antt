@@ -2,3 +2,4 @@ pub mod Pattern
 pub mod Refusals
 pub mod Script
 pub mod Sessions
+pub mod Tasks

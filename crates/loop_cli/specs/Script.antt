@@ -7,7 +7,7 @@ use Rattle.std.specs.Str.{bytes_eq}
 use Rattle.std.specs.Str.Parse.{digits_value}
 use denote.Ref.{Bor}
 use Rattle.loop_cli.specs.declared.command.Command.{Command}
-use Rattle.loop_cli.specs.declared.command.Command.TheVariants.{Format, Store, Read, List as ListAll, Reopen}
+use Rattle.loop_cli.specs.declared.command.Command.TheVariants.{Format, Store, Read, Lock, Unlock, List as ListAll, Reopen}
 use Rattle.loop_record.specs.declared.geometry.Geometry.{Geometry}
 use Rattle.loop_record.specs.declared.geometry.PixelFormat.{PixelFormat}
 use Rattle.loop_record.specs.declared.geometry.PixelFormat.TheVariants.{Grey, Ym12, Ym16, Ym24}
@@ -67,7 +67,13 @@ geometry_said _ = None
 abbrev pub counted_said : List ℕ → List ℕ → Option Command
 counted_said name argument =
     if bytes_eq name (codes "store") then option_map Store (number argument)
-    else if bytes_eq name (codes "read") then option_map Read (number argument) else None
+    else if bytes_eq name (codes "read") then option_map Read (number argument)
+    else if bytes_eq name (codes "unlock") then option_map Unlock (small_number argument) else None
+
+-- a lock of a first number and of the words behind it, where they are one more number
+abbrev pub lock_said : List ℕ → List (List ℕ) → Option Command
+lock_said from (to ∷ []) = option_map (λ span. Lock span.0 span.1) (option_zip (number from) (number to))
+lock_said from _ = None
 
 -- what a name alone asks for
 abbrev pub named_said : List ℕ → Option Command
@@ -82,4 +88,5 @@ said (name ∷ []) = named_said name
 said (name ∷ argument ∷ []) =
     if bytes_eq name (codes "format") then None else counted_said name argument
 said (name ∷ argument ∷ second ∷ more) =
-    if bytes_eq name (codes "format") then option_map Format (geometry_said (argument ∷ second ∷ more)) else None
+    if bytes_eq name (codes "format") then option_map Format (geometry_said (argument ∷ second ∷ more))
+    else if bytes_eq name (codes "lock") then lock_said argument (second ∷ more) else None

@@ -1,6 +1,6 @@
 // The lines of a script.
 ghost use Rattle.std.specs.Prelude.{◌≡◌, ◌∷◌};
-ghost use Rattle.loop_cli.specs.Script.{behind, format_named, geometry_said, rate_said, said, words};
+ghost use Rattle.loop_cli.specs.Script.{behind, format_named, geometry_of, geometry_said, lock_said, rate_said, said, small_number as said_number, words};
 
 use crate::number::{number, small_number};
 use loop_record::{Geometry, PixelFormat};
@@ -14,7 +14,11 @@ pub enum Command {
     Store(u64),
     /// `read N`: the frame of that number.
     Read(u64),
-    /// `list`: the next number, and the held ones.
+    /// `lock A B`: a clip of the frames from A to B.
+    Lock(u64, u64),
+    /// `unlock ID`: the clip of that id.
+    Unlock(u32),
+    /// `list`: the next number, the held ones and the clips.
     List,
     /// `reopen`: the store's disk is taken out, and the store found on it again.
     Reopen,
@@ -35,10 +39,23 @@ pub fn read_command(line: &str) -> Option<Command>
             match rest {
                 None if name == "store" => Some(Command::Store(number(argument)?)),
                 None if name == "read" => Some(Command::Read(number(argument)?)),
+                None if name == "unlock" => Some(Command::Unlock(small_number(argument)?)),
+                Some(rest) if name == "lock" => lock(argument, rest),
                 _ => None,
             }
         }
     }
+}
+
+// The lock of a first number and of the words behind it.
+fn lock(from: &str, text: &str) -> Option<Command>
+    ensures { result ≡ lock_said from.now (words text.now) }
+{
+    let (to, rest) = first_word(text);
+    if rest.is_some() {
+        return None;
+    }
+    Some(Command::Lock(number(from)?, number(to)?))
 }
 
 // The first word, and what stands behind the space that ends it.
@@ -64,6 +81,21 @@ fn geometry(text: &str) -> Option<Geometry>
     if rest.is_some() {
         return None;
     }
+    geometry_in(width, height, format, rate, segments, slots)
+}
+
+/// The geometry that six words name.
+pub fn geometry_in(
+    width: &str,
+    height: &str,
+    format: &str,
+    rate: &str,
+    segments: &str,
+    slots: &str,
+) -> Option<Geometry>
+    ensures { result ≡ geometry_of (said_number width.now) (said_number height.now) (format_named format.now)
+        (rate_said rate.now) (said_number segments.now) (said_number slots.now) }
+{
     let width = small_number(width)?;
     let height = small_number(height)?;
     let format = pixel_format(format)?;

@@ -11,7 +11,9 @@
 #![tactic(auto)]
 
 mod command;
+mod files;
 mod lines;
+mod listing;
 mod number;
 mod pattern;
 mod program;
@@ -19,6 +21,7 @@ mod refusal;
 mod runs;
 mod session;
 mod simulate;
+mod task;
 
 use program::{run_words, words_refused};
 use std::env;

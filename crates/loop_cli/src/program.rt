@@ -1,14 +1,18 @@
 // The program's words.
 
+use crate::files::run_on_file;
 use crate::refusal::print_refusal;
 use crate::simulate::simulate;
-use clap::Command;
+use crate::task::{Task, read_task};
 use clap::error::ErrorKind;
+use clap::{Arg, ArgAction, Command};
 use loop_store::StoreFault;
-use std::alloc::Global;
+use std::alloc::{AllocError, Global};
 use std::convert::AsStr;
+use std::fs::File;
 use std::io;
 use std::io::{Read, Write};
+use std::rt::Files;
 
 /// The status of a run that was refused, or that couldn't be read or printed to its end.
 const FAILED: u8 = 1;
@@ -16,17 +20,14 @@ const FAILED: u8 = 1;
 /// The status of a run whose words can't be read.
 const BAD_WORDS: u8 = 2;
 
-/// What the words ask for.
-#[derive(Clone, Copy, Debug, PartialEq, Eq)]
-enum Task {
-    /// A script from the input.
-    Simulate,
-}
+/// The commands of the program.
+const COMMANDS: [&str; 5] = ["simulate", "format", "list", "lock", "unlock"];
 
 /// Does what the words behind the program's name ask for, and answers the status with which the program ends:
-/// 0; 1 for a script that can't be read to its end, for a failed write and for want of memory; 2 for words that
-/// can't be read. No words are the same as `simulate`.
-pub fn run_words<R: AllocGlobal, S: AsStr, I: Read + Drop, W: Write, E: Write>(
+/// 0; 1 for a script that can't be read to its end, for a file that can't be had, for a refusal of a command on a
+/// file, for a failed write and for want of memory; 2 for words that can't be read. No words are the same as
+/// `simulate`.
+pub fn run_words<R: AllocGlobal + Files<File = File>, S: AsStr, I: Read + Drop, W: Write, E: Write>(
     rt: &R,
     words: &[S],
     input: I,
@@ -36,6 +37,7 @@ pub fn run_words<R: AllocGlobal, S: AsStr, I: Read + Drop, W: Write, E: Write>(
     let alloc = rt.alloc();
     match read_words(alloc, words) {
         Ok(Task::Simulate) => simulate(alloc, input, out, err),
+        Ok(Task::OnFile(path, command)) => run_on_file(rt, path, command, out, err),
         Err(ErrorKind::OutOfMemory) => no_memory(err),
         Err(_) => bad_words(err),
     }
@@ -51,18 +53,32 @@ pub fn words_refused<E: Write>(error: &io::Error, err: &mut E) -> u8 {
 }
 
 // The task that the words name, or the kind of what is wrong with them.
-fn read_words<S: AsStr>(alloc: Global, words: &[S]) -> Result<Task, ErrorKind> {
-    let simulate = Command::new(alloc, "simulate");
-    match Command::new(alloc, "loop_cli")
-        .no_binary_name(true)
-        .subcommand(simulate)
-    {
-        Err(_) => Err(ErrorKind::OutOfMemory),
-        Ok(command) => match command.try_get_matches_from(words) {
-            Err(error) => Err(error.kind()),
-            Ok(_) => Ok(Task::Simulate),
+fn read_words<S: AsStr>(alloc: Global, words: &[S]) -> Result<Task<'_>, ErrorKind> {
+    let Ok(program) = program(alloc) else {
+        return Err(ErrorKind::OutOfMemory);
+    };
+    match program.try_get_matches_from(words) {
+        Err(error) => Err(error.kind()),
+        Ok(matches) => match matches.subcommand() {
+            None => Ok(Task::Simulate),
+            Some((name, found)) => {
+                let words = found.get_strs("words").unwrap_or(&[]);
+                read_task(name, words).ok_or(ErrorKind::InvalidValue)
+            }
         },
     }
+}
+
+// The program as a parser of words: each command takes any words, which are then judged together.
+fn program<'a>(alloc: Global) -> Result<Command<'a>, AllocError> {
+    let mut program = Command::new(alloc, "loop_cli").no_binary_name(true);
+    for name in COMMANDS {
+        let words = Arg::new(alloc, "words")
+            .num_args(0..)
+            .action(ArgAction::Append);
+        program = program.subcommand(Command::new(alloc, name).arg(words)?)?;
+    }
+    Ok(program)
 }
 
 fn no_memory<E: Write>(err: &mut E) -> u8 {

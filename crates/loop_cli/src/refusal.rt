@@ -7,7 +7,8 @@ use loop_store::StoreFault;
 use std::io::Write;
 use std::{fmt, io};
 
-/// A refusal's words: `refused`, its number and its name, and behind `Damaged` the number of the kind; one space apart.
+/// A refusal's words: `refused`, its number and its name, behind `Damaged` the number of the kind, and behind `ClipNotHeld`
+/// that of the frame; one space apart.
 #[derive(Clone, Copy, Debug)]
 pub struct RefusalWords(pub StoreFault);
 
@@ -22,6 +23,7 @@ impl fmt::Display for RefusalWords {
                 let kind = damage.number();
                 write!(f, "refused {number} {name} {kind}")
             }
+            StoreFault::ClipNotHeld(frame) => write!(f, "refused {number} {name} {frame}"),
             _ => write!(f, "refused {number} {name}"),
         }
     }

@@ -4,7 +4,7 @@ ghost use Rattle.loop_record.specs.declared.damage.Damage.TheVariants.{SlotHead}
 ghost use Rattle.loop_record.specs.Geometry.{frame_bytes, is_good};
 ghost use Rattle.loop_record.specs.Plain.{pictures};
 ghost use Rattle.loop_record.specs.Recording.{Recording, empty};
-ghost use Rattle.loop_store.specs.Calls.{appended, read_with, was_read};
+ghost use Rattle.loop_store.specs.Calls.{appended, locked, read_with, unlocked, was_read};
 ghost use Rattle.loop_store.specs.Faults.{is_disk};
 ghost use Rattle.loop_store.specs.Formatted.{IsFormatted};
 ghost use Rattle.loop_store.specs.Goes.{Goes};
@@ -94,6 +94,27 @@ impl<A: Allocator + Copy> Session<A> {
         Ok(number)
     }
 
+    /// Locks the frames from a number to another; answers the clip's id. It answers ClipEmpty, ClipNotHeld or
+    /// ClipTableFull, and then has changed nothing.
+    pub fn lock(&mut self, from: u64, to: u64) -> Result<u32, StoreFault>
+        ensures goes { Goes ⟦<MemDisk<A> as Disk>⟧.medium self.old.store self.new.store
+            (locked (record { from = from; to = to }) result ∷ []) }
+        ensures fine { IfErr result (λ fault. is_disk fault ≡ false) }
+        ensures kept { (self.new.accepted ≡ self.old.accepted) × (self.new.pixels ≡ self.old.pixels) }
+    {
+        self.store.lock(from, to)
+    }
+
+    /// Unlocks the clip of an id. It answers NoSuchClip, and then has changed nothing.
+    pub fn unlock(&mut self, id: u32) -> Result<(), StoreFault>
+        ensures goes { Goes ⟦<MemDisk<A> as Disk>⟧.medium self.old.store self.new.store
+            (unlocked id result ∷ []) }
+        ensures fine { IfErr result (λ fault. is_disk fault ≡ false) }
+        ensures kept { (self.new.accepted ≡ self.old.accepted) × (self.new.pixels ≡ self.old.pixels) }
+    {
+        self.store.unlock(id)
+    }
+
     /// Takes the disk out of the store and finds the store on it again; the frames that were accepted stay so.
     /// It answers NoMemory, and then leaves nothing behind. So does a disk that holds no store of this
     /// geometry, which is refused as NotFormatted, Damaged or BadGeometry.
@@ -151,20 +172,11 @@ impl<A: Allocator + Copy> Session<A> {
         &self.pixels
     }
 
-    /// The number of the next frame.
-    pub fn next(&self) -> u64
-        ensures { result ≡ self.now.store.next }
+    /// The store.
+    pub fn store(&self) -> &Store<MemDisk<A>, A>
+        ensures { result.now ≡ self.now.store }
     {
-        self.store.next()
-    }
-
-    /// The held numbers, rising. It answers NoMemory.
-    pub fn frames(&self, alloc: A) -> Result<Vec<u64, A>, StoreFault>
-        ensures numbers { (r : Recording) → StandsFor ⟦<MemDisk<A> as Disk>⟧.medium self.now.store r
-            → IfOk result (λ numbers. numbers.items ≡ map (λ f. f.0) r.frames) }
-        ensures refusals { IfErr result (λ fault. fault ≡ StoreFault.NoMemory) }
-    {
-        self.store.frames(alloc)
+        &self.store
     }
 }
 

@@ -2,8 +2,8 @@
 
 use crate::command::{Command, read_command};
 use crate::lines::{MAX_LINE, next_line};
+use crate::listing::Listing;
 use crate::refusal::print_refusal;
-use crate::runs::run_length;
 use crate::session::Session;
 use loop_record::Geometry;
 use loop_store::StoreFault;
@@ -129,6 +129,8 @@ impl<A: Allocator + Copy> Simulation<A> {
             (_, None) => print_refusal(out, StoreFault::NotFormatted),
             (Command::Store(count), Some(session)) => store(session, count, out),
             (Command::Read(number), Some(session)) => read(session, number, out),
+            (Command::Lock(from, to), Some(session)) => lock(session, from, to, out),
+            (Command::Unlock(id), Some(session)) => unlock(session, id, out),
             (Command::List, Some(session)) => list(session, self.alloc, out),
         }
     }
@@ -215,31 +217,39 @@ fn read<A: Allocator + Copy, W: Write>(
     }
 }
 
-// Prints the next number and each longest run of held ones.
+// Locks a clip, and prints its id.
+fn lock<A: Allocator + Copy, W: Write>(
+    session: &mut Session<A>,
+    from: u64,
+    to: u64,
+    out: &mut W,
+) -> io::Result<()> {
+    match session.lock(from, to) {
+        Err(fault) => print_refusal(out, fault),
+        Ok(id) => writeln!(out, "locked {id}"),
+    }
+}
+
+// Unlocks a clip.
+fn unlock<A: Allocator + Copy, W: Write>(
+    session: &mut Session<A>,
+    id: u32,
+    out: &mut W,
+) -> io::Result<()> {
+    match session.unlock(id) {
+        Err(fault) => print_refusal(out, fault),
+        Ok(()) => writeln!(out, "unlocked {id}"),
+    }
+}
+
+// Prints what is listed of the store.
 fn list<A: Allocator + Copy, W: Write>(
     session: &Session<A>,
     alloc: A,
     out: &mut W,
 ) -> io::Result<()> {
-    match session.frames(alloc) {
+    match Listing::of(session.store(), alloc) {
         Err(fault) => print_refusal(out, fault),
-        Ok(numbers) => {
-            let next = session.next();
-            writeln!(out, "next {next}")?;
-            print_runs(&numbers, out)
-        }
+        Ok(listing) => listing.print(out),
     }
-}
-
-// Prints each longest run of numbers that follow one another.
-fn print_runs<W: Write>(numbers: &[u64], out: &mut W) -> io::Result<()> {
-    let mut rest = numbers;
-    while !rest.is_empty() {
-        let (run, behind) = rest.split_at(run_length(rest));
-        let first = run[0];
-        let last = run[run.len() - 1];
-        writeln!(out, "frames {first}..{last}")?;
-        rest = behind;
-    }
-    Ok(())
 }

@@ -1,5 +1,8 @@
+use crate::command::{Command, read_command};
 use crate::lines::{BadLine, next_line};
-use crate::program::run_words;
+use crate::number::small_number;
+use crate::pattern::{fill_pattern, pattern_sequence, pattern_timestamp};
+use crate::program::{run_words, words_refused};
 use crate::refusal::print_refusal;
 use crate::session::Session;
 use crate::simulate::simulate;
@@ -13,11 +16,13 @@ use std::io;
 use std::io::{Error, ErrorKind, Read, Write};
 use std::test::Fail;
 
+mod files;
+
 // A script, what it prints, what it tells on the other output, and the status.
 type Row = (&'static [u8], &'static str, &'static str, u8);
 
 // Scripts that are read to their end.
-static RUNS: [Row; 18] = [
+static RUNS: [Row; 20] = [
     (b"", "", "", 0),
     (
         b"format 4 2 YM12 25:1 3 2\nstore 2\nlist\n",
@@ -48,6 +53,20 @@ static RUNS: [Row; 18] = [
     (
         b"format 4 2 YM12 25:1 3 2\nstore 7\nreopen\nreopen\nlist\nread 6\n",
         "formatted\nstored 0..6\nopened\nopened\nnext 7\nframes 2..6\nframe 6 sequence 6 time 240000 bytes 060708090a0b0c0d\n",
+        "",
+        0,
+    ),
+    // A locked block stays, and the next one goes in its place.
+    (
+        b"format 4 2 YM12 25:1 3 2\nstore 7\nlock 2 2\nstore 2\nlist\n",
+        "formatted\nstored 0..6\nlocked 0\nstored 7..8\nnext 9\nframes 2..3\nframes 6..8\nclip 0 2..2\n",
+        "",
+        0,
+    ),
+    // Where each block is locked or the newest, none goes until one is unlocked.
+    (
+        b"lock 0 0\nunlock 0\nformat 4 2 YM12 25:1 3 2\nstore 7\nlock 2 2\nstore 2\nlock 6 6\nstore 2\nlist\nunlock 1\nreopen\nstore 1\nlist\nlock 2 18446744073709551615\n",
+        "refused 4 NotFormatted\nrefused 4 NotFormatted\nformatted\nstored 0..6\nlocked 0\nstored 7..8\nlocked 1\nstored 9..9\nrefused 6 AllLocked\nnext 10\nframes 2..3\nframes 6..9\nclip 0 2..2\nclip 1 6..6\nunlocked 1\nopened\nstored 10..10\nnext 11\nframes 2..3\nframes 8..10\nclip 0 2..2\nrefused 10 ClipNotHeld 4\n",
         "",
         0,
     ),
@@ -134,7 +153,7 @@ static RUNS: [Row; 18] = [
 ];
 
 // Lines that can't be read, each alone.
-static BAD_LINES: [&[u8]; 34] = [
+static BAD_LINES: [&[u8]; 40] = [
     b"\n",
     b"list\r\n",
     b"list \n",
@@ -160,8 +179,14 @@ static BAD_LINES: [&[u8]; 34] = [
     b"reopen \n",
     b"flush\n",
     b"submit 1\n",
-    b"lock 0 0\n",
-    b"unlock 0\n",
+    b"lock 0\n",
+    b"lock 0 \n",
+    b"lock 0 x\n",
+    b"lock 0 0 0\n",
+    b"locks 0 0\n",
+    b"unlock\n",
+    b"unlock 4294967296\n",
+    b"unlock 0 0\n",
     b"format 4 2 YM12 25:1 3\n",
     b"format 4 2 YM12 25:1 3 2 1\n",
     b"format 4 2 YM12 25 3 2\n",
@@ -172,7 +197,7 @@ static BAD_LINES: [&[u8]; 34] = [
 ];
 
 // Words, what they tell beside the script's output, and the status.
-static WORDS: [(&[&str], &str, u8); 12] = [
+static WORDS: [(&[&str], &str, u8); 22] = [
     (&[], "", 0),
     (&["simulate"], "", 0),
     (&["help"], "bad command\n", 2),
@@ -184,7 +209,29 @@ static WORDS: [(&[&str], &str, u8); 12] = [
     (&[""], "bad command\n", 2),
     (&["simulate", "junk"], "bad command\n", 2),
     (&["simulate", "--help"], "bad command\n", 2),
-    (&["list", "path"], "bad command\n", 2),
+    (&["list"], "bad command\n", 2),
+    (&["list", "words.img", "1"], "bad command\n", 2),
+    (&["list", "--help"], "bad command\n", 2),
+    (&["lock", "words.img", "1"], "bad command\n", 2),
+    (&["lock", "words.img", "1 2"], "bad command\n", 2),
+    (&["lock", "words.img", "-1", "2"], "bad command\n", 2),
+    (&["lock", "words.img", "1", "2", "3"], "bad command\n", 2),
+    (&["unlock", "words.img", "4294967296"], "bad command\n", 2),
+    (
+        &["unlock", "words.img", "000000000000000000001"],
+        "bad command\n",
+        2,
+    ),
+    (
+        &["format", "words.img", "4", "2", "YM12", "25:1", "3"],
+        "bad command\n",
+        2,
+    ),
+    (
+        &["format", "words.img", "4", "2", "YM13", "25:1", "3", "2"],
+        "bad command\n",
+        2,
+    ),
 ];
 
 #[test]
@@ -235,6 +282,26 @@ fn words_that_cannot_be_read_are_told(rt: HostRuntime) -> Result<(), Fail> {
             "{words:?}"
         );
     }
+    Ok(())
+}
+
+#[test]
+fn sixty_four_clips_may_be_locked(rt: HostRuntime) -> Result<(), Fail> {
+    let mut script: Vec<u8> = Vec::new(rt.alloc());
+    script.extend_from_slice(b"format 4 2 YM12 25:1 3 2\nstore 7\nlock 5 4\nlock 0 0\nlock 5 9\n")?;
+    let mut wanted: Vec<u8> = Vec::new(rt.alloc());
+    let refused = "refused 9 ClipEmpty\nrefused 10 ClipNotHeld 0\nrefused 10 ClipNotHeld 7\n";
+    write!(wanted, "formatted\nstored 0..6\n{refused}")?;
+    for id in 0..64 {
+        script.extend_from_slice(b"lock 6 6\n")?;
+        writeln!(wanted, "locked {id}")?;
+    }
+    script.extend_from_slice(b"lock 6 6\nunlock 64\n")?;
+    write!(wanted, "refused 11 ClipTableFull\nrefused 12 NoSuchClip\n")?;
+    let mut out: Vec<u8> = Vec::new(rt.alloc());
+    let status = simulate(rt.alloc(), script.as_slice(), &mut out, &mut Broken);
+    assert_eq!(rt; status, 0);
+    assert_eq!(rt; out.as_slice(), wanted.as_slice());
     Ok(())
 }
 
@@ -480,7 +547,7 @@ fn stores_and_reads_take_no_memory(rt: HostRuntime) -> Result<(), Fail> {
 }
 
 #[test]
-fn a_refusal_is_printed_with_its_number_its_name_and_the_kind_of_damage(
+fn a_refusal_is_printed_with_its_number_its_name_and_its_argument(
     rt: HostRuntime,
 ) -> Result<(), Fail> {
     for (fault, line) in [
@@ -495,12 +562,43 @@ fn a_refusal_is_printed_with_its_number_its_name_and_the_kind_of_damage(
             StoreFault::Damaged(Damage::ClipRange),
             "refused 5 Damaged 7\n",
         ),
+        (StoreFault::ClipEmpty, "refused 9 ClipEmpty\n"),
+        (
+            StoreFault::ClipNotHeld(u64::MAX),
+            "refused 10 ClipNotHeld 18446744073709551615\n",
+        ),
         (StoreFault::NumbersSpent, "refused 14 NumbersSpent\n"),
     ] {
         let mut out: Vec<u8> = Vec::new(rt.alloc());
         print_refusal(&mut out, fault)?;
         assert_eq!(rt; out.as_slice(), line.as_bytes(), "{line}");
         assert!(rt; print_refusal(&mut Broken, fault).is_err(), "{line}");
+    }
+    Ok(())
+}
+
+#[test]
+fn lines_numbers_and_frames_of_the_pattern_are_made_alone(rt: HostRuntime) -> Result<(), Fail> {
+    assert_eq!(rt;
+        read_command("lock 2 18446744073709551615"),
+        Some(Command::Lock(2, u64::MAX))
+    );
+    assert_eq!(rt; read_command("lock 2"), None);
+    assert_eq!(rt; small_number("00004294967295"), Some(u32::MAX));
+    assert_eq!(rt; small_number("4294967296"), None);
+    let mut bytes = [0; 4];
+    fill_pattern(&mut bytes, 510);
+    assert_eq!(rt; bytes, [254, 255, 0, 1]);
+    assert_eq!(rt; pattern_sequence((1 << 32) + 3), 3);
+    assert_eq!(rt; pattern_timestamp(2, 30000, 1001), 66733);
+    assert_eq!(rt; pattern_timestamp(u64::MAX, 1, 1), u64::MAX);
+    for (kind, told, status) in [
+        (ErrorKind::OutOfMemory, "refused 1 NoMemory\n", 1),
+        (ErrorKind::InvalidData, "bad command\n", 2),
+    ] {
+        let mut err: Vec<u8> = Vec::new(rt.alloc());
+        assert_eq!(rt; words_refused(&Error::from(kind), &mut err), status);
+        assert_eq!(rt; err.as_slice(), told.as_bytes());
     }
     Ok(())
 }

@@ -5,11 +5,11 @@ ghost use Rattle.loop_disk.specs.History.{unknown};
 
 use crate::{Disk, DiskFault, Failures};
 use std::fs::{File, OpenFile, OpenOptions, TryLockError};
-use std::io;
 use std::io::ErrorKind;
 use std::os::unix::fs::FileExt;
 use std::path::Path;
 use std::rt::Files;
+use std::{fs, io};
 use thiserror::Error;
 
 /// Why a file can't be had as a disk.
@@ -30,7 +30,10 @@ pub enum FileFault {
     /// The path names a device or a pipe.
     #[error("this is not a regular file")]
     NotRegular,
-    /// The system refused for another cause: no room for a file of that size, for one.
+    /// The file system is full, or the owner's share of it is.
+    #[error("there is no room for the file")]
+    NoRoom,
+    /// The system refused for another cause: a size that no file may have, for one.
     #[error("the file can't be opened")]
     Failed,
 }
@@ -41,10 +44,16 @@ impl From<io::Error> for FileFault {
             ErrorKind::NotFound => FileFault::Missing,
             ErrorKind::PermissionDenied | ErrorKind::ReadOnlyFilesystem => FileFault::Denied,
             ErrorKind::IsADirectory => FileFault::Folder,
+            ErrorKind::StorageFull | ErrorKind::QuotaExceeded => FileFault::NoRoom,
             _ => FileFault::Failed,
         }
     }
 }
+
+// How much of a fresh file is written at a time.
+const PIECE: usize = 1 << 20;
+
+static ZEROS: [u8; PIECE] = [0; PIECE];
 
 /// A disk over a file: as many bytes as the file had when it was opened.
 ///
@@ -58,9 +67,11 @@ pub struct FileDisk<F = File> {
 }
 
 impl FileDisk {
-    /// Makes the file anew, with so many bytes of zero, or makes an old one so. Its name is on the disk when
-    /// this answers Ok. A file that another program holds keeps its bytes, and so does one that can't have that
-    /// size.
+    /// Makes the file anew, with so many bytes of zero, or makes an old one so. At Ok its name is on the disk,
+    /// and each of its bytes has its place there: later writes find room on a full file system too. That takes
+    /// as long as to write so many bytes. A file that another program holds keeps its bytes, and so does an
+    /// old one that can't have that size or has no room to grow to it. Where nothing is kept, a file without
+    /// room is removed.
     pub fn create<R: Files<File = File>>(rt: &R, path: &str, size: u64) -> Result<Self, FileFault>
         ensures size { IfOk result (λ disk. (⟦<FileDisk<File> as Disk>⟧.medium disk).size ≡ size) }
         ensures counted { IfOk result (λ disk. (⟦<FileDisk<File> as Disk>⟧.medium disk).failures ≡ no_failures) }
@@ -72,7 +83,16 @@ impl FileDisk {
             .open(rt, path)?;
         take(&file)?;
         let folder = File::open(rt, folder_of(path))?;
-        FileDisk::fresh_over(file, &folder, size)
+        match make_fresh(&file, &folder, size) {
+            Ok(()) => Ok(FileDisk::of_size(file, size)),
+            Err(fault) => {
+                // The lock is still held, so this is nobody else's file.
+                if fault == FileFault::NoRoom && file.metadata()?.len() == 0 {
+                    fs::remove_file(rt, path)?;
+                }
+                Err(fault)
+            }
+        }
     }
 
     /// Opens a file that is there, for reading and writing. Its length is the disk's size.
@@ -109,36 +129,85 @@ fn folder_of(path: &str) -> Path<'_> {
     }
 }
 
+// Gives a file so many bytes of zero, and syncs it and its folder.
+fn make_fresh<F: OpenFile + FileExt, G: OpenFile>(
+    file: &F,
+    folder: &G,
+    size: u64,
+) -> Result<(), FileFault> {
+    let kept = file.metadata()?.len();
+    // What is new is written first: where it has no room, the old bytes are still there.
+    if let Err(error) = grow(file, kept, size) {
+        file.set_len(kept)?;
+        return Err(FileFault::from(error));
+    }
+    if let Err(error) = clear(file, kept.min(size)) {
+        file.set_len(0)?;
+        return Err(FileFault::from(error));
+    }
+    folder.sync_all()?;
+    Ok(())
+}
+
+// Gives a file that size, and writes what is new.
+fn grow<F: OpenFile + FileExt>(file: &F, kept: u64, size: u64) -> io::Result<()> {
+    file.set_len(size)?;
+    write_zeros(file, kept, size)
+}
+
+// Writes over a file's first bytes, and syncs it.
+fn clear<F: OpenFile + FileExt>(file: &F, kept: u64) -> io::Result<()> {
+    write_zeros(file, 0, kept)?;
+    file.sync_all()
+}
+
+// A piece of zeros.
+fn zeros() -> &'static [u8; PIECE] {
+    &ZEROS
+}
+
+// Writes zeros from one place of a file up to another, so that the file system has to find room for them.
+fn write_zeros<F: FileExt>(file: &F, from: u64, to: u64) -> io::Result<()> {
+    let zeros = zeros();
+    let mut at = from;
+    while at < to {
+        let count = (to - at).min(PIECE as u64);
+        file.write_all_at(&zeros[..count as usize], at)?;
+        at += count;
+    }
+    Ok(())
+}
+
 impl<F: OpenFile + FileExt + Drop> FileDisk<F> {
     /// A disk over an open file, which nobody else may use. It takes no lock.
     pub fn over(file: F) -> io::Result<Self>
         ensures { IfOk result (λ disk. (⟦<FileDisk<F> as Disk>⟧.medium disk).failures ≡ no_failures) }
     {
         let size = file.metadata()?.len();
-        Ok(FileDisk {
-            file,
-            size,
-            failures: Failures::none(),
-        })
+        Ok(FileDisk::of_size(file, size))
     }
 
-    /// Makes an open file, which nobody else may use, a disk of so many bytes of zero, and syncs the file and
-    /// then the folder in which it stands. It takes no lock. A file that can't have that size keeps its bytes.
+    /// Makes an open file, which nobody else may use, a disk of so many bytes of zero, each written, and syncs
+    /// the file and then the folder in which it stands. It takes no lock. A file that can't have that size or
+    /// has no room to grow to it keeps its bytes; one whose old bytes can't be written over loses them all.
     pub fn fresh_over<G: OpenFile>(file: F, folder: &G, size: u64) -> Result<Self, FileFault>
         ensures size { IfOk result (λ disk. (⟦<FileDisk<F> as Disk>⟧.medium disk).size ≡ size) }
         ensures counted { IfOk result
             (λ disk. (⟦<FileDisk<F> as Disk>⟧.medium disk).failures ≡ no_failures) }
     {
-        file.set_len(size)?;
-        file.set_len(0)?;
-        file.set_len(size)?;
-        file.sync_all()?;
-        folder.sync_all()?;
-        Ok(FileDisk {
+        make_fresh(&file, folder, size)?;
+        Ok(FileDisk::of_size(file, size))
+    }
+
+    // A disk of that size, of which no call has failed.
+    fn of_size(file: F, size: u64) -> Self
+        ensures { (result.size ≡ size) × (result.failures ≡ no_failures) }
+    {
+        FileDisk {
             file,
             size,
             failures: Failures::none(),
-        })
+        }
     }
 
     // Counts a call that failed.

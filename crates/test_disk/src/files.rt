@@ -269,3 +269,102 @@ fn a_fresh_file_and_its_folder_are_synced_before_the_answer(rt: HostRuntime) -> 
     fs::remove_file(&rt, "folder.img")?;
     Ok(())
 }
+
+// A file with room for so many more bytes, whose writes are counted.
+#[derive(Drop)]
+struct Filling<'a> {
+    file: File,
+    room: &'a Cell<usize>,
+    writes: &'a Cell<u32>,
+}
+
+impl OpenFile for Filling<'_> {
+    fn metadata(&self) -> io::Result<Metadata> {
+        self.file.metadata()
+    }
+
+    fn set_len(&self, size: u64) -> io::Result<()> {
+        self.file.set_len(size)
+    }
+
+    fn sync_all(&self) -> io::Result<()> {
+        self.file.sync_all()
+    }
+
+    fn sync_data(&self) -> io::Result<()> {
+        self.file.sync_data()
+    }
+}
+
+impl FileExt for Filling<'_> {
+    fn read_at(&self, buf: &mut [u8], offset: u64) -> io::Result<usize> {
+        self.file.read_at(buf, offset)
+    }
+
+    fn write_at(&self, buf: &[u8], offset: u64) -> io::Result<usize> {
+        self.writes.set(self.writes.get().wrapping_add(1));
+        let room = self.room.get();
+        if room == 0 {
+            return Err(io::Error::from(ErrorKind::StorageFull));
+        }
+        let count = buf.len().min(room);
+        self.room.set(room - count);
+        self.file.write_at(&buf[..count], offset)
+    }
+}
+
+// The bytes of an old file, the size that it is to have and the room that there is; then the refusal, the writes that
+// were tried, and the bytes that it has afterwards.
+type Filled = (
+    &'static [u8],
+    u64,
+    usize,
+    Option<FileFault>,
+    u32,
+    &'static [u8],
+);
+
+static FILLED: [Filled; 6] = [
+    (b"", 4, 4, None, 1, b"\0\0\0\0"),
+    (b"", 4, 3, Some(FileFault::NoRoom), 2, b""),
+    (b"old", 8, 8, None, 2, b"\0\0\0\0\0\0\0\0"),
+    (b"footage", 3, 3, None, 1, b"\0\0\0"),
+    // What is new has no room, so the old bytes are kept; they have none themselves, so they are lost.
+    (b"old", 8, 4, Some(FileFault::NoRoom), 2, b"old"),
+    (b"old", 8, 6, Some(FileFault::NoRoom), 3, b""),
+];
+
+#[test]
+fn a_fresh_file_has_its_room_or_is_refused(rt: HostRuntime) -> Result<(), Fail> {
+    let path = "filling.img";
+    let folder = File::open(&rt, ".")?;
+    let (room, writes) = (Cell::new(0), Cell::new(0));
+    for (old, size, allowed, refusal, tried, left) in &FILLED {
+        fs::write(&rt, path, *old)?;
+        room.set(*allowed);
+        writes.set(0);
+        let file = OpenOptions::new().read(true).write(true).open(&rt, path)?;
+        let (room, writes) = (&room, &writes);
+        let made = FileDisk::fresh_over(Filling { file, room, writes }, &folder, *size);
+        assert_eq!(rt; made.err(), *refusal, "{old:?} {size} {allowed}");
+        assert_eq!(rt; writes.get(), *tried, "{old:?} {size} {allowed}");
+        assert_eq!(rt;
+            fs::read(&rt, path)?.as_slice(),
+            *left,
+            "{old:?} {size} {allowed}"
+        );
+    }
+    // A megabyte at a time.
+    room.set(3 << 20);
+    writes.set(0);
+    let file = OpenOptions::new().read(true).write(true).open(&rt, path)?;
+    let (room, writes) = (&room, &writes);
+    let disk = FileDisk::fresh_over(Filling { file, room, writes }, &folder, 2_500_000)?;
+    assert_eq!(rt; disk.size(), 2_500_000);
+    assert_eq!(rt; writes.get(), 3);
+    fs::remove_file(&rt, path)?;
+    for kind in [ErrorKind::StorageFull, ErrorKind::QuotaExceeded] {
+        assert_eq!(rt; FileFault::from(io::Error::from(kind)), FileFault::NoRoom);
+    }
+    Ok(())
+}

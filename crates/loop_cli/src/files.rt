@@ -1,0 +1,132 @@
+// Commands on stores in files.
+
+use crate::listing::Listing;
+use crate::refusal::print_refusal;
+use crate::task::FileCommand;
+use loop_disk::FileDisk;
+use loop_record::Geometry;
+use loop_store::{OpenRefused, Store, StoreFault};
+use std::alloc::{AllocGlobal, Global};
+use std::fs::File;
+use std::io;
+use std::io::{BufWriter, Error, Write};
+use std::rt::Files;
+
+/// Why a command wasn't done, or not to its end.
+#[derive(Debug, Drop)]
+enum Undone<'a> {
+    /// The file of this path can't be opened, or not made.
+    CannotOpen(&'a str),
+    /// The store refused.
+    Refused(StoreFault),
+    /// What was done couldn't be printed.
+    Write(Error),
+}
+
+impl From<StoreFault> for Undone<'_> {
+    fn from(fault: StoreFault) -> Self {
+        Undone::Refused(fault)
+    }
+}
+
+impl From<Error> for Undone<'_> {
+    fn from(error: Error) -> Self {
+        Undone::Write(error)
+    }
+}
+
+/// Does a command on the store in the file of this path, and answers the program's status: 0; 1 where the file
+/// can't be had or the store refuses, which `err` then names, and where `out` or `err` fails.
+pub fn run_on_file<R: AllocGlobal + Files<File = File>, W: Write, E: Write>(
+    rt: &R,
+    path: &str,
+    command: FileCommand,
+    out: &mut W,
+    err: &mut E,
+) -> u8 {
+    match perform(rt, path, command, out) {
+        Ok(()) => 0,
+        Err(undone) => tell(undone, err),
+    }
+}
+
+// Says why a command wasn't done, and answers the program's status.
+fn tell<E: Write>(undone: Undone<'_>, err: &mut E) -> u8 {
+    // The status is the same where this can't be said.
+    let _ = match undone {
+        Undone::CannotOpen(path) => writeln!(err, "cannot open {path}"),
+        Undone::Refused(fault) => print_refusal(err, fault),
+        Undone::Write(_) => Ok(()),
+    };
+    1
+}
+
+// Does a command, and writes what it prints at once. Memory for that comes first.
+fn perform<'a, R: AllocGlobal + Files<File = File>, W: Write>(
+    rt: &R,
+    path: &'a str,
+    command: FileCommand,
+    out: &mut W,
+) -> Result<(), Undone<'a>> {
+    let Ok(mut out) = BufWriter::new(rt.alloc(), &mut *out) else {
+        return Err(Undone::Refused(StoreFault::NoMemory));
+    };
+    match command {
+        FileCommand::Format(geometry) => {
+            format(rt, path, geometry)?;
+            writeln!(out, "formatted")?;
+        }
+        FileCommand::List => {
+            let store = open(rt, path)?;
+            Listing::of(&store, rt.alloc())?.print(&mut out)?;
+        }
+        FileCommand::Lock(from, to) => {
+            let id = open(rt, path)?.lock(from, to)?;
+            writeln!(out, "locked {id}")?;
+        }
+        FileCommand::Unlock(id) => {
+            open(rt, path)?.unlock(id)?;
+            writeln!(out, "unlocked {id}")?;
+        }
+    }
+    out.flush()?;
+    Ok(())
+}
+
+// Makes the file anew, with a store in it. A bad geometry is refused before the file is touched.
+fn format<'a, R: AllocGlobal + Files<File = File>>(
+    rt: &R,
+    path: &'a str,
+    geometry: Geometry,
+) -> Result<(), Undone<'a>> {
+    match geometry.check() {
+        Ok(()) => (),
+        Err(_) => return Err(Undone::Refused(StoreFault::BadGeometry)),
+    }
+    match FileDisk::create(rt, path, geometry.disk_size()) {
+        Err(_) => Err(Undone::CannotOpen(path)),
+        Ok(disk) => match loop_store::format(rt.alloc(), disk, geometry) {
+            Err(OpenRefused { fault, disk: _ }) => Err(Undone::Refused(fault)),
+            Ok(_) => Ok(()),
+        },
+    }
+}
+
+// Opens the file, and then the store in it.
+fn open<'a, R: AllocGlobal + Files<File = File>>(
+    rt: &R,
+    path: &'a str,
+) -> Result<Store<FileDisk>, Undone<'a>> {
+    match FileDisk::open(rt, path) {
+        Err(_) => Err(Undone::CannotOpen(path)),
+        Ok(disk) => find(rt.alloc(), disk),
+    }
+}
+
+// The store on an open file.
+fn find<'a>(alloc: Global, disk: FileDisk) -> Result<Store<FileDisk>, Undone<'a>> {
+    match Store::open(alloc, disk) {
+        Err(OpenRefused { fault, disk: _ }) => Err(Undone::Refused(fault)),
+        Ok(store) => Ok(store),
+    }
+}

@@ -1,0 +1,56 @@
+// The words behind the program's name.
+ghost use Rattle.std.specs.Prelude.{◌≡◌};
+ghost use Rattle.loop_cli.specs.Tasks.{on_file_said, task_said};
+
+use crate::command::geometry_in;
+use crate::number::{number, small_number};
+use loop_record::Geometry;
+
+/// What the words ask for.
+#[derive(Clone, Copy, Debug, PartialEq, Eq)]
+pub enum Task<'a> {
+    /// `simulate`: a script from the input.
+    Simulate,
+    /// A command on the store in the file of this path.
+    OnFile(&'a str, FileCommand),
+}
+
+/// What is done on a store in a file.
+#[derive(Clone, Copy, Debug, PartialEq, Eq)]
+pub enum FileCommand {
+    /// `format PATH W H X N:D S F`: the file is made anew, and a store in it. The geometry isn't checked yet.
+    Format(Geometry),
+    /// `list PATH`: as the line of a script.
+    List,
+    /// `lock PATH A B`: as the line of a script.
+    Lock(u64, u64),
+    /// `unlock PATH ID`: as the line of a script.
+    Unlock(u32),
+}
+
+/// What a name and the words behind it ask for; `None` where they can't be read.
+pub fn read_task<'a>(name: &str, words: &[&'a str]) -> Option<Task<'a>>
+    ensures { result ≡ task_said name.now words.now }
+{
+    match words {
+        [] if name == "simulate" => Some(Task::Simulate),
+        [] => None,
+        [path, words @ ..] => Some(Task::OnFile(path, read_file_command(name, words)?)),
+    }
+}
+
+// What a name and the words behind the path of a file ask for.
+fn read_file_command(name: &str, words: &[&str]) -> Option<FileCommand>
+    ensures { result ≡ on_file_said name.now words.now }
+{
+    match words {
+        [] if name == "list" => Some(FileCommand::List),
+        [id] if name == "unlock" => Some(FileCommand::Unlock(small_number(id)?)),
+        [from, to] if name == "lock" => Some(FileCommand::Lock(number(from)?, number(to)?)),
+        [width, height, format, rate, segments, slots] if name == "format" => {
+            let geometry = geometry_in(width, height, format, rate, segments, slots)?;
+            Some(FileCommand::Format(geometry))
+        }
+        _ => None,
+    }
+}

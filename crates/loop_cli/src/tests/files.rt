@@ -1,0 +1,295 @@
+// Commands on stores in files.
+use super::Broken;
+use crate::program::run_words;
+use loop_disk::FileDisk;
+use std::alloc::AllocError;
+use std::fs;
+use std::test::Fail;
+
+// Writes bytes into an image, at a place.
+fn put(image: &mut [u8], at: usize, bytes: &[u8]) {
+    for (place, byte) in image.iter_mut().skip(at).zip(bytes) {
+        *place = *byte;
+    }
+}
+
+// Frames of 4x2 YM12 at 25 a second, 3 segments of 2: the image after the frames 0 to 6, by the layout.
+fn ring() -> [u8; 4360] {
+    let mut image = [0; 4360];
+    let numbers = [1, 4, 2];
+    put(&mut image, 0, b"\xA5LOOPREC");
+    for (at, number) in [8, 12, 16].into_iter().zip(numbers) {
+        put(&mut image, at, &[number]);
+    }
+    put(
+        &mut image,
+        20,
+        b"YM12\x19\0\0\0\x01\0\0\0\x03\0\0\0\x02\0\0\0\x0C",
+    );
+    for (segment, block, frames) in [(0, 3, 1), (1, 1, 2), (2, 2, 2)] {
+        let at = 2560 + 600 * segment;
+        put(&mut image, at, &[0xA5]);
+        put(&mut image, at + 8, &[block]);
+        for slot in 0..frames {
+            put(&mut image, at + 256 + slot, &[0xA5]);
+            let number = 2 * block + slot as u8;
+            let slot = at + 512 + 44 * slot;
+            put(&mut image, slot, &[number]);
+            put(&mut image, slot + 24, &[12]);
+        }
+    }
+    image
+}
+
+// What the words of a run print, what they tell, and the status.
+type Step = (&'static [&'static str], &'static str, &'static str, u8);
+
+// Runs on one file that holds the ring, one after the other.
+static STEPS: [Step; 14] = [
+    (&["list", "ring.img"], "next 7\nframes 2..6\n", "", 0),
+    (&["lock", "ring.img", "2", "2"], "locked 0\n", "", 0),
+    (&["lock", "ring.img", "3", "6"], "locked 1\n", "", 0),
+    (
+        &["list", "ring.img"],
+        "next 7\nframes 2..6\nclip 0 2..2\nclip 1 3..6\n",
+        "",
+        0,
+    ),
+    (
+        &["lock", "ring.img", "5", "4"],
+        "",
+        "refused 9 ClipEmpty\n",
+        1,
+    ),
+    (
+        &["lock", "ring.img", "0", "0"],
+        "",
+        "refused 10 ClipNotHeld 0\n",
+        1,
+    ),
+    (
+        &["lock", "ring.img", "5", "18446744073709551615"],
+        "",
+        "refused 10 ClipNotHeld 7\n",
+        1,
+    ),
+    (
+        &["unlock", "ring.img", "64"],
+        "",
+        "refused 12 NoSuchClip\n",
+        1,
+    ),
+    (&["unlock", "ring.img", "0"], "unlocked 0\n", "", 0),
+    (
+        &["unlock", "ring.img", "0"],
+        "",
+        "refused 12 NoSuchClip\n",
+        1,
+    ),
+    (
+        &["list", "ring.img"],
+        "next 7\nframes 2..6\nclip 1 3..6\n",
+        "",
+        0,
+    ),
+    (
+        &["format", "ring.img", "4", "2", "YM12", "25:1", "1", "2"],
+        "",
+        "refused 16 BadGeometry\n",
+        1,
+    ),
+    (
+        &["format", "ring.img", "1", "1", "GREY", "1:1", "2", "1"],
+        "formatted\n",
+        "",
+        0,
+    ),
+    (&["list", "ring.img"], "next 0\n", "", 0),
+];
+
+// Runs words; whether what comes of it is as wanted.
+fn is_so(rt: &HostRuntime, step: &Step) -> Result<bool, AllocError> {
+    let (words, printed, told, status) = step;
+    let mut out: Vec<u8> = Vec::new(rt.alloc());
+    let mut err: Vec<u8> = Vec::new(rt.alloc());
+    let answer = run_words(rt, *words, b"".as_slice(), &mut out, &mut err);
+    Ok(
+        out.as_slice() == printed.as_bytes()
+            && err.as_slice() == told.as_bytes()
+            && answer == *status,
+    )
+}
+
+// The clip 1 of the frames 3 to 6, and the clip 0 that was unlocked, as the layout has them.
+const CLIPS: [u8; 64] = [
+    0, 0, 0, 0, 0, 0, 0, 0, 2, 0, 0, 0, 0, 0, 0, 0, 2, 0, 0, 0, 0, 0, 0, 0, 0, 0, 0, 0, 0, 0, 0, 0,
+    0xA5, 0, 0, 0, 0, 0, 0, 0, 3, 0, 0, 0, 0, 0, 0, 0, 6, 0, 0, 0, 0, 0, 0, 0, 0, 0, 0, 0, 0, 0, 0,
+    0,
+];
+
+#[test]
+fn a_store_in_a_file_is_listed_locked_and_unlocked_by_one_run_after_the_other(
+    rt: HostRuntime,
+) -> Result<(), Fail> {
+    let path = "ring.img";
+    let mut image = ring();
+    fs::write(&rt, path, image.as_slice())?;
+    for step in &STEPS {
+        let old = fs::read(&rt, path)?;
+        assert!(rt; is_so(&rt, step)?, "{:?}", step.0);
+        let new = fs::read(&rt, path)?;
+        // A refusal changes nothing.
+        assert!(rt;
+            step.3 == 0 || new.as_slice() == old.as_slice(),
+            "{:?}",
+            step.0
+        );
+        if step.0 == ["unlock", path, "0"].as_slice() {
+            put(&mut image, 512, &CLIPS);
+            assert_eq!(rt; new.as_slice(), image.as_slice());
+        }
+    }
+    assert_eq!(rt; fs::read(&rt, path)?.len(), 3650);
+    fs::remove_file(&rt, path)?;
+    Ok(())
+}
+
+// Words on files that can't be had.
+static NO_FILES: [Step; 10] = [
+    (&["list", "missing.img"], "", "cannot open missing.img\n", 1),
+    (
+        &["lock", "missing.img", "0", "0"],
+        "",
+        "cannot open missing.img\n",
+        1,
+    ),
+    (
+        &["unlock", "missing.img", "0"],
+        "",
+        "cannot open missing.img\n",
+        1,
+    ),
+    (
+        &[
+            "format",
+            "missing/new.img",
+            "1",
+            "1",
+            "GREY",
+            "1:1",
+            "2",
+            "1",
+        ],
+        "",
+        "cannot open missing/new.img\n",
+        1,
+    ),
+    // A geometry is judged before the file is made.
+    (
+        &["format", "missing.img", "0", "1", "GREY", "1:1", "2", "1"],
+        "",
+        "refused 16 BadGeometry\n",
+        1,
+    ),
+    (&["list", "missing.img"], "", "cannot open missing.img\n", 1),
+    (&["list", "."], "", "cannot open .\n", 1),
+    (
+        &["format", ".", "1", "1", "GREY", "1:1", "2", "1"],
+        "",
+        "cannot open .\n",
+        1,
+    ),
+    (&["list", "/dev/null"], "", "cannot open /dev/null\n", 1),
+    (&["list", ""], "", "cannot open \n", 1),
+];
+
+// Words on a file that is in use.
+static IN_USE: [Step; 4] = [
+    (&["list", "used.img"], "", "cannot open used.img\n", 1),
+    (
+        &["lock", "used.img", "2", "2"],
+        "",
+        "cannot open used.img\n",
+        1,
+    ),
+    (
+        &["unlock", "used.img", "0"],
+        "",
+        "cannot open used.img\n",
+        1,
+    ),
+    (
+        &["format", "used.img", "1", "1", "GREY", "1:1", "2", "1"],
+        "",
+        "cannot open used.img\n",
+        1,
+    ),
+];
+
+#[test]
+fn a_file_that_cannot_be_had_is_told_and_kept(rt: HostRuntime) -> Result<(), Fail> {
+    for step in &NO_FILES {
+        assert!(rt; is_so(&rt, step)?, "{:?}", step.0);
+    }
+    let path = "used.img";
+    fs::write(&rt, path, ring().as_slice())?;
+    let disk = FileDisk::open(&rt, path)?;
+    for step in &IN_USE {
+        assert!(rt; is_so(&rt, step)?, "{:?}", step.0);
+    }
+    drop(disk);
+    assert_eq!(rt; fs::read(&rt, path)?.as_slice(), ring().as_slice());
+    fs::remove_file(&rt, path)?;
+    Ok(())
+}
+
+// A byte of the ring, what it is changed to, how many bytes of it are left, and the refusal.
+static SPOILT: [(usize, u8, usize, &str); 5] = [
+    (0, 0, 4360, "refused 4 NotFormatted\n"),
+    (0, 0xA5, 100, "refused 4 NotFormatted\n"),
+    (0, 0xA5, 4359, "refused 5 Damaged 1\n"),
+    (12, 5, 4360, "refused 5 Damaged 2\n"),
+    (512, 0xA5, 4360, "refused 5 Damaged 7\n"),
+];
+
+#[test]
+fn a_file_without_a_sound_store_is_refused_and_kept(rt: HostRuntime) -> Result<(), Fail> {
+    let path = "spoilt.img";
+    for (at, byte, length, told) in &SPOILT {
+        let mut image = ring();
+        put(&mut image, *at, &[*byte]);
+        let bytes = image.get(..*length).unwrap_or(&[]);
+        fs::write(&rt, path, bytes)?;
+        assert!(rt;
+            is_so(&rt, &(&["list", "spoilt.img"], "", told, 1))?,
+            "{told}"
+        );
+        assert!(rt;
+            is_so(&rt, &(&["lock", "spoilt.img", "2", "2"], "", told, 1))?,
+            "{told}"
+        );
+        assert_eq!(rt; fs::read(&rt, path)?.as_slice(), bytes, "{told}");
+    }
+    fs::remove_file(&rt, path)?;
+    Ok(())
+}
+
+#[test]
+fn what_cannot_be_printed_ends_with_status_1(rt: HostRuntime) -> Result<(), Fail> {
+    let path = "printed.img";
+    fs::write(&rt, path, ring().as_slice())?;
+    let none = b"".as_slice();
+    for words in [
+        ["list", path].as_slice(),
+        &["unlock", path, "0"],
+        &["list", "."],
+    ] {
+        assert_eq!(rt;
+            run_words(&rt, words, none, &mut Broken, &mut Broken),
+            1,
+            "{words:?}"
+        );
+    }
+    fs::remove_file(&rt, path)?;
+    Ok(())
+}
