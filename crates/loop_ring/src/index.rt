@@ -139,7 +139,7 @@ impl<A: Allocator> SegmentIndex<A> {
         self.heads[place] = grown(self.heads[place], frames);
     }
 
-    /// Notes that a clip stands, which stood under no id before. It takes no memory.
+    /// Notes that one more clip stands, where fewer than 64 meet each block so far. It takes no memory.
     pub fn lock_clip(&mut self, geometry: &Geometry, span: Span)
         requires good { IsTrue (is_good geometry.now) }
         requires few { All (λ count. count < 64) self.old.clips }

@@ -7,10 +7,11 @@
 //! commit's segment with a beginning of the group: `specs/Writes` says so segment by segment, and never speaks
 //! of bytes. Each call makes at most four calls of the disk, and none of them takes memory. `stray` closes the
 //! gates that a stopped commit left open behind a closed one. `index` has the `SegmentIndex`, what the header
-//! of each segment says, and `entry` its open segments by block; `victim` finds in it the block that goes when
-//! room is needed. `specs/Heads` says what an index has where it agrees with a disk; `proofs/Heads` and
-//! `proofs/Held` what it then says of the recording; `specs/Entries` and `proofs/Indexed` how the open segments
-//! are sorted, `proofs/Oldest` that the victim is the first of them that may go.
+//! of each segment says, `entry` its open segments by block, and `count` how many clips meet each; `victim`
+//! finds in it the block that goes when room is needed. `specs/Heads` says what an index has where it agrees
+//! with a disk; `proofs/Heads` and `proofs/Held` what it then says of the recording; `specs/Entries` and
+//! `proofs/Indexed` how the open segments are sorted, `proofs/Oldest` that the victim is the first of them that
+//! may go, `proofs/Counted` what a lock and an unlock make of the counts.
 #![tactic(auto)]
 
 mod count;
