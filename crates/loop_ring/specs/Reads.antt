@@ -24,9 +24,11 @@ AnswersHead said (Err (Disk fault)) = Unit {0}
 abbrev pub AnswersSlot : ℕ → ℕ → Slot → Result FrameHead SlotFault → List ℕ → Type 0
 AnswersSlot n number slot result out = AnswersHead (slot_head n number slot) result × OnOk result (out ≡ slot.picture.bytes)
 
--- so it is for such a frame, and where the head is answered, its pixels from byte `at` on were read, as many as there are
+-- so it is for such a frame, and where the head is answered, its pixels from byte `at` on were read, as many as
+-- there are
 abbrev pub AnswersPart : ℕ → ℕ → Slot → ℕ → Result FrameHead SlotFault → List ℕ → Type 0
-AnswersPart n number slot at result out = AnswersHead (slot_head n number slot) result × OnOk result (out ≡ piece at (length out) slot.picture.bytes)
+AnswersPart n number slot at result out =
+    AnswersHead (slot_head n number slot) result × OnOk result (out ≡ piece at (length out) slot.picture.bytes)
 
 -- the call of the disk that failed, if the answer is that one did
 abbrev pub failed_read : {T : Type 0} → Result T SlotFault → Option DiskFault

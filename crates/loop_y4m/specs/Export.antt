@@ -26,12 +26,15 @@ Stopped _ old new bytes = ⊥
 -- The answer to an export of these frames: it must be reopened, or otherwise there is none of them, or otherwise
 -- memory was refused, and then nothing was written; otherwise their text was, or a beginning of it, and they are
 -- counted.
-abbrev pub IsExport : Geometry → Bool → List (List ℕ) → Option (List ℕ) → Option (List ℕ) → Result ℕ ExportFault → Type 0
+abbrev pub IsExport : Geometry → Bool → List (List ℕ) → Option (List ℕ) → Option (List ℕ)
+    → Result ℕ ExportFault → Type 0
 IsExport g must_reopen frames old new (Err MustReopen) = (must_reopen ≡ true) × (new ≡ old)
 IsExport g must_reopen frames old new (Err NotHeld) = (must_reopen ≡ false) × ((frames ≡ []) × (new ≡ old))
 IsExport g must_reopen frames old new (Err NoMemory) = (must_reopen ≡ false) × ((frames ≢ []) × (new ≡ old))
-IsExport g must_reopen frames old new (Err fault) = (must_reopen ≡ false) × ((frames ≢ []) × Stopped fault old new (text g frames))
-IsExport g must_reopen frames old new (Ok count) = (must_reopen ≡ false) × ((frames ≢ []) × (Appends old new (text g frames) × (count ≡ length frames)))
+IsExport g must_reopen frames old new (Err fault) =
+    (must_reopen ≡ false) × ((frames ≢ []) × Stopped fault old new (text g frames))
+IsExport g must_reopen frames old new (Ok count) =
+    (must_reopen ≡ false) × ((frames ≢ []) × (Appends old new (text g frames) × (count ≡ length frames)))
 
 -- the call of the disk that failed, if the answer is that one did
 abbrev pub failed_in : {T : Type 0} → Result T ExportFault → Option DiskFault

@@ -64,7 +64,8 @@ Moved old new (Err fault) bytes = Stopped fault old new bytes
 
 -- so it was of the text of these frames, and at Ok they are counted
 abbrev pub MovedAll : Option (List ℕ) → Option (List ℕ) → Result ℕ ExportFault → List (List ℕ) → Type 0
-MovedAll old new result frames = Moved old new result (flat_map frame frames) × IfOk result (λ count. count ≡ length frames)
+MovedAll old new result frames =
+    Moved old new result (flat_map frame frames) × IfOk result (λ count. count ≡ length frames)
 
 -- the bytes of the frames from a number on to another, where there are any
 abbrev pub frames_left : Option ℕ → ℕ → List (ℕ × Picture) → List (List ℕ)

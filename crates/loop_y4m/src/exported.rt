@@ -104,7 +104,8 @@ fn write_held<D: Disk + Drop, A: Allocator, W: Write>(
     requires open { store.old.must_reopen ≡ false }
     requires some { 1 ≤ length piece.old }
     ensures moved { (r : Recording) (p : Picture) → StandsFor D.medium store.old r → (D.medium store.old.disk).honest
-        → frame_under r.frames number ≡ Some p → Moved (W.contents out.old) (W.contents out.new) result (frame p.bytes) }
+        → frame_under r.frames number ≡ Some p
+        → Moved (W.contents out.old) (W.contents out.new) result (frame p.bytes) }
     ensures store { OnlyRead D.medium store.old store.new (failed_in result) }
 {
     write_frame_line(out)?;

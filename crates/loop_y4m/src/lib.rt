@@ -1,8 +1,9 @@
 //! YUV4MPEG2, the text in which raw video is piped between programs (mjpegtools' yuv4mpeg(5)): written for a
 //! geometry or from a store, and read from any reader.
 //!
-//! `specs/` has the written text (`Text`), what is exported of a store (`Export`), how a header line is read (`Header`), how a whole input is
-//! (`Stream`) and what an open reader answers (`Reader`); `Steps` is what private functions say. The code:
+//! `specs/` has the written text (`Text`), what is exported of a store (`Export`), how a header line is read
+//! (`Header`), how a whole input is (`Stream`) and what an open reader answers (`Reader`); `Steps` is what
+//! private functions say. The code:
 //!
 //! - `reader`: the `Y4mReader`, which gives an input's frames one after another; `fault`: what can be wrong
 //!   with an input, and why an export ends;
