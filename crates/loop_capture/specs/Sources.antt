@@ -4,7 +4,7 @@ use Rattle.std.specs.List.{range_with_len}
 use Rattle.loop_capture.specs.declared.source.Next.{Next}
 use Rattle.loop_capture.specs.declared.source.Next.TheVariants.{More, End, Bad}
 use Rattle.loop_y4m.specs.declared.fault.Y4mFault.{Y4mFault}
-use Rattle.loop_y4m.specs.Header.{frame_size}
+use Rattle.loop_y4m.specs.Header.{size_of_frame}
 use Rattle.loop_y4m.specs.Reader.{GivesNext, Opened}
 
 -- the first bytes of frame n of the pattern: byte i is n + i, modulo 256
@@ -41,4 +41,4 @@ GivesBy false true s answer out t = (told : Result Bool Y4mFault) × (answer ≡
     × (t ≡ record { reader = record s.reader { fault = t.reader.fault; rest = t.reader.rest }; over = over_by answer })
 
 abbrev pub GivesFootage : Footage → Next → List ℕ → Footage → Type 0
-GivesFootage s answer out t = GivesBy s.over (length out == frame_size s.reader.header) s answer out t
+GivesFootage s answer out t = GivesBy s.over (length out == size_of_frame s.reader.header) s answer out t

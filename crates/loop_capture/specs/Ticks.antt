@@ -11,13 +11,13 @@ use Rattle.loop_vb2.specs.Planes.{frame_size}
 use Rattle.loop_vb2.specs.State.{Lined, QueueState, StandsFor}
 
 -- a device: its source, the bytes in its buffer, and the sequence of its next frame
-pub record Seen (S : Type 0) : Type 0 where
+pub record SeenDevice (S : Type 0) : Type 0 where
   pub source : S
   pub frame : List ℕ
   pub next : ℕ
 
 -- a new device
-abbrev pub IsNew : {S : Type 0} → S → ℕ → Seen S → Type 0
+abbrev pub IsNew : {S : Type 0} → S → ℕ → SeenDevice S → Type 0
 IsNew source size d = d ≡ record { source = source; frame = replicate size 0; next = 0 }
 
 -- the sequence of a frame that is taken now: 0 after a start
@@ -39,10 +39,10 @@ tick_of More None = Missed
 tick_of Bad None = Missed
 
 -- the one event of the queue that ends a frame, if the tick has one
-abbrev pub ended_by : Tick → Stamp → List ℕ → QueueState → QueueState
-ended_by (Completed i) stamp bytes s = completed i stamp bytes s
-ended_by (Failed i) stamp bytes s = failed i stamp s
-ended_by tick stamp bytes s = s
+abbrev pub after_tick : Tick → Stamp → List ℕ → QueueState → QueueState
+after_tick (Completed i) stamp bytes s = completed i stamp bytes s
+after_tick (Failed i) stamp bytes s = failed i stamp s
+after_tick tick stamp bytes s = s
 
 -- this buffer, or none, has been active longest
 abbrev pub IsLongest : {P : Type 0} → (P → Plane) → Option ℕ → Lined P → Type 0
@@ -51,11 +51,11 @@ IsLongest meaning active queue = (s : QueueState) → StandsFor meaning queue s 
 -- in each state that the queue stands for: the tick is this one, and the queue stands for the state that it makes
 abbrev pub Ends : {P : Type 0} → (P → Plane) → Next → Stamp → List ℕ → Tick → Lined P → Lined P → Type 0
 Ends meaning answer stamp bytes tick before after =
-    (s : QueueState) → StandsFor meaning before s → (tick ≡ tick_of answer (longest_active s)) × StandsFor meaning after (ended_by tick stamp bytes s)
+    (s : QueueState) → StandsFor meaning before s → (tick ≡ tick_of answer (longest_active s)) × StandsFor meaning after (after_tick tick stamp bytes s)
 
 -- a tick for which the source was asked: the device had a frame's length and had started, the start is noticed, and the frame is ended
 pub record Took {S P : Type 0} (gives : S → Next → List ℕ → S → Type 0) (meaning : P → Plane) (now : ℕ) (tick : Tick)
-    (d e : Seen S) (before after : Lined P) (s : QueueState) : Type 0 where
+    (d e : SeenDevice S) (before after : Lined P) (s : QueueState) : Type 0 where
   pub fits : length d.frame ≡ frame_size s.body.shape
   pub started : s.body.started ≡ true
   pub answer : Next
@@ -63,16 +63,16 @@ pub record Took {S P : Type 0} (gives : S → Next → List ℕ → S → Type 0
   pub tick_is : tick ≡ tick_of answer (longest_active s)
   pub next : e.next ≡ sequence_after answer (sequence_of d.next s)
   pub queue : StandsFor meaning after
-      (ended_by tick (record { sequence = sequence_of d.next s; timestamp = now }) e.frame (seen_state s))
+      (after_tick tick (record { sequence = sequence_of d.next s; timestamp = now }) e.frame (seen_state s))
 
 -- a tick: WrongSize and Idle change nothing
-abbrev pub Ticked : {S P : Type 0} → (S → Next → List ℕ → S → Type 0) → (P → Plane) → ℕ → Tick → Seen S → Seen S
+abbrev pub Ticked : {S P : Type 0} → (S → Next → List ℕ → S → Type 0) → (P → Plane) → ℕ → Tick → SeenDevice S → SeenDevice S
     → Lined P → Lined P → QueueState → Type 0
 Ticked gives meaning now WrongSize d e before after s = (length d.frame ≢ frame_size s.body.shape) × (e ≡ d) × (after ≡ before)
 Ticked gives meaning now Idle d e before after s = (length d.frame ≡ frame_size s.body.shape) × (s.body.started ≡ false) × (e ≡ d) × (after ≡ before)
 Ticked gives meaning now tick d e before after s = Took gives meaning now tick d e before after s
 
 -- so in each state that the queue stands for
-abbrev pub Ticks : {S P : Type 0} → (S → Next → List ℕ → S → Type 0) → (P → Plane) → ℕ → Tick → Seen S → Seen S
+abbrev pub Ticks : {S P : Type 0} → (S → Next → List ℕ → S → Type 0) → (P → Plane) → ℕ → Tick → SeenDevice S → SeenDevice S
     → Lined P → Lined P → Type 0
 Ticks gives meaning now tick d e before after = (s : QueueState) → StandsFor meaning before s → Ticked gives meaning now tick d e before after s

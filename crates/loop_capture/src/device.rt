@@ -1,6 +1,6 @@
 // The device: a source's frames for a queue's buffers.
 ghost use Rattle.std.specs.Prelude.{◌≡◌, IfErr, IfOk, length};
-ghost use Rattle.loop_capture.specs.Ticks.{Ends, IsLongest, IsNew, Seen, Ticks, sequence_after};
+ghost use Rattle.loop_capture.specs.Ticks.{Ends, IsLongest, IsNew, SeenDevice, Ticks, sequence_after};
 ghost use Rattle.loop_vb2.specs.Planes.{frame_size};
 
 use crate::source::{FrameSource, Next};
@@ -42,7 +42,7 @@ pub struct Device<S = Box<dyn FrameSource + Send>, A: Allocator + Copy = Global>
 }
 
 impl<S, A: Allocator + Copy> Model for Device<S, A> {
-    ghost Value = { Seen S };
+    ghost Value = { SeenDevice S };
 
     ghost view = { λ d. record { source = d.source; frame = d.frame.items; next = d.next } };
 }

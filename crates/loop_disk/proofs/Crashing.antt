@@ -14,7 +14,7 @@ use Rattle.loop_disk.specs.declared.crash.Spoil.TheVariants as spoil
 use Rattle.loop_disk.specs.Medium.{LeavesEachTorn, Medium, written}
 use Rattle.loop_disk.specs.Calls.{Called, Stays, Writes, Syncs}
 use Rattle.loop_disk.specs.History.{Moment, at_rest, after_write, after_sync, is_within, is_loose, IsLeft, IsLeftSince, medium_of}
-use Rattle.loop_disk.specs.Crashing.{Tape, call_of, after_call, after_calls, moments_from, medium_after, IsWithin, IsSpoiled, spoiled}
+use Rattle.loop_disk.specs.Crashing.{Tape, call_of, after_call, moment_after, moments_from, medium_after, IsWithin, IsSpoiled, spoiled}
 use Rattle.loop_disk.specs.Replay.{IsRecorded, IsReplayed, PutsSpoiled}
 use Rattle.std.proofs.lemmas.Bool.{cases_lt, or_parts}
 use Rattle.loop_disk.proofs.Images.{length-written, get_or-written_there}
@@ -25,12 +25,12 @@ moments-more : (m : Moment) (earlier : List Moment) (calls : List (DeviceCall (L
 moments-more m earlier [] c = refl
 moments-more m earlier (x ∷ calls) c = moments-more (after_call m x) (m ∷ earlier) calls c
 
-after-more : (start : List ℕ) (calls : List (DeviceCall (List ℕ))) (c : DeviceCall (List ℕ)) → after_calls start (calls ++ c ∷ []) ≡ after_call (after_calls start calls) c
+after-more : (start : List ℕ) (calls : List (DeviceCall (List ℕ))) (c : DeviceCall (List ℕ)) → moment_after start (calls ++ c ∷ []) ≡ after_call (moment_after start calls) c
 after-more start calls c = fold-append after_call (at_rest start) calls (c ∷ [])
 
 -- one call more
 medium-more : (t later : Tape) (c : DeviceCall (List ℕ)) → later ≡ record t { calls = t.calls ++ c ∷ [] }
-    → medium_after later ≡ medium_of t.failures (after_call (after_calls t.start t.calls) c) (after_calls t.start t.calls ∷ moments_from (at_rest t.start) [] t.calls)
+    → medium_after later ≡ medium_of t.failures (after_call (moment_after t.start t.calls) c) (moment_after t.start t.calls ∷ moments_from (at_rest t.start) [] t.calls)
 medium-more t later c more =
     ap medium_after more ∙ (λ i. medium_of t.failures (after-more t.start t.calls c i) (moments-more (at_rest t.start) [] t.calls c i))
 
@@ -45,9 +45,9 @@ all-one {X} P x is k d within = subst (λ (i : ℕ). P (slice_index_or (x ∷ []
     first = omega (arith, within)
 
 pub recorded-more : (start : List ℕ) (calls later : List (DeviceCall (List ℕ))) (bytes next : List ℕ) (c : DeviceCall (List ℕ)) → later ≡ calls ++ c ∷ []
-    → IsWithin (length start) c → next ≡ (after_call (after_calls start calls) c).bytes → length next ≡ length start → IsRecorded start calls bytes → IsRecorded start later next
+    → IsWithin (length start) c → next ≡ (after_call (moment_after start calls) c).bytes → length next ≡ length start → IsRecorded start calls bytes → IsRecorded start later next
 recorded-more start calls later bytes next c more fits is size done = record {
-  whole = is ∙ ap (λ (m : Moment). m.bytes) (sym (after-more start calls c)) ∙ ap (λ (l : List (DeviceCall (List ℕ))). (after_calls start l).bytes) (sym more);
+  whole = is ∙ ap (λ (m : Moment). m.bytes) (sym (after-more start calls c)) ∙ ap (λ (l : List (DeviceCall (List ℕ))). (moment_after start l).bytes) (sym more);
   size = size;
   within = subst (λ (l : List (DeviceCall (List ℕ))). All (IsWithin (length start)) l) (sym more)
       (All-append (IsWithin (length start)) calls (c ∷ []) done.within (all-one (IsWithin (length start)) c fits));
@@ -63,37 +63,37 @@ view-more f t start calls later failures c seen more =
 -- a write, as the disk's fields have it
 pub written-recorded : {V : Type 0} (t : Tape) (start : List ℕ) (calls : List (DeviceCall V)) (f : V → List ℕ) (later : List (DeviceCall (List ℕ))) (bytes next : List ℕ) (failures : Failures) (at : ℕ) (v : List ℕ)
     → record { start = start; calls = map (call_of f) calls; failures = failures } ≡ t → later ≡ map (call_of f) calls ++ call.Write at v ∷ [] → next ≡ written at v bytes
-    → at + length v ≤ length (after_calls t.start t.calls).bytes → IsRecorded start (map (call_of f) calls) bytes → IsRecorded start later next
+    → at + length v ≤ length (moment_after t.start t.calls).bytes → IsRecorded start (map (call_of f) calls) bytes → IsRecorded start later next
 written-recorded t start calls f later bytes next failures at v seen more is fits done =
-    let same : length (after_calls t.start t.calls).bytes ≡ length bytes = ap (λ (tape : Tape). length (after_calls tape.start tape.calls).bytes) (sym seen) ∙ ap (λ (l : List ℕ). length l) (sym done.whole) in
+    let same : length (moment_after t.start t.calls).bytes ≡ length bytes = ap (λ (tape : Tape). length (moment_after tape.start tape.calls).bytes) (sym seen) ∙ ap (λ (l : List ℕ). length l) (sym done.whole) in
     let room : at + length v ≤ length bytes = omega (arith, fits, same) in
     recorded-more start (map (call_of f) calls) later bytes next (call.Write at v) more (omega (arith, room, done.size))
     (is ∙ ap (λ (l : List ℕ). written at v l) done.whole) (ap (λ (l : List ℕ). length l) is ∙ length-written at v bytes room ∙ done.size) done
 
 pub looked : (t later : Tape) → later ≡ record t { calls = t.calls ++ call.Read ∷ [] } → Stays (medium_after t) (medium_after later)
 looked t later more =
-    subst (λ (m : Medium). Stays (medium_after t) m) (sym (medium-more t later call.Read more)) (looks t.failures (after_calls t.start t.calls) (moments_from (at_rest t.start) [] t.calls))
+    subst (λ (m : Medium). Stays (medium_after t) m) (sym (medium-more t later call.Read more)) (looks t.failures (moment_after t.start t.calls) (moments_from (at_rest t.start) [] t.calls))
 
 pub looked-called : (t later : Tape) → later ≡ record t { calls = t.calls ++ call.Read ∷ [] } → Called (medium_after t) (medium_after later) None
 looked-called t later more =
     subst (λ (m : Medium). Called (medium_after t) m None) (sym (medium-more t later call.Read more)) (record { size = refl; honest = (λ honest. honest, λ honest. honest); failures = refl })
 
-pub wrote : (t later : Tape) (at : ℕ) (v : List ℕ) → at + length v ≤ length (after_calls t.start t.calls).bytes → later ≡ record t { calls = t.calls ++ call.Write at v ∷ [] }
+pub wrote : (t later : Tape) (at : ℕ) (v : List ℕ) → at + length v ≤ length (moment_after t.start t.calls).bytes → later ≡ record t { calls = t.calls ++ call.Write at v ∷ [] }
     → Writes {T = Unit {0}} at v (medium_after t) (medium_after later) (Ok tt)
 wrote t later at v fits more =
     subst (λ (m : Medium). Writes {T = Unit {0}} at v (medium_after t) m (Ok tt)) (sym (medium-more t later (call.Write at v) more))
-    (writes t.failures (after_calls t.start t.calls) (moments_from (at_rest t.start) [] t.calls) v at fits)
+    (writes t.failures (moment_after t.start t.calls) (moments_from (at_rest t.start) [] t.calls) v at fits)
 
 -- a crash may leave any bytes in the range
-pub wrote-each : (t later : Tape) (at : ℕ) (v : List ℕ) → at + length v ≤ length (after_calls t.start t.calls).bytes → later ≡ record t { calls = t.calls ++ call.Write at v ∷ [] } → LeavesEachTorn at (length v) (medium_after t) (medium_after later)
+pub wrote-each : (t later : Tape) (at : ℕ) (v : List ℕ) → at + length v ≤ length (moment_after t.start t.calls).bytes → later ≡ record t { calls = t.calls ++ call.Write at v ∷ [] } → LeavesEachTorn at (length v) (medium_after t) (medium_after later)
 wrote-each t later at v fits more =
     subst (λ (m : Medium). LeavesEachTorn at (length v) (medium_after t) m) (sym (medium-more t later (call.Write at v) more))
-    (leaves_torn t.failures (after_calls t.start t.calls) (moments_from (at_rest t.start) [] t.calls) v at fits)
+    (leaves_torn t.failures (moment_after t.start t.calls) (moments_from (at_rest t.start) [] t.calls) v at fits)
 
 pub synced : (t later : Tape) → later ≡ record t { calls = t.calls ++ call.Sync ∷ [] } → Syncs {T = Unit {0}} (medium_after t) (medium_after later) (Ok tt)
 synced t later more =
     subst (λ (m : Medium). Syncs {T = Unit {0}} (medium_after t) m (Ok tt)) (sym (medium-more t later call.Sync more))
-    (syncs t.failures (after_calls t.start t.calls) (moments_from (at_rest t.start) [] t.calls))
+    (syncs t.failures (moment_after t.start t.calls) (moments_from (at_rest t.start) [] t.calls))
 
 -- an image of a moment is one of those since then
 left-on : (m : Moment) (earlier : List Moment) (calls : List (DeviceCall (List ℕ))) (t : ℕ) (image : List ℕ)
@@ -106,10 +106,10 @@ left-in : (m : Moment) (earlier : List Moment) (before later : List (DeviceCall 
 left-in m earlier [] later t image is left = left-on m earlier later t image (inl (omega (arith, is), left))
 left-in m earlier (c ∷ before) later t image is left = left-in (after_call m c) (m ∷ earlier) before later t image (omega (arith, is)) left
 
-pub left-after : (t : Tape) (n : ℕ) (image : List ℕ) → n ≤ length t.calls → IsLeft (after_calls t.start (take n t.calls)) image → (medium_after t).left_since n image
+pub left-after : (t : Tape) (n : ℕ) (image : List ℕ) → n ≤ length t.calls → IsLeft (moment_after t.start (take n t.calls)) image → (medium_after t).left_since n image
 left-after t n image fits left =
     let all : take n t.calls ++ drop n t.calls ≡ t.calls = take-append-drop n t.calls in
-    subst (λ (calls : List (DeviceCall (List ℕ))). IsLeftSince (after_calls t.start calls ∷ moments_from (at_rest t.start) [] calls) n image) all
+    subst (λ (calls : List (DeviceCall (List ℕ))). IsLeftSince (moment_after t.start calls ∷ moments_from (at_rest t.start) [] calls) n image) all
     (left-in (at_rest t.start) [] (take n t.calls) (drop n t.calls) n image (omega (arith, length-take n t.calls, fits)) left)
 
 -- what is to be replayed begins with nothing loose
@@ -227,12 +227,12 @@ within-at f size bytes calls k it same lt is all =
     (subst (λ (c : DeviceCall (List ℕ)). IsWithin size c) (get_or-map (call_of f) calls k it (call_of f it) lt ∙ ap (call_of f) (sym is)) here)
 
 pub turned : {V : Type 0} (f : V → List ℕ) (start : List ℕ) (calls : List (DeviceCall V)) (k : ℕ) (it : DeviceCall V) → k < length calls → it ≡ get_or calls k it
-    → after_call (after_calls start (map (call_of f) (take k calls))) (call_of f it) ≡ after_calls start (map (call_of f) (take (k + 1) calls))
+    → after_call (moment_after start (map (call_of f) (take k calls))) (call_of f it) ≡ moment_after start (map (call_of f) (take (k + 1) calls))
 turned f start calls k it lt is =
     let next : k + 1 ≡ suc k = omega arith in
     let taken : take (k + 1) calls ≡ take k calls ++ it ∷ [] = ap (λ (n : ℕ). take n calls) next ∙ take-suc calls k it lt ∙ ap (λ (x : DeviceCall _). take k calls ++ x ∷ []) (sym is) in
-    sym (ap (λ (l : List (DeviceCall _)). after_calls start (map (call_of f) l)) taken
-    ∙ ap (after_calls start) (map-append (call_of f) (take k calls) (it ∷ []))
+    sym (ap (λ (l : List (DeviceCall _)). moment_after start (map (call_of f) l)) taken
+    ∙ ap (moment_after start) (map-append (call_of f) (take k calls) (it ∷ []))
     ∙ after-more start (map (call_of f) (take k calls)) (call_of f it))
 
 -- the first calls of a record
@@ -247,9 +247,9 @@ take-within f n size bytes calls seen same is all =
 -- a disk that is made of what the calls leave
 pub crashed : {V : Type 0} (f : V → List ℕ) (s : Spoil) (n : ℕ) (t : Tape) (start : List ℕ) (calls seen : List (DeviceCall V)) (failures : Failures) (bytes image out : List ℕ)
     → record { start = start; calls = map (call_of f) calls; failures = failures } ≡ t → bytes ≡ start → seen ≡ calls → out ≡ image
-    → IsSpoiled s (after_calls bytes (map (call_of f) (take n seen))) image → IsSpoiled s (after_calls t.start (take n t.calls)) out
+    → IsSpoiled s (moment_after bytes (map (call_of f) (take n seen))) image → IsSpoiled s (moment_after t.start (take n t.calls)) out
 crashed f s n t start calls seen failures bytes image out view same is held spoilt =
-    let there : after_calls bytes (map (call_of f) (take n seen)) ≡ after_calls start (map (call_of f) (take n calls)) = λ i. after_calls (same i) (map (call_of f) (take n (is i))) in
-    let moment : after_calls bytes (map (call_of f) (take n seen)) ≡ after_calls t.start (take n t.calls) =
-    there ∙ ap (after_calls start) (sym (take-map (call_of f) n calls)) ∙ ap (λ (tape : Tape). after_calls tape.start (take n tape.calls)) view in
-    subst (λ (l : List ℕ). IsSpoiled s (after_calls t.start (take n t.calls)) l) (sym held) (subst (λ (m : Moment). IsSpoiled s m image) moment spoilt)
+    let there : moment_after bytes (map (call_of f) (take n seen)) ≡ moment_after start (map (call_of f) (take n calls)) = λ i. moment_after (same i) (map (call_of f) (take n (is i))) in
+    let moment : moment_after bytes (map (call_of f) (take n seen)) ≡ moment_after t.start (take n t.calls) =
+    there ∙ ap (moment_after start) (sym (take-map (call_of f) n calls)) ∙ ap (λ (tape : Tape). moment_after tape.start (take n tape.calls)) view in
+    subst (λ (l : List ℕ). IsSpoiled s (moment_after t.start (take n t.calls)) l) (sym held) (subst (λ (m : Moment). IsSpoiled s m image) moment spoilt)

@@ -27,8 +27,8 @@ after_call m (call.Write at bytes) = after_write at bytes m
 after_call m call.Sync = after_sync m
 
 -- the moment after some calls
-abbrev pub after_calls : List ℕ → List (DeviceCall (List ℕ)) → Moment
-after_calls start calls = fold after_call (at_rest start) calls
+abbrev pub moment_after : List ℕ → List (DeviceCall (List ℕ)) → Moment
+moment_after start calls = fold after_call (at_rest start) calls
 
 -- the moments before a call and those before the first of some calls, the newest first
 abbrev pub moments_from : Moment → List Moment → List (DeviceCall (List ℕ)) → List Moment
@@ -37,7 +37,7 @@ moments_from m earlier (c ∷ calls) = moments_from (after_call m c) (m ∷ earl
 
 -- the medium of such a disk: it has one moment more after each call, a read too
 abbrev pub medium_after : Tape → Medium
-medium_after tape = medium_of tape.failures (after_calls tape.start tape.calls) (moments_from (at_rest tape.start) [] tape.calls)
+medium_after tape = medium_of tape.failures (moment_after tape.start tape.calls) (moments_from (at_rest tape.start) [] tape.calls)
 
 -- the call is one of a disk of this size
 abbrev pub IsWithin : ℕ → DeviceCall (List ℕ) → Type 0

@@ -5,11 +5,11 @@ use Rattle.loop_disk.specs.declared.crash.DeviceCall.{DeviceCall}
 use Rattle.loop_disk.specs.declared.crash.Spoil.{Spoil}
 use Rattle.loop_disk.specs.Medium.{SameOutside}
 use Rattle.loop_disk.specs.History.{Moment, is_loose}
-use Rattle.loop_disk.specs.Crashing.{after_calls, IsWithin, IsSpoiled, spoiled}
+use Rattle.loop_disk.specs.Crashing.{moment_after, IsWithin, IsSpoiled, spoiled}
 
 -- the disk that began so holds these bytes after these calls, each within its size
 pub record IsRecorded (start : List ℕ) (calls : List (DeviceCall (List ℕ))) (bytes : List ℕ) : Type 0 where
-  pub whole : bytes ≡ (after_calls start calls).bytes
+  pub whole : bytes ≡ (moment_after start calls).bytes
   pub size : length bytes ≡ length start
   pub within : All (IsWithin (length start)) calls
 

@@ -7,7 +7,7 @@ ghost use Rattle.loop_disk.specs.Medium.{written, piece, IsSettled, LeavesEach, 
 ghost use Rattle.loop_disk.specs.Calls.{Called, Stays, Writes, Syncs, failed_call, no_failures, with_failed};
 ghost use Rattle.loop_disk.specs.History.{Moment, at_rest};
 ghost use Rattle.loop_disk.specs.Sound.{sound_of};
-ghost use Rattle.loop_disk.specs.Crashing.{Tape, call_of, after_call, after_calls, moments_from, medium_after, IsWithin, IsSpoiled, spoiled};
+ghost use Rattle.loop_disk.specs.Crashing.{Tape, call_of, after_call, moment_after, moments_from, medium_after, IsWithin, IsSpoiled, spoiled};
 ghost use Rattle.loop_disk.specs.Replay.{IsReplayed, PutsSpoiled};
 
 use crate::memory::put;
@@ -114,7 +114,7 @@ impl<A: Allocator + Copy> CrashDisk<A> {
         ensures left { IfOk result (λ disk.
             (medium_after self.now).left_since calls (⟦<MemDisk<A> as Disk>⟧.medium disk).bytes) }
         ensures image { IfOk result (λ disk.
-            IsSpoiled spoil (after_calls self.now.start (take calls self.now.calls)) (⟦<MemDisk<A> as Disk>⟧.medium disk).bytes) }
+            IsSpoiled spoil (moment_after self.now.start (take calls self.now.calls)) (⟦<MemDisk<A> as Disk>⟧.medium disk).bytes) }
         ensures settled { IfOk result (λ disk. IsSettled (⟦<MemDisk<A> as Disk>⟧.medium disk)) }
     {
         let mut bytes = Vec::from_slice(self.alloc, &self.start)?;
@@ -130,7 +130,7 @@ impl<A: Allocator + Copy> Disk for CrashDisk<A> {
     ghost harsh = { λ tape. ⊤ };
 
     ghost sound = { λ tape honest.
-        sound_of tape.failures (after_calls tape.start tape.calls) (moments_from (at_rest tape.start) [] tape.calls) };
+        sound_of tape.failures (moment_after tape.start tape.calls) (moments_from (at_rest tape.start) [] tape.calls) };
 
     fn size(&self) -> u64 {
         self.bytes.len() as u64
@@ -251,7 +251,7 @@ fn replay<A: Allocator>(
 )
     requires same { image.old.items ≡ bytes.old.items }
     requires within { All (IsWithin (length bytes.old.items)) (map (call_of (λ v. v.items)) calls.now) }
-    ensures { IsReplayed spoil (after_calls bytes.old.items (map (call_of (λ v.
+    ensures { IsReplayed spoil (moment_after bytes.old.items (map (call_of (λ v.
         v.items)) calls.now)) bytes.new.items image.new.items }
 {
     for call in calls {

@@ -10,19 +10,19 @@ use prog.Atomic.{either}
 use Rattle.atomic_table.specs.Table.{State, Me, step, keeps, stepped, Allows, Splits}
 use Rattle.atomic_table.proofs.Lists.{set_again}
 use Rattle.loop_pages.specs.declared.rule.Holding.{Holding}
-use Rattle.loop_pages.specs.Words.{holding, times, listed, IsKept, missed_before, tries, frees}
+use Rattle.loop_pages.specs.Words.{holding, times, times_listed, IsLedgerKept, missed_before, tries, frees}
 use Rattle.loop_pages.proofs.Times.{one, one_same, one_other, times-append, listed-append, listed-set}
 
 -- a step on one word, whose new value is how often the views then list its page
 changes : (count : ℕ) (s : State (Unit {0}) Holding) (page new id : ℕ) (me : Me (Unit {0}) Holding) (w : Holding)
-    → IsKept count s → page < count → new ≡ listed page (set s.views id w) → new ≤ 1
-    → ((other : ℕ) → other ≢ page → listed other (set s.views id w) ≡ listed other s.views)
-    → IsKept count (stepped s page new id me.1 w keeps)
+    → IsLedgerKept count s → page < count → new ≡ times_listed page (set s.views id w) → new ≤ 1
+    → ((other : ℕ) → other ≢ page → times_listed other (set s.views id w) ≡ times_listed other s.views)
+    → IsLedgerKept count (stepped s page new id me.1 w keeps)
 changes count s page new id me w kept within is most others =
     let size = kept.size in
     let here : get_or (set s.words page new) page 0 ≡ new = get_or-set_same s.words page new 0 (omega arith) in
-    let F : ℕ → Type 0 = λ q. get_or (set s.words page new) q 0 ≡ listed q (set s.views id w) in
-    let G : ℕ → Type 0 = λ q. listed q (set s.views id w) ≤ 1 in record {
+    let F : ℕ → Type 0 = λ q. get_or (set s.words page new) q 0 ≡ times_listed q (set s.views id w) in
+    let G : ℕ → Type 0 = λ q. times_listed q (set s.views id w) ≤ 1 in record {
       size = length-set s.words page new ∙ kept.size;
       counted = λ other. dite (ℕ_discrete other page)
           (λ same. subst F (sym same) (here ∙ is))
@@ -33,19 +33,19 @@ changes count s page new id me w kept within is most others =
     }
 
 -- a seat's view is cut into itself and an empty one
-pub split_keeps : (count id : ℕ) (v : Holding) → Splits (IsKept count) id v v (holding [] [] [])
+pub split_keeps : (count id : ℕ) (v : Holding) → Splits (IsLedgerKept count) id v v (holding [] [] [])
 split_keeps count id v s kept at =
     let empty : Holding = holding [] [] [] in
     let same : set s.views id v ++ empty ∷ [] ≡ s.views ++ empty ∷ [] = ap (λ (vs : List Holding). vs ++ empty ∷ []) (set_again s.views id v at) in
-    let as_before : (page : ℕ) → listed page (set s.views id v ++ empty ∷ []) ≡ listed page s.views = λ page. ap (listed page) same ∙ listed-append page s.views in record {
+    let as_before : (page : ℕ) → times_listed page (set s.views id v ++ empty ∷ []) ≡ times_listed page s.views = λ page. ap (times_listed page) same ∙ listed-append page s.views in record {
       size = kept.size;
       counted = λ page. kept.counted page ∙ sym (as_before page);
       once = λ page. let e = as_before page in let o = kept.once page in omega arith;
     }
 
 -- the word of a free page becomes 1, and the view gains the page
-won : (count id : ℕ) (me : Me (Unit {0}) Holding) (page : ℕ) (missed tried : List ℕ) (s : State (Unit {0}) Holding) → page < count → IsKept count s → get_elem? s.views id ≡ some me.0
-    → get_or s.words page 0 ≡ 0 → IsKept count (stepped s page 1 id me.1 (holding (me.0.pages ++ page ∷ []) missed tried) keeps)
+won : (count id : ℕ) (me : Me (Unit {0}) Holding) (page : ℕ) (missed tried : List ℕ) (s : State (Unit {0}) Holding) → page < count → IsLedgerKept count s → get_elem? s.views id ≡ some me.0
+    → get_or s.words page 0 ≡ 0 → IsLedgerKept count (stepped s page 1 id me.1 (holding (me.0.pages ++ page ∷ []) missed tried) keeps)
 won count id me page missed tried s within kept at free =
     let w : Holding = holding (me.0.pages ++ page ∷ []) missed tried in
     let sum = listed-set page s.views id me.0 w at in
@@ -58,11 +58,11 @@ won count id me page missed tried s within kept at free =
     let none_more = one_other other page not in omega arith)
 
 -- the word of a held page stays, and the view holds what it held
-lost : (count id : ℕ) (me : Me (Unit {0}) Holding) (page : ℕ) (missed tried : List ℕ) (s : State (Unit {0}) Holding) → page < count → IsKept count s → get_elem? s.views id ≡ some me.0
-    → IsKept count (stepped s page (get_or s.words page 0) id me.1 (holding me.0.pages missed tried) keeps)
+lost : (count id : ℕ) (me : Me (Unit {0}) Holding) (page : ℕ) (missed tried : List ℕ) (s : State (Unit {0}) Holding) → page < count → IsLedgerKept count s → get_elem? s.views id ≡ some me.0
+    → IsLedgerKept count (stepped s page (get_or s.words page 0) id me.1 (holding me.0.pages missed tried) keeps)
 lost count id me page missed tried s within kept at =
     let w : Holding = holding me.0.pages missed tried in
-    let as_before : (other : ℕ) → listed other (set s.views id w) ≡ listed other s.views = λ other. let sum = listed-set other s.views id me.0 w at in omega arith in
+    let as_before : (other : ℕ) → times_listed other (set s.views id w) ≡ times_listed other s.views = λ other. let sum = listed-set other s.views id me.0 w at in omega arith in
     let was = kept.counted page in
     let here = as_before page in
     let most = kept.once page in
@@ -70,7 +70,7 @@ lost count id me page missed tried s within kept at =
 
 -- a compare-exchange of 0 to 1 keeps the rule
 pub try_keeps : (count slots id : ℕ) (me : Me (Unit {0}) Holding) (page : ℕ) → page < count
-    → Allows (IsKept count) slots id me page (λ n. either (eqb n 0) 1 n) (tries (step slots page 0 1 none) me)
+    → Allows (IsLedgerKept count) slots id me page (λ n. either (eqb n 0) 1 n) (tries (step slots page 0 1 none) me)
 try_keeps count slots id me page within s kept _ at _ =
     let n : ℕ = get_or s.words page 0 in
     let before : List ℕ = missed_before page me.0.missed in
@@ -81,20 +81,20 @@ try_keeps count slots id me page within s kept _ at _ =
       w,
       keeps,
       tt,
-      subst (λ b. IsKept count (stepped s page (either b 1 n) id me.1 w keeps)) (sym (eq-eqb n 0 free)) (won count id me page before tried s within kept at free),
+      subst (λ b. IsLedgerKept count (stepped s page (either b 1 n) id me.1 w keeps)) (sym (eq-eqb n 0 free)) (won count id me page before tried s within kept at free),
       subst (λ b. MatchBool b (w ≡ w) (w ≡ l)) (sym (eq-eqb n 0 free)) refl,
     ))
     (λ held. (
       l,
       keeps,
       tt,
-      subst (λ b. IsKept count (stepped s page (either b 1 n) id me.1 l keeps)) (sym (ne_eqb n 0 held)) (lost count id me page (before ++ page ∷ []) tried s within kept at),
+      subst (λ b. IsLedgerKept count (stepped s page (either b 1 n) id me.1 l keeps)) (sym (ne_eqb n 0 held)) (lost count id me page (before ++ page ∷ []) tried s within kept at),
       subst (λ b. MatchBool b (l ≡ w) (l ≡ l)) (sym (ne_eqb n 0 held)) refl,
     ))
 
--- a store of 0 to the page that the view listed last keeps the rule
+-- a store of 0 to the page that the view times_listed last keeps the rule
 pub free_keeps : (count slots id : ℕ) (me : Me (Unit {0}) Holding) (page : ℕ) (rest : List ℕ) → page < count → me.0.pages ≡ rest ++ page ∷ []
-    → Allows (IsKept count) slots id me page (λ _. 0) (λ _. frees (step slots page 0 0 none) me 0)
+    → Allows (IsLedgerKept count) slots id me page (λ _. 0) (λ _. frees (step slots page 0 0 none) me 0)
 free_keeps count slots id me page rest within last s kept _ at _ =
     let w : Holding = holding rest me.0.missed me.0.tried in
     let before : (other : ℕ) → times other me.0.pages ≡ times other rest + one other page = λ other. ap (times other) last ∙ times-append other rest page in

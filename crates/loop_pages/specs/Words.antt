@@ -13,15 +13,15 @@ times page [] = 0
 times page (other ∷ others) = (if page == other then 1 else 0) + times page others
 
 -- how often the views list a page as held
-abbrev pub listed : ℕ → List Holding → ℕ
-listed page [] = 0
-listed page (v ∷ vs) = times page v.pages + listed page vs
+abbrev pub times_listed : ℕ → List Holding → ℕ
+times_listed page [] = 0
+times_listed page (v ∷ vs) = times page v.pages + times_listed page vs
 
 -- there is a word for each page, and it says how often the views list the page, which is once or not at all
-pub record IsKept (count : ℕ) (s : State (Unit {0}) Holding) : Type 0 where
+pub record IsLedgerKept (count : ℕ) (s : State (Unit {0}) Holding) : Type 0 where
   pub size : length s.words ≡ count
-  pub counted : (page : ℕ) → slice_index s.words page ≡ listed page s.views
-  pub once : (page : ℕ) → listed page s.views ≤ 1
+  pub counted : (page : ℕ) → slice_index s.words page ≡ times_listed page s.views
+  pub once : (page : ℕ) → times_listed page s.views ≤ 1
 
 -- what a claim has missed when it tries a page: a claim begins at page 0, and so does its list
 abbrev pub missed_before : ℕ → List ℕ → List ℕ
@@ -36,6 +36,6 @@ tries step before found after =
     (after.0 ≡ holding (before.0.pages ++ step.word ∷ []) (missed_before step.word before.0.missed) (before.0.tried ++ step.word ∷ []))
     (after.0 ≡ holding before.0.pages (missed_before step.word before.0.missed ++ step.word ∷ []) (before.0.tried ++ step.word ∷ []))
 
--- a page given back: the view loses the page, which it listed last
+-- a page given back: the view loses the page, which it times_listed last
 abbrev pub frees : Step (Unit {0}) → Me (Unit {0}) Holding → ℕ → Me (Unit {0}) Holding → Type 0
 frees step before _ after = (before.0.pages ≡ after.0.pages ++ step.word ∷ []) × ((after.0.missed ≡ before.0.missed) × (after.0.tried ≡ before.0.tried))

@@ -2,7 +2,7 @@
 ghost use Rattle.std.specs.Prelude.{ℕ};
 ghost use Rattle.atomic_table.specs.Table.{State};
 ghost use Rattle.loop_pages.specs.declared.rule.Holding.{Holding};
-ghost use Rattle.loop_pages.specs.Words.{IsKept};
+ghost use Rattle.loop_pages.specs.Words.{IsLedgerKept};
 ghost use Rattle.loop_pages.specs.Holders.{OneHolder};
 
 /// Between any two steps the word of a page is 1 where exactly one seat's view lists the page, and 0 where none
@@ -10,5 +10,5 @@ ghost use Rattle.loop_pages.specs.Holders.{OneHolder};
 /// page. It does nothing.
 #[tactic(auto, using(crate::proofs::Counted::one_holder))]
 pub fn each_page_has_one_holder()
-    ensures { (count : ℕ) (s : State (Unit {0}) Holding) → IsKept count s → OneHolder s }
+    ensures { (count : ℕ) (s : State (Unit {0}) Holding) → IsLedgerKept count s → OneHolder s }
 {}

@@ -16,10 +16,10 @@ pub struct Holding {
 pub struct PageRule;
 
 impl TableRule<(), Holding, u32> for PageRule {
-    ghost use Rattle.loop_pages.specs.Words.{IsKept, holding};
+    ghost use Rattle.loop_pages.specs.Words.{IsLedgerKept, holding};
     ghost use Rattle.std.specs.Prelude.{[]};
 
-    ghost holds = { IsKept };
+    ghost holds = { IsLedgerKept };
 
     ghost first = { λ _. holding [] [] [] };
 }

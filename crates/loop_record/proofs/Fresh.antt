@@ -14,7 +14,7 @@ use Rattle.loop_record.specs.declared.geometry.Geometry.{Geometry}
 use Rattle.loop_record.specs.Geometry.{frame_bytes, is_good, segment_at, slot_at, clip_at}
 use Rattle.loop_record.specs.Recording.{Picture, empty, head}
 use Rattle.loop_record.specs.Layout.{magic, format_bytes, has_bytes, format_at, geometry_fields, checked_geometry, is_open, open_gates, whole_frames, segment_in, entry_at, clip_in, header_at, super_bytes, header_bytes, entry_bytes, geometry_in, slot_in, slot_bytes, slot_head}
-use Rattle.loop_record.specs.Reading.{checked, by_block, opened, begun, Holds, IsFresh}
+use Rattle.loop_record.specs.Reading.{checked, by_block, opened, begun, Holds, IsFreshImage}
 use Rattle.loop_record.specs.Laws.{FitsSlot, WrittenIsRead}
 use Rattle.loop_record.proofs.Bounds.{limits}
 use Rattle.loop_record.proofs.Decided.{equal_test, at_most_test}
@@ -37,7 +37,7 @@ abbrev no_clip : ℕ → Option Span
 no_clip id = None
 
 -- a freshly formatted image reads as the empty recording
-pub reading-fresh : (g : Geometry) (image : List ℕ) → IsTrue (is_good g) → IsFresh g image → Holds g empty image
+pub reading-fresh : (g : Geometry) (image : List ℕ) → IsTrue (is_good g) → IsFreshImage g image → Holds g empty image
 reading-fresh g image good f =
     let whole : image ≡ super_bytes g ++ drop 512 image = sym (take-append-drop 512 image) ∙ ap (λ (bs : List ℕ). bs ++ drop 512 image) f.superblock in
     let segments = none_opened g image 0 g.segments (λ j low high. f.segments j (omega (arith, high))) in

@@ -10,7 +10,7 @@ use Rattle.loop_record.specs.declared.geometry.Geometry.{Geometry}
 use Rattle.loop_record.specs.declared.image.Found.{Found}
 use Rattle.loop_record.specs.Recording.{Picture, empty, frame_under}
 use Rattle.loop_record.specs.Reading.{frames_of, all_frames, is_bad_clip}
-use Rattle.loop_record.specs.Plain.{segment_of, segments_of, has_number, lacks_number, held_clip, table_clips, AreIn}
+use Rattle.loop_record.specs.Plain.{segment_of, segments_of, found_number, lacks_number, held_clip, table_clips, AreIn}
 use Rattle.loop_record.specs.Geometry.{clip_at}
 use Rattle.loop_record.specs.Layout.{is_open, entry_at, clip_in, checked_clip}
 use Rattle.loop_record.specs.declared.clip.Span.{Span}
@@ -80,19 +80,19 @@ by-division slots b n k some few = go (eqb b q) (ltb b q) refl refl
         (λ i. fails i && ltb n (b * slots + k)) ∙ sym (λ i. e i && ltb m k)
 
 -- the frames of the segments have just the numbers that the headers say
-pub held-number : (g : Geometry) (image : List ℕ) (fs : List Found) (n : ℕ) → 1 ≤ g.slots → AreIn g fs → is_some (frame_under (all_frames g (segments_of g image fs)) n) ≡ list_any (has_number g n) fs
+pub held-number : (g : Geometry) (image : List ℕ) (fs : List Found) (n : ℕ) → 1 ≤ g.slots → AreIn g fs → is_some (frame_under (all_frames g (segments_of g image fs)) n) ≡ list_any (found_number g n) fs
 held-number g image [] n some h = refl
 held-number g image (f ∷ fs) n some h =
     let pictures = map (λ t. t.picture) (segment_of g image f).slots in
     let size : length pictures ≡ f.frames = length-map (segment_of g image f).slots (λ t. t.picture) ∙ length-slots g image f in
-    let here : is_some (frame_under (frames_of g (segment_of g image f)) n) ≡ has_number g n f =
+    let here : is_some (frame_under (frames_of g (segment_of g image f)) n) ≡ found_number g n f =
     under-enumerate n (f.block * g.slots) pictures ∙ ap (λ (k : ℕ). leb (f.block * g.slots) n && ltb n (f.block * g.slots + k)) size ∙ by-division g.slots f.block n f.frames some h.0.few in
     let rest = held-number g image fs n some h.1 in
     under-both (frames_of g (segment_of g image f)) (all_frames g (segments_of g image fs)) n ∙ (λ i. here i || rest i)
 
 -- so for each number of a range
 pub held-all : (g : Geometry) (image : List ℕ) (fs : List Found) (from count : ℕ) → 1 ≤ g.slots → AreIn g fs
-    → list_all (λ n. is_some (frame_under (all_frames g (segments_of g image fs)) n)) (range_with_len from count) ≡ list_all (λ n. list_any (has_number g n) fs) (range_with_len from count)
+    → list_all (λ n. is_some (frame_under (all_frames g (segments_of g image fs)) n)) (range_with_len from count) ≡ list_all (λ n. list_any (found_number g n) fs) (range_with_len from count)
 held-all g image fs from count some h = λ i. list_all (λ n. held-number g image fs n some h i) (range_with_len from count)
 
 -- an entry of the table is the image's

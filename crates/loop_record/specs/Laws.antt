@@ -5,7 +5,7 @@ use Rattle.loop_record.specs.declared.geometry.Geometry.{Geometry}
 use Rattle.loop_record.specs.Geometry.{is_good}
 use Rattle.loop_record.specs.Recording.{Picture, Recording, Ring, Step, head, empty, victim, is_legal, after, steps, IsWellFormed, MayGo, IsVictim}
 use Rattle.loop_record.specs.Layout.{super_bytes, slot_bytes, header_bytes, entry_bytes, geometry_in, slot_in, slot_head, header_at, entry_at}
-use Rattle.loop_record.specs.Reading.{Holds, IsFresh}
+use Rattle.loop_record.specs.Reading.{Holds, IsFreshImage}
 
 -- the victim is the least block that may go, and where there is none, no block may go
 pub record VictimIsLeast (ring : Ring) (r : Recording) : Type 0 where
@@ -35,7 +35,7 @@ ReadingsAreWellFormed = (g : Geometry) (r : Recording) (image : List ℕ) → Ho
 
 -- a freshly formatted image reads as the empty recording
 abbrev pub FreshImagesAreEmpty : Type 0
-FreshImagesAreEmpty = (g : Geometry) (image : List ℕ) → IsTrue (is_good g) → IsFresh g image → Holds g empty image
+FreshImagesAreEmpty = (g : Geometry) (image : List ℕ) → IsTrue (is_good g) → IsFreshImage g image → Holds g empty image
 
 -- a number, a frame's head and its count of bytes have room in a slot
 pub record FitsSlot (number : ℕ) (p : Picture) : Type 0 where

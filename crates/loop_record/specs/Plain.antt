@@ -57,13 +57,13 @@ with_segment None ss = ss
 with_segment (Some s) ss = in_place s ss
 
 -- a found segment has the frame of that number
-abbrev pub has_number : Geometry → ℕ → Found → Bool
-has_number g n f = (f.block == n / g.slots) && nat_lt (n % g.slots) f.frames
+abbrev pub found_number : Geometry → ℕ → Found → Bool
+found_number g n f = (f.block == n / g.slots) && nat_lt (n % g.slots) f.frames
 
 -- a clip that is empty or has a number of which no segment has the frame
 abbrev pub lacks_number : Geometry → List Found → Option Span → Bool
 lacks_number g fs None = false
-lacks_number g fs (Some s) = nat_lt s.to s.from || not (list_all (λ n. list_any (has_number g n) fs) (range_with_len s.from (s.to + 1 - s.from)))
+lacks_number g fs (Some s) = nat_lt s.to s.from || not (list_all (λ n. list_any (found_number g n) fs) (range_with_len s.from (s.to + 1 - s.from)))
 
 -- a clip of which the segments have each number
 abbrev pub held_clip : Geometry → List Found → Option Span → Result (Option Span) Damage

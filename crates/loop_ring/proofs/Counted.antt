@@ -13,7 +13,7 @@ use Rattle.loop_record.specs.Reading.{Holds}
 use Rattle.loop_record.specs.Recording.{Recording, Ring, meets, ring_of, victim}
 use Rattle.loop_record.proofs.Decided.{at_most_test, differ_test}
 use Rattle.loop_ring.proofs.Chosen.{victim-first}
-use Rattle.loop_ring.specs.Heads.{Segments, clip_counts, clips_on, free_block, going_block, going_first, going_free, grown, has_frame, held_block, heads_of, least_free, least_going, meets_head, one_less, one_more}
+use Rattle.loop_ring.specs.Heads.{Segments, clip_counts, clips_on, free_block, going_block, going_first, going_free, grown, has_frame, held_block, heads_of, least_free, least_going, meets_head, without_one, with_one}
 
 abbrev mark : Bool → ℕ
 mark t = cond t 1 0
@@ -67,16 +67,16 @@ mapped-all f heads old new i m all counted same = ext_get_or 0 new (map (λ x. f
         m.done k (omega (arith, inside, all)) ∙ sym (ap (λ (x : Option SegmentHead × ℕ). f x.0 x.1) (get_or-zip heads old k (None, 0) inside (omega (arith, inside, counted)))) ∙ sym (get_or-map (λ (x : Option SegmentHead × ℕ). f x.0 x.1) (zip heads old) k (None, 0) 0 (omega (arith, inside, long)))
 
 -- a segment that the clip doesn't meet keeps its count
-pub more-same : (ring : Ring) (span : Span) (h : Option SegmentHead) (n : ℕ) (t : Bool) → t ≡ meets_head ring (Some span) h → t ≡ false → n ≡ one_more ring span h n
+pub more-same : (ring : Ring) (span : Span) (h : Option SegmentHead) (n : ℕ) (t : Bool) → t ≡ meets_head ring (Some span) h → t ≡ false → n ≡ with_one ring span h n
 more-same ring span h n t is not-so = ap (λ (b : Bool). cond b (n + 1) n) (sym not-so ∙ is)
 
-pub more-met : (ring : Ring) (span : Span) (h : Option SegmentHead) (n : ℕ) (t : Bool) → t ≡ meets_head ring (Some span) h → t ≡ true → n + 1 ≡ one_more ring span h n
+pub more-met : (ring : Ring) (span : Span) (h : Option SegmentHead) (n : ℕ) (t : Bool) → t ≡ meets_head ring (Some span) h → t ≡ true → n + 1 ≡ with_one ring span h n
 more-met ring span h n t is so = ap (λ (b : Bool). cond b (n + 1) n) (sym so ∙ is)
 
-pub less-same : (ring : Ring) (span : Span) (h : Option SegmentHead) (n : ℕ) (t : Bool) → t ≡ meets_head ring (Some span) h → t ≡ false → n ≡ one_less ring span h n
+pub less-same : (ring : Ring) (span : Span) (h : Option SegmentHead) (n : ℕ) (t : Bool) → t ≡ meets_head ring (Some span) h → t ≡ false → n ≡ without_one ring span h n
 less-same ring span h n t is not-so = ap (λ (b : Bool). cond b (n - 1) n) (sym not-so ∙ is)
 
-pub less-met : (ring : Ring) (span : Span) (h : Option SegmentHead) (n : ℕ) (t : Bool) → t ≡ meets_head ring (Some span) h → t ≡ true → n - 1 ≡ one_less ring span h n
+pub less-met : (ring : Ring) (span : Span) (h : Option SegmentHead) (n : ℕ) (t : Bool) → t ≡ meets_head ring (Some span) h → t ≡ true → n - 1 ≡ without_one ring span h n
 less-met ring span h n t is so = ap (λ (b : Bool). cond b (n - 1) n) (sym so ∙ is)
 
 -- the counts of one segment more
@@ -109,10 +109,10 @@ count-set p clips id c l = sum_by-set (λ x. mark (p x)) clips id c None l
 
 -- a clip under an id that was free
 pub counts-locked : (ring : Ring) (clips : List (Option Span)) (heads : List (Option SegmentHead)) (id : ℕ) (span : Span) → id < length clips → get_or clips id None ≡ None
-    → map (λ x. one_more ring span x.0 x.1) (zip heads (clip_counts ring clips heads)) ≡ clip_counts ring (set clips id (Some span)) heads
-counts-locked ring clips heads id span l free = map-zip (clips_on ring clips) (one_more ring span) (clips_on ring (set clips id (Some span))) heads one
+    → map (λ x. with_one ring span x.0 x.1) (zip heads (clip_counts ring clips heads)) ≡ clip_counts ring (set clips id (Some span)) heads
+counts-locked ring clips heads id span l free = map-zip (clips_on ring clips) (with_one ring span) (clips_on ring (set clips id (Some span))) heads one
   where
-    one : (o : Option SegmentHead) → one_more ring span o (clips_on ring clips o) ≡ clips_on ring (set clips id (Some span)) o
+    one : (o : Option SegmentHead) → with_one ring span o (clips_on ring clips o) ≡ clips_on ring (set clips id (Some span)) o
     one None = refl
     one (Some h) = go (meets ring h.block (Some span)) refl
       where
@@ -125,10 +125,10 @@ counts-locked ring clips heads id span l free = map-zip (clips_on ring clips) (o
 
 -- an id whose clip goes
 pub counts-unlocked : (ring : Ring) (clips : List (Option Span)) (heads : List (Option SegmentHead)) (id : ℕ) (span : Span) → id < length clips → get_or clips id None ≡ Some span
-    → map (λ x. one_less ring span x.0 x.1) (zip heads (clip_counts ring clips heads)) ≡ clip_counts ring (set clips id None) heads
-counts-unlocked ring clips heads id span l taken = map-zip (clips_on ring clips) (one_less ring span) (clips_on ring (set clips id None)) heads one
+    → map (λ x. without_one ring span x.0 x.1) (zip heads (clip_counts ring clips heads)) ≡ clip_counts ring (set clips id None) heads
+counts-unlocked ring clips heads id span l taken = map-zip (clips_on ring clips) (without_one ring span) (clips_on ring (set clips id None)) heads one
   where
-    one : (o : Option SegmentHead) → one_less ring span o (clips_on ring clips o) ≡ clips_on ring (set clips id None) o
+    one : (o : Option SegmentHead) → without_one ring span o (clips_on ring clips o) ≡ clips_on ring (set clips id None) o
     one None = refl
     one (Some h) = go (meets ring h.block (Some span)) refl
       where

@@ -72,18 +72,18 @@ abbrev pub clip_counts : Ring → List (Option Span) → List (Option SegmentHea
 clip_counts ring clips heads = map (clips_on ring clips) heads
 
 -- a segment's count once this clip stands too, and once it is gone
-abbrev pub one_more : Ring → Span → Option SegmentHead → ℕ → ℕ
-one_more ring span head count = if meets_head ring (Some span) head then count + 1 else count
+abbrev pub with_one : Ring → Span → Option SegmentHead → ℕ → ℕ
+with_one ring span head count = if meets_head ring (Some span) head then count + 1 else count
 
-abbrev pub one_less : Ring → Span → Option SegmentHead → ℕ → ℕ
-one_less ring span head count = if meets_head ring (Some span) head then count - 1 else count
+abbrev pub without_one : Ring → Span → Option SegmentHead → ℕ → ℕ
+without_one ring span head count = if meets_head ring (Some span) head then count - 1 else count
 
 -- the segments once this clip stands too, and once it is gone
 abbrev pub with_clip : Ring → Span → Segments → Segments
-with_clip ring span s = record s { clips = map (λ x. one_more ring span x.0 x.1) (zip s.heads s.clips) }
+with_clip ring span s = record s { clips = map (λ x. with_one ring span x.0 x.1) (zip s.heads s.clips) }
 
 abbrev pub without_clip : Ring → Span → Segments → Segments
-without_clip ring span s = record s { clips = map (λ x. one_less ring span x.0 x.1) (zip s.heads s.clips) }
+without_clip ring span s = record s { clips = map (λ x. without_one ring span x.0 x.1) (zip s.heads s.clips) }
 
 -- the segment has a whole frame, its block isn't the newest one, and no clip meets it
 abbrev pub is_free : ℕ → Option SegmentHead → ℕ → Bool

@@ -3,7 +3,7 @@ ghost use Rattle.std.specs.Prelude.{◌≡◌, ◌<◌, ◌≤◌, ◌^◌, [], 
 ghost use Rattle.std.specs.List.{list_any, zip};
 ghost use Rattle.loop_record.specs.Geometry.{is_good};
 ghost use Rattle.loop_record.specs.Recording.{ring_of};
-ghost use Rattle.loop_ring.specs.Heads.{clip_counts, clips_on, meets_head, one_less, one_more};
+ghost use Rattle.loop_ring.specs.Heads.{clip_counts, clips_on, meets_head, without_one, with_one};
 
 use loop_record::{Geometry, SegmentHead, Span, meets};
 use std::alloc::Allocator;
@@ -70,7 +70,7 @@ pub(crate) fn raise_counts(
     requires good { IsTrue (is_good geometry.now) }
     requires counted { length counts.old ≡ length heads.now }
     requires few { All (λ count. count < 64) counts.old }
-    ensures { counts.new ≡ map (λ x. one_more (ring_of geometry.now) span x.0 x.1) (zip heads.now counts.old) }
+    ensures { counts.new ≡ map (λ x. with_one (ring_of geometry.now) span x.0 x.1) (zip heads.now counts.old) }
 {
     for (segment, head) in heads.iter().enumerate() {
         if meets_head(geometry, Some(span), *head) {
@@ -88,7 +88,7 @@ pub(crate) fn lower_counts(
 )
     requires good { IsTrue (is_good geometry.now) }
     requires counted { length counts.old ≡ length heads.now }
-    ensures { counts.new ≡ map (λ x. one_less (ring_of geometry.now) span x.0 x.1) (zip heads.now counts.old) }
+    ensures { counts.new ≡ map (λ x. without_one (ring_of geometry.now) span x.0 x.1) (zip heads.now counts.old) }
 {
     for (segment, head) in heads.iter().enumerate() {
         if meets_head(geometry, Some(span), *head) {

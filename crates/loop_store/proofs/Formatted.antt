@@ -16,10 +16,10 @@ use Rattle.loop_record.specs.declared.geometry.PixelFormat.{PixelFormat}
 use Rattle.loop_record.specs.declared.geometry.PixelFormat.TheVariants.{Grey, Ym12, Ym16, Ym24}
 use Rattle.loop_record.specs.Geometry.{clip_at, is_good, segment_at}
 use Rattle.loop_record.specs.Layout.{checked_geometry, format_at, has_bytes, is_open, magic, super_bytes}
-use Rattle.loop_record.specs.Reading.{IsFresh, contents, reading}
+use Rattle.loop_record.specs.Reading.{IsFreshImage, contents, reading}
 use Rattle.loop_record.proofs.Decided.{equal}
 use Rattle.loop_record.proofs.Fresh.{reading-fresh}
-use Rattle.loop_store.specs.Formatted.{AreClosed, IsClosed, IsLaid, NoneOrEmpty}
+use Rattle.loop_store.specs.Formatted.{LeavesClosed, IsClosed, IsLaid, NoneOrEmpty}
 
 -- behind a closed gate nothing is formatted
 pub closed-none : (image : List ℕ) → IsClosed image → reading image ≡ Err NotFormatted
@@ -39,7 +39,7 @@ super_length Ym16 g = refl
 super_length Ym24 g = refl
 
 -- what was laid out, with its gate open
-pub opened-fresh : (g : Geometry) (old c : List ℕ) → IsLaid g g.segments old → SameOutside 0 1 old c → is_open c 0 ≡ true → IsFresh g c
+pub opened-fresh : (g : Geometry) (old c : List ℕ) → IsLaid g g.segments old → SameOutside 0 1 old c → is_open c 0 ≡ true → IsFreshImage g c
 opened-fresh g old c laid torn gate = record {
   size = torn.size ∙ laid.size;
   superblock = ext_get_or 0 (take 512 c) (super_bytes g) (omega (arith, length-take 512 c, torn.size, laid.size, super_size)) (λ i l.
@@ -76,15 +76,15 @@ opening-torn g old c good laid torn = go (is_open c 0) refl
 pub opening-moments : {T : Type 0} (g : Geometry) (old new : Medium) (r : Result T DiskFault) → IsTrue (is_good g) → IsSettled old → IsLaid g g.segments old.bytes → Stores 0 (165 ∷ []) old new r → LeavesOnly old new (NoneOrEmpty g)
 opening-moments g old new r good settled laid stores = stored 0 (165 ∷ []) old new r (NoneOrEmpty g) settled stores (λ c torn. opening-torn g old.bytes c good laid torn)
 
-pub opening-fresh : {T : Type 0} (g : Geometry) (old new : Medium) (r : Result T DiskFault) → IsLaid g g.segments old.bytes → Stores 0 (165 ∷ []) old new r → OnOk r (IsFresh g new.bytes)
+pub opening-fresh : {T : Type 0} (g : Geometry) (old new : Medium) (r : Result T DiskFault) → IsLaid g g.segments old.bytes → Stores 0 (165 ∷ []) old new r → OnOk r (IsFreshImage g new.bytes)
 opening-fresh g old new r laid stores =
     let fits : 0 + 1 ≤ length old.bytes = omega (arith, laid.size) in
     let gate : get_or (written 0 (165 ∷ []) old.bytes) 0 0 ≡ 165 = get_or-written_there 0 (165 ∷ []) old.bytes 0 (omega arith) (omega arith) in
-    on_ok_weaker r (λ (done : new.bytes ≡ written 0 (165 ∷ []) old.bytes). subst (λ (image : List ℕ). IsFresh g image) (sym done) (opened-fresh g old.bytes (written 0 (165 ∷ []) old.bytes) laid (written_outside 0 (165 ∷ []) old.bytes fits) (ap (λ (b : ℕ). eqb b 165) gate))) stores.done
+    on_ok_weaker r (λ (done : new.bytes ≡ written 0 (165 ∷ []) old.bytes). subst (λ (image : List ℕ). IsFreshImage g image) (sym done) (opened-fresh g old.bytes (written 0 (165 ∷ []) old.bytes) laid (written_outside 0 (165 ∷ []) old.bytes fits) (ap (λ (b : ℕ). eqb b 165) gate))) stores.done
 
 -- ---- the whole
 
 -- a sync behind a closed gate
-pub sync-none : (g : Geometry) (old new : Medium) → IsSound old → AreClosed old → Stays old new → LeavesOnly old new (NoneOrEmpty g)
+pub sync-none : (g : Geometry) (old new : Medium) → IsSound old → LeavesClosed old → Stays old new → LeavesOnly old new (NoneOrEmpty g)
 sync-none g old new sound closed stays =
     goes_on old old new (NoneOrEmpty g) old.may_leave (started old (NoneOrEmpty g) sound (λ c left. inl (closed-none c (closed c left)))) stays.time (λ c left. inl (closed-none c (closed c left)))

@@ -14,7 +14,7 @@ use Rattle.loop_record.specs.Geometry.{clip_at, disk_size, segment_at}
 use Rattle.loop_record.specs.Layout.{is_open, super_bytes}
 use Rattle.loop_record.proofs.Decided.{equal}
 use Rattle.loop_record.proofs.Parts.{apart}
-use Rattle.loop_store.specs.Formatted.{AreClosed, IsClosed, IsLaid, WasOrClosed}
+use Rattle.loop_store.specs.Formatted.{LeavesClosed, IsClosed, IsLaid, WasOrClosed}
 use Rattle.loop_store.proofs.Looks.{stays-settled}
 
 -- ---- the gate is closed
@@ -46,10 +46,10 @@ closing old mid new r sound settled stays opened stores =
 -- ---- behind a closed gate
 
 -- a write behind the gate leaves it closed
-pub closed-behind : (at n : ℕ) (m : Medium) (c : List ℕ) → 1 ≤ at → AreClosed m → TornAt at n m c → IsClosed c
+pub closed-behind : (at n : ℕ) (m : Medium) (c : List ℕ) → 1 ≤ at → LeavesClosed m → TornAt at n m c → IsClosed c
 closed-behind at n m c behind closed torn = ap (λ (b : ℕ). eqb b 165) (torn.2.before 0 (omega (arith, behind))) ∙ closed torn.0 torn.1
 
-pub writing-closed : {T : Type 0} (at : ℕ) (bytes : List ℕ) (old new : Medium) (r : Result T DiskFault) → 1 ≤ at → IsSound old → AreClosed old → Writes at bytes old new r → LeavesOnly old new IsClosed
+pub writing-closed : {T : Type 0} (at : ℕ) (bytes : List ℕ) (old new : Medium) (r : Result T DiskFault) → 1 ≤ at → IsSound old → LeavesClosed old → Writes at bytes old new r → LeavesOnly old new IsClosed
 writing-closed at bytes old new r behind sound closed writes =
     goes_on old old new IsClosed (TornAt at (length bytes) old) (started old IsClosed sound closed) writes.time (λ c torn. closed-behind at (length bytes) old c behind closed torn)
 
@@ -140,7 +140,7 @@ laid-super g front old is long whole = laid-front g (drop 1 front) old (omega (a
 -- ---- what the writes say
 
 -- where each image since then is closed, those that a crash now may leave are
-pub run-closed : (old new : Medium) → IsSound new → LeavesOnly old new IsClosed → AreClosed new
+pub run-closed : (old new : Medium) → IsSound new → LeavesOnly old new IsClosed → LeavesClosed new
 run-closed old new sound run = λ c left. run.each c (sound.counts_now old.moment c run.later left)
 
 pub front-laid : {T : Type 0} (g : Geometry) (front bytes : List ℕ) (old new : Medium) (r : Result T DiskFault) → front ≡ super_bytes g ++ drop 512 (replicate 2560 0) → length front ≡ 2560 → bytes ≡ drop 1 front → IsSound old → old.size ≡ disk_size g

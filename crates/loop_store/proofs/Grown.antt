@@ -14,7 +14,7 @@ use Rattle.loop_record.specs.Reading.{Holds, hold_from, begun}
 use Rattle.loop_record.proofs.Steps.{plain-append}
 use Rattle.loop_record.proofs.Readings.{reading-commit, reading-begin, reading-same, whole-length}
 use Rattle.loop_ring.specs.Writes.{HasNoStray, ShowsOrNot, ShowsFrames, ShowsBeginning, slots_of, with_more}
-use Rattle.loop_store.specs.Held.{HoldsFrom, HoldsSome, IsNewest, IsFreeFor}
+use Rattle.loop_store.specs.Held.{HoldsFrom, HoldsSome, IsNewestSegment, IsFreeFor}
 
 -- ---- the slots of frames
 
@@ -41,7 +41,7 @@ take-stores (suc k) (p ∷ ps) = ap (λ steps. store p ∷ steps) (take-stores k
 
 -- ---- frames that were stored
 
-pub frames-held : (g : Geometry) (r : Recording) (j next : ℕ) (ps : List Picture) (old c : List ℕ) → Holds g r old → r.next ≡ next → j < g.segments → IsNewest g next j old → ShowsFrames g j next ps old c → Holds g (plain (ring_of g) r (map store ps)) c
+pub frames-held : (g : Geometry) (r : Recording) (j next : ℕ) (ps : List Picture) (old c : List ℕ) → Holds g r old → r.next ≡ next → j < g.segments → IsNewestSegment g next j old → ShowsFrames g j next ps old c → Holds g (plain (ring_of g) r (map store ps)) c
 frames-held g r j next ps old c held is l newest shows =
     let u = newest.segment in
     let ts = slots_of (frame_bytes g) next ps in
@@ -50,7 +50,7 @@ frames-held g r j next ps old c held is l newest shows =
     subst (λ (qs : List Picture). Holds g (plain (ring_of g) r (map store qs)) c) (slots_of-pictures (frame_bytes g) next ps)
     (reading-commit g r old c j u ts held l newest.there (newest.of_next ∙ ap (λ (n : ℕ). n / g.slots) (sym is)) hold (subst (λ (q : Option Segment). ShowsSegment g j q old c) part shows))
 
-pub beginning-held : (g : Geometry) (r : Recording) (j next : ℕ) (ps : List Picture) (old c : List ℕ) → Holds g r old → r.next ≡ next → j < g.segments → IsNewest g next j old → ShowsBeginning g j next ps old c → HoldsSome g r (map store ps) c
+pub beginning-held : (g : Geometry) (r : Recording) (j next : ℕ) (ps : List Picture) (old c : List ℕ) → Holds g r old → r.next ≡ next → j < g.segments → IsNewestSegment g next j old → ShowsBeginning g j next ps old c → HoldsSome g r (map store ps) c
 beginning-held g r j next ps old c held is l newest some = record {
   count = some.0;
   enough = omega arith;
@@ -60,7 +60,7 @@ beginning-held g r j next ps old c held is l newest some = record {
 
 -- ---- a block that was begun
 
-pub begun-newest : (g : Geometry) (next j : ℕ) (c : List ℕ) → next % g.slots ≡ 0 → segment_in g c j ≡ Some (begun (next / g.slots)) → HasNoStray g j c → IsNewest g next j c
+pub begun-newest : (g : Geometry) (next j : ℕ) (c : List ℕ) → next % g.slots ≡ 0 → segment_in g c j ≡ Some (begun (next / g.slots)) → HasNoStray g j c → IsNewestSegment g next j c
 begun-newest g next j c first there stray = record {
   segment = begun (next / g.slots);
   there = there;

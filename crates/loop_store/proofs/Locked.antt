@@ -33,7 +33,7 @@ use Rattle.loop_store.specs.Calls.{Call, CanRefuseSpan, IsAllowed, IsAnswered, R
 use Rattle.loop_store.specs.Faults.{failed_by, is_disk}
 use Rattle.loop_store.specs.Goes.{Goes, outline_of}
 use Rattle.loop_store.specs.Held.{HasNoneStray, HoldsFrom, HoldsSome, Makes}
-use Rattle.loop_store.specs.Locks.{KeepsSegments, Takes}
+use Rattle.loop_store.specs.Locks.{KeepsSegments, CanTake}
 use Rattle.loop_store.specs.Recovered.{IsClipNoted, IsHeadIn, IsIndex, IsIndexOf}
 use Rattle.loop_store.specs.Seen.{IsKept, IsPresent, Seen, StandsFor, seen_with}
 use Rattle.loop_store.proofs.Grown.{held-some}
@@ -67,10 +67,10 @@ same-held g r id old c held l shows =
 one-step : (g : Geometry) (r : Recording) (step : Step) (c : List ℕ) → Holds g (after (ring_of g) r step) c → HoldsSome g r (step ∷ []) c
 one-step g r step c held = record { count = 1; enough = omega arith; few = omega arith; held = held }
 
-pub lock-held : (g : Geometry) (r : Recording) (span : Span) (id : ℕ) (old c : List ℕ) → Holds g r old → Takes g span id r → ShowsClip id (Some span) old c → Holds g (after (ring_of g) r (lock span)) c
+pub lock-held : (g : Geometry) (r : Recording) (span : Span) (id : ℕ) (old c : List ℕ) → Holds g r old → CanTake g span id r → ShowsClip id (Some span) old c → Holds g (after (ring_of g) r (lock span)) c
 lock-held g r span id old c held takes shows = reading-lock g r span old c held takes.legal (subst (λ (k : ℕ). ShowsClip k (Some span) old c) takes.id_is shows)
 
-pub lock-some : (g : Geometry) (r : Recording) (span : Span) (id : ℕ) (old c : List ℕ) → Holds g r old → id < 64 → Takes g span id r → ShowsClipOrNot id (Some span) old c → HoldsSome g r (lock span ∷ []) c
+pub lock-some : (g : Geometry) (r : Recording) (span : Span) (id : ℕ) (old c : List ℕ) → Holds g r old → id < 64 → CanTake g span id r → ShowsClipOrNot id (Some span) old c → HoldsSome g r (lock span ∷ []) c
 lock-some g r span id old c held l takes (inl same) = held-some g r (lock span ∷ []) c (same-held g r id old c held l same)
 lock-some g r span id old c held l takes (inr shows) = one-step g r (lock span) c (lock-held g r span id old c held takes shows)
 
@@ -84,7 +84,7 @@ unlock-some g r id old c held l (inr shows) = one-step g r (unlock id) c (unlock
 -- ---- the calls
 
 pub lock-makes : {T : Type 0} (g : Geometry) (span : Span) (id : ℕ) (old new : Medium) (result : Result T DiskFault) → g.slots ≤ 256 → id < 64 → (old.honest → HasNoneStray g old.bytes)
-    → Changes (ShowsClipOrNot id (Some span) old.bytes) (ShowsClip id (Some span) old.bytes) old new result → Makes g (Takes g span id) (λ r. lock span ∷ []) (KeepsSegments g old.bytes) old new result
+    → Changes (ShowsClipOrNot id (Some span) old.bytes) (ShowsClip id (Some span) old.bytes) old new result → Makes g (CanTake g span id) (λ r. lock span ∷ []) (KeepsSegments g old.bytes) old new result
 lock-makes g span id old new result few l clean changes = record {
   moments = λ r one honest held. weaker old new _ _ (changes.moments honest) (λ image some. lock-some g r span id old.bytes image held l one some);
   held = λ r one honest held. on_ok_weaker result (λ shows. lock-held g r span id old.bytes new.bytes held one shows) (changes.such honest);

@@ -8,7 +8,7 @@ use Rattle.loop_disk.specs.Medium.{Medium, IsSettled}
 use Rattle.loop_record.specs.declared.geometry.Geometry.{Geometry}
 use Rattle.loop_record.specs.Geometry.{disk_size, is_good, segment_at}
 use Rattle.loop_record.specs.Layout.{header_at, open_gates}
-use Rattle.loop_record.specs.Reading.{Holds, IsFresh}
+use Rattle.loop_record.specs.Reading.{Holds, IsFreshImage}
 use Rattle.loop_record.specs.Recording.{empty, ring_of}
 use Rattle.loop_record.proofs.Fresh.{reading-fresh}
 use Rattle.loop_ring.specs.Heads.{clip_counts, heads_of}
@@ -25,7 +25,7 @@ all-none f lo zero none = refl
 all-none f lo (suc n) none = λ i. none lo (omega arith) i ∷ all-none f (lo + 1) n (λ j l. none j (omega (arith, l))) i
 
 -- each header is closed
-fresh-heads : (g : Geometry) (image : List ℕ) → IsFresh g image → heads_of g image ≡ replicate g.segments None
+fresh-heads : (g : Geometry) (image : List ℕ) → IsFreshImage g image → heads_of g image ≡ replicate g.segments None
 fresh-heads g image fresh = all-none (λ j. header_at g image (segment_at g j)) 0 g.segments (λ j l. closed-head j (omega (arith, l)))
   where
     closed-head : (j : ℕ) → j < g.segments → header_at g image (segment_at g j) ≡ None
@@ -39,7 +39,7 @@ pub record IsNew {A : Type 0} (index : Index A) (g : Geometry) : Type 0 where
   pub none : index.clips ≡ replicate 64 None
   pub counts : index.table.clips ≡ replicate g.segments 0
 
-fresh-known : {A : Type 0} (index : Index A) (g : Geometry) (image : List ℕ) → IsNew index g → IsTrue (is_good g) → IsFresh g image → IsIndexOf index empty image
+fresh-known : {A : Type 0} (index : Index A) (g : Geometry) (image : List ℕ) → IsNew index g → IsTrue (is_good g) → IsFreshImage g image → IsIndexOf index empty image
 fresh-known index g image new good fresh = record {
   held = subst (λ (h : Geometry). Holds h empty image) (sym new.geometry) (reading-fresh g image good fresh);
   next_is = new.next;
@@ -48,7 +48,7 @@ fresh-known index g image new good fresh = record {
 }
 
 -- the image of a disk that was formatted, with the memory of its store
-pub fresh-kept : {D A : Type 0} (medium : D → Medium) (g : Geometry) (disk : D) (index : Index A) → IsNew index g → IsTrue (is_good g) → (medium disk).size ≡ disk_size g → ((medium disk).honest → IsSettled (medium disk)) → ((medium disk).honest → IsFresh g (medium disk).bytes)
+pub fresh-kept : {D A : Type 0} (medium : D → Medium) (g : Geometry) (disk : D) (index : Index A) → IsNew index g → IsTrue (is_good g) → (medium disk).size ≡ disk_size g → ((medium disk).honest → IsSettled (medium disk)) → ((medium disk).honest → IsFreshImage g (medium disk).bytes)
     → IsKept medium disk index false
 fresh-kept medium g disk index new good size settled fresh = record {
   fits = record {
@@ -80,7 +80,7 @@ fresh-tells g disk index new = record {
   clips_are = new.none;
 }
 
-pub fresh-stands : {D A : Type 0} (medium : D → Medium) (g : Geometry) (disk : D) (index : Index A) → IsNew index g → IsTrue (is_good g) → ((medium disk).honest → IsSettled (medium disk)) → ((medium disk).honest → IsFresh g (medium disk).bytes)
+pub fresh-stands : {D A : Type 0} (medium : D → Medium) (g : Geometry) (disk : D) (index : Index A) → IsNew index g → IsTrue (is_good g) → ((medium disk).honest → IsSettled (medium disk)) → ((medium disk).honest → IsFreshImage g (medium disk).bytes)
     → StandsFor medium (seen_with disk index false) empty
 fresh-stands medium g disk index new good settled fresh = record {
   told = λ now. fresh-tells g disk index new;

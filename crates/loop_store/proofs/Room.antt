@@ -21,8 +21,8 @@ use Rattle.loop_ring.specs.Writes.{HasNoStray, ShowsFrames, ShowsOrNot}
 use Rattle.loop_ring.proofs.Heads.{heads-committed, heads-length, heads-shown}
 use Rattle.loop_store.specs.declared.place.Place.{Place}
 use Rattle.loop_store.specs.declared.place.Place.TheVariants.{Newest, Closed, Victim}
-use Rattle.loop_store.specs.Held.{HasNoneStray, HoldsSome, IsFreeFor, IsNewest}
-use Rattle.loop_store.specs.Places.{IsBegunAt, IsGrownAt, IsKnown, IsOldFor, IsPlaceAt, head_at, segment_of, steps_before}
+use Rattle.loop_store.specs.Held.{HasNoneStray, HoldsSome, IsFreeFor, IsNewestSegment}
+use Rattle.loop_store.specs.Places.{IsBegunAt, IsGrownAt, IsKnown, IsOldFor, IsPlaceAt, head_at, place_segment, steps_before}
 use Rattle.loop_store.specs.Steps.{steps_or_none}
 
 -- ---- one image holds one recording
@@ -176,7 +176,7 @@ closed-for g r next j image known held is =
 
 -- and of the newest one
 pub record IsNewestFor (g : Geometry) (r : Recording) (next j : ℕ) (image : List ℕ) : Type 0 where
-  pub newest : IsNewest g next j image
+  pub newest : IsNewestSegment g next j image
   pub begun : IsBegunAt g next j image image
   pub steps : steps_before g r ≡ []
 
@@ -186,7 +186,7 @@ newest-for g r next j image l known held is =
     let at = place.0 in
     let stray = known.unstray j l (λ none. no_segment at.segment (sym at.there ∙ none)) in
     record {
-      newest = subst (λ (n : ℕ). IsNewest g n j image) is (record { segment = at.segment; there = at.there; of_next = at.of_next; whole = at.whole; stray = stray });
+      newest = subst (λ (n : ℕ). IsNewestSegment g n j image) is (record { segment = at.segment; there = at.there; of_next = at.of_next; whole = at.whole; stray = stray });
       begun = record { heads = sym (subst (λ (n : ℕ). set (heads_of g image) j (Some (head_at g n)) ≡ heads_of g image) is (ap (λ (o : Option SegmentHead). set (heads_of g image) j o) (sym at.head) ∙ set-get_or (heads_of g image) j None)); unstray = known.unstray };
       steps = before-none g r place.1;
     }
@@ -196,17 +196,17 @@ newest-for g r next j image l known held is =
 
 -- ---- a place that is one of these
 
-pub known-newest : (g : Geometry) (r : Recording) (next j : ℕ) (p : Place) (image : List ℕ) → p ≡ Newest j → segment_of p < g.segments → IsKnown g next p image → Holds g r image → r.next ≡ next → IsNewestFor g r next (segment_of p) image
+pub known-newest : (g : Geometry) (r : Recording) (next j : ℕ) (p : Place) (image : List ℕ) → p ≡ Newest j → place_segment p < g.segments → IsKnown g next p image → Holds g r image → r.next ≡ next → IsNewestFor g r next (place_segment p) image
 known-newest g r next j p image is l known held same =
-    let e : segment_of p ≡ j = ap segment_of is in
+    let e : place_segment p ≡ j = ap place_segment is in
     subst (λ (k : ℕ). IsNewestFor g r next k image) (sym e) (newest-for g r next j image (subst (λ (k : ℕ). k < g.segments) e l) (subst (λ (q : Place). IsKnown g next q image) is known) held same)
 
 pub known-closed : (g : Geometry) (r : Recording) (next j : ℕ) (p : Place) (image : List ℕ) → p ≡ Closed j → IsKnown g next p image → Holds g r image → r.next ≡ next → IsClosedFor g r next j image
 known-closed g r next j p image is known held same = closed-for g r next j image (subst (λ (q : Place). IsKnown g next q image) is known) held same
 
-pub closed-at : (g : Geometry) (next j : ℕ) (p : Place) (old new : List ℕ) → g.slots ≤ 256 → p ≡ Closed j → segment_of p < g.segments → IsKnown g next p old → ShowsSegment g j (Some (begun (next / g.slots))) old new → HasNoStray g j new → IsBegunAt g next (segment_of p) old new
+pub closed-at : (g : Geometry) (next j : ℕ) (p : Place) (old new : List ℕ) → g.slots ≤ 256 → p ≡ Closed j → place_segment p < g.segments → IsKnown g next p old → ShowsSegment g j (Some (begun (next / g.slots))) old new → HasNoStray g j new → IsBegunAt g next (place_segment p) old new
 closed-at g next j p old new few is l known shows stray =
-    let e : segment_of p ≡ j = ap segment_of is in
+    let e : place_segment p ≡ j = ap place_segment is in
     let c = known-closed g known.recording next j p old is known known.held known.next_is in
     subst (λ (k : ℕ). IsBegunAt g next k old new) (sym e) (closed-begun g next j old new few (subst (λ (k : ℕ). k < g.segments) e l) c.first known.unstray shows stray)
 
@@ -233,8 +233,8 @@ before-next g r = go (needs_recycling (ring_of g) r) (victim (ring_of g) r)
     go true None = refl
     go true (Some b) = refl
 
-pub grown-place : (g : Geometry) (next count k : ℕ) (p : Place) (ps : List Picture) (old mid new : List ℕ) → g.slots ≤ 256 → k ≡ segment_of p → segment_of p < g.segments → length ps ≡ count → IsBegunAt g next (segment_of p) old mid → ShowsFrames g k next ps mid new → HasNoStray g k new
-    → IsGrownAt g next count (segment_of p) old new
+pub grown-place : (g : Geometry) (next count k : ℕ) (p : Place) (ps : List Picture) (old mid new : List ℕ) → g.slots ≤ 256 → k ≡ place_segment p → place_segment p < g.segments → length ps ≡ count → IsBegunAt g next (place_segment p) old mid → ShowsFrames g k next ps mid new → HasNoStray g k new
+    → IsGrownAt g next count (place_segment p) old new
 grown-place g next count k p ps old mid new few at l many begun shows stray =
-    subst (λ (n : ℕ). IsGrownAt g next n (segment_of p) old new) many
-    (grown-at g next (segment_of p) ps old mid new few l begun (subst (λ (j : ℕ). ShowsFrames g j next ps mid new) at shows) (subst (λ (j : ℕ). HasNoStray g j new) at stray))
+    subst (λ (n : ℕ). IsGrownAt g next n (place_segment p) old new) many
+    (grown-at g next (place_segment p) ps old mid new few l begun (subst (λ (j : ℕ). ShowsFrames g j next ps mid new) at shows) (subst (λ (j : ℕ). HasNoStray g j new) at stray))

@@ -138,7 +138,7 @@ RefusesPart s number fault =
     ⊎ (is_disk fault ≡ true) × ((s.must_reopen ≡ false) × (holds s.recording number ≡ true)))
 
 -- the frame of a number, with this head and these bytes
-pub record IsFrame (r : Recording) (number : ℕ) (h : FrameHead) (bytes : List ℕ) : Type 0 where
+pub record IsHeldFrame (r : Recording) (number : ℕ) (h : FrameHead) (bytes : List ℕ) : Type 0 where
   pub picture : Picture
   pub there : frame_under r.frames number ≡ Some picture
   pub head_is : h ≡ head number picture
@@ -158,7 +158,7 @@ IsAnswered g s (locked span (Ok id)) = (s.must_reopen ≡ false) × (CanLock g s
 IsAnswered g s (locked span (Err fault)) = RefusesLock g s span fault
 IsAnswered g s (unlocked id (Ok x)) = (s.must_reopen ≡ false) × (clip_of s.recording id ≢ None)
 IsAnswered g s (unlocked id (Err fault)) = RefusesUnlock s id fault
-IsAnswered g s (was_read number (Ok x)) = (s.must_reopen ≡ false) × IsFrame s.recording number x.0 x.1
+IsAnswered g s (was_read number (Ok x)) = (s.must_reopen ≡ false) × IsHeldFrame s.recording number x.0 x.1
 IsAnswered g s (was_read number (Err fault)) = RefusesRead s number fault
 IsAnswered g s (was_read_part number at (Ok bytes)) = (s.must_reopen ≡ false) × IsPart s.recording number at bytes
 IsAnswered g s (was_read_part number at (Err fault)) = RefusesPart s number fault

@@ -14,16 +14,16 @@ use Rattle.loop_store.specs.Faults.{failed_by, is_disk}
 use Rattle.loop_store.specs.Seen.{Seen, Tells}
 
 -- the geometry is good, and a disk of this size is one for it
-abbrev pub Fits : Geometry → ℕ → Type 0
-Fits g size = IsTrue (is_good g) × (size ≡ disk_size g)
+abbrev pub FitsDisk : Geometry → ℕ → Type 0
+FitsDisk g size = IsTrue (is_good g) × (size ≡ disk_size g)
 
 -- the superblock's gate is closed
 abbrev pub IsClosed : List ℕ → Type 0
 IsClosed image = is_open image 0 ≡ false
 
 -- so it is in the present bytes, and in each image that a crash may leave
-abbrev pub AreClosed : Medium → Type 0
-AreClosed m = (c : List ℕ) → m.may_leave c → IsClosed c
+abbrev pub LeavesClosed : Medium → Type 0
+LeavesClosed m = (c : List ℕ) → m.may_leave c → IsClosed c
 
 -- an image that a crash might have left before, or one whose gate is closed
 abbrev pub WasOrClosed : Medium → List ℕ → Type 0

@@ -22,7 +22,7 @@ abbrev pub HoldsSome : Geometry → Recording → List Step → List ℕ → Typ
 HoldsSome g r steps image = HoldsFrom g r 0 steps image
 
 -- segment j has the block of the next number, the frames before it, and no frame gate open behind them
-pub record IsNewest (g : Geometry) (next j : ℕ) (image : List ℕ) : Type 0 where
+pub record IsNewestSegment (g : Geometry) (next j : ℕ) (image : List ℕ) : Type 0 where
   pub segment : Segment
   pub there : segment_in g image j ≡ Some segment
   pub of_next : segment.block ≡ next / g.slots

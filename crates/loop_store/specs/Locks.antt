@@ -28,7 +28,7 @@ AnswersSpan g r span (Ok id) = CanLock g r span × (id ≡ free_id r)
 AnswersSpan g r span (Err fault) = RefusesSpan r span fault
 
 -- a recording of which a clip of this span may be added, under this id
-pub record Takes (g : Geometry) (span : Span) (id : ℕ) (r : Recording) : Type 0 where
+pub record CanTake (g : Geometry) (span : Span) (id : ℕ) (r : Recording) : Type 0 where
   pub legal : CanLock g r span
   pub id_is : id ≡ free_id r
 

@@ -16,10 +16,10 @@ use Rattle.loop_store.specs.Recovered.{head_after}
 use Rattle.loop_store.specs.Steps.{steps_or_none}
 
 -- the segment of a place
-abbrev pub segment_of : Place → ℕ
-segment_of (Newest j) = j
-segment_of (Closed j) = j
-segment_of (Victim j) = j
+abbrev pub place_segment : Place → ℕ
+place_segment (Newest j) = j
+place_segment (Closed j) = j
+place_segment (Victim j) = j
 
 -- segment j has the block of the next number, and the frames before it
 pub record IsNext (g : Geometry) (next j : ℕ) (image : List ℕ) : Type 0 where

@@ -5,8 +5,8 @@ ghost use Rattle.loop_disk.specs.Calls.{Called, failed_call};
 ghost use Rattle.loop_disk.specs.Medium.{IsSettled, LeavesOnly};
 ghost use Rattle.loop_record.specs.Geometry.{is_good};
 ghost use Rattle.loop_record.specs.Layout.{is_open, super_bytes};
-ghost use Rattle.loop_record.specs.Reading.{IsFresh};
-ghost use Rattle.loop_store.specs.Formatted.{AreClosed, Fits, IsClosed, IsLaid, NoneOrEmpty, WasOrClosed, WasOrEmpty};
+ghost use Rattle.loop_record.specs.Reading.{IsFreshImage};
+ghost use Rattle.loop_store.specs.Formatted.{LeavesClosed, FitsDisk, IsClosed, IsLaid, NoneOrEmpty, WasOrClosed, WasOrEmpty};
 
 use loop_disk::{Disk, DiskFault, store};
 use loop_record::{Geometry, HEADER_SIZE, OPEN, SUPER_SIZE, encode_super};
@@ -38,7 +38,7 @@ fn unformat<D: Disk>(disk: &mut D) -> Result<(), DiskFault>
     requires extent { 1 ≤ (D.medium disk.old).size }
     ensures moments { (D.medium disk.old).honest
         → LeavesOnly (D.medium disk.old) (D.medium disk.new) (WasOrClosed (D.medium disk.old)) }
-    ensures closed { (D.medium disk.old).honest → OnOk result (AreClosed (D.medium disk.new)) }
+    ensures closed { (D.medium disk.old).honest → OnOk result (LeavesClosed (D.medium disk.new)) }
     ensures called { Called (D.medium disk.old) (D.medium disk.new) (failed_call result) }
 {
     disk.sync()?;
@@ -64,8 +64,8 @@ fn behind_gate(bytes: &[u8]) -> &[u8]
 
 /// Writes the superblock behind its gate, and the clip table without a clip.
 fn write_front<D: Disk>(disk: &mut D, geometry: &Geometry) -> Result<(), DiskFault>
-    requires fits { Fits geometry.now (D.medium disk.old).size }
-    requires closed { (D.medium disk.old).honest → AreClosed (D.medium disk.old) }
+    requires fits { FitsDisk geometry.now (D.medium disk.old).size }
+    requires closed { (D.medium disk.old).honest → LeavesClosed (D.medium disk.old) }
     ensures moments { (D.medium disk.old).honest → LeavesOnly (D.medium disk.old) (D.medium disk.new) IsClosed }
     ensures laid { (D.medium disk.old).honest → OnOk result (IsLaid geometry.now 0 (D.medium disk.new).bytes) }
     ensures called { Called (D.medium disk.old) (D.medium disk.new) (failed_call result) }
@@ -77,9 +77,9 @@ fn write_front<D: Disk>(disk: &mut D, geometry: &Geometry) -> Result<(), DiskFau
 
 /// Writes the header of a segment as zeros.
 fn write_header<D: Disk>(disk: &mut D, geometry: &Geometry, segment: u32) -> Result<(), DiskFault>
-    requires fits { Fits geometry.now (D.medium disk.old).size }
+    requires fits { FitsDisk geometry.now (D.medium disk.old).size }
     requires segment { segment < geometry.now.segments }
-    requires closed { (D.medium disk.old).honest → AreClosed (D.medium disk.old) }
+    requires closed { (D.medium disk.old).honest → LeavesClosed (D.medium disk.old) }
     requires laid { (D.medium disk.old).honest → IsLaid geometry.now segment (D.medium disk.old).bytes }
     ensures moments { (D.medium disk.old).honest → LeavesOnly (D.medium disk.old) (D.medium disk.new) IsClosed }
     ensures laid { (D.medium disk.old).honest
@@ -91,8 +91,8 @@ fn write_header<D: Disk>(disk: &mut D, geometry: &Geometry, segment: u32) -> Res
 
 /// Writes the headers of all segments as zeros.
 fn write_headers<D: Disk>(disk: &mut D, geometry: &Geometry) -> Result<(), DiskFault>
-    requires fits { Fits geometry.now (D.medium disk.old).size }
-    requires closed { (D.medium disk.old).honest → AreClosed (D.medium disk.old) }
+    requires fits { FitsDisk geometry.now (D.medium disk.old).size }
+    requires closed { (D.medium disk.old).honest → LeavesClosed (D.medium disk.old) }
     requires laid { (D.medium disk.old).honest → IsLaid geometry.now 0 (D.medium disk.old).bytes }
     ensures moments { (D.medium disk.old).honest → LeavesOnly (D.medium disk.old) (D.medium disk.new) IsClosed }
     ensures laid { (D.medium disk.old).honest
@@ -107,12 +107,12 @@ fn write_headers<D: Disk>(disk: &mut D, geometry: &Geometry) -> Result<(), DiskF
 
 /// Opens the superblock's gate, on a disk where a crash leaves the present bytes and nothing else.
 fn open_gate<D: Disk>(disk: &mut D, geometry: &Geometry) -> Result<(), DiskFault>
-    requires fits { Fits geometry.now (D.medium disk.old).size }
+    requires fits { FitsDisk geometry.now (D.medium disk.old).size }
     requires settled { (D.medium disk.old).honest → IsSettled (D.medium disk.old) }
     requires laid { (D.medium disk.old).honest → IsLaid geometry.now geometry.now.segments (D.medium disk.old).bytes }
     ensures moments { (D.medium disk.old).honest
         → LeavesOnly (D.medium disk.old) (D.medium disk.new) (NoneOrEmpty geometry.now) }
-    ensures fresh { (D.medium disk.old).honest → OnOk result (IsFresh geometry.now (D.medium disk.new).bytes) }
+    ensures fresh { (D.medium disk.old).honest → OnOk result (IsFreshImage geometry.now (D.medium disk.new).bytes) }
     ensures settled { (D.medium disk.old).honest → OnOk result (IsSettled (D.medium disk.new)) }
     ensures called { Called (D.medium disk.old) (D.medium disk.new) (failed_call result) }
 {
@@ -121,12 +121,12 @@ fn open_gate<D: Disk>(disk: &mut D, geometry: &Geometry) -> Result<(), DiskFault
 
 /// Settles what was laid out behind the gate, and opens it.
 fn finish<D: Disk>(disk: &mut D, geometry: &Geometry) -> Result<(), DiskFault>
-    requires fits { Fits geometry.now (D.medium disk.old).size }
-    requires closed { (D.medium disk.old).honest → AreClosed (D.medium disk.old) }
+    requires fits { FitsDisk geometry.now (D.medium disk.old).size }
+    requires closed { (D.medium disk.old).honest → LeavesClosed (D.medium disk.old) }
     requires laid { (D.medium disk.old).honest → IsLaid geometry.now geometry.now.segments (D.medium disk.old).bytes }
     ensures moments { (D.medium disk.old).honest
         → LeavesOnly (D.medium disk.old) (D.medium disk.new) (NoneOrEmpty geometry.now) }
-    ensures fresh { (D.medium disk.old).honest → OnOk result (IsFresh geometry.now (D.medium disk.new).bytes) }
+    ensures fresh { (D.medium disk.old).honest → OnOk result (IsFreshImage geometry.now (D.medium disk.new).bytes) }
     ensures settled { (D.medium disk.old).honest → OnOk result (IsSettled (D.medium disk.new)) }
     ensures called { Called (D.medium disk.old) (D.medium disk.new) (failed_call result) }
 {
@@ -136,10 +136,10 @@ fn finish<D: Disk>(disk: &mut D, geometry: &Geometry) -> Result<(), DiskFault>
 
 /// Writes an empty recording over whatever stands on a disk of the geometry's size.
 pub(crate) fn lay_out<D: Disk>(disk: &mut D, geometry: &Geometry) -> Result<(), DiskFault>
-    requires fits { Fits geometry.now (D.medium disk.old).size }
+    requires fits { FitsDisk geometry.now (D.medium disk.old).size }
     ensures moments { (D.medium disk.old).honest
         → LeavesOnly (D.medium disk.old) (D.medium disk.new) (WasOrEmpty geometry.now (D.medium disk.old)) }
-    ensures fresh { (D.medium disk.old).honest → OnOk result (IsFresh geometry.now (D.medium disk.new).bytes) }
+    ensures fresh { (D.medium disk.old).honest → OnOk result (IsFreshImage geometry.now (D.medium disk.new).bytes) }
     ensures settled { (D.medium disk.old).honest → OnOk result (IsSettled (D.medium disk.new)) }
     ensures called { Called (D.medium disk.old) (D.medium disk.new) (failed_call result) }
 {

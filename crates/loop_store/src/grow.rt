@@ -9,8 +9,8 @@ ghost use Rattle.loop_record.specs.Reading.{begun};
 ghost use Rattle.loop_record.specs.Recording.{store};
 ghost use Rattle.loop_ring.specs.Writes.{HasNoStray, ShowsFrames};
 ghost use Rattle.loop_store.specs.declared.place.Place.TheVariants.{Victim};
-ghost use Rattle.loop_store.specs.Held.{HasNext, IsFreeFor, IsNewest, Makes};
-ghost use Rattle.loop_store.specs.Places.{IsBegunAt, IsGrownAt, IsKnown, segment_of, steps_before};
+ghost use Rattle.loop_store.specs.Held.{HasNext, IsFreeFor, IsNewestSegment, Makes};
+ghost use Rattle.loop_store.specs.Places.{IsBegunAt, IsGrownAt, IsKnown, place_segment, steps_before};
 
 use crate::place::Place;
 use loop_disk::{Disk, DiskFault};
@@ -25,7 +25,7 @@ fn begin<D: Disk>(disk: &mut D, ring: &Ring, segment: u32, next: u64) -> Result<
     requires settled { (D.medium disk.old).honest → IsSettled (D.medium disk.old) }
     requires free { (D.medium disk.old).honest → IsFreeFor ring.now.geometry next segment (D.medium disk.old).bytes }
     ensures { let g = ring.now.geometry in let old = D.medium disk.old in
-        Makes g (HasNext next) (λ r. []) (λ image. IsNewest g next segment image
+        Makes g (HasNext next) (λ r. []) (λ image. IsNewestSegment g next segment image
         × ShowsSegment g segment (Some (begun (next / g.slots))) old.bytes image) old (D.medium disk.new) result }
 {
     ring.begin_block(disk, segment, next / u64::from(ring.geometry.slots))
@@ -45,7 +45,7 @@ fn store_group<D: Disk, A: Allocator>(
     requires size { group.now.size ≡ frame_bytes ring.now.geometry }
     requires settled { (D.medium disk.old).honest → IsSettled (D.medium disk.old) }
     requires newest { (D.medium disk.old).honest
-        → IsNewest ring.now.geometry group.now.first segment (D.medium disk.old).bytes }
+        → IsNewestSegment ring.now.geometry group.now.first segment (D.medium disk.old).bytes }
     ensures { let g = ring.now.geometry in let old = D.medium disk.old in
         Makes g (HasNext group.now.first) (λ r. map store group.now.frames)
         (λ image. ShowsFrames g segment group.now.first group.now.frames old.bytes image × HasNoStray g segment image)
@@ -63,7 +63,7 @@ fn replace<D: Disk>(disk: &mut D, ring: &Ring, segment: u32, next: u64) -> Resul
     requires known { (D.medium disk.old).honest
         → IsKnown ring.now.geometry next (Victim segment) (D.medium disk.old).bytes }
     ensures { let g = ring.now.geometry in let old = D.medium disk.old in
-        Makes g (HasNext next) (steps_before g) (λ image. IsNewest g next segment image × IsBegunAt g next segment old.bytes image)
+        Makes g (HasNext next) (steps_before g) (λ image. IsNewestSegment g next segment image × IsBegunAt g next segment old.bytes image)
         old (D.medium disk.new) result }
 {
     ring.retire(disk, segment)?;
@@ -74,11 +74,11 @@ fn replace<D: Disk>(disk: &mut D, ring: &Ring, segment: u32, next: u64) -> Resul
 /// nothing is to be done.
 fn make_room<D: Disk>(disk: &mut D, ring: &Ring, place: Place, next: u64) -> Result<(), DiskFault>
     requires extent { (D.medium disk.old).size ≡ disk_size ring.now.geometry }
-    requires segment { segment_of place < ring.now.geometry.segments }
+    requires segment { place_segment place < ring.now.geometry.segments }
     requires settled { (D.medium disk.old).honest → IsSettled (D.medium disk.old) }
     requires known { (D.medium disk.old).honest → IsKnown ring.now.geometry next place (D.medium disk.old).bytes }
-    ensures { let g = ring.now.geometry in let old = D.medium disk.old in let j = segment_of place in
-        Makes g (HasNext next) (steps_before g) (λ image. IsNewest g next j image × IsBegunAt g next j old.bytes image)
+    ensures { let g = ring.now.geometry in let old = D.medium disk.old in let j = place_segment place in
+        Makes g (HasNext next) (steps_before g) (λ image. IsNewestSegment g next j image × IsBegunAt g next j old.bytes image)
         old (D.medium disk.new) result }
 {
     match place {
@@ -96,7 +96,7 @@ pub(crate) fn append_group<D: Disk, A: Allocator>(
     group: &Group<A>,
 ) -> Result<(), DiskFault>
     requires extent { (D.medium disk.old).size ≡ disk_size ring.now.geometry }
-    requires segment { segment_of place < ring.now.geometry.segments }
+    requires segment { place_segment place < ring.now.geometry.segments }
     requires some { 1 ≤ length group.now.frames }
     requires room { group.now.first % ring.now.geometry.slots + length group.now.frames ≤ ring.now.geometry.slots }
     requires size { group.now.size ≡ frame_bytes ring.now.geometry }
@@ -105,7 +105,7 @@ pub(crate) fn append_group<D: Disk, A: Allocator>(
         → IsKnown ring.now.geometry group.now.first place (D.medium disk.old).bytes }
     ensures { let g = ring.now.geometry in let old = D.medium disk.old in
         Makes g (HasNext group.now.first) (λ r. steps_before g r ++ map store group.now.frames)
-        (IsGrownAt g group.now.first (length group.now.frames) (segment_of place) old.bytes)
+        (IsGrownAt g group.now.first (length group.now.frames) (place_segment place) old.bytes)
         old (D.medium disk.new) result }
 {
     make_room(disk, ring, place, group.first())?;

@@ -5,7 +5,7 @@ ghost use Rattle.std.specs.List.{position};
 ghost use Rattle.loop_record.specs.Geometry.{is_good};
 ghost use Rattle.loop_record.specs.Recording.{Recording, last_number, ring_of, victim};
 ghost use Rattle.loop_ring.specs.Heads.{IsPlaceOf, clip_counts, has_frame, heads_of, is_of};
-ghost use Rattle.loop_store.specs.Places.{AnswersPlace, IsPlace, segment_of};
+ghost use Rattle.loop_store.specs.Places.{AnswersPlace, IsPlace, place_segment};
 ghost use Rattle.loop_store.specs.Recovered.{IsClipNoted, IsIndex, IsIndexOf, IsNoted, IsOf};
 
 use crate::StoreFault;
@@ -87,7 +87,7 @@ impl<A: Allocator> Index<A> {
     /// where each segment has a frame. Nothing where there is no victim then.
     fn place_of_new(&self) -> Option<Place>
         requires { IsIndex self.now }
-        ensures within { IfSome result (λ place. segment_of place < self.now.ring.geometry.segments) }
+        ensures within { IfSome result (λ place. place_segment place < self.now.ring.geometry.segments) }
         ensures place { (r : Recording) (image : List ℕ) → IsIndexOf self.now r image
             → r.next ≢ last_number (ring_of self.now.ring.geometry)
             → position (is_of (r.next / self.now.ring.geometry.slots)) (heads_of self.now.ring.geometry image) ≡ None
@@ -109,7 +109,7 @@ impl<A: Allocator> Index<A> {
     /// none may go.
     fn place_of_next(&self) -> Option<Place>
         requires { IsIndex self.now }
-        ensures within { IfSome result (λ place. segment_of place < self.now.ring.geometry.segments) }
+        ensures within { IfSome result (λ place. place_segment place < self.now.ring.geometry.segments) }
         ensures place { (r : Recording) (image : List ℕ) → IsIndexOf self.now r image
             → r.next ≢ last_number (ring_of self.now.ring.geometry) → IsPlace self.now.ring.geometry r image result }
     {
@@ -123,7 +123,7 @@ impl<A: Allocator> Index<A> {
     /// has to be recycled first and none may go.
     pub(crate) fn place(&self) -> Result<Place, StoreFault>
         requires { IsIndex self.now }
-        ensures within { IfOk result (λ place. segment_of place < self.now.ring.geometry.segments) }
+        ensures within { IfOk result (λ place. place_segment place < self.now.ring.geometry.segments) }
         ensures refusals { IfErr result (λ fault. (fault ≡ StoreFault.NumbersSpent) ⊎ (fault ≡ StoreFault.AllLocked)) }
         ensures spent { (result ≡ Err StoreFault.NumbersSpent) ↔ (self.now.next
             ≡ last_number (ring_of self.now.ring.geometry)) }

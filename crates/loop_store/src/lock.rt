@@ -7,7 +7,7 @@ ghost use Rattle.loop_record.specs.Recording.{Recording, clip_of, first_free, ho
 ghost use Rattle.loop_store.specs.Calls.{CanRefuseSpan, locked, unlocked};
 ghost use Rattle.loop_store.specs.Goes.{Goes};
 ghost use Rattle.loop_store.specs.Held.{Makes};
-ghost use Rattle.loop_store.specs.Locks.{AnswersSpan, AreHeld, IsInSpan, IsMissing, KeepsSegments, Takes};
+ghost use Rattle.loop_store.specs.Locks.{AnswersSpan, AreHeld, IsInSpan, IsMissing, KeepsSegments, CanTake};
 ghost use Rattle.loop_store.specs.Recovered.{IsClipNoted, IsIndex, IsIndexOf};
 ghost use Rattle.loop_store.specs.Seen.{IsKept, IsPresent, Refused, seen_with};
 
@@ -89,7 +89,7 @@ fn add_clip<D: Disk, A: Allocator>(
     requires id { (id < 64) × (id ≡ first_free index.old.clips) }
     requires present { (D.medium disk.old).honest → IsPresent index.old (D.medium disk.old) }
     ensures makes { let g = index.old.ring.geometry in let old = D.medium disk.old in
-        Makes g (Takes g span id) (λ r. lock span ∷ []) (KeepsSegments g old.bytes) old (D.medium disk.new) result }
+        Makes g (CanTake g span id) (λ r. lock span ∷ []) (KeepsSegments g old.bytes) old (D.medium disk.new) result }
     ensures noted { OnOk result (IsClipNoted index.old index.new id (Some span)) }
     ensures same { OnErr result (index.new ≡ index.old) }
 {
@@ -100,7 +100,7 @@ fn add_clip<D: Disk, A: Allocator>(
     written
 }
 
-/// Takes away the clip of an id, and notes it.
+/// CanTake away the clip of an id, and notes it.
 fn remove_clip<D: Disk, A: Allocator>(
     disk: &mut D,
     index: &mut Index<A>,
@@ -149,7 +149,7 @@ pub(crate) fn lock_clip<D: Disk, A: Allocator>(
     }
 }
 
-/// Takes away the clip of an id. `MustReopen`, then `NoSuchClip`, as `Store::unlock` has them; after `Disk` the store
+/// CanTake away the clip of an id. `MustReopen`, then `NoSuchClip`, as `Store::unlock` has them; after `Disk` the store
 /// must be reopened.
 pub(crate) fn unlock_clip<D: Disk, A: Allocator>(
     disk: &mut D,

@@ -1,7 +1,7 @@
 //! Where an append goes.
 
 ghost use Rattle.std.specs.Prelude.{◌≡◌};
-ghost use Rattle.loop_store.specs.Places.{segment_of};
+ghost use Rattle.loop_store.specs.Places.{place_segment};
 
 /// Where the next frames go.
 #[derive(Clone, Copy, Debug)]
@@ -17,7 +17,7 @@ pub(crate) enum Place {
 impl Place {
     /// The segment.
     pub(crate) fn segment(self) -> u32
-        ensures { result ≡ segment_of self }
+        ensures { result ≡ place_segment self }
     {
         match self {
             Place::Newest(segment) | Place::Closed(segment) | Place::Victim(segment) => segment,

@@ -12,11 +12,11 @@ use Rattle.loop_vb2.specs.declared.reason.Reason.{Reason}
 use Rattle.loop_vb2.specs.declared.reason.Reason.TheVariants.{BadIndex, BadPlanes, BadState, PlaneTooShort}
 use Rattle.loop_vb2.specs.Errnos.{errno}
 use Rattle.loop_vb2.specs.Owner.{is_dequeued}
-use Rattle.loop_vb2.specs.Planes.{number_at, bytes_in, plane_of_set, plane_in, has_bytes, has_used, read_set}
+use Rattle.loop_vb2.specs.Planes.{number_at, bytes_in, plane_of_set, plane_in, has_used_bytes, has_used, read_set}
 use Rattle.loop_vb2.specs.Buffers.{state_at, has_plane_at, used_at, bytes_at, readable, readable_at, read_buffer}
 use Rattle.loop_vb2.specs.Checks.{first_of, copy_checks, copy_refusal}
 use Rattle.loop_vb2.specs.Copies.{code_refusal}
-use Rattle.loop_vb2.specs.State.{Body, QueueState, Lined, read_body, Fits, EachFits, AllFit, StandsFor}
+use Rattle.loop_vb2.specs.State.{Body, QueueState, Lined, read_body, FitsShape, EachFits, AllFit, StandsFor}
 use Rattle.loop_vb2.specs.Steps.{Steps, Copies}
 use Rattle.loop_vb2.proofs.Lines.{same}
 use Rattle.loop_vb2.proofs.Passing.{Passed, all_passed}
@@ -32,13 +32,13 @@ and_second false b h = absurd (cc)
 
 -- ---- the used bytes of a set that fits are there
 
-slot_enough : (n : ℕ) (o : Option Plane) → has_bytes n o ≡ true → is_some o ≡ true → min n (length (bytes_in o)) ≡ n
+slot_enough : (n : ℕ) (o : Option Plane) → has_used_bytes n o ≡ true → is_some o ≡ true → min n (length (bytes_in o)) ≡ n
 slot_enough n None h some = absurd (cc)
 slot_enough n (Some p) h some = let e : n ≤ length p.bytes = grind (arith, nat_tests) in omega (arith, e)
 
 -- a place that has the used bytes of its number
-moved : (used : List ℕ) (o : Option Plane) (plane number : ℕ) → (plane == number) ≡ true → has_bytes (number_at used number) o ≡ true → is_some o ≡ true → min (number_at used plane) (length (bytes_in o)) ≡ number_at used plane
-moved used o plane number e h some = slot_enough (number_at used plane) o (subst (λ (i : ℕ). has_bytes (number_at used i) o ≡ true) (sym (same plane number e)) h) some
+moved : (used : List ℕ) (o : Option Plane) (plane number : ℕ) → (plane == number) ≡ true → has_used_bytes (number_at used number) o ≡ true → is_some o ≡ true → min (number_at used plane) (length (bytes_in o)) ≡ number_at used plane
+moved used o plane number e h some = slot_enough (number_at used plane) o (subst (λ (i : ℕ). has_used_bytes (number_at used i) o ≡ true) (sym (same plane number e)) h) some
 
 -- a place that is filled has the used bytes
 abbrev Enough : List ℕ → ℕ → Option Plane → Type 0
@@ -47,7 +47,7 @@ Enough used plane o = is_some o ≡ true → min (number_at used plane) (length 
 none_enough : (used : List ℕ) (plane : ℕ) → Enough used plane None
 none_enough used plane some = absurd (cc)
 
-chosen : (used : List ℕ) (plane number : ℕ) (o rest : Option Plane) → has_bytes (number_at used number) o ≡ true → Enough used plane rest → Enough used plane (cond (plane == number) o rest)
+chosen : (used : List ℕ) (plane number : ℕ) (o rest : Option Plane) → has_used_bytes (number_at used number) o ≡ true → Enough used plane rest → Enough used plane (cond (plane == number) o rest)
 chosen used plane number o rest h more = by (plane == number) refl
   where
     by : (t : Bool) → (plane == number) ≡ t → Enough used plane (cond t o rest)
@@ -56,17 +56,17 @@ chosen used plane number o rest h more = by (plane == number) refl
 
 plane_enough : (used : List ℕ) (set : PlaneSet Plane) (plane : ℕ) → has_used used set ≡ true → Enough used plane (plane_of_set set plane)
 plane_enough used set plane h =
-    let y : Bool = has_bytes (number_at used 0) set.planes.y in
-    let cb : Bool = has_bytes (number_at used 1) set.planes.cb in
-    let cr : Bool = has_bytes (number_at used 2) set.planes.cr in
+    let y : Bool = has_used_bytes (number_at used 0) set.planes.y in
+    let cb : Bool = has_used_bytes (number_at used 1) set.planes.cb in
+    let cr : Bool = has_used_bytes (number_at used 2) set.planes.cr in
     let first_two : (y && cb) ≡ true = and_first (y && cb) cr h in
     chosen used plane 0 set.planes.y _ (and_first y cb first_two)
     (chosen used plane 1 set.planes.cb _ (and_second y cb first_two) (chosen used plane 2 set.planes.cr None (and_second (y && cb) cr h) (none_enough used plane)))
 
-held_enough : (shape : Shape) (kind : Memory) (used : List ℕ) (o : Option (PlaneSet Plane)) (plane : ℕ) → ((set : PlaneSet Plane) → o ≡ Some set → Fits shape kind used set) → is_some (plane_in o plane) ≡ true
+held_enough : (shape : Shape) (kind : Memory) (used : List ℕ) (o : Option (PlaneSet Plane)) (plane : ℕ) → ((set : PlaneSet Plane) → o ≡ Some set → FitsShape shape kind used set) → is_some (plane_in o plane) ≡ true
     → min (number_at used plane) (length (bytes_in (plane_in o plane))) ≡ number_at used plane
 held_enough shape kind used None plane h some = absurd (cc)
-held_enough shape kind used (Some set) plane h some = let f : Fits shape kind used set = h set refl in plane_enough used set plane f.filled some
+held_enough shape kind used (Some set) plane h some = let f : FitsShape shape kind used set = h set refl in plane_enough used set plane f.filled some
 
 used_enough : (shape : Shape) (kind : Memory) (bs : List (Buffer Plane)) (index plane : ℕ) → EachFits shape kind bs → has_plane_at bs index plane ≡ true → readable_at bs index plane ≡ used_at bs index plane
 used_enough shape kind [] index plane h some = refl

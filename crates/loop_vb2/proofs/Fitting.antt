@@ -12,12 +12,12 @@ use Rattle.loop_vb2.specs.declared.buffer.Stamp.{Stamp}
 use Rattle.loop_vb2.specs.declared.planes.PlaneSet.{PlaneSet}
 use Rattle.loop_vb2.specs.declared.planes.Shape.{Shape}
 use Rattle.loop_vb2.specs.declared.state.BufferState.TheVariants.{Done}
-use Rattle.loop_vb2.specs.Planes.{number_at, same_memory, is_kind, is_long, are_kind, has_count, has_room, has_bytes, misfits, frame_size, slot_filled, slot_cut, set_by, set_filled}
+use Rattle.loop_vb2.specs.Planes.{number_at, same_memory, is_kind, is_long, are_kind, has_count, has_room, has_used_bytes, misfits, frame_size, slot_filled, slot_cut, set_by, set_filled}
 use Rattle.loop_vb2.specs.Buffers.{changed, unused, prepared_with, queued_with, completed_by, completed_with, dequeued_from, failed_with, mapped_as, emptied, stopped, woken, kept}
 use Rattle.loop_vb2.specs.Checks.{queue_checks, queue_refusal, prepare_checks, prepare_refusal, request_checks, request_refusal, serves, is_supply, granted}
 use Rattle.loop_vb2.specs.Effects.{awake, device_runs, settled, with_buffer, body_queued, body_streaming, body_stopped}
 use Rattle.loop_vb2.specs.Requests.{new_buffer, new_buffers, grants_or_none, body_requested}
-use Rattle.loop_vb2.specs.State.{Body, Fits, BufferFits, EachFits, AllFit}
+use Rattle.loop_vb2.specs.State.{Body, FitsShape, BufferFits, EachFits, AllFit}
 use Rattle.loop_vb2.proofs.Passing.{Passed, all_passed, true_of}
 
 -- ---- tests that hold
@@ -58,11 +58,11 @@ at_most a b h = grind (arith, nat_tests)
 is_at_most : (a b : ℕ) → nat_le a b ≡ true → a ≤ b
 is_at_most a b h = grind (arith, nat_tests)
 
-bytes_filled : (size : ℕ) (o : Option Plane) (part : List ℕ) → size ≤ length part → has_bytes size (slot_filled o part) ≡ true
+bytes_filled : (size : ℕ) (o : Option Plane) (part : List ℕ) → size ≤ length part → has_used_bytes size (slot_filled o part) ≡ true
 bytes_filled size None part h = refl
 bytes_filled size (Some p) part h = at_most size (length part) h
 
-no_bytes : (o : Option Plane) → has_bytes 0 o ≡ true
+no_bytes : (o : Option Plane) → has_used_bytes 0 o ≡ true
 no_bytes None = refl
 no_bytes (Some p) = at_most 0 (length p.bytes) (omega arith)
 
@@ -84,12 +84,12 @@ enough_behind m n bytes h = let e = length-drop m bytes in enough_taken n (drop 
 
 -- ---- a set
 
-unused_fits : (shape : Shape) (kind : Memory) (set : PlaneSet Plane) → are_kind kind set ≡ true → has_count shape.count set ≡ true → has_room shape set ≡ true → Fits shape kind unused set
+unused_fits : (shape : Shape) (kind : Memory) (set : PlaneSet Plane) → are_kind kind set ≡ true → has_count shape.count set ≡ true → has_room shape set ≡ true → FitsShape shape kind unused set
 unused_fits shape kind set of_kind counted roomy = record {
   of_kind = of_kind;
   counted = counted;
   roomy = roomy;
-  filled = both (has_bytes 0 set.planes.y && has_bytes 0 set.planes.cb) (has_bytes 0 set.planes.cr) (both (has_bytes 0 set.planes.y) (has_bytes 0 set.planes.cb) (no_bytes set.planes.y) (no_bytes set.planes.cb)) (no_bytes set.planes.cr);
+  filled = both (has_used_bytes 0 set.planes.y && has_used_bytes 0 set.planes.cb) (has_used_bytes 0 set.planes.cr) (both (has_used_bytes 0 set.planes.y) (has_used_bytes 0 set.planes.cb) (no_bytes set.planes.y) (no_bytes set.planes.cb)) (no_bytes set.planes.cr);
 }
 
 -- the parts that a complete frame has
@@ -111,7 +111,7 @@ module _ (shape : Shape) (kind : Memory) (bytes : List ℕ) (set : PlaneSet Plan
   abbrev part_cr : List ℕ
   part_cr = take (number_at shape.sizes 2) (drop (number_at shape.sizes 0 + number_at shape.sizes 1) bytes)
 
-  filled_fits : (used : List ℕ) → length bytes ≡ frame_size shape → Fits shape kind used set → Fits shape kind shape.sizes (set_filled shape bytes set)
+  filled_fits : (used : List ℕ) → length bytes ≡ frame_size shape → FitsShape shape kind used set → FitsShape shape kind shape.sizes (set_filled shape bytes set)
   filled_fits used whole f =
       let parts : Parts shape bytes = parts_of shape bytes whole in record {
         of_kind = rw (kind_filled kind set.planes.y part_y, kind_filled kind set.planes.cb part_cb, kind_filled kind set.planes.cr part_cr) f.of_kind;
@@ -141,9 +141,9 @@ nothing_given x e = cc
 
 -- a set that is given fits, before any byte of it is used
 abbrev GivenFits : Shape → Memory → Option (PlaneSet Plane) → Type 0
-GivenFits shape kind given = (set : PlaneSet Plane) → given ≡ Some set → Fits shape kind unused set
+GivenFits shape kind given = (set : PlaneSet Plane) → given ≡ Some set → FitsShape shape kind unused set
 
-not_used : (shape : Shape) (kind : Memory) (used : List ℕ) (set : PlaneSet Plane) → Fits shape kind used set → Fits shape kind unused set
+not_used : (shape : Shape) (kind : Memory) (used : List ℕ) (set : PlaneSet Plane) → FitsShape shape kind used set → FitsShape shape kind unused set
 not_used shape kind used set f = unused_fits shape kind set f.of_kind f.counted f.roomy
 
 queued_fits : (shape : Shape) (kind : Memory) (given : Option (PlaneSet Plane)) → GivenFits shape kind given → (b : Buffer Plane) → BufferFits shape kind b → BufferFits shape kind (queued_with given b)
@@ -160,7 +160,7 @@ failed_fits shape kind stamp b h = λ set e. not_used shape kind b.used set (h s
 emptied_fits : (shape : Shape) (kind : Memory) (b : Buffer Plane) → BufferFits shape kind b → BufferFits shape kind (emptied b)
 emptied_fits shape kind b h = λ set e. absurd (nothing_given set e)
 
-kept_fits : (shape : Shape) (kind own : Memory) (used : List ℕ) (planes : Option (PlaneSet Plane)) → ((set : PlaneSet Plane) → planes ≡ Some set → Fits shape kind used set) → (set : PlaneSet Plane) → kept own planes ≡ Some set → Fits shape kind used set
+kept_fits : (shape : Shape) (kind own : Memory) (used : List ℕ) (planes : Option (PlaneSet Plane)) → ((set : PlaneSet Plane) → planes ≡ Some set → FitsShape shape kind used set) → (set : PlaneSet Plane) → kept own planes ≡ Some set → FitsShape shape kind used set
 kept_fits shape kind Mmap used planes h set e = h set e
 kept_fits shape kind UserPtr used planes h set e = absurd (nothing_given set e)
 kept_fits shape kind DmaBuf used planes h set e = absurd (nothing_given set e)
@@ -168,19 +168,19 @@ kept_fits shape kind DmaBuf used planes h set e = absurd (nothing_given set e)
 dequeued_fits : (shape : Shape) (kind own : Memory) (b : Buffer Plane) → BufferFits shape kind b → BufferFits shape kind (dequeued_from own b)
 dequeued_fits shape kind own b h = kept_fits shape kind own b.used b.planes h
 
-filled_planes : (shape : Shape) (kind : Memory) (bytes used : List ℕ) → length bytes ≡ frame_size shape → (o : Option (PlaneSet Plane)) → ((set : PlaneSet Plane) → o ≡ Some set → Fits shape kind used set)
-    → (set : PlaneSet Plane) → option_map (set_filled shape bytes) o ≡ Some set → Fits shape kind shape.sizes set
+filled_planes : (shape : Shape) (kind : Memory) (bytes used : List ℕ) → length bytes ≡ frame_size shape → (o : Option (PlaneSet Plane)) → ((set : PlaneSet Plane) → o ≡ Some set → FitsShape shape kind used set)
+    → (set : PlaneSet Plane) → option_map (set_filled shape bytes) o ≡ Some set → FitsShape shape kind shape.sizes set
 filled_planes shape kind bytes used whole None h set e = absurd (nothing_given set e)
 filled_planes shape kind bytes used whole (Some old) h set e =
-    subst (λ (x : PlaneSet Plane). Fits shape kind shape.sizes x) (given_set (Some (set_filled shape bytes old)) (set_filled shape bytes old) set refl e)
+    subst (λ (x : PlaneSet Plane). FitsShape shape kind shape.sizes x) (given_set (Some (set_filled shape bytes old)) (set_filled shape bytes old) set refl e)
     (filled_fits shape kind bytes old used whole (h old refl))
 
 completed_fits : (shape : Shape) (kind : Memory) (stamp : Stamp) (bytes : List ℕ) → length bytes ≡ frame_size shape → (b : Buffer Plane) → BufferFits shape kind b → BufferFits shape kind (completed_with shape stamp bytes b)
 completed_fits shape kind stamp bytes whole b h = filled_planes shape kind bytes b.used whole b.planes h
 
-cut_planes : (shape : Shape) (kind : Memory) (bytes used : List ℕ) (o : Option (PlaneSet Plane)) → ((set : PlaneSet Plane) → o ≡ Some set → Fits shape kind used set) → option_map (set_by slot_cut shape bytes) o ≡ option_map (set_filled shape bytes) o
+cut_planes : (shape : Shape) (kind : Memory) (bytes used : List ℕ) (o : Option (PlaneSet Plane)) → ((set : PlaneSet Plane) → o ≡ Some set → FitsShape shape kind used set) → option_map (set_by slot_cut shape bytes) o ≡ option_map (set_filled shape bytes) o
 cut_planes shape kind bytes used None h = refl
-cut_planes shape kind bytes used (Some set) h = let f : Fits shape kind used set = h set refl in ap (λ x. Some x) (cut_set shape kind bytes set f.roomy)
+cut_planes shape kind bytes used (Some set) h = let f : FitsShape shape kind used set = h set refl in ap (λ x. Some x) (cut_set shape kind bytes set f.roomy)
 
 cut_buffer : (shape : Shape) (kind : Memory) (stamp : Stamp) (bytes : List ℕ) (b : Buffer Plane) → BufferFits shape kind b → completed_by slot_cut shape stamp bytes b ≡ completed_with shape stamp bytes b
 cut_buffer shape kind stamp bytes b h = ap (λ o. record b { state = Done; stamp = stamp; used = shape.sizes; planes = o }) (cut_planes shape kind bytes b.used b.planes h)
@@ -266,7 +266,7 @@ each_served shape [] e = tt
 each_served shape (set ∷ sets) e =
     let here : serves shape set ≡ true = and_left (serves shape set) (list_all (serves shape) sets) e in
     let counted_kind : (has_count shape.count set && are_kind Mmap set) ≡ true = and_left _ _ here in (
-      λ x is. subst (λ (y : PlaneSet Plane). Fits shape Mmap unused y) (given_set (Some set) set x refl is) (unused_fits shape Mmap set (and_right _ _ counted_kind) (and_left _ _ counted_kind) (and_right _ _ here)),
+      λ x is. subst (λ (y : PlaneSet Plane). FitsShape shape Mmap unused y) (given_set (Some set) set x refl is) (unused_fits shape Mmap set (and_right _ _ counted_kind) (and_left _ _ counted_kind) (and_right _ _ here)),
       each_served shape sets (and_right (serves shape set) (list_all (serves shape) sets) e),
     )
 

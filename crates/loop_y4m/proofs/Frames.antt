@@ -7,10 +7,10 @@ use Rattle.std.specs.List.{position_or_len}
 use Rattle.loop_y4m.specs.declared.fault.Y4mFault.{Y4mFault}
 use Rattle.loop_y4m.specs.declared.fault.Y4mFault.TheVariants.{NotY4m, BadHeader, UnsupportedColour, UnsupportedInterlace, Truncated, Read}
 use Rattle.loop_y4m.specs.declared.header.Header.{Header}
-use Rattle.loop_y4m.specs.Header.{and_then, frame_size}
+use Rattle.loop_y4m.specs.Header.{and_then, size_of_frame}
 use Rattle.loop_y4m.specs.Reader.{Gives, GivesNext, opened_with}
 use Rattle.loop_y4m.specs.Steps.{FrameIs}
-use Rattle.loop_y4m.specs.Stream.{Frames, before, ends, ends_after, frames_by, frames_in, frames_within, is_frame_line, is_newline, line, next_frame, pixels}
+use Rattle.loop_y4m.specs.Stream.{Frames, before, ends, ends_after, frames_by, frames_within_input, frames_within, is_frame_line, is_newline, line, next_frame, pixels}
 
 -- ---- each frame takes a byte or more
 
@@ -45,30 +45,30 @@ enough (suc m) zero size bytes first second = absurd (omega (arith, second))
 enough (suc m) (suc n) size bytes first second = same_by (next_frame size bytes) size m n bytes refl
     (λ f rest is. enough m n size rest (omega (arith, frame_shorter size bytes f rest is, first)) (omega (arith, frame_shorter size bytes f rest is, second)))
 
-step_by : (next : Result (Option (List ℕ × List ℕ)) Y4mFault) (size : ℕ) (bytes : List ℕ) → next_frame size bytes ≡ next → frames_by (frames_within (length bytes) size) next ≡ frames_by (frames_in size) next
+step_by : (next : Result (Option (List ℕ × List ℕ)) Y4mFault) (size : ℕ) (bytes : List ℕ) → next_frame size bytes ≡ next → frames_by (frames_within (length bytes) size) next ≡ frames_by (frames_within_input size) next
 step_by (Err fault) size bytes is = refl
 step_by (Ok None) size bytes is = refl
 step_by (Ok (Some f)) size bytes is = ap (before f.0) (enough (length bytes) (suc (length f.1)) size f.1 (frame_shorter size bytes f.0 f.1 is) (omega arith))
 
 -- the frames of an input are the next one and those behind it
-pub frames_step : (size : ℕ) (bytes : List ℕ) → frames_in size bytes ≡ frames_by (frames_in size) (next_frame size bytes)
+pub frames_step : (size : ℕ) (bytes : List ℕ) → frames_within_input size bytes ≡ frames_by (frames_within_input size) (next_frame size bytes)
 frames_step size bytes = step_by (next_frame size bytes) size bytes refl
 
 -- ---- what a call for a frame answers, by the bytes that are left
 
-next_known : (header : Header) (size : ℕ) (bytes : List ℕ) (new : Option (List ℕ)) (result : Result Bool Y4mFault) (out : List ℕ) → length out ≡ frame_size header → FrameIs bytes result out new → GivesNext (frames_in (frame_size header) bytes) result out (opened_with header (result_err result) new).rest
-next_known header size bytes new (Err NotY4m) out full is = frames_step (frame_size header) bytes ∙ ap (frames_by (frames_in (frame_size header))) (rw full at is)
-next_known header size bytes new (Err BadHeader) out full is = frames_step (frame_size header) bytes ∙ ap (frames_by (frames_in (frame_size header))) (rw full at is)
-next_known header size bytes new (Err UnsupportedColour) out full is = frames_step (frame_size header) bytes ∙ ap (frames_by (frames_in (frame_size header))) (rw full at is)
-next_known header size bytes new (Err UnsupportedInterlace) out full is = frames_step (frame_size header) bytes ∙ ap (frames_by (frames_in (frame_size header))) (rw full at is)
-next_known header size bytes new (Err Truncated) out full is = frames_step (frame_size header) bytes ∙ ap (frames_by (frames_in (frame_size header))) (rw full at is)
+next_known : (header : Header) (size : ℕ) (bytes : List ℕ) (new : Option (List ℕ)) (result : Result Bool Y4mFault) (out : List ℕ) → length out ≡ size_of_frame header → FrameIs bytes result out new → GivesNext (frames_within_input (size_of_frame header) bytes) result out (opened_with header (result_err result) new).rest
+next_known header size bytes new (Err NotY4m) out full is = frames_step (size_of_frame header) bytes ∙ ap (frames_by (frames_within_input (size_of_frame header))) (rw full at is)
+next_known header size bytes new (Err BadHeader) out full is = frames_step (size_of_frame header) bytes ∙ ap (frames_by (frames_within_input (size_of_frame header))) (rw full at is)
+next_known header size bytes new (Err UnsupportedColour) out full is = frames_step (size_of_frame header) bytes ∙ ap (frames_by (frames_within_input (size_of_frame header))) (rw full at is)
+next_known header size bytes new (Err UnsupportedInterlace) out full is = frames_step (size_of_frame header) bytes ∙ ap (frames_by (frames_within_input (size_of_frame header))) (rw full at is)
+next_known header size bytes new (Err Truncated) out full is = frames_step (size_of_frame header) bytes ∙ ap (frames_by (frames_within_input (size_of_frame header))) (rw full at is)
 next_known header size bytes new (Err Read) out full is = tt
-next_known header size bytes new (Ok false) out full is = (frames_step (frame_size header) bytes ∙ ap (frames_by (frames_in (frame_size header))) (rw full at is.0), ap (option_map (frames_in (frame_size header))) is.1)
-next_known header size bytes new (Ok true) out full is = (frames_in (frame_size header) is.0, frames_step (frame_size header) bytes ∙ ap (frames_by (frames_in (frame_size header))) (rw full at is.1), ap (option_map (frames_in (frame_size header))) is.2)
+next_known header size bytes new (Ok false) out full is = (frames_step (size_of_frame header) bytes ∙ ap (frames_by (frames_within_input (size_of_frame header))) (rw full at is.0), ap (option_map (frames_within_input (size_of_frame header))) is.1)
+next_known header size bytes new (Ok true) out full is = (frames_within_input (size_of_frame header) is.0, frames_step (size_of_frame header) bytes ∙ ap (frames_by (frames_within_input (size_of_frame header))) (rw full at is.1), ap (option_map (frames_within_input (size_of_frame header))) is.2)
 
-pub gives_next : (header : Header) (old new : Option (List ℕ)) (result : Result Bool Y4mFault) (out : List ℕ) → length out ≡ frame_size header → IfSome old (λ bytes. FrameIs bytes result out new) → IfSome (option_map (frames_in (frame_size header)) old) (λ frames. GivesNext frames result out (opened_with header (result_err result) new).rest)
+pub gives_next : (header : Header) (old new : Option (List ℕ)) (result : Result Bool Y4mFault) (out : List ℕ) → length out ≡ size_of_frame header → IfSome old (λ bytes. FrameIs bytes result out new) → IfSome (option_map (frames_within_input (size_of_frame header)) old) (λ frames. GivesNext frames result out (opened_with header (result_err result) new).rest)
 gives_next header None new result out full is = tt
-gives_next header (Some bytes) new result out full is = next_known header (frame_size header) bytes new result out full is
+gives_next header (Some bytes) new result out full is = next_known header (size_of_frame header) bytes new result out full is
 
 some_is : (a b : Frames) → Some a ≡ Some b → a ≡ b
 some_is a b same = ap (λ o. unwrap_or o a) same

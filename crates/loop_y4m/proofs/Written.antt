@@ -12,10 +12,10 @@ use Rattle.loop_record.specs.Geometry.{frame_bytes, is_good, plane_sizes}
 use Rattle.loop_record.specs.declared.geometry.Geometry.{Geometry}
 use Rattle.loop_record.specs.declared.geometry.PixelFormat.{PixelFormat}
 use Rattle.loop_record.specs.declared.geometry.PixelFormat.TheVariants.{Grey, Ym12, Ym16, Ym24}
-use Rattle.loop_y4m.specs.Header.{and_then, colour, complete, frame_size, header_of, nothing_given, with_parameter, with_parameters, words}
+use Rattle.loop_y4m.specs.Header.{and_then, colour, complete, size_of_frame, header_of, nothing_given, with_parameter, with_parameters, words}
 use Rattle.loop_y4m.specs.declared.header.Parameters.{Parameters}
 use Rattle.loop_y4m.specs.declared.header.Header.{Header}
-use Rattle.loop_y4m.specs.Stream.{before, ends_after, frames_in, header_line, next_frame, parse}
+use Rattle.loop_y4m.specs.Stream.{before, ends_after, frames_within_input, header_line, next_frame, parse}
 use Rattle.loop_y4m.specs.Text.{colour_name, described, frame, header, text}
 use Rattle.loop_y4m.proofs.Digits.{decimal_lacks, rate_decimals, side_decimal}
 use Rattle.loop_y4m.proofs.Places.{Lacks, behind, lacks_both}
@@ -29,10 +29,10 @@ use Rattle.loop_y4m.proofs.Words.{one_word, word_by_word}
 frame_read : (bytes rest : List ℕ) → next_frame (length bytes) (frame bytes ++ rest) ≡ Ok (Some (bytes, rest))
 frame_read bytes rest = rw (line_at (codes "FRAME") (bytes ++ rest) refl (omega arith)) (pixels_whole bytes rest)
 
-frames_by_one : (size : ℕ) (f rest : List ℕ) (fs : List (List ℕ)) → length f ≡ size → frames_in size rest ≡ ends_after fs None → frames_in size (frame f ++ rest) ≡ ends_after (f ∷ fs) None
+frames_by_one : (size : ℕ) (f rest : List ℕ) (fs : List (List ℕ)) → length f ≡ size → frames_within_input size rest ≡ ends_after fs None → frames_within_input size (frame f ++ rest) ≡ ends_after (f ∷ fs) None
 frames_by_one size f rest fs is behind = frames_step size (frame f ++ rest) ∙ rw (sym is) (rw (frame_read f rest) (rw is (ap (before f) behind)))
 
-frames_read : (size : ℕ) (frames : List (List ℕ)) → All (λ f. length f ≡ size) frames → frames_in size (flat_map frame frames) ≡ ends_after frames None
+frames_read : (size : ℕ) (frames : List (List ℕ)) → All (λ f. length f ≡ size) frames → frames_within_input size (flat_map frame frames) ≡ ends_after frames None
 frames_read size [] all = refl
 frames_read size (f ∷ fs) all = frames_by_one size f (flat_map frame fs) fs (all 0 [] (omega arith)) (frames_read size fs (λ k d l. all (suc k) d (omega (arith, l))))
 
@@ -175,7 +175,7 @@ small_of g good = let l = limits g good in
 text_parts : (g : Geometry) (frames : List (List ℕ)) → text g frames ≡ lined g ++ 10 ∷ flat_map frame frames
 text_parts g frames = ap (λ h. h ++ flat_map frame frames) (header_parts g) ∙ append_assoc (lined g) (10 ∷ []) (flat_map frame frames)
 
-parse_of : (bytes first rest : List ℕ) (h : Header) → header_line bytes ≡ Ok (first, rest) → header_of (drop 10 first) ≡ Ok h → parse bytes ≡ Ok (h, frames_in (frame_size h) rest)
+parse_of : (bytes first rest : List ℕ) (h : Header) → header_line bytes ≡ Ok (first, rest) → header_of (drop 10 first) ≡ Ok h → parse bytes ≡ Ok (h, frames_within_input (size_of_frame h) rest)
 parse_of bytes first rest h is head = rw is (rw head refl)
 
 pub text_read : (g : Geometry) (frames : List (List ℕ)) → IsTrue (is_good g) → All (λ f. length f ≡ frame_bytes g) frames → parse (text g frames) ≡ Ok (described g, ends_after frames None)

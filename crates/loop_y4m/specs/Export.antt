@@ -37,18 +37,18 @@ IsExport g must_reopen frames old new (Ok count) =
     (must_reopen ≡ false) × ((frames ≢ []) × (Appends old new (text g frames) × (count ≡ length frames)))
 
 -- the call of the disk that failed, if the answer is that one did
-abbrev pub failed_in : {T : Type 0} → Result T ExportFault → Option DiskFault
-failed_in (Err (Disk fault)) = Some fault
-failed_in _ = None
+abbrev pub failed_export : {T : Type 0} → Result T ExportFault → Option DiskFault
+failed_export (Err (Disk fault)) = Some fault
+failed_export _ = None
 
--- the store's refusal that a fault is
-abbrev pub refusal : ExportFault → Option StoreFault
-refusal MustReopen = Some StoreFault.MustReopen
-refusal NotHeld = Some StoreFault.NotHeld
-refusal NoMemory = Some StoreFault.NoMemory
-refusal (Damaged damage) = Some (StoreFault.Damaged damage)
-refusal (Disk fault) = Some (StoreFault.Disk fault)
-refusal Write = None
+-- the store's store_refusal that a fault is
+abbrev pub store_refusal : ExportFault → Option StoreFault
+store_refusal MustReopen = Some StoreFault.MustReopen
+store_refusal NotHeld = Some StoreFault.NotHeld
+store_refusal NoMemory = Some StoreFault.NoMemory
+store_refusal (Damaged damage) = Some (StoreFault.Damaged damage)
+store_refusal (Disk fault) = Some (StoreFault.Disk fault)
+store_refusal Write = None
 
 -- the store is as it was but for its disk, which was only read, and of whose calls this one failed, or none did
 pub record OnlyRead {D : Type 0} (medium : D → Medium) (old new : Seen D) (failed : Option DiskFault) : Type 0 where

@@ -77,12 +77,12 @@ with_parameters p (w ∷ ws) = and_then (with_parameter p w) (λ q. with_paramet
 -- ---- the header
 
 -- the bytes of a frame
-abbrev pub frame_size : Header → ℕ
-frame_size h = sum (plane_sizes h.format h.width h.height)
+abbrev pub size_of_frame : Header → ℕ
+size_of_frame h = sum (plane_sizes h.format h.width h.height)
 
 -- a header whose frames have at most 16,777,216 bytes
 abbrev pub not_too_large : Header → Result Header Y4mFault
-not_too_large h = if nat_le (frame_size h) 16777216 then Ok h else Err BadHeader
+not_too_large h = if nat_le (size_of_frame h) 16777216 then Ok h else Err BadHeader
 
 -- a width and a height are given
 abbrev pub complete : Option ℕ → Option ℕ → Parameters → Result Header Y4mFault

@@ -3,8 +3,8 @@ use Rattle.std.specs.Prelude.{◌≡◌, ℕ, Bool, Option, Some, None, Result, 
 use Rattle.loop_y4m.specs.declared.fault.Y4mFault.{Y4mFault}
 use Rattle.loop_y4m.specs.declared.fault.Y4mFault.TheVariants.{Read}
 use Rattle.loop_y4m.specs.declared.header.Header.{Header}
-use Rattle.loop_y4m.specs.Header.{frame_size}
-use Rattle.loop_y4m.specs.Stream.{Frames, before, ends, frames_in, parse}
+use Rattle.loop_y4m.specs.Header.{size_of_frame}
+use Rattle.loop_y4m.specs.Stream.{Frames, before, ends, frames_within_input, parse}
 
 -- an open reader: what its header says, the fault that it met, and what is still to be read, where that is known
 pub record Opened : Type 0 where
@@ -14,7 +14,7 @@ pub record Opened : Type 0 where
 
 -- a reader with these bytes left; behind a fault there is that fault alone
 abbrev pub opened_with : Header → Option Y4mFault → Option (List ℕ) → Opened
-opened_with header None left = record { header = header; fault = None; rest = option_map (frames_in (frame_size header)) left }
+opened_with header None left = record { header = header; fault = None; rest = option_map (frames_within_input (size_of_frame header)) left }
 opened_with header (Some fault) left = record { header = header; fault = Some fault; rest = Some (ends (Some fault)) }
 
 -- what is answered to the opening of an input: what `parse` says of it, but where the reader failed

@@ -10,7 +10,7 @@ use Rattle.loop_y4m.specs.declared.fault.Y4mFault.TheVariants.{Read}
 use Rattle.loop_y4m.specs.declared.header.Header.{Header}
 use Rattle.loop_y4m.specs.declared.header.Parameters.{Parameters}
 use Rattle.loop_y4m.specs.Export.{Stopped, frames_between}
-use Rattle.loop_y4m.specs.Header.{frame_size}
+use Rattle.loop_y4m.specs.Header.{size_of_frame}
 use Rattle.loop_y4m.specs.Stream.{headed, is_newline, next_frame}
 use Rattle.loop_y4m.specs.Text.{frame}
 
@@ -20,7 +20,7 @@ HasSmallSides p = IfSome p.width (λ w. w ≤ 16384) × IfSome p.height (λ h. h
 
 -- the sides of a header are in their range, and so are its frames
 abbrev pub IsSmall : Header → Type 0
-IsSmall h = (h.width ≤ 16384) × (h.height ≤ 16384) × (frame_size h ≤ 16777216)
+IsSmall h = (h.width ≤ 16384) × (h.height ≤ 16384) × (size_of_frame h ≤ 16777216)
 
 -- what was answered of the line is the line, and what comes behind it is left; a reader that failed may have lost bytes
 abbrev pub LineIs : Result (List ℕ × List ℕ) Y4mFault → Result ℕ Y4mFault → List ℕ → Option (List ℕ) → Type 0

@@ -4,7 +4,7 @@ use Rattle.std.specs.List.{before_first, after_first, position_or_len}
 use Rattle.loop_y4m.specs.declared.fault.Y4mFault.{Y4mFault}
 use Rattle.loop_y4m.specs.declared.fault.Y4mFault.TheVariants.{NotY4m, BadHeader, Truncated}
 use Rattle.loop_y4m.specs.declared.header.Header.{Header}
-use Rattle.loop_y4m.specs.Header.{and_then, header_of, frame_size}
+use Rattle.loop_y4m.specs.Header.{and_then, header_of, size_of_frame}
 
 abbrev pub is_newline : ℕ → Bool
 is_newline b = b == 10
@@ -69,9 +69,9 @@ frames_within zero size bytes = ends None
 frames_within (suc most) size bytes = frames_by (frames_within most size) (next_frame size bytes)
 
 -- all frames of these bytes: with its line each takes a byte or more, so there are no more frames than bytes
-abbrev pub frames_in : ℕ → List ℕ → Frames
-frames_in size bytes = frames_within (suc (length bytes)) size bytes
+abbrev pub frames_within_input : ℕ → List ℕ → Frames
+frames_within_input size bytes = frames_within (suc (length bytes)) size bytes
 
 -- a whole input: its header, and its frames with what ends them
 abbrev pub parse : List ℕ → Result (Header × Frames) Y4mFault
-parse bytes = and_then (headed bytes) (λ h. Ok (h.0, frames_in (frame_size h.0) h.1))
+parse bytes = and_then (headed bytes) (λ h. Ok (h.0, frames_within_input (size_of_frame h.0) h.1))

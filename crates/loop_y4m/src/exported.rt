@@ -5,7 +5,7 @@ ghost use Rattle.loop_disk.specs.Medium.{piece};
 ghost use Rattle.loop_record.specs.Geometry.{frame_bytes};
 ghost use Rattle.loop_record.specs.Recording.{Picture, Recording, frame_under, holds};
 ghost use Rattle.loop_store.specs.Seen.{StandsFor};
-ghost use Rattle.loop_y4m.specs.Export.{IsExport, OnlyRead, failed_in, frames_between};
+ghost use Rattle.loop_y4m.specs.Export.{IsExport, OnlyRead, failed_export, frames_between};
 ghost use Rattle.loop_y4m.specs.Steps.{IsFirstBetween, Moved, MovedAll, fault_of, is_of_read};
 ghost use Rattle.loop_y4m.specs.Text.{frame};
 
@@ -39,7 +39,7 @@ pub fn export<D: Disk + Drop, A: Allocator + Copy, W: Write>(
     ensures exported { (r : Recording) → StandsFor D.medium store.old r → (D.medium store.old.disk).honest
         → IsExport store.old.geometry store.old.must_reopen (frames_between from to r.frames)
         (W.contents out.old) (W.contents out.new) result }
-    ensures store { OnlyRead D.medium store.old store.new (failed_in result) }
+    ensures store { OnlyRead D.medium store.old store.new (failed_export result) }
 {
     if store.must_reopen() {
         return Err(ExportFault::MustReopen);
@@ -82,7 +82,7 @@ fn write_frames<D: Disk + Drop, A: Allocator, W: Write>(
     ensures moved { (r : Recording) → StandsFor D.medium store.old r → (D.medium store.old.disk).honest
         → holds r first ≡ true
         → MovedAll (W.contents out.old) (W.contents out.new) result (frames_between first to r.frames) }
-    ensures store { OnlyRead D.medium store.old store.new (failed_in result) }
+    ensures store { OnlyRead D.medium store.old store.new (failed_export result) }
 {
     let mut next = Some(first);
     let mut count = 0;
@@ -106,7 +106,7 @@ fn write_held<D: Disk + Drop, A: Allocator, W: Write>(
     ensures moved { (r : Recording) (p : Picture) → StandsFor D.medium store.old r → (D.medium store.old.disk).honest
         → frame_under r.frames number ≡ Some p
         → Moved (W.contents out.old) (W.contents out.new) result (frame p.bytes) }
-    ensures store { OnlyRead D.medium store.old store.new (failed_in result) }
+    ensures store { OnlyRead D.medium store.old store.new (failed_export result) }
 {
     write_frame_line(out)?;
     let size = store.geometry().frame_bytes();
@@ -132,7 +132,7 @@ fn move_part<D: Disk + Drop, A: Allocator, W: Write>(
     ensures moved { (r : Recording) (p : Picture) → StandsFor D.medium store.old r → (D.medium store.old.disk).honest
         → frame_under r.frames number ≡ Some p
         → Moved (W.contents out.old) (W.contents out.new) result (piece at (length part.old) p.bytes) }
-    ensures store { OnlyRead D.medium store.old store.new (failed_in result) }
+    ensures store { OnlyRead D.medium store.old store.new (failed_export result) }
 {
     if let Err(fault) = store.read_part(number, at, part) {
         return Err(of_read(fault));

@@ -1,7 +1,7 @@
 //! What a stream's header line says.
 
 ghost use Rattle.std.specs.Prelude.{◌≡◌, ◌≤◌, IfSome, IfOk};
-ghost use Rattle.loop_y4m.specs.Header.{side, rate, colour, interlace, with_parameter, complete, header_of, frame_size};
+ghost use Rattle.loop_y4m.specs.Header.{side, rate, colour, interlace, with_parameter, complete, header_of, size_of_frame};
 ghost use Rattle.loop_y4m.specs.Steps.{HasSmallSides, IsSmall};
 
 use crate::Y4mFault;
@@ -31,7 +31,7 @@ impl Header {
     pub(crate) fn frame_bytes(&self) -> u32
         requires width { self.now.width ≤ 16384 }
         requires height { self.now.height ≤ 16384 }
-        ensures { result ≡ frame_size self.now }
+        ensures { result ≡ size_of_frame self.now }
     {
         let luma = self.format.plane_bytes(self.width, self.height, 0);
         if self.format.planes() == 1 {

@@ -6,7 +6,7 @@ ghost use Rattle.loop_record.specs.Reading.{Holds};
 ghost use Rattle.loop_record.specs.Recording.{Recording};
 ghost use Rattle.loop_y4m.specs.Export.{frames_between};
 ghost use Rattle.loop_y4m.specs.Reader.{Gives};
-ghost use Rattle.loop_y4m.specs.Stream.{Frames, ends, ends_after, frames_by, frames_in, next_frame, parse};
+ghost use Rattle.loop_y4m.specs.Stream.{Frames, ends, ends_after, frames_by, frames_within_input, next_frame, parse};
 ghost use Rattle.loop_y4m.specs.declared.fault.Y4mFault.{Y4mFault};
 ghost use Rattle.loop_y4m.specs.Text.{described, text};
 
@@ -33,7 +33,7 @@ pub fn exported_text_is_read(geometry: &Geometry)
 /// the definition's recursion leaves none out.
 pub fn frames_follow_one_another()
     ensures { (size : ℕ) (bytes : List ℕ)
-        → frames_in size bytes ≡ frames_by (frames_in size) (next_frame size bytes) }
+        → frames_within_input size bytes ≡ frames_by (frames_within_input size) (next_frame size bytes) }
 {}
 
 /// Calls in turn that gave frames until the end, or a fault, was left gave all frames of what was to be read,

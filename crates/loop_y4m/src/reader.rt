@@ -1,7 +1,7 @@
 //! A reader of an input's frames.
 
 ghost use Rattle.std.specs.Prelude.{◌≡◌, ◌<◌, ◌≤◌, IfErr, IfOk, IfSome, None, OnOk, Some, length};
-ghost use Rattle.loop_y4m.specs.Header.{frame_size};
+ghost use Rattle.loop_y4m.specs.Header.{size_of_frame};
 ghost use Rattle.loop_y4m.specs.Reader.{GivesNext, Opened, OpensAs, opened_with};
 ghost use Rattle.loop_y4m.specs.Steps.{HeaderIs, IsSmall, LineIs};
 ghost use Rattle.loop_y4m.specs.Stream.{ends, header_line};
@@ -81,7 +81,7 @@ impl<R: Read + Drop> Y4mReader<R> {
 
     /// The bytes of a frame, 16,777,216 at most.
     pub fn frame_bytes(&self) -> u32
-        ensures value { result ≡ frame_size self.now.header }
+        ensures value { result ≡ size_of_frame self.now.header }
         ensures bound { result ≤ 16777216 }
     {
         self.header.frame_bytes()
@@ -92,7 +92,7 @@ impl<R: Read + Drop> Y4mReader<R> {
     /// frame or its line. BadHeader: a line isn't a frame's. Read: the reader failed. After a fault `out` may
     /// hold any bytes, and each later call answers that fault.
     pub fn next_frame(&mut self, out: &mut [u8]) -> Result<bool, Y4mFault>
-        requires size { length out.old ≡ frame_size self.old.header }
+        requires size { length out.old ≡ size_of_frame self.old.header }
         ensures frame { IfSome self.old.rest
             (λ frames. GivesNext frames result out.new self.new.rest) }
         ensures kept { OnOk result (self.new ≡ record self.old { rest = self.new.rest }) }

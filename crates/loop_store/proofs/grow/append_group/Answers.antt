@@ -5,7 +5,7 @@ use Rattle.loop_record.specs.Reading.{Holds}
 use Rattle.loop_record.specs.Recording.{Recording, plain, ring_of, store}
 use Rattle.loop_record.proofs.Bounds.{limits}
 use Rattle.loop_record.proofs.Steps.{plain-append}
-use Rattle.loop_store.specs.Places.{IsBegunAt, segment_of, steps_before}
+use Rattle.loop_store.specs.Places.{IsBegunAt, place_segment, steps_before}
 use Rattle.loop_store.proofs.Grown.{earlier-steps, steps-joined}
 use Rattle.loop_store.proofs.Room.{before-next, grown-place}
 use Rattle.loop_store.proofs.grow.append_group.Goals as goal
@@ -40,7 +40,7 @@ returns g c =
           subst (λ (q : Recording). OnOk c.store_group.result (Holds h q new.bytes)) (sym (plain-append (ring_of h) r before (map store frames)))
           (c.store_group.ensures.held (plain (ring_of h) r before) (before-next h r ∙ is) (c.make_room.ensures.called.honest.0 honest) (c.in_ok-make_room.ensures.held r (is ∙ sym c.first.ensures) honest held));
       such = λ honest.
-          let begun = subst (λ (n : ℕ). IsBegunAt h n (segment_of c.args.place) old.bytes mid.bytes) c.first.ensures (c.in_ok-make_room.ensures.such honest).1 in
+          let begun = subst (λ (n : ℕ). IsBegunAt h n (place_segment c.args.place) old.bytes mid.bytes) c.first.ensures (c.in_ok-make_room.ensures.such honest).1 in
           on_ok_weaker c.store_group.result (λ stored. grown-place h first (length frames) c.segment.result c.args.place frames old.bytes mid.bytes new.bytes (limits h c.args.ring.now.good).slots.1 c.segment.ensures c.requires.segment refl begun stored.0 stored.1)
           (c.store_group.ensures.such (c.make_room.ensures.called.honest.0 honest));
       settled = λ honest. c.store_group.ensures.settled (c.make_room.ensures.called.honest.0 honest);

@@ -5,8 +5,8 @@ use Rattle.loop_record.specs.Reading.{Holds}
 use Rattle.loop_record.specs.Recording.{Step, plain, ring_of}
 use Rattle.loop_record.proofs.Bounds.{limits}
 use Rattle.loop_store.specs.declared.place.Place.{Place}
-use Rattle.loop_store.specs.Held.{HoldsSome, IsNewest}
-use Rattle.loop_store.specs.Places.{segment_of}
+use Rattle.loop_store.specs.Held.{HoldsSome, IsNewestSegment}
+use Rattle.loop_store.specs.Places.{place_segment}
 use Rattle.loop_store.proofs.Answered.{called-none}
 use Rattle.loop_store.proofs.Room.{closed-at, known-closed, known-newest}
 use Rattle.loop_store.proofs.Stands.{unmoved-some}
@@ -41,7 +41,7 @@ returns-in-Closed g c =
           subst (λ (steps : List Step). OnOk c.begin.result (Holds h (plain (ring_of h) r steps) new.bytes)) (sym at.steps) (c.begin.ensures.held r is honest held);
       such = λ honest.
           on_ok_weaker c.begin.result (λ begun. (
-            subst (λ (p : Place). IsNewest h c.args.next (segment_of p) new.bytes) (sym c.in-Closed.is) begun.0,
+            subst (λ (p : Place). IsNewestSegment h c.args.next (place_segment p) new.bytes) (sym c.in-Closed.is) begun.0,
             closed-at h c.args.next c.in-Closed.segment c.args.place old.bytes new.bytes (limits h c.args.ring.now.good).slots.1 c.in-Closed.is c.requires.segment (c.requires.known honest) begun.1 begun.0.stray,
           )) (c.begin.ensures.such honest);
       settled = c.begin.ensures.settled;

@@ -4,7 +4,7 @@ use Rattle.loop_record.specs.Recording.{Recording, lock}
 use Rattle.loop_record.proofs.Bounds.{limits}
 use Rattle.loop_store.specs.declared.fault.StoreFault.TheVariants.{Disk}
 use Rattle.loop_store.specs.Calls.{locked}
-use Rattle.loop_store.specs.Locks.{Takes}
+use Rattle.loop_store.specs.Locks.{CanTake}
 use Rattle.loop_store.specs.Recovered.{IsIndexOf}
 use Rattle.loop_store.specs.Seen.{seen_with}
 use Rattle.loop_store.proofs.Locked.{Noted, goes-noted, goes-unnoted, kept-noted, lock-refused}
@@ -28,7 +28,7 @@ returns-in-Ok-clause-kept g c =
     let span = c.args.span in
     let makes = c.in-Ok.ensures.makes in
     let noted = c.in-Ok.ensures.noted in (
-      kept-noted medium c.args.disk.now c.add_clip.new.disk i c.add_clip.new.index id (Some span) (Takes h span id) (lock span) c.args.must_reopen.now c.requires c.if-must_reopen.false
+      kept-noted medium c.args.disk.now c.add_clip.new.disk i c.add_clip.new.index id (Some span) (CanTake h span id) (lock span) c.args.must_reopen.now c.requires c.if-must_reopen.false
           (λ r honest known. let said = c.in_ok-id.ensures.answers r (medium c.args.disk.now).bytes known in record { legal = said.0; id_is = said.1 })
           (record {
             noted = noted;
@@ -50,7 +50,7 @@ returns-in-Ok-clause-goes g c =
     let id = c.in_ok-id.id in
     let span = c.args.span in
     let makes = c.in-Ok.ensures.makes in
-    goes-noted medium c.args.disk.now c.add_clip.new.disk i c.add_clip.new.index c.args.must_reopen.now id (Some span) (Takes h span id) (lock span) (locked span (Ok id)) c.requires c.if-must_reopen.false (limits h i.ring.good).slots.0
+    goes-noted medium c.args.disk.now c.add_clip.new.disk i c.add_clip.new.index c.args.must_reopen.now id (Some span) (CanTake h span id) (lock span) (locked span (Ok id)) c.requires c.if-must_reopen.false (limits h i.ring.good).slots.0
     (record {
       noted = c.in-Ok.ensures.noted;
       called = makes.called;
@@ -72,7 +72,7 @@ returns-in-Err-clause-goes g c =
     let id = c.in_ok-id.id in
     let span = c.args.span in
     let makes = c.in-Err.ensures.makes in
-    goes-unnoted medium c.args.disk.now c.add_clip.new.disk i c.add_clip.new.index c.args.must_reopen.now (Takes h span id) (lock span) (locked span (Err (Disk c.in-Err.fault))) c.in-Err.fault c.requires c.if-must_reopen.false c.in-Err.ensures.same
+    goes-unnoted medium c.args.disk.now c.add_clip.new.disk i c.add_clip.new.index c.args.must_reopen.now (CanTake h span id) (lock span) (locked span (Err (Disk c.in-Err.fault))) c.in-Err.fault c.requires c.if-must_reopen.false c.in-Err.ensures.same
     (λ honest. g.met.D.Disk.sound c.add_clip.new.disk honest) makes.called makes.moments
     (λ r honest known. let said = c.in_ok-id.ensures.answers r (medium c.args.disk.now).bytes known in record { legal = said.0; id_is = said.1 })
     (record { stored = refl; answers = λ s still one. inr (inr (refl, (still, one.legal))) }) refl refl (λ s. refl) (λ s. refl) (inr (c.if-must_reopen.false, inr (refl, c.in_ok-id.ensures.id.1)))

@@ -9,7 +9,7 @@ use Rattle.loop_store.specs.declared.fault.StoreFault.{StoreFault}
 use Rattle.loop_store.specs.declared.fault.StoreFault.TheVariants.{AllLocked, NumbersSpent}
 use Rattle.loop_store.specs.declared.place.Place.{Place}
 use Rattle.loop_store.specs.Held.{HoldsSome}
-use Rattle.loop_store.specs.Places.{IsKnown, segment_of}
+use Rattle.loop_store.specs.Places.{IsKnown, place_segment}
 use Rattle.loop_store.specs.Seen.{seen_with}
 use Rattle.loop_store.proofs.Appended.{Grew, kept-grown, noted-at, place-known, place-some, stands-grown, steps-are, steps-some}
 use Rattle.loop_store.proofs.Looks.{known-by}
@@ -55,7 +55,7 @@ returns-in-Ok-clause-kept g c =
     let i = c.args.index.now in
     let h = i.ring.geometry in
     let ps = c.args.group.now.frames in
-    let j = segment_of c.in_ok-place.place in
+    let j = place_segment c.in_ok-place.place in
     let n = c.len.result in
     let medium = g.D.Disk.medium in
     let first : Grew medium h c.args.disk.now c.append_group.new.disk c.args.group.now.first (length ps) j ps = record {
@@ -75,7 +75,7 @@ returns-in-Ok-clause-goes g c =
     let i = c.args.index.now in
     let h = i.ring.geometry in
     let ps = c.args.group.now.frames in
-    let j = segment_of c.in_ok-place.place in
+    let j = place_segment c.in_ok-place.place in
     let n = c.len.result in
     let medium = g.D.Disk.medium in
     let must = c.args.must_reopen.now in
