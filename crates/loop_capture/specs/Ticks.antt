@@ -51,7 +51,8 @@ IsLongest meaning active queue = (s : QueueState) → StandsFor meaning queue s 
 -- in each state that the queue stands for: the tick is this one, and the queue stands for the state that it makes
 abbrev pub Ends : {P : Type 0} → (P → Plane) → Next → Stamp → List ℕ → Tick → Lined P → Lined P → Type 0
 Ends meaning answer stamp bytes tick before after =
-    (s : QueueState) → StandsFor meaning before s → (tick ≡ tick_of answer (longest_active s)) × StandsFor meaning after (after_tick tick stamp bytes s)
+    (s : QueueState) → StandsFor meaning before s
+    → (tick ≡ tick_of answer (longest_active s)) × StandsFor meaning after (after_tick tick stamp bytes s)
 
 -- a tick for which the source was asked: the device had a frame's length and had started, the start is noticed, and the frame is ended
 pub record Took {S P : Type 0} (gives : S → Next → List ℕ → S → Type 0) (meaning : P → Plane) (now : ℕ) (tick : Tick)
@@ -66,13 +67,18 @@ pub record Took {S P : Type 0} (gives : S → Next → List ℕ → S → Type 0
       (after_tick tick (record { sequence = sequence_of d.next s; timestamp = now }) e.frame (seen_state s))
 
 -- a tick: WrongSize and Idle change nothing
-abbrev pub Ticked : {S P : Type 0} → (S → Next → List ℕ → S → Type 0) → (P → Plane) → ℕ → Tick → SeenDevice S → SeenDevice S
+abbrev pub Ticked : {S P : Type 0} → (S → Next → List ℕ → S → Type 0) → (P → Plane) → ℕ → Tick → SeenDevice S
+    → SeenDevice S
     → Lined P → Lined P → QueueState → Type 0
-Ticked gives meaning now WrongSize d e before after s = (length d.frame ≢ frame_size s.body.shape) × (e ≡ d) × (after ≡ before)
-Ticked gives meaning now Idle d e before after s = (length d.frame ≡ frame_size s.body.shape) × (s.body.started ≡ false) × (e ≡ d) × (after ≡ before)
+Ticked gives meaning now WrongSize d e before after s =
+    (length d.frame ≢ frame_size s.body.shape) × (e ≡ d) × (after ≡ before)
+Ticked gives meaning now Idle d e before after s =
+    (length d.frame ≡ frame_size s.body.shape) × (s.body.started ≡ false) × (e ≡ d) × (after ≡ before)
 Ticked gives meaning now tick d e before after s = Took gives meaning now tick d e before after s
 
 -- so in each state that the queue stands for
-abbrev pub Ticks : {S P : Type 0} → (S → Next → List ℕ → S → Type 0) → (P → Plane) → ℕ → Tick → SeenDevice S → SeenDevice S
+abbrev pub Ticks : {S P : Type 0} → (S → Next → List ℕ → S → Type 0) → (P → Plane) → ℕ → Tick → SeenDevice S
+    → SeenDevice S
     → Lined P → Lined P → Type 0
-Ticks gives meaning now tick d e before after = (s : QueueState) → StandsFor meaning before s → Ticked gives meaning now tick d e before after s
+Ticks gives meaning now tick d e before after =
+    (s : QueueState) → StandsFor meaning before s → Ticked gives meaning now tick d e before after s

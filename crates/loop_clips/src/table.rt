@@ -107,7 +107,8 @@ impl ClipTable {
         requires settled { (D.medium disk.old).honest → IsSettled (D.medium disk.old) }
         requires closed { (D.medium disk.old).honest → clip_in (D.medium disk.old).bytes id ≡ None }
         ensures { let old = D.medium disk.old in
-            Changes (ShowsClipOrNot id (Some span) old.bytes) (ShowsClip id (Some span) old.bytes) old (D.medium disk.new) result }
+            Changes (ShowsClipOrNot id (Some span) old.bytes) (ShowsClip id (Some span) old.bytes) old
+            (D.medium disk.new) result }
     {
         write_entry(disk, id, span.from, span.to)
     }

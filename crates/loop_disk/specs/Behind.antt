@@ -21,5 +21,7 @@ moment_now behind bytes = record { settled = behind.settled; loose = behind.loos
 -- what is behind the disk after an event, which tells the bytes from before it
 abbrev pub behind_after : Behind → Event → Behind
 behind_after behind (Began bytes) = record { settled = bytes.now; loose = []; moments = [] }
-behind_after behind (Wrote bytes at count) = record behind { loose = (at, count) ∷ behind.loose; moments = moment_now behind bytes.now ∷ behind.moments }
-behind_after behind (Synced bytes) = record { settled = bytes.now; loose = []; moments = moment_now behind bytes.now ∷ behind.moments }
+behind_after behind (Wrote bytes at count) =
+    record behind { loose = (at, count) ∷ behind.loose; moments = moment_now behind bytes.now ∷ behind.moments }
+behind_after behind (Synced bytes) =
+    record { settled = bytes.now; loose = []; moments = moment_now behind bytes.now ∷ behind.moments }

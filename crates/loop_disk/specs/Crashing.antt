@@ -37,7 +37,8 @@ moments_from m earlier (c ∷ calls) = moments_from (after_call m c) (m ∷ earl
 
 -- the medium of such a disk: it has one moment more after each call, a read too
 abbrev pub medium_after : Tape → Medium
-medium_after tape = medium_of tape.failures (moment_after tape.start tape.calls) (moments_from (at_rest tape.start) [] tape.calls)
+medium_after tape =
+    medium_of tape.failures (moment_after tape.start tape.calls) (moments_from (at_rest tape.start) [] tape.calls)
 
 -- the call is one of a disk of this size
 abbrev pub IsWithin : ℕ → DeviceCall (List ℕ) → Type 0
@@ -58,4 +59,5 @@ spoiled (spoil.Mix m) i settled present = (167 * i + m) % 256
 -- the image that a crash leaves at this moment, where it spoils so what was written since the last sync
 pub record IsSpoiled (s : Spoil) (m : Moment) (image : List ℕ) : Type 0 where
   pub left : IsLeft m image
-  pub loose : (i : ℕ) → i < length image → is_loose m.loose i ≡ true → get_or image i 0 ≡ spoiled s i (get_or m.settled i 0) (get_or m.bytes i 0)
+  pub loose : (i : ℕ) → i < length image → is_loose m.loose i ≡ true
+      → get_or image i 0 ≡ spoiled s i (get_or m.settled i 0) (get_or m.bytes i 0)

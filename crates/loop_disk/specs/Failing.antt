@@ -7,7 +7,8 @@ use Rattle.loop_disk.specs.Calls.{Called, failed_call}
 
 -- A call that is due to fail fails and doesn't reach the inner disk. Any other is the inner disk's own, and
 -- fails where that one does.
-pub record FailsOrPasses {T D : Type 0} (medium : D → Medium) (due : Bool) (old new : D) (result : Result T DiskFault) : Type 0 where
+pub record FailsOrPasses {T D : Type 0} (medium : D → Medium) (due : Bool) (old new : D)
+    (result : Result T DiskFault) : Type 0 where
   pub fails : due ≡ true → IsErr result
   pub untouched : due ≡ true → new ≡ old
   pub passes : due ≡ false → Called (medium old) (medium new) (failed_call result)
@@ -24,7 +25,8 @@ left_after (Some calls) = if calls == 0 then None else Some (calls - 1)
 
 -- After a write in so many places from `at` on, done in part, the disk holds these bytes, or a call failed. All
 -- of the places count as written.
-pub record Tears {T : Type 0} (at n : ℕ) (bytes : List ℕ) (old new : Medium) (result : Result T DiskFault) : Type 0 where
+pub record Tears {T : Type 0} (at n : ℕ) (bytes : List ℕ) (old new : Medium)
+    (result : Result T DiskFault) : Type 0 where
   pub done : OnOk result (new.bytes ≡ bytes)
   pub elsewhere : SameOutside at n old.bytes new.bytes
   pub images : (c : List ℕ) → new.may_leave c → TornAt at n old c
@@ -38,7 +40,8 @@ pub record IsCounting (failures : Failures) : Type 0 where
 
 -- A torn write: it fails, and unless the inner disk failed too, the first bytes are there and those behind them
 -- are as they were; and over a harsh disk a crash may leave any bytes in the whole range.
-pub record IsTorn {T : Type 0} (harsh : Type 0) (at : ℕ) (bytes : List ℕ) (keep : ℕ) (old new : Medium) (result : Result T DiskFault) : Type 0 where
+pub record IsTorn {T : Type 0} (harsh : Type 0) (at : ℕ) (bytes : List ℕ) (keep : ℕ) (old new : Medium)
+    (result : Result T DiskFault) : Type 0 where
   pub fails : IsErr result
   pub kept : IsCounting old.failures → new.failures ≡ old.failures → new.bytes ≡ written at (take keep bytes) old.bytes
   pub loose : harsh → IsCounting old.failures → new.failures ≡ old.failures → LeavesEachTorn at (length bytes) old new

@@ -24,4 +24,5 @@ pub record IsReplayed (s : Spoil) (m : Moment) (bytes image : List ℕ) : Type 0
 -- in the places of these bytes, from `at` on, stands what a crash leaves of them
 pub record PutsSpoiled (s : Spoil) (at : ℕ) (bytes old new : List ℕ) : Type 0 where
   pub outside : SameOutside at (length bytes) old new
-  pub there : (i : ℕ) → i < length bytes → get_or new (at + i) 0 ≡ spoiled s (at + i) (get_or old (at + i) 0) (get_or bytes i 0)
+  pub there : (i : ℕ) → i < length bytes
+      → get_or new (at + i) 0 ≡ spoiled s (at + i) (get_or old (at + i) 0) (get_or bytes i 0)

@@ -12,7 +12,8 @@ left_by (m ∷ earlier) t c left = ⊎_elim
     (λ (before : IsLeftSince earlier t c). omega (arith, left_by earlier t c before))
     left
 
-left_last : (now : Moment) (earlier : List Moment) (c : List ℕ) → IsLeftSince (now ∷ earlier) (length earlier) c → IsLeft now c
+left_last : (now : Moment) (earlier : List Moment) (c : List ℕ) → IsLeftSince (now ∷ earlier) (length earlier) c
+    → IsLeft now c
 left_last now earlier c left = ⊎_elim
     (λ (here : (length earlier ≤ length earlier) × IsLeft now c). here.1)
     (λ (before : IsLeftSince earlier (length earlier) c).

@@ -17,14 +17,16 @@ abbrev pub TornInTurn : ℕ → List ℕ → ℕ → ℕ → List ℕ → List �
 TornInTurn a first b n old new = SameOutside a (length first) old new ⊎ SameOutside b n (written a first old) new
 
 -- The first bytes are on the disk before any of the second are.
-pub record StoresInTurn {T : Type 0} (a : ℕ) (first : List ℕ) (b : ℕ) (second : List ℕ) (old new : Medium) (result : Result T DiskFault) : Type 0 where
+pub record StoresInTurn {T : Type 0} (a : ℕ) (first : List ℕ) (b : ℕ) (second : List ℕ) (old new : Medium)
+    (result : Result T DiskFault) : Type 0 where
   pub done : OnOk result (new.bytes ≡ written b second (written a first old.bytes))
   pub settled : OnOk result (IsSettled new)
   pub moments : LeavesOnly old new (TornInTurn a first b (length second) old.bytes)
 
 -- What a call that writes changed: whatever the moment of a stop, the image is one of the first; at Ok it is
 -- one of the second, and a crash leaves nothing else.
-pub record Changes {T : Type 0} (IsLeft IsSuch : List ℕ → Type 0) (old new : Medium) (result : Result T DiskFault) : Type 0 where
+pub record Changes {T : Type 0} (IsLeft IsSuch : List ℕ → Type 0) (old new : Medium)
+    (result : Result T DiskFault) : Type 0 where
   pub moments : old.honest → LeavesOnly old new IsLeft
   pub such : old.honest → OnOk result (IsSuch new.bytes)
   pub settled : old.honest → OnOk result (IsSettled new)

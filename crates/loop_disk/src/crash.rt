@@ -114,7 +114,8 @@ impl<A: Allocator + Copy> CrashDisk<A> {
         ensures left { IfOk result (λ disk.
             (medium_after self.now).left_since calls (⟦<MemDisk<A> as Disk>⟧.medium disk).bytes) }
         ensures image { IfOk result (λ disk.
-            IsSpoiled spoil (moment_after self.now.start (take calls self.now.calls)) (⟦<MemDisk<A> as Disk>⟧.medium disk).bytes) }
+            IsSpoiled spoil (moment_after self.now.start (take calls self.now.calls))
+            (⟦<MemDisk<A> as Disk>⟧.medium disk).bytes) }
         ensures settled { IfOk result (λ disk. IsSettled (⟦<MemDisk<A> as Disk>⟧.medium disk)) }
     {
         let mut bytes = Vec::from_slice(self.alloc, &self.start)?;

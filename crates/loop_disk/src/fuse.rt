@@ -86,7 +86,8 @@ impl<D: Disk> Disk for FuseDisk<D> {
             → D.harsh self.new.inner
             × LeavesEach (⟦<FuseDisk<D> as Disk>⟧.medium self.old) (⟦<FuseDisk<D> as Disk>⟧.medium self.new) }
         ensures fault { IfErr result (λ fault. fault ≡ Read) }
-        ensures called { Called (⟦<FuseDisk<D> as Disk>⟧.medium self.old) (⟦<FuseDisk<D> as Disk>⟧.medium self.new) (failed_call result) }
+        ensures called { Called (⟦<FuseDisk<D> as Disk>⟧.medium self.old) (⟦<FuseDisk<D> as Disk>⟧.medium self.new)
+            (failed_call result) }
     {
         self.admit(DiskFault::Read)?;
         let outcome = self.inner.read(at, buf);
@@ -96,14 +97,17 @@ impl<D: Disk> Disk for FuseDisk<D> {
     fn write_at(&mut self, at: u64, bytes: &[u8]) -> Result<(), DiskFault>
         requires { at + length bytes.now ≤ (D.medium self.old.inner).size }
         ensures disk { (D.medium self.old.inner).honest
-            → Writes at bytes.now (⟦<FuseDisk<D> as Disk>⟧.medium self.old) (⟦<FuseDisk<D> as Disk>⟧.medium self.new) result }
+            → Writes at bytes.now (⟦<FuseDisk<D> as Disk>⟧.medium self.old)
+            (⟦<FuseDisk<D> as Disk>⟧.medium self.new) result }
         ensures which { FailsOrPasses D.medium (self.old.left == 0) self.old.inner self.new.inner result }
         ensures left { self.new.left ≡ self.old.left - 1 }
         ensures each { D.harsh self.old.inner
             → D.harsh self.new.inner
-            × OnOk result (LeavesEachTorn at (length bytes.now) (⟦<FuseDisk<D> as Disk>⟧.medium self.old) (⟦<FuseDisk<D> as Disk>⟧.medium self.new)) }
+            × OnOk result (LeavesEachTorn at (length bytes.now) (⟦<FuseDisk<D> as Disk>⟧.medium self.old)
+            (⟦<FuseDisk<D> as Disk>⟧.medium self.new)) }
         ensures fault { IfErr result (λ fault. fault ≡ Write) }
-        ensures called { Called (⟦<FuseDisk<D> as Disk>⟧.medium self.old) (⟦<FuseDisk<D> as Disk>⟧.medium self.new) (failed_call result) }
+        ensures called { Called (⟦<FuseDisk<D> as Disk>⟧.medium self.old) (⟦<FuseDisk<D> as Disk>⟧.medium self.new)
+            (failed_call result) }
     {
         self.admit(DiskFault::Write)?;
         let outcome = self.inner.write_at(at, bytes);
@@ -117,7 +121,8 @@ impl<D: Disk> Disk for FuseDisk<D> {
         ensures left { self.new.left ≡ self.old.left - 1 }
         ensures each { D.harsh self.old.inner → D.harsh self.new.inner }
         ensures fault { IfErr result (λ fault. fault ≡ Sync) }
-        ensures called { Called (⟦<FuseDisk<D> as Disk>⟧.medium self.old) (⟦<FuseDisk<D> as Disk>⟧.medium self.new) (failed_call result) }
+        ensures called { Called (⟦<FuseDisk<D> as Disk>⟧.medium self.old) (⟦<FuseDisk<D> as Disk>⟧.medium self.new)
+            (failed_call result) }
     {
         self.admit(DiskFault::Sync)?;
         let outcome = self.inner.sync();

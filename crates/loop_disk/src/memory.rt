@@ -74,7 +74,8 @@ impl<A: Allocator> Disk for MemDisk<A> {
         ensures each { ⟦<MemDisk<A> as Disk>⟧.harsh self.old → ⟦<MemDisk<A> as Disk>⟧.harsh self.new
             × LeavesEach (⟦<MemDisk<A> as Disk>⟧.medium self.old) (⟦<MemDisk<A> as Disk>⟧.medium self.new) }
         ensures fault { IfErr result (λ fault. fault ≡ Read) }
-        ensures called { Called (⟦<MemDisk<A> as Disk>⟧.medium self.old) (⟦<MemDisk<A> as Disk>⟧.medium self.new) (failed_call result) }
+        ensures called { Called (⟦<MemDisk<A> as Disk>⟧.medium self.old) (⟦<MemDisk<A> as Disk>⟧.medium self.new)
+            (failed_call result) }
     {
         let at = at as usize;
         let end = at + buf.len();
@@ -87,12 +88,15 @@ impl<A: Allocator> Disk for MemDisk<A> {
         requires { at + length bytes.now ≤ (⟦<MemDisk<A> as Disk>⟧.medium self.old).size }
         ensures always { IsOk result }
         ensures disk { (⟦<MemDisk<A> as Disk>⟧.medium self.old).honest
-            → Writes at bytes.now (⟦<MemDisk<A> as Disk>⟧.medium self.old) (⟦<MemDisk<A> as Disk>⟧.medium self.new) result }
+            → Writes at bytes.now (⟦<MemDisk<A> as Disk>⟧.medium self.old)
+            (⟦<MemDisk<A> as Disk>⟧.medium self.new) result }
         ensures each { ⟦<MemDisk<A> as Disk>⟧.harsh self.old
             → ⟦<MemDisk<A> as Disk>⟧.harsh self.new
-            × OnOk result (LeavesEachTorn at (length bytes.now) (⟦<MemDisk<A> as Disk>⟧.medium self.old) (⟦<MemDisk<A> as Disk>⟧.medium self.new)) }
+            × OnOk result (LeavesEachTorn at (length bytes.now) (⟦<MemDisk<A> as Disk>⟧.medium self.old)
+            (⟦<MemDisk<A> as Disk>⟧.medium self.new)) }
         ensures fault { IfErr result (λ fault. fault ≡ Write) }
-        ensures called { Called (⟦<MemDisk<A> as Disk>⟧.medium self.old) (⟦<MemDisk<A> as Disk>⟧.medium self.new) (failed_call result) }
+        ensures called { Called (⟦<MemDisk<A> as Disk>⟧.medium self.old) (⟦<MemDisk<A> as Disk>⟧.medium self.new)
+            (failed_call result) }
     {
         let event = Event::Wrote(&self.bytes, at, bytes.len());
         self.past = self.past.after(&event);
@@ -107,7 +111,8 @@ impl<A: Allocator> Disk for MemDisk<A> {
             → Syncs (⟦<MemDisk<A> as Disk>⟧.medium self.old) (⟦<MemDisk<A> as Disk>⟧.medium self.new) result }
         ensures each { ⟦<MemDisk<A> as Disk>⟧.harsh self.old → ⟦<MemDisk<A> as Disk>⟧.harsh self.new }
         ensures fault { IfErr result (λ fault. fault ≡ Sync) }
-        ensures called { Called (⟦<MemDisk<A> as Disk>⟧.medium self.old) (⟦<MemDisk<A> as Disk>⟧.medium self.new) (failed_call result) }
+        ensures called { Called (⟦<MemDisk<A> as Disk>⟧.medium self.old) (⟦<MemDisk<A> as Disk>⟧.medium self.new)
+            (failed_call result) }
     {
         self.past = self.past.after(&Event::Synced(&self.bytes));
         Ok(())

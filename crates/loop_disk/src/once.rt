@@ -115,7 +115,8 @@ impl<D: Disk> Disk for OnceDisk<D> {
             → D.harsh self.new.inner
             × LeavesEach (⟦<OnceDisk<D> as Disk>⟧.medium self.old) (⟦<OnceDisk<D> as Disk>⟧.medium self.new) }
         ensures fault { IfErr result (λ fault. fault ≡ Read) }
-        ensures called { Called (⟦<OnceDisk<D> as Disk>⟧.medium self.old) (⟦<OnceDisk<D> as Disk>⟧.medium self.new) (failed_call result) }
+        ensures called { Called (⟦<OnceDisk<D> as Disk>⟧.medium self.old) (⟦<OnceDisk<D> as Disk>⟧.medium self.new)
+            (failed_call result) }
     {
         if self.counts_down() {
             return self.fail(DiskFault::Read);
@@ -127,20 +128,24 @@ impl<D: Disk> Disk for OnceDisk<D> {
     fn write_at(&mut self, at: u64, bytes: &[u8]) -> Result<(), DiskFault>
         requires { at + length bytes.now ≤ (D.medium self.old.inner).size }
         ensures disk { (D.medium self.old.inner).honest
-            → Writes at bytes.now (⟦<OnceDisk<D> as Disk>⟧.medium self.old) (⟦<OnceDisk<D> as Disk>⟧.medium self.new) result }
+            → Writes at bytes.now (⟦<OnceDisk<D> as Disk>⟧.medium self.old)
+            (⟦<OnceDisk<D> as Disk>⟧.medium self.new) result }
         ensures which { (is_due self.old.left ≡ false
             → Called (D.medium self.old.inner) (D.medium self.new.inner) (failed_call result))
             × (is_due self.old.left ≡ true
             → IsErr result × (self.old.torn ≡ None → self.new.inner ≡ self.old.inner)) }
         ensures kept { (D.medium self.old.inner).honest → is_due self.old.left ≡ true → (keep : ℕ)
             → self.old.torn ≡ Some keep
-            → IsTorn (D.harsh self.old.inner) at bytes.now keep (D.medium self.old.inner) (D.medium self.new.inner) result }
+            → IsTorn (D.harsh self.old.inner) at bytes.now keep (D.medium self.old.inner)
+            (D.medium self.new.inner) result }
         ensures next { (self.new.left ≡ left_after self.old.left) × (self.new.torn ≡ self.old.torn) }
         ensures each { D.harsh self.old.inner
             → D.harsh self.new.inner
-            × OnOk result (LeavesEachTorn at (length bytes.now) (⟦<OnceDisk<D> as Disk>⟧.medium self.old) (⟦<OnceDisk<D> as Disk>⟧.medium self.new)) }
+            × OnOk result (LeavesEachTorn at (length bytes.now) (⟦<OnceDisk<D> as Disk>⟧.medium self.old)
+            (⟦<OnceDisk<D> as Disk>⟧.medium self.new)) }
         ensures fault { IfErr result (λ fault. fault ≡ Write) }
-        ensures called { Called (⟦<OnceDisk<D> as Disk>⟧.medium self.old) (⟦<OnceDisk<D> as Disk>⟧.medium self.new) (failed_call result) }
+        ensures called { Called (⟦<OnceDisk<D> as Disk>⟧.medium self.old) (⟦<OnceDisk<D> as Disk>⟧.medium self.new)
+            (failed_call result) }
     {
         if !self.counts_down() {
             let outcome = self.inner.write_at(at, bytes);
@@ -161,7 +166,8 @@ impl<D: Disk> Disk for OnceDisk<D> {
         ensures next { (self.new.left ≡ left_after self.old.left) × (self.new.torn ≡ self.old.torn) }
         ensures each { D.harsh self.old.inner → D.harsh self.new.inner }
         ensures fault { IfErr result (λ fault. fault ≡ Sync) }
-        ensures called { Called (⟦<OnceDisk<D> as Disk>⟧.medium self.old) (⟦<OnceDisk<D> as Disk>⟧.medium self.new) (failed_call result) }
+        ensures called { Called (⟦<OnceDisk<D> as Disk>⟧.medium self.old) (⟦<OnceDisk<D> as Disk>⟧.medium self.new)
+            (failed_call result) }
     {
         if self.counts_down() {
             return self.fail(DiskFault::Sync);
@@ -176,7 +182,8 @@ impl<D: Disk> Disk for OnceDisk<D> {
 fn tear<D: Disk>(disk: &mut D, at: u64, bytes: &[u8], keep: usize) -> Result<(), DiskFault>
     requires { at + length bytes.now ≤ (D.medium disk.old).size }
     ensures disk { (D.medium disk.old).honest
-        → Tears at (length bytes.now) (written at (take keep bytes.now) (D.medium disk.old).bytes) (D.medium disk.old) (D.medium disk.new) result }
+        → Tears at (length bytes.now) (written at (take keep bytes.now) (D.medium disk.old).bytes) (D.medium disk.old)
+        (D.medium disk.new) result }
     ensures harsh { D.harsh disk.old → D.harsh disk.new }
     ensures each { (D.medium disk.old).honest → D.harsh disk.old
         → OnOk result (LeavesEachTorn at (length bytes.now) (D.medium disk.old) (D.medium disk.new)) }

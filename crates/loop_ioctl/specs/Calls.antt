@@ -52,7 +52,8 @@ pub record Stands {P : Type 0} (meaning : P → Plane) (code : Lined P) (table :
 
 -- the checks before an fd is looked at
 abbrev pub early_refusal : {P : Type 0} → ℕ → Body P → Option Reason
-early_refusal index b = first_of ((nat_le (length b.buffers) index, BadIndex) ∷ (not (same_memory b.kind DmaBuf), BadMemory) ∷ [])
+early_refusal index b =
+    first_of ((nat_le (length b.buffers) index, BadIndex) ∷ (not (same_memory b.kind DmaBuf), BadMemory) ∷ [])
 
 abbrev pub use_refusal : {P : Type 0} → Use → ℕ → Memory → Option (PlaneSet Plane) → Body P → Option Reason
 use_refusal Prepare index kind given b = prepare_refusal index kind given b
@@ -130,13 +131,15 @@ IsFrame meaning kind b answer = IsAnswer kind b (record (read_answer meaning ans
 -- the answer to DQBUF tells of the buffer that ended first; DMA-BUF planes have gone back to their fds
 abbrev pub TellsFrame : {P : Type 0} → (P → Plane) → IoctlState → Dequeued P → Type 0
 TellsFrame meaning j answer = (first_ended j.queue ≡ Some answer.index)
-    × ((b : Buffer Plane) × (slice_get j.queue.body.buffers answer.index ≡ Some b) × IsFrame meaning j.queue.body.kind b answer
+    × ((b : Buffer Plane) × (slice_get j.queue.body.buffers answer.index ≡ Some b)
+    × IsFrame meaning j.queue.body.kind b answer
     × (read_given meaning answer.planes ≡ handed_out None j.queue.body.kind b.planes))
 
 -- the answer to REQBUFS tells how many buffers there are, and hands out the planes of the application's memory
 abbrev pub TellsGrant : {P A : Type 0} → (P → Plane) → ℕ → IoctlState → Granted P A → Type 0
 TellsGrant meaning count j g =
-    (g.count ≡ grants_or_none j.queue.body.min_queued count) × (map (read_set meaning) g.left.items ≡ handed_out [] j.queue.body.kind (held j.queue.body.buffers))
+    (g.count ≡ grants_or_none j.queue.body.min_queued count)
+    × (map (read_set meaning) g.left.items ≡ handed_out [] j.queue.body.kind (held j.queue.body.buffers))
 
 -- ---- any ioctl
 
@@ -167,7 +170,8 @@ module _ {P A : Type 0} where
 module _ {P A : Type 0} (meaning : P → Plane) where
   -- why it is refused, but for its buffer type and want of memory
   abbrev pub call_refusal : Ioctl P A → IoctlState → Option Reason
-  call_refusal (call.ReqBufs type count kind supply) j = request_refusal count kind (map (read_set meaning) supply.items) j.queue.body
+  call_refusal (call.ReqBufs type count kind supply) j =
+      request_refusal count kind (map (read_set meaning) supply.items) j.queue.body
   call_refusal (call.QueryBuf type index) j = query_refusal index j.queue.body
   call_refusal (call.PrepareBuf type index given) j = put_refusal meaning Prepare index given j
   call_refusal (call.QBuf type index given) j = put_refusal meaning Queue index given j
@@ -195,7 +199,8 @@ module _ {P A : Type 0} (meaning : P → Plane) where
   -- the reply, where it isn't refused
   abbrev pub IsReply : Ioctl P A → IoctlState → IoctlReply P A → Type 0
   IsReply (call.ReqBufs type count kind supply) j (reply.Granted g) = TellsGrant meaning count j g
-  IsReply (call.QueryBuf type index) j (reply.Info info) = (b : Buffer Plane) × (slice_get j.queue.body.buffers index ≡ Some b) × IsInfo b info
+  IsReply (call.QueryBuf type index) j (reply.Info info) =
+      (b : Buffer Plane) × (slice_get j.queue.body.buffers index ≡ Some b) × IsInfo b info
   IsReply (call.PrepareBuf type index given) j reply.Done = Unit {0}
   IsReply (call.QBuf type index given) j reply.Done = Unit {0}
   IsReply (call.DqBuf type) j (reply.Dequeued answer) = TellsFrame meaning j answer
@@ -225,9 +230,11 @@ module _ {P A : Type 0} (meaning : P → Plane) where
   -- from each state that queue and table stand for, the call is answered so, and they stand for the state after it
   abbrev pub Applies : Ioctl P A → Result (IoctlReply P A) (Refused P A) → Lined P → Fds P → Lined P → Fds P → Type 0
   Applies c result queue table new_queue new_table =
-      (j : IoctlState) → Stands meaning queue table j → IsAnswered c j result × Stands meaning new_queue new_table (after c j result)
+      (j : IoctlState) → Stands meaning queue table j
+      → IsAnswered c j result × Stands meaning new_queue new_table (after c j result)
 
 -- A queue without buffers and any table stand for the state in which each fd names what it does.
 abbrev pub NewQueuesStand : {P : Type 0} → (P → Plane) → Type 0
-NewQueuesStand {P} meaning = (code : Lined P) (table : Fds P) (s : QueueState) → StandsFor meaning code s → s.body.buffers ≡ []
+NewQueuesStand {P} meaning =
+    (code : Lined P) (table : Fds P) (s : QueueState) → StandsFor meaning code s → s.body.buffers ≡ []
     → Stands meaning code table (record { queue = s; names = read_names meaning (names_in table) })

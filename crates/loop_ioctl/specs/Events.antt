@@ -50,7 +50,8 @@ module _ {P A : Type 0} (meaning : P → Plane) where
   -- the state after the event
   abbrev pub state_after : QueueEvent P A → QueueReply P A → IoctlState → IoctlState
   state_after (event.Ioctl call) (answer.Ioctl result) j = after meaning call j result
-  state_after (event.Complete index stamp bytes) (answer.Ended result) j = either result (with_queue (completed index stamp bytes.items) j) j
+  state_after (event.Complete index stamp bytes) (answer.Ended result) j =
+      either result (with_queue (completed index stamp bytes.items) j) j
   state_after (event.Fail index stamp) (answer.Ended result) j = either result (with_queue (failed index stamp) j) j
   state_after event.Fatal answer.Fatal j = with_queue fatal_state j
   state_after e r j = j
@@ -64,15 +65,21 @@ module _ {P A : Type 0} (meaning : P → Plane) where
 
   -- one event: the reply is the model's, and queue and table stand for the state after it
   abbrev pub Reacts : QueueEvent P A → QueueReply P A → Lined P → Fds P → Lined P → Fds P → Type 0
-  Reacts e r queue table new_queue new_table = (j : IoctlState) → Stands meaning queue table j → IsTold e r j × Stands meaning new_queue new_table (state_after e r j)
+  Reacts e r queue table new_queue new_table =
+      (j : IoctlState) → Stands meaning queue table j
+      → IsTold e r j × Stands meaning new_queue new_table (state_after e r j)
 
   -- a list of events: there are as many replies, each is the model's at its point, and queue and table stand
   -- for the state after all
-  pub record Runs (events : List (QueueEvent P A)) (replies : List (QueueReply P A)) (queue : Lined P) (table : Fds P) (new_queue : Lined P) (new_table : Fds P) : Type 0 where
+  pub record Runs (events : List (QueueEvent P A)) (replies : List (QueueReply P A)) (queue : Lined P) (table : Fds P)
+      (new_queue : Lined P) (new_table : Fds P) : Type 0 where
     pub count : length replies ≡ length events
-    pub told : (j : IoctlState) → Stands meaning queue table j → EachIn turned IsTurn j (turns events replies) × Stands meaning new_queue new_table (after_all turned j (turns events replies))
+    pub told : (j : IoctlState) → Stands meaning queue table j
+        → EachIn turned IsTurn j (turns events replies)
+        × Stands meaning new_queue new_table (after_all turned j (turns events replies))
 
 -- Two runs, one after the other, are the run of the joined lists.
 abbrev pub RunsJoin : {P : Type 0} → Type 0 → (P → Plane) → Type 0
-RunsJoin {P} A meaning = (es fs : List (QueueEvent P A)) (rs ss : List (QueueReply P A)) (q q' q'' : Lined P) (t t' t'' : Fds P)
+RunsJoin {P} A meaning =
+    (es fs : List (QueueEvent P A)) (rs ss : List (QueueReply P A)) (q q' q'' : Lined P) (t t' t'' : Fds P)
     → Runs meaning es rs q t q' t' → Runs meaning fs ss q' t' q'' t'' → Runs meaning (es ++ fs) (rs ++ ss) q t q'' t''

@@ -117,14 +117,18 @@ module _ {T : Type 0} where
   -- a place's value is taken, or nothing is done
   abbrev pub TakesPlace : Bool → ℕ → Result (Option T) Reason → Fds T → Fds T → Type 0
   TakesPlace due fd (Ok place) before after =
-      (place_refusal due fd (names_in before) ≡ None) × (place ≡ place_value due fd (names_in before)) × (names_in after ≡ place_taken due fd (names_in before))
-  TakesPlace due fd (Err reason) before after = (place_refusal due fd (names_in before) ≡ Some reason) × (after ≡ before)
+      (place_refusal due fd (names_in before) ≡ None) × (place ≡ place_value due fd (names_in before))
+      × (names_in after ≡ place_taken due fd (names_in before))
+  TakesPlace due fd (Err reason) before after =
+      (place_refusal due fd (names_in before) ≡ Some reason) × (after ≡ before)
 
   -- a set is taken, or nothing is done
   abbrev pub TakesSet : PlaneFds → Result (PlaneSet T) Reason → Fds T → Fds T → Type 0
   TakesSet named (Ok set) before after =
-      (set_refusal named (names_in before) ≡ None) × (set ≡ set_named named (names_in before)) × (names_in after ≡ set_taken named (names_in before))
-  TakesSet named (Err reason) before after = (set_refusal named (names_in before) ≡ Some reason) × SameValues before after
+      (set_refusal named (names_in before) ≡ None) × (set ≡ set_named named (names_in before))
+      × (names_in after ≡ set_taken named (names_in before))
+  TakesSet named (Err reason) before after =
+      (set_refusal named (names_in before) ≡ Some reason) × SameValues before after
 
   -- each of the values is away as it comes back
   abbrev pub AreAway : List (ℕ × T) → Names T → Type 0

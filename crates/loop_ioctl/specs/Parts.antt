@@ -30,7 +30,8 @@ use Rattle.loop_ioctl.specs.declared.call.IoctlReply.{IoctlReply}
 use Rattle.loop_ioctl.specs.declared.call.IoctlReply.TheVariants as reply
 
 -- PREPARE_BUF or QBUF of the queue
-abbrev pub Uses : {P U A : Type 0} → Use → ℕ → Memory → Option (PlaneSet Plane) → QueueState → Result U (Refused P A) → QueueState → Type 0
+abbrev pub Uses : {P U A : Type 0} → Use → ℕ → Memory → Option (PlaneSet Plane) → QueueState → Result U (Refused P A)
+    → QueueState → Type 0
 Uses Prepare index kind given = Prepares index kind given
 Uses Queue index kind given = Queues index kind given
 
@@ -50,17 +51,20 @@ JudgedBack why (Err r) = option_map errno why ≡ Some r.errno
 
 -- the same of the queue, with planes that were taken by fd
 abbrev pub UsesSet : {U : Type 0} → Use → ℕ → PlaneSet Plane → QueueState → Result U Errno → QueueState → Type 0
-UsesSet way index set s result t = Judged (use_refusal way index DmaBuf (Some set) s.body) result × (t ≡ either result (used way index (Some set) s) s)
+UsesSet way index set s result t =
+    Judged (use_refusal way index DmaBuf (Some set) s.body) result × (t ≡ either result (used way index (Some set) s) s)
 
 module _ {P : Type 0} (meaning : P → Plane) where
   -- of queue and table, with planes by fd
   abbrev pub PutsNamed : {U : Type 0} → Use → ℕ → PlaneFds → Result U Errno → Lined P → Fds P → Lined P → Fds P → Type 0
   PutsNamed way index named result queue table new_queue new_table =
-      (j : IoctlState) → Stands meaning queue table j → Judged (put_refusal meaning way index (memory.DmaBuf (Some named)) j) result
+      (j : IoctlState) → Stands meaning queue table j
+      → Judged (put_refusal meaning way index (memory.DmaBuf (Some named)) j) result
       × Stands meaning new_queue new_table (either result (put_in meaning way index (memory.DmaBuf (Some named)) j) j)
 
   -- of queue and table, with whatever memory
-  abbrev pub Puts : {U A : Type 0} → Use → ℕ → BufferMemory P → Result U (Refused P A) → Lined P → Fds P → Lined P → Fds P → Type 0
+  abbrev pub Puts : {U A : Type 0} → Use → ℕ → BufferMemory P → Result U (Refused P A) → Lined P → Fds P → Lined P
+      → Fds P → Type 0
   Puts way index given result queue table new_queue new_table =
       (j : IoctlState) → Stands meaning queue table j → JudgedBack (put_refusal meaning way index given j) result
       × Stands meaning new_queue new_table (either result (put_in meaning way index given j) j)
@@ -73,7 +77,8 @@ LetsOut DmaBuf sets before after = GivesBack (values_of sets) before after
 
 module _ {P A : Type 0} where
   -- a call that answers nothing but its refusal: where it passes, the queue is in this state
-  abbrev pub Plain : (QueueState → Option Reason) → (QueueState → QueueState) → QueueState → Result (IoctlReply P A) (Refused P A) → QueueState → Type 0
+  abbrev pub Plain : (QueueState → Option Reason) → (QueueState → QueueState) → QueueState
+      → Result (IoctlReply P A) (Refused P A) → QueueState → Type 0
   Plain why effect s (Ok reply.Done) t = Passes (why s) × (t ≡ effect s)
   Plain why effect s (Ok (reply.Granted g)) t = ⊥
   Plain why effect s (Ok (reply.Info info)) t = ⊥
@@ -95,7 +100,9 @@ module _ {P A : Type 0} where
 
   -- QUERYBUF
   abbrev pub Asks : ℕ → QueueState → Result (IoctlReply P A) (Refused P A) → QueueState → Type 0
-  Asks index s (Ok (reply.Info info)) t = Passes (query_refusal index s.body) × ((b : Buffer Plane) × (slice_get s.body.buffers index ≡ Some b) × IsInfo b info) × (t ≡ s)
+  Asks index s (Ok (reply.Info info)) t =
+      Passes (query_refusal index s.body)
+      × ((b : Buffer Plane) × (slice_get s.body.buffers index ≡ Some b) × IsInfo b info) × (t ≡ s)
   Asks index s (Ok (reply.Granted g)) t = ⊥
   Asks index s (Ok (reply.Dequeued d)) t = ⊥
   Asks index s (Ok reply.Done) t = ⊥
@@ -103,31 +110,43 @@ module _ {P A : Type 0} where
 
   -- DQBUF
   abbrev pub IsTakenOut : (P → Plane) → IoctlState → Result (IoctlReply P A) (Refused P A) → Type 0
-  IsTakenOut meaning j (Ok (reply.Dequeued answer)) = Passes (dequeue_refusal j.queue.body) × TellsFrame meaning j answer
+  IsTakenOut meaning j (Ok (reply.Dequeued answer)) =
+      Passes (dequeue_refusal j.queue.body) × TellsFrame meaning j answer
   IsTakenOut meaning j (Ok (reply.Granted g)) = ⊥
   IsTakenOut meaning j (Ok (reply.Info info)) = ⊥
   IsTakenOut meaning j (Ok reply.Done) = ⊥
   IsTakenOut meaning j (Err r) = Fails (dequeue_refusal j.queue.body) r.errno
 
-  abbrev pub LetsOneOut : (P → Plane) → Result (IoctlReply P A) (Refused P A) → Lined P → Fds P → Lined P → Fds P → Type 0
+  abbrev pub LetsOneOut : (P → Plane) → Result (IoctlReply P A) (Refused P A) → Lined P → Fds P → Lined P → Fds P
+      → Type 0
   LetsOneOut meaning result queue table new_queue new_table =
-      (j : IoctlState) → Stands meaning queue table j → IsTakenOut meaning j result × Stands meaning new_queue new_table (either result (taken_out (first_ended j.queue) j) j)
+      (j : IoctlState) → Stands meaning queue table j
+      → IsTakenOut meaning j result
+      × Stands meaning new_queue new_table (either result (taken_out (first_ended j.queue) j) j)
 
   -- REQBUFS
-  abbrev pub IsReplaced : (P → Plane) → ℕ → Memory → List (PlaneSet Plane) → IoctlState → Result (IoctlReply P A) (Refused P A) → Type 0
-  IsReplaced meaning count kind sets j (Ok (reply.Granted g)) = Passes (request_refusal count kind sets j.queue.body) × TellsGrant meaning count j g
+  abbrev pub IsReplaced : (P → Plane) → ℕ → Memory → List (PlaneSet Plane) → IoctlState
+      → Result (IoctlReply P A) (Refused P A) → Type 0
+  IsReplaced meaning count kind sets j (Ok (reply.Granted g)) =
+      Passes (request_refusal count kind sets j.queue.body) × TellsGrant meaning count j g
   IsReplaced meaning count kind sets j (Ok (reply.Dequeued d)) = ⊥
   IsReplaced meaning count kind sets j (Ok (reply.Info info)) = ⊥
   IsReplaced meaning count kind sets j (Ok reply.Done) = ⊥
   IsReplaced meaning count kind sets j (Err r) =
-      Fails (request_refusal count kind sets j.queue.body) r.errno ⊎ (Passes (request_refusal count kind sets j.queue.body) × (r.errno ≡ errno NoMemory))
+      Fails (request_refusal count kind sets j.queue.body) r.errno
+      ⊎ (Passes (request_refusal count kind sets j.queue.body) × (r.errno ≡ errno NoMemory))
 
-  abbrev pub Replaces : (P → Plane) → ℕ → Memory → List (PlaneSet P) → Result (IoctlReply P A) (Refused P A) → Lined P → Fds P → Lined P → Fds P → Type 0
+  abbrev pub Replaces : (P → Plane) → ℕ → Memory → List (PlaneSet P) → Result (IoctlReply P A) (Refused P A) → Lined P
+      → Fds P → Lined P → Fds P → Type 0
   Replaces meaning count kind supply result queue table new_queue new_table =
-      (j : IoctlState) → Stands meaning queue table j → IsReplaced meaning count kind (map (read_set meaning) supply) j result
+      (j : IoctlState) → Stands meaning queue table j
+      → IsReplaced meaning count kind (map (read_set meaning) supply) j result
       × Stands meaning new_queue new_table (either result (replaced count kind (map (read_set meaning) supply) j) j)
 
   -- an ioctl, whose buffer type is the queue's
-  abbrev pub AppliesTyped : (P → Plane) → Ioctl P A → Result (IoctlReply P A) (Refused P A) → Lined P → Fds P → Lined P → Fds P → Type 0
+  abbrev pub AppliesTyped : (P → Plane) → Ioctl P A → Result (IoctlReply P A) (Refused P A) → Lined P → Fds P
+      → Lined P → Fds P → Type 0
   AppliesTyped meaning c result queue table new_queue new_table =
-      (j : IoctlState) → Stands meaning queue table j → IsAnsweredFor meaning c j (call_refusal meaning c j) result × Stands meaning new_queue new_table (after meaning c j result)
+      (j : IoctlState) → Stands meaning queue table j
+      → IsAnsweredFor meaning c j (call_refusal meaning c j) result
+      × Stands meaning new_queue new_table (after meaning c j result)

@@ -12,5 +12,6 @@ ListsPage views seat page = (v : Holding) × (get_elem? views seat ≡ some v) �
 -- the word of a page is 1 where exactly one seat's view lists the page, and 0 where none does
 abbrev pub OneHolder : State (Unit {0}) Holding → Type 0
 OneHolder s = (page : ℕ)
-    → ((slice_index s.words page ≡ 1) × ((seat : ℕ) × ListsPage s.views seat page × ((other : ℕ) → ListsPage s.views other page → other ≡ seat)))
+    → ((slice_index s.words page ≡ 1) × ((seat : ℕ) × ListsPage s.views seat page × ((other : ℕ)
+    → ListsPage s.views other page → other ≡ seat)))
     ⊎ ((slice_index s.words page ≡ 0) × ((seat : ℕ) → ¬ ListsPage s.views seat page))

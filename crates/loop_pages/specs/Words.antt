@@ -33,9 +33,13 @@ abbrev pub tries : Step (Unit {0}) → Me (Unit {0}) Holding → ℕ → Me (Uni
 tries step before found after =
     MatchBool
     (found == 0)
-    (after.0 ≡ holding (before.0.pages ++ step.word ∷ []) (missed_before step.word before.0.missed) (before.0.tried ++ step.word ∷ []))
-    (after.0 ≡ holding before.0.pages (missed_before step.word before.0.missed ++ step.word ∷ []) (before.0.tried ++ step.word ∷ []))
+    (after.0 ≡ holding (before.0.pages ++ step.word ∷ []) (missed_before step.word before.0.missed)
+    (before.0.tried ++ step.word ∷ []))
+    (after.0 ≡ holding before.0.pages (missed_before step.word before.0.missed ++ step.word ∷ [])
+    (before.0.tried ++ step.word ∷ []))
 
 -- a page given back: the view loses the page, which it times_listed last
 abbrev pub frees : Step (Unit {0}) → Me (Unit {0}) Holding → ℕ → Me (Unit {0}) Holding → Type 0
-frees step before _ after = (before.0.pages ≡ after.0.pages ++ step.word ∷ []) × ((after.0.missed ≡ before.0.missed) × (after.0.tried ≡ before.0.tried))
+frees step before _ after =
+    (before.0.pages ≡ after.0.pages ++ step.word ∷ [])
+    × ((after.0.missed ≡ before.0.missed) × (after.0.tried ≡ before.0.tried))

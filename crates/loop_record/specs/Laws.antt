@@ -18,7 +18,9 @@ VictimsAreLeast = (ring : Ring) (r : Recording) → 1 ≤ ring.slots → IsWellF
 
 -- a step that may be made leaves a well-formed recording
 abbrev pub LegalStepsKeepForm : Type 0
-LegalStepsKeepForm = (ring : Ring) (r : Recording) (step : Step) → 1 ≤ ring.slots → IsWellFormed r → IsTrue (is_legal ring r step) → IsWellFormed (after ring r step)
+LegalStepsKeepForm =
+    (ring : Ring) (r : Recording) (step : Step) → 1 ≤ ring.slots → IsWellFormed r → IsTrue (is_legal ring r step)
+    → IsWellFormed (after ring r step)
 
 -- each step may be made after those before it
 abbrev pub AreLegal : Ring → Recording → List Step → Type 0
@@ -27,7 +29,9 @@ AreLegal ring r (s ∷ ss) = IsTrue (is_legal ring r s) × AreLegal ring (after 
 
 -- the steps of an append may be made
 abbrev pub AppendsAreLegal : Type 0
-AppendsAreLegal = (ring : Ring) (r : Recording) (group : List Picture) (list : List Step) → steps ring r group ≡ Some list → AreLegal ring r list
+AppendsAreLegal =
+    (ring : Ring) (r : Recording) (group : List Picture) (list : List Step) → steps ring r group ≡ Some list
+    → AreLegal ring r list
 
 -- an image that reads as a recording reads as a well-formed one
 abbrev pub ReadingsAreWellFormed : Type 0
@@ -48,7 +52,9 @@ pub record FitsSlot (number : ℕ) (p : Picture) : Type 0 where
 -- a slot that was written is read as its frame's, a superblock as its geometry, a header as its block, an entry
 -- as its clip
 pub record WrittenIsRead : Type 0 where
-  pub slot : (number : ℕ) (p : Picture) → FitsSlot number p → slot_head (length p.bytes) number (slot_in (length p.bytes) (slot_bytes number p) 0) ≡ Ok (head number p)
+  pub slot : (number : ℕ) (p : Picture) → FitsSlot number p
+      → slot_head (length p.bytes) number (slot_in (length p.bytes) (slot_bytes number p) 0) ≡ Ok (head number p)
   pub superblock : (g : Geometry) → IsTrue (is_good g) → geometry_in (super_bytes g) ≡ Ok g
-  pub header : (g : Geometry) (block : ℕ) → IsTrue (is_good g) → block < 2 ^ 64 → header_at g (header_bytes block) 0 ≡ Some (record { block = block; frames = 0 })
+  pub header : (g : Geometry) (block : ℕ) → IsTrue (is_good g) → block < 2 ^ 64
+      → header_at g (header_bytes block) 0 ≡ Some (record { block = block; frames = 0 })
   pub entry : (s : Span) → s.from < 2 ^ 64 → s.to < 2 ^ 64 → entry_at (entry_bytes s) 0 ≡ Some s

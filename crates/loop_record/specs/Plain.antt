@@ -19,7 +19,12 @@ pictures frames = map picture frames
 
 -- the segment whose header was found open
 abbrev pub segment_of : Geometry → List ℕ → Found → Segment
-segment_of g image f = record { block = f.block; slots = map (λ i. slot_in (frame_bytes g) image (slot_at g f.segment i)) (range_with_len 0 f.frames) }
+segment_of g image f =
+    record {
+      block = f.block;
+      slots = map (λ i. slot_in (frame_bytes g) image (slot_at g f.segment i))
+          (range_with_len 0 f.frames);
+    }
 
 -- those segments
 abbrev pub segments_of : Geometry → List ℕ → List Found → List Segment
@@ -63,7 +68,9 @@ found_number g n f = (f.block == n / g.slots) && nat_lt (n % g.slots) f.frames
 -- a clip that is empty or has a number of which no segment has the frame
 abbrev pub lacks_number : Geometry → List Found → Option Span → Bool
 lacks_number g fs None = false
-lacks_number g fs (Some s) = nat_lt s.to s.from || not (list_all (λ n. list_any (found_number g n) fs) (range_with_len s.from (s.to + 1 - s.from)))
+lacks_number g fs (Some s) =
+    nat_lt s.to s.from || not
+    (list_all (λ n. list_any (found_number g n) fs) (range_with_len s.from (s.to + 1 - s.from)))
 
 -- a clip of which the segments have each number
 abbrev pub held_clip : Geometry → List Found → Option Span → Result (Option Span) Damage

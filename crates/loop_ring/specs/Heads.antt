@@ -39,7 +39,8 @@ is_going ring clips newest block = not (block == newest) && not (list_any (meets
 -- the block of a segment that is open and has a whole frame, if that block may go
 abbrev pub going_block : Ring → List (Option Span) → ℕ → Option SegmentHead → Option ℕ
 going_block ring clips newest None = None
-going_block ring clips newest (Some head) = if nat_lt 0 head.frames && is_going ring clips newest head.block then Some head.block else None
+going_block ring clips newest (Some head) =
+    if nat_lt 0 head.frames && is_going ring clips newest head.block then Some head.block else None
 
 -- the least block that may go, where this is the newest block, if there is one
 abbrev pub least_going : Ring → List (Option Span) → List (Option SegmentHead) → Option ℕ → Option ℕ
@@ -112,4 +113,5 @@ grown frames (Some head) = Some (record head { frames = frames })
 -- the place of a segment that holds this block, or no place where there is no block
 abbrev pub IsPlaceOf : List (Option SegmentHead) → Option ℕ → Option ℕ → Type 0
 IsPlaceOf heads block None = block ≡ None
-IsPlaceOf heads block (Some j) = (head : SegmentHead) × (slice_index_or heads j None ≡ Some head) × (block ≡ Some head.block)
+IsPlaceOf heads block (Some j) =
+    (head : SegmentHead) × (slice_index_or heads j None ≡ Some head) × (block ≡ Some head.block)

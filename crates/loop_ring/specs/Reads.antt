@@ -22,7 +22,8 @@ AnswersHead said (Err (Disk fault)) = Unit {0}
 
 -- so it is for frame `number` of n bytes, and where the head is answered, the pixels were read
 abbrev pub AnswersSlot : ℕ → ℕ → Slot → Result FrameHead SlotFault → List ℕ → Type 0
-AnswersSlot n number slot result out = AnswersHead (slot_head n number slot) result × OnOk result (out ≡ slot.picture.bytes)
+AnswersSlot n number slot result out =
+    AnswersHead (slot_head n number slot) result × OnOk result (out ≡ slot.picture.bytes)
 
 -- so it is for such a frame, and where the head is answered, its pixels from byte `at` on were read, as many as
 -- there are

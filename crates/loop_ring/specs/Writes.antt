@@ -23,11 +23,13 @@ with_more more (Some s) = Some (record s { slots = s.slots ++ more })
 
 -- the old image, but that segment j has the slots of these frames behind its own, numbered from one on
 abbrev pub ShowsFrames : Geometry → ℕ → ℕ → List Picture → List ℕ → List ℕ → Type 0
-ShowsFrames g j number frames old new = ShowsSegment g j (with_more (slots_of (frame_bytes g) number frames) (segment_in g old j)) old new
+ShowsFrames g j number frames old new =
+    ShowsSegment g j (with_more (slots_of (frame_bytes g) number frames) (segment_in g old j)) old new
 
 -- some of these frames, none skipped
 abbrev pub ShowsBeginning : Geometry → ℕ → ℕ → List Picture → List ℕ → List ℕ → Type 0
-ShowsBeginning g j number frames old new = (k : ℕ) × ((k ≤ length frames) × ShowsFrames g j number (take k frames) old new)
+ShowsBeginning g j number frames old new =
+    (k : ℕ) × ((k ≤ length frames) × ShowsFrames g j number (take k frames) old new)
 
 -- no frame gate of segment j is open but those of its whole frames
 abbrev pub HasNoStray : Geometry → ℕ → List ℕ → Type 0

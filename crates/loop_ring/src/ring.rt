@@ -42,7 +42,8 @@ impl Ring {
         requires there { (D.medium disk.old).honest
             → segment_in self.now.geometry (D.medium disk.old).bytes segment ≢ None }
         ensures { let g = self.now.geometry in let old = D.medium disk.old in
-            Changes (ShowsOrNot g segment None old.bytes) (ShowsSegment g segment None old.bytes) old (D.medium disk.new) result }
+            Changes (ShowsOrNot g segment None old.bytes) (ShowsSegment g segment None old.bytes) old
+            (D.medium disk.new) result }
     {
         store(disk, self.geometry.segment_at(segment), &[0])
     }

@@ -55,7 +55,8 @@ fn close_gates<D: Disk>(disk: &mut D, at: u64, count: usize) -> Result<(), DiskF
     requires few { count ≤ 256 }
     requires settled { (D.medium disk.old).honest → IsSettled (D.medium disk.old) }
     ensures changes { let old = D.medium disk.old in
-        Changes (SameOutside at count old.bytes) (λ image. SameOutside at count old.bytes image × AreClosed at count image)
+        Changes (SameOutside at count old.bytes) (λ image. SameOutside at count old.bytes image
+        × AreClosed at count image)
         old (D.medium disk.new) result }
     ensures quiet { (D.medium disk.old).honest → AreClosed at count (D.medium disk.old).bytes
         → Stays (D.medium disk.old) (D.medium disk.new) }

@@ -84,7 +84,9 @@ abbrev pub RefusesAppend : Geometry → StoreState → List Picture → StoreFau
 RefusesAppend g s group fault =
     (fault ≡ MustReopen) × (s.must_reopen ≡ true)
     ⊎ ((fault ≡ NumbersSpent) × ((s.must_reopen ≡ false) × (s.recording.next ≡ last_number (ring_of g)))
-    ⊎ ((fault ≡ AllLocked) × ((s.must_reopen ≡ false) × ((s.recording.next ≢ last_number (ring_of g)) × (steps (ring_of g) s.recording group ≡ None)))
+    ⊎ ((fault ≡ AllLocked)
+    × ((s.must_reopen ≡ false)
+    × ((s.recording.next ≢ last_number (ring_of g)) × (steps (ring_of g) s.recording group ≡ None)))
     ⊎ (is_disk fault ≡ true) × ((s.must_reopen ≡ false) × (steps (ring_of g) s.recording group ≢ None))))
 
 -- a clip of a span may be added: it isn't empty, each of its numbers is held, and an id is free
@@ -152,9 +154,11 @@ pub record IsPart (r : Recording) (number at : ℕ) (bytes : List ℕ) : Type 0 
 
 -- a call was answered so
 abbrev pub IsAnswered : Geometry → StoreState → Call → Type 0
-IsAnswered g s (appended group (Ok number)) = (s.must_reopen ≡ false) × ((steps (ring_of g) s.recording group ≢ None) × (number ≡ s.recording.next))
+IsAnswered g s (appended group (Ok number)) =
+    (s.must_reopen ≡ false) × ((steps (ring_of g) s.recording group ≢ None) × (number ≡ s.recording.next))
 IsAnswered g s (appended group (Err fault)) = RefusesAppend g s group fault
-IsAnswered g s (locked span (Ok id)) = (s.must_reopen ≡ false) × (CanLock g s.recording span × (id ≡ free_id s.recording))
+IsAnswered g s (locked span (Ok id)) =
+    (s.must_reopen ≡ false) × (CanLock g s.recording span × (id ≡ free_id s.recording))
 IsAnswered g s (locked span (Err fault)) = RefusesLock g s span fault
 IsAnswered g s (unlocked id (Ok x)) = (s.must_reopen ≡ false) × (clip_of s.recording id ≢ None)
 IsAnswered g s (unlocked id (Err fault)) = RefusesUnlock s id fault
@@ -206,7 +210,8 @@ CanRefuseSpan span fault =
 
 -- the answer is one of those that the call may give there
 abbrev pub IsAllowed : Geometry → Outline → Call → Type 0
-IsAllowed g o (appended group (Ok number)) = (o.must_reopen ≡ false) × ((o.next ≢ last_number (ring_of g)) × (number ≡ o.next))
+IsAllowed g o (appended group (Ok number)) =
+    (o.must_reopen ≡ false) × ((o.next ≢ last_number (ring_of g)) × (number ≡ o.next))
 IsAllowed g o (appended group (Err fault)) =
     (fault ≡ MustReopen) × (o.must_reopen ≡ true)
     ⊎ ((fault ≡ NumbersSpent) × ((o.must_reopen ≡ false) × (o.next ≡ last_number (ring_of g)))
@@ -222,7 +227,8 @@ IsAllowed g o (unlocked id (Err fault)) =
 IsAllowed g o (was_read number (Ok x)) = o.must_reopen ≡ false
 IsAllowed g o (was_read number (Err fault)) =
     (fault ≡ MustReopen) × (o.must_reopen ≡ true)
-    ⊎ ((fault ≡ NotHeld) ⊎ ((fault ≡ NoMemory) ⊎ ((fault ≡ Damaged SlotHead) ⊎ (is_disk fault ≡ true)))) × (o.must_reopen ≡ false)
+    ⊎ ((fault ≡ NotHeld) ⊎ ((fault ≡ NoMemory) ⊎ ((fault ≡ Damaged SlotHead) ⊎ (is_disk fault ≡ true))))
+    × (o.must_reopen ≡ false)
 IsAllowed g o (was_read_part number at (Ok bytes)) = o.must_reopen ≡ false
 IsAllowed g o (was_read_part number at (Err fault)) =
     (fault ≡ MustReopen) × (o.must_reopen ≡ true)

@@ -34,11 +34,13 @@ pub record Goes {D : Type 0} (medium : D → Medium) (old new : Seen D) (calls :
   -- each answer is the model's
   pub answers : (s : StoreState) → Stands medium old s → (medium old.disk).honest → AreAnswered old.geometry s calls
   -- the store stands for the state after them
-  pub stands : (s : StoreState) → Stands medium old s → (medium old.disk).honest → Stands medium new (after_calls old.geometry s calls)
+  pub stands : (s : StoreState) → Stands medium old s → (medium old.disk).honest
+      → Stands medium new (after_calls old.geometry s calls)
   -- whatever the moment of a crash, the image reads as the recording after a beginning of the steps, and at the
   -- end after all that were made
   pub leaves : (s : StoreState) → Stands medium old s → (medium old.disk).honest → s.must_reopen ≡ false
-      → LeavesSteps old.geometry s.recording (made_in old.geometry s calls) (begun_in old.geometry s calls) (medium old.disk) (medium new.disk)
+      → LeavesSteps old.geometry s.recording (made_in old.geometry s calls) (begun_in old.geometry s calls)
+      (medium old.disk) (medium new.disk)
   -- where the store must be reopened, nothing is moved
   pub idle : old.must_reopen ≡ true → new ≡ old
   pub allowed : EachIn outline_after (IsAllowed old.geometry) (outline_of old) calls

@@ -52,8 +52,10 @@ HasNext next r = r.next ≡ next
 -- such, and a crash leaves nothing else.
 pub record Makes {T : Type 0} (g : Geometry) (IsOne : Recording → Type 0) (steps : Recording → List Step)
     (IsSuch : List ℕ → Type 0) (old new : Medium) (result : Result T DiskFault) : Type 0 where
-  pub moments : (r : Recording) → IsOne r → old.honest → Holds g r old.bytes → LeavesOnly old new (HoldsSome g r (steps r))
-  pub held : (r : Recording) → IsOne r → old.honest → Holds g r old.bytes → OnOk result (Holds g (plain (ring_of g) r (steps r)) new.bytes)
+  pub moments : (r : Recording) → IsOne r → old.honest → Holds g r old.bytes
+      → LeavesOnly old new (HoldsSome g r (steps r))
+  pub held : (r : Recording) → IsOne r → old.honest → Holds g r old.bytes
+      → OnOk result (Holds g (plain (ring_of g) r (steps r)) new.bytes)
   pub such : old.honest → OnOk result (IsSuch new.bytes)
   pub settled : old.honest → OnOk result (IsSettled new)
   pub called : Called old new (failed_call result)

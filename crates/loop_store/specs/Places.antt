@@ -27,7 +27,8 @@ pub record IsNext (g : Geometry) (next j : ℕ) (image : List ℕ) : Type 0 wher
   pub there : segment_in g image j ≡ Some segment
   pub of_next : segment.block ≡ next / g.slots
   pub whole : whole_frames g image j ≡ next % g.slots
-  pub head : slice_index_or (heads_of g image) j None ≡ Some (record { block = next / g.slots; frames = next % g.slots })
+  pub head : slice_index_or (heads_of g image) j None
+      ≡ Some (record { block = next / g.slots; frames = next % g.slots })
 
 -- segment j has block b, no segment has the block of the next number, and that block isn't too high
 pub record IsOldFor (g : Geometry) (next b j : ℕ) (image : List ℕ) : Type 0 where
@@ -40,8 +41,11 @@ pub record IsOldFor (g : Geometry) (next b j : ℕ) (image : List ℕ) : Type 0 
 -- what a place says of the image, and of the steps that come before the stores
 abbrev pub IsPlaceAt : Geometry → Recording → List ℕ → Place → Type 0
 IsPlaceAt g r image (Newest j) = IsNext g r.next j image × (needs_recycling (ring_of g) r ≡ false)
-IsPlaceAt g r image (Closed j) = IsFreeFor g r.next j image × ((r.next % g.slots ≡ 0) × (needs_recycling (ring_of g) r ≡ false))
-IsPlaceAt g r image (Victim j) = (b : ℕ) × ((victim (ring_of g) r ≡ Some b) × (IsOldFor g r.next b j image × ((r.next % g.slots ≡ 0) × (needs_recycling (ring_of g) r ≡ true))))
+IsPlaceAt g r image (Closed j) =
+    IsFreeFor g r.next j image × ((r.next % g.slots ≡ 0) × (needs_recycling (ring_of g) r ≡ false))
+IsPlaceAt g r image (Victim j) =
+    (b : ℕ) × ((victim (ring_of g) r ≡ Some b)
+    × (IsOldFor g r.next b j image × ((r.next % g.slots ≡ 0) × (needs_recycling (ring_of g) r ≡ true))))
 
 -- there is such a place, or a block has to be recycled first and there is no victim
 abbrev pub IsPlace : Geometry → Recording → List ℕ → Option Place → Type 0
@@ -80,7 +84,9 @@ pub record IsGrownAt (g : Geometry) (next count j : ℕ) (old new : List ℕ) : 
 abbrev pub RefusesPlace : Geometry → Recording → StoreFault → Type 0
 RefusesPlace g r fault =
     (fault ≡ NumbersSpent) × (r.next ≡ last_number (ring_of g))
-    ⊎ (fault ≡ AllLocked) × ((r.next ≢ last_number (ring_of g)) × (recycling_first (needs_recycling (ring_of g) r) (victim (ring_of g) r) ≡ None))
+    ⊎ (fault ≡ AllLocked)
+    × ((r.next ≢ last_number (ring_of g))
+    × (recycling_first (needs_recycling (ring_of g) r) (victim (ring_of g) r) ≡ None))
 
 -- the answer to where frames go, for a recording that an image holds
 abbrev pub AnswersPlace : Geometry → Recording → List ℕ → Result Place StoreFault → Type 0

@@ -50,7 +50,8 @@ clips_of image = map (clip_in image) (range_with_len 0 64)
 
 -- some clip of the image is empty or has a number of which the segments have no frame
 abbrev pub some_bad_clip : Geometry → List ℕ → List Found → Bool
-some_bad_clip g image fs = list_any (is_bad_clip (record empty { frames = all_frames g (segments_of g image fs) })) (clips_of image)
+some_bad_clip g image fs =
+    list_any (is_bad_clip (record empty { frames = all_frames g (segments_of g image fs) })) (clips_of image)
 
 -- ---- the whole
 
@@ -62,7 +63,8 @@ pub record IsIndexOf {A : Type 0} (index : Index A) (r : Recording) (image : Lis
   pub clips_are : index.clips ≡ r.clips
 
 -- the index of a geometry, headers and clips, and of a next number
-pub record IsOf {A : Type 0} (index : Index A) (g : Geometry) (heads : List (Option SegmentHead)) (clips : List (Option Span)) (next : ℕ) : Type 0 where
+pub record IsOf {A : Type 0} (index : Index A) (g : Geometry) (heads : List (Option SegmentHead))
+    (clips : List (Option Span)) (next : ℕ) : Type 0 where
   pub geometry : index.ring.geometry ≡ g
   pub heads_are : index.table.heads ≡ heads
   pub clips_are : index.clips ≡ clips

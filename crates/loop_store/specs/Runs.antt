@@ -40,7 +40,8 @@ AreCalls (c ∷ cs) (p ∷ ps) (call ∷ calls) = IsCall c p call × AreCalls cs
 AreCalls _ _ _ = ⊥
 
 -- The store did these commands, and answered each.
-pub record Ran {D A : Type 0} (medium : D → Medium) (old new : Seen D) (commands : List (Command A)) (replies : List (Reply A)) : Type 0 where
+pub record Ran {D A : Type 0} (medium : D → Medium) (old new : Seen D) (commands : List (Command A))
+    (replies : List (Reply A)) : Type 0 where
   pub calls : List Call
   pub are : AreCalls commands replies calls
   pub goes : Goes medium old new calls

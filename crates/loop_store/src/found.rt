@@ -72,7 +72,8 @@ fn read_head<D: Disk>(
     ensures head { (D.medium disk.old).honest
         → Recovers result (λ head.
         head ≡ header_at geometry.now (D.medium disk.old).bytes (segment_at geometry.now segment))
-        (λ fault. (fault ≡ LayoutFault.Damaged Damage.BlockTooHigh) × IsSomeHigh geometry.now (segment_in geometry.now (D.medium disk.old).bytes segment)) }
+        (λ fault. (fault ≡ LayoutFault.Damaged Damage.BlockTooHigh)
+        × IsSomeHigh geometry.now (segment_in geometry.now (D.medium disk.old).bytes segment)) }
     ensures disk { (D.medium disk.old).honest → Stays (D.medium disk.old) (D.medium disk.new) }
     ensures called { Called (D.medium disk.old) (D.medium disk.new) (failed_in result) }
 {
@@ -95,7 +96,9 @@ pub(crate) fn read_heads<D: Disk, A: Allocator>(
     ensures within { IfOk result (λ heads. All (IsHeadIn geometry.now) heads.items) }
     ensures heads { (D.medium disk.old).honest
         → Recovers result (λ heads. heads.items ≡ heads_of geometry.now (D.medium disk.old).bytes)
-        (λ fault. (fault ≡ LayoutFault.Damaged Damage.BlockTooHigh) × (list_any (is_high geometry.now) (by_block (opened (parts_of geometry.now (D.medium disk.old).bytes).segments)) ≡ true)) }
+        (λ fault. (fault ≡ LayoutFault.Damaged Damage.BlockTooHigh)
+        × (list_any (is_high geometry.now)
+        (by_block (opened (parts_of geometry.now (D.medium disk.old).bytes).segments)) ≡ true)) }
     ensures disk { (D.medium disk.old).honest → Stays (D.medium disk.old) (D.medium disk.new) }
     ensures called { Called (D.medium disk.old) (D.medium disk.new) (failed_in result) }
 {
@@ -166,8 +169,11 @@ fn check_slot<D: Disk>(
     requires size { (D.medium disk.old).size ≡ disk_size geometry.now }
     requires segment { segment < geometry.now.segments }
     requires slot { slot < geometry.now.slots }
-    ensures slot { let n = frame_bytes geometry.now in let said = is_slot_of n number (slot_in n (D.medium disk.old).bytes (slot_at geometry.now segment slot)) in
-        (D.medium disk.old).honest → Recovers result (λ _. said ≡ true) (λ fault. (fault ≡ LayoutFault.Damaged Damage.SlotHead) × (said ≡ false)) }
+    ensures slot { let n = frame_bytes geometry.now in let said = is_slot_of n number
+        (slot_in n (D.medium disk.old).bytes (slot_at geometry.now segment slot)) in
+        (D.medium disk.old).honest
+        → Recovers result (λ _. said ≡ true) (λ fault. (fault ≡ LayoutFault.Damaged Damage.SlotHead)
+        × (said ≡ false)) }
     ensures disk { (D.medium disk.old).honest → Stays (D.medium disk.old) (D.medium disk.new) }
     ensures called { Called (D.medium disk.old) (D.medium disk.new) (failed_in result) }
 {
@@ -185,7 +191,9 @@ fn check_segment<D: Disk>(disk: &mut D, geometry: &Geometry, found: Found) -> Re
     requires few { found.frames ≤ geometry.now.slots }
     requires low { is_too_high geometry.now found.block ≡ false }
     ensures slots { let bad = is_bad_slot geometry.now (segment_of geometry.now (D.medium disk.old).bytes found) in
-        (D.medium disk.old).honest → Recovers result (λ _. bad ≡ false) (λ fault. (fault ≡ LayoutFault.Damaged Damage.SlotHead) × (bad ≡ true)) }
+        (D.medium disk.old).honest
+        → Recovers result (λ _. bad ≡ false) (λ fault. (fault ≡ LayoutFault.Damaged Damage.SlotHead)
+        × (bad ≡ true)) }
     ensures disk { (D.medium disk.old).honest → Stays (D.medium disk.old) (D.medium disk.new) }
     ensures called { Called (D.medium disk.old) (D.medium disk.new) (failed_in result) }
 {
@@ -205,8 +213,11 @@ pub(crate) fn check_slots<D: Disk>(
     requires good { IsTrue (is_good geometry.now) }
     requires size { (D.medium disk.old).size ≡ disk_size geometry.now }
     requires within { AreIn geometry.now open.now }
-    ensures slots { let bad = list_any (is_bad_slot geometry.now) (segments_of geometry.now (D.medium disk.old).bytes open.now) in
-        (D.medium disk.old).honest → Recovers result (λ _. bad ≡ false) (λ fault. (fault ≡ LayoutFault.Damaged Damage.SlotHead) × (bad ≡ true)) }
+    ensures slots { let bad = list_any (is_bad_slot geometry.now)
+        (segments_of geometry.now (D.medium disk.old).bytes open.now) in
+        (D.medium disk.old).honest
+        → Recovers result (λ _. bad ≡ false) (λ fault. (fault ≡ LayoutFault.Damaged Damage.SlotHead)
+        × (bad ≡ true)) }
     ensures disk { (D.medium disk.old).honest → Stays (D.medium disk.old) (D.medium disk.new) }
     ensures called { Called (D.medium disk.old) (D.medium disk.new) (failed_in result) }
 {
@@ -227,7 +238,9 @@ pub(crate) fn read_table<D: Disk>(
     requires size { (D.medium disk.old).size ≡ disk_size geometry.now }
     requires within { AreIn geometry.now open.now }
     ensures clips { let bad = some_bad_clip geometry.now (D.medium disk.old).bytes open.now in
-        (D.medium disk.old).honest → Recovers result (λ clips. (clips ≡ clips_of (D.medium disk.old).bytes) × (bad ≡ false)) (λ fault. (fault ≡ LayoutFault.Damaged Damage.ClipRange) × (bad ≡ true)) }
+        (D.medium disk.old).honest
+        → Recovers result (λ clips. (clips ≡ clips_of (D.medium disk.old).bytes) × (bad ≡ false))
+        (λ fault. (fault ≡ LayoutFault.Damaged Damage.ClipRange) × (bad ≡ true)) }
     ensures disk { (D.medium disk.old).honest → Stays (D.medium disk.old) (D.medium disk.new) }
     ensures called { Called (D.medium disk.old) (D.medium disk.new) (failed_in result) }
 {

@@ -63,7 +63,8 @@ fn replace<D: Disk>(disk: &mut D, ring: &Ring, segment: u32, next: u64) -> Resul
     requires known { (D.medium disk.old).honest
         → IsKnown ring.now.geometry next (Victim segment) (D.medium disk.old).bytes }
     ensures { let g = ring.now.geometry in let old = D.medium disk.old in
-        Makes g (HasNext next) (steps_before g) (λ image. IsNewestSegment g next segment image × IsBegunAt g next segment old.bytes image)
+        Makes g (HasNext next) (steps_before g) (λ image. IsNewestSegment g next segment image
+        × IsBegunAt g next segment old.bytes image)
         old (D.medium disk.new) result }
 {
     ring.retire(disk, segment)?;
@@ -78,7 +79,8 @@ fn make_room<D: Disk>(disk: &mut D, ring: &Ring, place: Place, next: u64) -> Res
     requires settled { (D.medium disk.old).honest → IsSettled (D.medium disk.old) }
     requires known { (D.medium disk.old).honest → IsKnown ring.now.geometry next place (D.medium disk.old).bytes }
     ensures { let g = ring.now.geometry in let old = D.medium disk.old in let j = place_segment place in
-        Makes g (HasNext next) (steps_before g) (λ image. IsNewestSegment g next j image × IsBegunAt g next j old.bytes image)
+        Makes g (HasNext next) (steps_before g) (λ image. IsNewestSegment g next j image
+        × IsBegunAt g next j old.bytes image)
         old (D.medium disk.new) result }
 {
     match place {

@@ -111,7 +111,8 @@ fn remove_clip<D: Disk, A: Allocator>(
     requires id { (id < 64) × (slice_index_or index.old.clips id None ≢ None) }
     requires present { (D.medium disk.old).honest → IsPresent index.old (D.medium disk.old) }
     ensures makes { let g = index.old.ring.geometry in let old = D.medium disk.old in
-        Makes g (λ r. clip_of r id ≢ None) (λ r. unlock id ∷ []) (KeepsSegments g old.bytes) old (D.medium disk.new) result }
+        Makes g (λ r. clip_of r id ≢ None) (λ r. unlock id ∷ []) (KeepsSegments g old.bytes) old
+        (D.medium disk.new) result }
     ensures noted { OnOk result (IsClipNoted index.old index.new id None) }
     ensures same { OnErr result (index.new ≡ index.old) }
 {
@@ -132,7 +133,8 @@ pub(crate) fn lock_clip<D: Disk, A: Allocator>(
 ) -> Result<u32, StoreFault>
     requires { IsKept D.medium disk.old index.old must_reopen.old }
     ensures kept { IsKept D.medium disk.new index.new must_reopen.new × (index.new.ring ≡ index.old.ring) }
-    ensures goes { Goes D.medium (seen_with disk.old index.old must_reopen.old) (seen_with disk.new index.new must_reopen.new)
+    ensures goes { Goes D.medium (seen_with disk.old index.old must_reopen.old)
+        (seen_with disk.new index.new must_reopen.new)
         (locked span result ∷ []) }
     ensures refused { Refused (seen_with disk.old index.old must_reopen.old) (seen_with disk.new index.new must_reopen.new) result }
 {
@@ -159,7 +161,8 @@ pub(crate) fn unlock_clip<D: Disk, A: Allocator>(
 ) -> Result<(), StoreFault>
     requires { IsKept D.medium disk.old index.old must_reopen.old }
     ensures kept { IsKept D.medium disk.new index.new must_reopen.new × (index.new.ring ≡ index.old.ring) }
-    ensures goes { Goes D.medium (seen_with disk.old index.old must_reopen.old) (seen_with disk.new index.new must_reopen.new)
+    ensures goes { Goes D.medium (seen_with disk.old index.old must_reopen.old)
+        (seen_with disk.new index.new must_reopen.new)
         (unlocked id result ∷ []) }
     ensures refused { Refused (seen_with disk.old index.old must_reopen.old) (seen_with disk.new index.new must_reopen.new) result }
 {

@@ -96,7 +96,8 @@ pub(crate) fn read_held<D: Disk>(
     requires size { length out.old ≡ frame_bytes ring.now.geometry }
     ensures frame { (r : Recording) → (D.medium disk.old).honest
         → Holds ring.now.geometry r (D.medium disk.old).bytes
-        → has_number ring.now.geometry.slots number (slice_index_or (heads_of ring.now.geometry (D.medium disk.old).bytes) segment None)
+        → has_number ring.now.geometry.slots number
+        (slice_index_or (heads_of ring.now.geometry (D.medium disk.old).bytes) segment None)
         ≡ true
         → AnswersFrame r number result out.new }
     ensures refusals { IfErr result (λ fault. (fault ≡ Damaged SlotHead) ⊎ (is_disk fault ≡ true)) }
@@ -121,7 +122,8 @@ pub(crate) fn read_held_part<D: Disk>(
     requires part { at + length out.old ≤ frame_bytes ring.now.geometry }
     ensures frame { (r : Recording) → (D.medium disk.old).honest
         → Holds ring.now.geometry r (D.medium disk.old).bytes
-        → has_number ring.now.geometry.slots number (slice_index_or (heads_of ring.now.geometry (D.medium disk.old).bytes) segment None)
+        → has_number ring.now.geometry.slots number
+        (slice_index_or (heads_of ring.now.geometry (D.medium disk.old).bytes) segment None)
         ≡ true
         → AnswersFramePart r number at result out.new }
     ensures refusals { IfErr result (λ fault. (fault ≡ Damaged SlotHead) ⊎ (is_disk fault ≡ true)) }

@@ -30,7 +30,8 @@ pub(crate) fn put<D: Disk, A: Allocator>(
     requires size { group.now.size ≡ frame_bytes index.old.ring.geometry }
     requires first { group.now.first ≡ index.old.next }
     ensures kept { IsKept D.medium disk.new index.new must_reopen.new }
-    ensures goes { Goes D.medium (seen_with disk.old index.old must_reopen.old) (seen_with disk.new index.new must_reopen.new)
+    ensures goes { Goes D.medium (seen_with disk.old index.old must_reopen.old)
+        (seen_with disk.new index.new must_reopen.new)
         (appended group.now.frames result ∷ []) }
     ensures refused { Refused (seen_with disk.old index.old must_reopen.old) (seen_with disk.new index.new must_reopen.new) result }
 {

@@ -9,4 +9,5 @@ use Rattle.loop_vb2.specs.State.{Body}
 
 -- the first check of the code that fails
 abbrev pub code_refusal : {P : Type 0} → (P → Plane) → ℕ → ℕ → ℕ → ℕ → Body P → Option Reason
-code_refusal meaning index plane at count b = first_of (copy_checks index plane at count (readable_at (map (read_buffer meaning) b.buffers) index plane) b)
+code_refusal meaning index plane at count b =
+    first_of (copy_checks index plane at count (readable_at (map (read_buffer meaning) b.buffers) index plane) b)

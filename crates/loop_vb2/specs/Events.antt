@@ -82,9 +82,11 @@ IsRefusal reason refusal = option_map errno reason ≡ refusal
 -- the answer is one that the model gives in this state
 abbrev pub IsAnswered : QueueState → Event → Type 0
 IsAnswered s (reqbufs count kind sets (Ok g)) =
-    Passes (request_refusal count kind sets s.body) × (g.count ≡ grants_or_none s.body.min_queued count) × (g.left ≡ left_in s.body.kind s.body.buffers)
+    Passes (request_refusal count kind sets s.body) × (g.count ≡ grants_or_none s.body.min_queued count)
+    × (g.left ≡ left_in s.body.kind s.body.buffers)
 IsAnswered s (reqbufs count kind sets (Err e)) =
-    Fails (request_refusal count kind sets s.body) e ⊎ (Passes (request_refusal count kind sets s.body) × (e ≡ errno NoMemory))
+    Fails (request_refusal count kind sets s.body) e
+    ⊎ (Passes (request_refusal count kind sets s.body) × (e ≡ errno NoMemory))
 IsAnswered s (prepare_buf index kind given refusal) = IsRefusal (prepare_refusal index kind given s.body) refusal
 IsAnswered s (qbuf index kind given refusal) = IsRefusal (queue_refusal index kind given s.body) refusal
 IsAnswered s (dqbuf (Ok d)) =
@@ -94,15 +96,18 @@ IsAnswered s (dqbuf (Err e)) = Fails (dequeue_refusal s.body) e
 IsAnswered s (streamon refusal) = IsRefusal (stream_on_refusal s.body) refusal
 IsAnswered s streamoff = Unit {0}
 IsAnswered s (querybuf index (Ok info)) =
-    Passes (query_refusal index s.body) × ((b : Buffer Plane) × (slice_get s.body.buffers index ≡ Some b) × IsInfo b info)
+    Passes (query_refusal index s.body)
+    × ((b : Buffer Plane) × (slice_get s.body.buffers index ≡ Some b) × IsInfo b info)
 IsAnswered s (querybuf index (Err e)) = Fails (query_refusal index s.body) e
 IsAnswered s (mmap index refusal) = IsRefusal (map_refusal index s.body) refusal
 IsAnswered s (munmap index refusal) = IsRefusal (unmap_refusal index s.body) refusal
 IsAnswered s (take_planes index (Ok set)) =
-    Passes (take_refusal index s.body) × ((b : Buffer Plane) × (slice_get s.body.buffers index ≡ Some b) × (b.planes ≡ Some set))
+    Passes (take_refusal index s.body)
+    × ((b : Buffer Plane) × (slice_get s.body.buffers index ≡ Some b) × (b.planes ≡ Some set))
 IsAnswered s (take_planes index (Err e)) = Fails (take_refusal index s.body) e
 IsAnswered s (copy_plane index plane at count (Ok bytes)) =
-    Passes (copy_refusal index plane at count s.body) × (bytes ≡ take count (drop at (bytes_at s.body.buffers index plane)))
+    Passes (copy_refusal index plane at count s.body)
+    × (bytes ≡ take count (drop at (bytes_at s.body.buffers index plane)))
 IsAnswered s (copy_plane index plane at count (Err e)) = Fails (copy_refusal index plane at count s.body) e
 IsAnswered s (complete index stamp bytes refusal) = IsRefusal (end_refusal index s.body) refusal
 IsAnswered s (fail index stamp refusal) = IsRefusal (end_refusal index s.body) refusal
@@ -111,7 +116,9 @@ IsAnswered s (take_fresh fresh) = fresh ≡ s.body.fresh
 
 -- from each state that the queue stands for, each event is answered so, and the queue stands for the state after them
 abbrev pub Goes : {P : Type 0} → (P → Plane) → Lined P → Lined P → List Event → Type 0
-Goes meaning before now events = (s : QueueState) → StandsFor meaning before s → EachIn after IsAnswered s events × StandsFor meaning now (after_all after s events)
+Goes meaning before now events =
+    (s : QueueState) → StandsFor meaning before s
+    → EachIn after IsAnswered s events × StandsFor meaning now (after_all after s events)
 
 -- ---- the answer of a call, as its event has it
 

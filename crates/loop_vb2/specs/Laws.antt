@@ -11,10 +11,13 @@ use Rattle.loop_vb2.specs.Events.{Event, IsAnswered, after, dequeued_by, ended_b
 -- In every state each buffer has just one owner.
 abbrev pub OwnersAreOne : Type 0
 OwnersAreOne = (s : QueueState) (index : ℕ)
-    → (o : Owner) × (owner (state_at s.body.buffers index) ≡ o) × ((other : Owner) → owner (state_at s.body.buffers index) ≡ other → other ≡ o)
+    → (o : Owner) × (owner (state_at s.body.buffers index) ≡ o)
+    × ((other : Owner) → owner (state_at s.body.buffers index) ≡ other → other ≡ o)
 
 -- Between two events that stop the stream, the buffers dequeued are a beginning of those completed or failed,
 -- in that order.
 abbrev pub DequeuedInOrder : Type 0
-DequeuedInOrder = (s : QueueState) (stop : Event) (events : List Event) → stops stop ≡ true → list_any stops events ≡ false
-    → EachIn after IsAnswered s (stop ∷ events) → (rest : List ℕ) × (flat_map ended_by events ≡ flat_map dequeued_by events ++ rest)
+DequeuedInOrder =
+    (s : QueueState) (stop : Event) (events : List Event) → stops stop ≡ true → list_any stops events ≡ false
+    → EachIn after IsAnswered s (stop ∷ events)
+    → (rest : List ℕ) × (flat_map ended_by events ≡ flat_map dequeued_by events ++ rest)

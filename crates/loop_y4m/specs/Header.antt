@@ -60,7 +60,8 @@ with_parameter p [] = Ok p
 with_parameter p (letter ∷ text) =
     if letter == 87 then ok_or (option_map (λ n. record p { width = Some n }) (side text)) BadHeader
     else if letter == 72 then ok_or (option_map (λ n. record p { height = Some n }) (side text)) BadHeader
-    else if letter == 70 then ok_or (option_map (λ r. record p { rate_num = r.0; rate_den = r.1 }) (rate text)) BadHeader
+    else if letter == 70 then ok_or
+    (option_map (λ r. record p { rate_num = r.0; rate_den = r.1 }) (rate text)) BadHeader
     else if letter == 73 then and_then (interlace text) (λ _. Ok p)
     else if letter == 67 then ok_or (option_map (λ f. record p { format = f }) (colour text)) UnsupportedColour
     else Ok p
@@ -88,7 +89,8 @@ not_too_large h = if nat_le (size_of_frame h) 16777216 then Ok h else Err BadHea
 abbrev pub complete : Option ℕ → Option ℕ → Parameters → Result Header Y4mFault
 complete None height p = Err BadHeader
 complete (Some w) None p = Err BadHeader
-complete (Some w) (Some h) p = not_too_large (record { format = p.format; width = w; height = h; rate_num = p.rate_num; rate_den = p.rate_den })
+complete (Some w) (Some h) p =
+    not_too_large (record { format = p.format; width = w; height = h; rate_num = p.rate_num; rate_den = p.rate_den })
 
 -- what a header line says behind its `YUV4MPEG2` and a space
 abbrev pub header_of : List ℕ → Result Header Y4mFault

@@ -14,7 +14,8 @@ pub record Opened : Type 0 where
 
 -- a reader with these bytes left; behind a fault there is that fault alone
 abbrev pub opened_with : Header → Option Y4mFault → Option (List ℕ) → Opened
-opened_with header None left = record { header = header; fault = None; rest = option_map (frames_within_input (size_of_frame header)) left }
+opened_with header None left =
+    record { header = header; fault = None; rest = option_map (frames_within_input (size_of_frame header)) left }
 opened_with header (Some fault) left = record { header = header; fault = Some fault; rest = Some (ends (Some fault)) }
 
 -- what is answered to the opening of an input: what `parse` says of it, but where the reader failed

@@ -30,7 +30,8 @@ LineIs whole (Ok n) buf left = (rest : List ℕ) × (whole ≡ Ok (take n buf, r
 
 -- these bytes of a line came, none of them a newline, and the rest is left
 abbrev pub IsBegun : List ℕ → List ℕ → Option (List ℕ) → Type 0
-IsBegun bytes seen left = (rest : List ℕ) × (bytes ≡ seen ++ rest) × (left ≡ Some rest) × (position_or_len is_newline seen ≡ length seen)
+IsBegun bytes seen left =
+    (rest : List ℕ) × (bytes ≡ seen ++ rest) × (left ≡ Some rest) × (position_or_len is_newline seen ≡ length seen)
 
 -- the bytes are what the input begins with, or it is too short, which this fault answers; a reader that failed may have lost bytes
 abbrev pub FillsWith : Y4mFault → List ℕ → Result (Unit {0}) Y4mFault → List ℕ → Option (List ℕ) → Type 0
@@ -43,7 +44,8 @@ abbrev pub FrameIs : List ℕ → Result Bool Y4mFault → List ℕ → Option (
 FrameIs bytes (Err Read) out left = ⊤
 FrameIs bytes (Err fault) out left = next_frame (length out) bytes ≡ Err fault
 FrameIs bytes (Ok false) out left = (next_frame (length out) bytes ≡ Ok None) × (left ≡ Some bytes)
-FrameIs bytes (Ok true) out left = (rest : List ℕ) × (next_frame (length out) bytes ≡ Ok (Some (out, rest))) × (left ≡ Some rest)
+FrameIs bytes (Ok true) out left =
+    (rest : List ℕ) × (next_frame (length out) bytes ≡ Ok (Some (out, rest))) × (left ≡ Some rest)
 
 -- what was answered of the header is what it is
 abbrev pub HeaderIs : List ℕ → Result Header Y4mFault → Option (List ℕ) → Type 0

@@ -29,7 +29,8 @@ text g frames = header g ++ flat_map frame frames
 
 -- the format, size and rate of a geometry
 abbrev pub described : Geometry → Header
-described g = record { format = g.format; width = g.width; height = g.height; rate_num = g.rate_num; rate_den = g.rate_den }
+described g =
+    record { format = g.format; width = g.width; height = g.height; rate_num = g.rate_num; rate_den = g.rate_den }
 
 -- the writer was given a beginning of these bytes
 abbrev pub AppendsSome : Option (List ℕ) → Option (List ℕ) → List ℕ → Type 0
