@@ -14,9 +14,12 @@ abbrev pub on_file_said : List ℕ → List (Bor (List ℕ)) → Option FileComm
 on_file_said name [] = if bytes_eq name (codes "list") then Some ListAll else None
 on_file_said name (id ∷ []) = if bytes_eq name (codes "unlock") then option_map Unlock (small_number id.now) else None
 on_file_said name (from ∷ to ∷ []) =
-    if bytes_eq name (codes "lock") then option_map (λ span. Lock span.0 span.1) (option_zip (number from.now) (number to.now)) else None
+    if bytes_eq name (codes "lock") then option_map (λ span. Lock span.0 span.1)
+    (option_zip (number from.now) (number to.now)) else None
 on_file_said name (width ∷ height ∷ format ∷ rate ∷ segments ∷ slots ∷ []) =
-    if bytes_eq name (codes "format") then option_map Format (geometry_of (small_number width.now) (small_number height.now) (format_named format.now) (rate_said rate.now) (small_number segments.now) (small_number slots.now)) else None
+    if bytes_eq name (codes "format") then option_map Format
+    (geometry_of (small_number width.now) (small_number height.now) (format_named format.now)
+    (rate_said rate.now) (small_number segments.now) (small_number slots.now)) else None
 on_file_said name _ = None
 
 -- what a name and the words behind it ask for, if they can be read

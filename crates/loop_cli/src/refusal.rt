@@ -7,8 +7,8 @@ use loop_store::StoreFault;
 use std::io::Write;
 use std::{fmt, io};
 
-/// A refusal's words: `refused`, its number and its name, behind `Damaged` the number of the kind, and behind `ClipNotHeld`
-/// that of the frame; one space apart.
+/// A refusal's words: `refused`, its number and its name, behind `Damaged` the number of the kind, and behind
+/// `ClipNotHeld` that of the frame; one space apart.
 #[derive(Clone, Copy, Debug)]
 pub struct RefusalWords(pub StoreFault);
 

@@ -274,22 +274,20 @@ fn a_file_without_a_sound_store_is_refused_and_kept(rt: HostRuntime) -> Result<(
     Ok(())
 }
 
+// Words that tell or print something: the list, an unlock that is refused, and a folder.
+static TOLD: [&[&str]; 3] = [
+    &["list", "printed.img"],
+    &["unlock", "printed.img", "0"],
+    &["list", "."],
+];
+
 #[test]
 fn what_cannot_be_printed_ends_with_status_1(rt: HostRuntime) -> Result<(), Fail> {
-    let path = "printed.img";
-    fs::write(&rt, path, ring().as_slice())?;
-    let none = b"".as_slice();
-    for words in [
-        ["list", path].as_slice(),
-        &["unlock", path, "0"],
-        &["list", "."],
-    ] {
-        assert_eq!(rt;
-            run_words(&rt, words, none, &mut Broken, &mut Broken),
-            1,
-            "{words:?}"
-        );
+    fs::write(&rt, "printed.img", ring().as_slice())?;
+    for words in &TOLD {
+        let answer = run_words(&rt, *words, b"".as_slice(), &mut Broken, &mut Broken);
+        assert_eq!(rt; answer, 1, "{words:?}");
     }
-    fs::remove_file(&rt, path)?;
+    fs::remove_file(&rt, "printed.img")?;
     Ok(())
 }
