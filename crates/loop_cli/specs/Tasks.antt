@@ -4,7 +4,7 @@ use Rattle.std.specs.Option.{option_zip}
 use Rattle.std.specs.Str.{bytes_eq}
 use denote.Ref.{Bor}
 use Rattle.loop_cli.specs.declared.task.FileCommand.{FileCommand}
-use Rattle.loop_cli.specs.declared.task.FileCommand.TheVariants.{Format, List as ListAll, Lock, Unlock}
+use Rattle.loop_cli.specs.declared.task.FileCommand.TheVariants.{Export, Format, List as ListAll, Lock, Unlock}
 use Rattle.loop_cli.specs.declared.task.Task.{Task}
 use Rattle.loop_cli.specs.declared.task.Task.TheVariants.{Simulate, OnFile}
 use Rattle.loop_cli.specs.Script.{format_named, geometry_of, number, rate_said, small_number}
@@ -15,6 +15,9 @@ on_file_said name [] = if bytes_eq name (codes "list") then Some ListAll else No
 on_file_said name (id ∷ []) = if bytes_eq name (codes "unlock") then option_map Unlock (small_number id.now) else None
 on_file_said name (from ∷ to ∷ []) =
     if bytes_eq name (codes "lock") then option_map (λ span. Lock span.0 span.1)
+    (option_zip (number from.now) (number to.now)) else None
+on_file_said name (from ∷ to ∷ out ∷ []) =
+    if bytes_eq name (codes "export") then option_map (λ span. Export span.0 span.1 out)
     (option_zip (number from.now) (number to.now)) else None
 on_file_said name (width ∷ height ∷ format ∷ rate ∷ segments ∷ slots ∷ []) =
     if bytes_eq name (codes "format") then option_map Format

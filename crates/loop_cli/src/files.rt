@@ -6,8 +6,9 @@ use crate::task::FileCommand;
 use loop_disk::FileDisk;
 use loop_record::Geometry;
 use loop_store::{OpenRefused, Store, StoreFault};
+use loop_y4m::export;
 use std::alloc::{AllocGlobal, Global};
-use std::fs::File;
+use std::fs::{File, OpenFile, OpenOptions};
 use std::io;
 use std::io::{BufWriter, Error, Write};
 use std::rt::Files;
@@ -17,6 +18,8 @@ use std::rt::Files;
 enum Undone<'a> {
     /// The file of this path can't be opened, or not made.
     CannotOpen(&'a str),
+    /// The file or pipe of this path can't be opened for the text, or it can't be written to its end.
+    CannotWrite(&'a str),
     /// The store refused.
     Refused(StoreFault),
     /// What was done couldn't be printed.
@@ -40,7 +43,7 @@ impl From<Error> for Undone<'_> {
 pub fn run_on_file<R: AllocGlobal + Files<File = File>, W: Write, E: Write>(
     rt: &R,
     path: &str,
-    command: FileCommand,
+    command: FileCommand<'_>,
     out: &mut W,
     err: &mut E,
 ) -> u8 {
@@ -55,6 +58,7 @@ fn tell<E: Write>(undone: Undone<'_>, err: &mut E) -> u8 {
     // The status is the same where this can't be said.
     let _ = match undone {
         Undone::CannotOpen(path) => writeln!(err, "cannot open {path}"),
+        Undone::CannotWrite(path) => writeln!(err, "cannot write {path}"),
         Undone::Refused(fault) => print_refusal(err, fault),
         Undone::Write(_) => Ok(()),
     };
@@ -65,7 +69,7 @@ fn tell<E: Write>(undone: Undone<'_>, err: &mut E) -> u8 {
 fn perform<'a, R: AllocGlobal + Files<File = File>, W: Write>(
     rt: &R,
     path: &'a str,
-    command: FileCommand,
+    command: FileCommand<'a>,
     out: &mut W,
 ) -> Result<(), Undone<'a>> {
     let Ok(mut out) = BufWriter::new(rt.alloc(), &mut *out) else {
@@ -87,6 +91,10 @@ fn perform<'a, R: AllocGlobal + Files<File = File>, W: Write>(
         FileCommand::Unlock(id) => {
             open(rt, path)?.unlock(id)?;
             writeln!(out, "unlocked {id}")?;
+        }
+        FileCommand::Export(from, to, target) => {
+            let count = export_into(rt, path, (from, to), target)?;
+            writeln!(out, "exported {count}")?;
         }
     }
     out.flush()?;
@@ -110,6 +118,59 @@ fn format<'a, R: AllocGlobal + Files<File = File>>(
             Ok(_) => Ok(()),
         },
     }
+}
+
+// Writes the held frames from a number to another into the file or pipe of a path. Both files are opened before
+// the store is looked for. What the file had is gone only once a frame to write is found.
+fn export_into<'a, R: AllocGlobal + Files<File = File>>(
+    rt: &R,
+    path: &'a str,
+    (from, to): (u64, u64),
+    target: &'a str,
+) -> Result<u64, Undone<'a>> {
+    let Ok(disk) = FileDisk::open(rt, path) else {
+        return Err(Undone::CannotOpen(path));
+    };
+    let (file, is_file) = target_of(rt, target)?;
+    let mut store = find(rt.alloc(), disk)?;
+    match store.next_held(from) {
+        Some(number) if number <= to => (),
+        _ => return Err(Undone::Refused(StoreFault::NotHeld)),
+    }
+    if is_file && file.set_len(0).is_err() {
+        return Err(Undone::CannotWrite(target));
+    }
+    let Ok(mut text) = BufWriter::new(rt.alloc(), file) else {
+        return Err(Undone::Refused(StoreFault::NoMemory));
+    };
+    let written = export(rt.alloc(), &mut store, from, to, &mut text);
+    match (written, text.flush()) {
+        (Ok(count), Ok(())) => Ok(count),
+        (Ok(_), Err(_)) => Err(Undone::CannotWrite(target)),
+        (Err(fault), _) => match fault.refusal() {
+            Some(refusal) => Err(Undone::Refused(refusal)),
+            None => Err(Undone::CannotWrite(target)),
+        },
+    }
+}
+
+// Opens a file or a pipe for the text, and tells whether it is a file. Nothing of it is changed. A file that has a
+// lock is a store that is in use, the one that is exported perhaps.
+fn target_of<'a, R: Files<File = File>>(
+    rt: &R,
+    target: &'a str,
+) -> Result<(File, bool), Undone<'a>> {
+    let Ok(file) = OpenOptions::new().write(true).create(true).open(rt, target) else {
+        return Err(Undone::CannotWrite(target));
+    };
+    let is_file = match file.metadata() {
+        Ok(data) => data.is_file(),
+        Err(_) => return Err(Undone::CannotWrite(target)),
+    };
+    if is_file && file.try_lock().is_err() {
+        return Err(Undone::CannotWrite(target));
+    }
+    Ok((file, is_file))
 }
 
 // Opens the file, and then the store in it.

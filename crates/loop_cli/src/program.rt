@@ -21,7 +21,7 @@ const FAILED: u8 = 1;
 const BAD_WORDS: u8 = 2;
 
 /// The commands of the program.
-const COMMANDS: [&str; 5] = ["simulate", "format", "list", "lock", "unlock"];
+const COMMANDS: [&str; 6] = ["simulate", "format", "list", "lock", "unlock", "export"];
 
 /// Does what the words behind the program's name ask for, and answers the status with which the program ends:
 /// 0; 1 for a script that can't be read to its end, for a file that can't be had, for a refusal of a command on a

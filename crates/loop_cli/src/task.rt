@@ -12,12 +12,12 @@ pub enum Task<'a> {
     /// `simulate`: a script from the input.
     Simulate,
     /// A command on the store in the file of this path.
-    OnFile(&'a str, FileCommand),
+    OnFile(&'a str, FileCommand<'a>),
 }
 
 /// What is done on a store in a file.
 #[derive(Clone, Copy, Debug, PartialEq, Eq)]
-pub enum FileCommand {
+pub enum FileCommand<'a> {
     /// `format PATH W H X N:D S F`: the file is made anew, and a store in it. The geometry isn't checked yet.
     Format(Geometry),
     /// `list PATH`: as the line of a script.
@@ -26,6 +26,8 @@ pub enum FileCommand {
     Lock(u64, u64),
     /// `unlock PATH ID`: as the line of a script.
     Unlock(u32),
+    /// `export PATH A B OUT`: the held frames from A to B, as YUV4MPEG2, into the file or pipe OUT.
+    Export(u64, u64, &'a str),
 }
 
 /// What a name and the words behind it ask for; `None` where they can't be read.
@@ -40,13 +42,16 @@ pub fn read_task<'a>(name: &str, words: &[&'a str]) -> Option<Task<'a>>
 }
 
 // What a name and the words behind the path of a file ask for.
-fn read_file_command(name: &str, words: &[&str]) -> Option<FileCommand>
+fn read_file_command<'a>(name: &str, words: &[&'a str]) -> Option<FileCommand<'a>>
     ensures { result ≡ on_file_said name.now words.now }
 {
     match words {
         [] if name == "list" => Some(FileCommand::List),
         [id] if name == "unlock" => Some(FileCommand::Unlock(small_number(id)?)),
         [from, to] if name == "lock" => Some(FileCommand::Lock(number(from)?, number(to)?)),
+        [from, to, out] if name == "export" => {
+            Some(FileCommand::Export(number(from)?, number(to)?, out))
+        }
         [width, height, format, rate, segments, slots] if name == "format" => {
             let geometry = geometry_in(width, height, format, rate, segments, slots)?;
             Some(FileCommand::Format(geometry))

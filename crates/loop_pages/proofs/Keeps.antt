@@ -92,7 +92,7 @@ try_keeps count slots id me page within s kept _ at _ =
       subst (λ b. MatchBool b (l ≡ w) (l ≡ l)) (sym (ne_eqb n 0 held)) refl,
     ))
 
--- a store of 0 to the page that the view times_listed last keeps the rule
+-- a store of 0 to the page that the view lists last keeps the rule
 pub free_keeps : (count slots id : ℕ) (me : Me (Unit {0}) Holding) (page : ℕ) (rest : List ℕ) → page < count → me.0.pages ≡ rest ++ page ∷ []
     → Allows (IsLedgerKept count) slots id me page (λ _. 0) (λ _. frees (step slots page 0 0 none) me 0)
 free_keeps count slots id me page rest within last s kept _ at _ =

@@ -100,7 +100,7 @@ fn add_clip<D: Disk, A: Allocator>(
     written
 }
 
-/// CanTake away the clip of an id, and notes it.
+/// Takes away the clip of an id, and notes it.
 fn remove_clip<D: Disk, A: Allocator>(
     disk: &mut D,
     index: &mut Index<A>,
@@ -151,7 +151,7 @@ pub(crate) fn lock_clip<D: Disk, A: Allocator>(
     }
 }
 
-/// CanTake away the clip of an id. `MustReopen`, then `NoSuchClip`, as `Store::unlock` has them; after `Disk` the store
+/// Takes away the clip of an id. `MustReopen`, then `NoSuchClip`, as `Store::unlock` has them; after `Disk` the store
 /// must be reopened.
 pub(crate) fn unlock_clip<D: Disk, A: Allocator>(
     disk: &mut D,

@@ -41,7 +41,7 @@ abbrev pub failed_export : {T : Type 0} → Result T ExportFault → Option Disk
 failed_export (Err (Disk fault)) = Some fault
 failed_export _ = None
 
--- the store's store_refusal that a fault is
+-- the store's refusal that a fault is
 abbrev pub store_refusal : ExportFault → Option StoreFault
 store_refusal MustReopen = Some StoreFault.MustReopen
 store_refusal NotHeld = Some StoreFault.NotHeld

@@ -291,3 +291,102 @@ fn what_cannot_be_printed_ends_with_status_1(rt: HostRuntime) -> Result<(), Fail
     fs::remove_file(&rt, "printed.img")?;
     Ok(())
 }
+
+// Exports of the ring into one file, each with how many bytes that has then: a header of 39, and 18 a frame.
+static EXPORTS: [(Step, usize); 8] = [
+    (
+        (
+            &["export", "frames.img", "2", "3", "frames.y4m"],
+            "exported 2\n",
+            "",
+            0,
+        ),
+        75,
+    ),
+    (
+        (
+            &[
+                "export",
+                "frames.img",
+                "0",
+                "18446744073709551615",
+                "frames.y4m",
+            ],
+            "exported 5\n",
+            "",
+            0,
+        ),
+        129,
+    ),
+    // What is refused leaves what the file had.
+    (
+        (
+            &["export", "frames.img", "7", "9", "frames.y4m"],
+            "",
+            "refused 13 NotHeld\n",
+            1,
+        ),
+        129,
+    ),
+    (
+        (
+            &["export", "missing.img", "2", "3", "frames.y4m"],
+            "",
+            "cannot open missing.img\n",
+            1,
+        ),
+        129,
+    ),
+    (
+        (
+            &["export", "frames.img", "2", "3", "frames.img"],
+            "",
+            "cannot write frames.img\n",
+            1,
+        ),
+        129,
+    ),
+    (
+        (
+            &["export", "frames.img", "2", "3", "."],
+            "",
+            "cannot write .\n",
+            1,
+        ),
+        129,
+    ),
+    (
+        (
+            &["export", "frames.img", "2", "x", "frames.y4m"],
+            "",
+            "bad command\n",
+            2,
+        ),
+        129,
+    ),
+    (
+        (
+            &["export", "frames.img", "6", "6", "frames.y4m"],
+            "exported 1\n",
+            "",
+            0,
+        ),
+        57,
+    ),
+];
+
+#[test]
+fn the_frames_of_a_store_in_a_file_are_exported(rt: HostRuntime) -> Result<(), Fail> {
+    fs::write(&rt, "frames.img", ring().as_slice())?;
+    for (step, size) in &EXPORTS {
+        assert!(rt; is_so(&rt, step)?, "{:?}", step.0);
+        assert_eq!(rt; fs::read(&rt, "frames.y4m")?.len(), *size, "{:?}", step.0);
+    }
+    let text = fs::read(&rt, "frames.y4m")?;
+    let expected = b"YUV4MPEG2 W4 H2 F25:1 Ip A0:0 C420jpeg\nFRAME\n\0\0\0\0\0\0\0\0\0\0\0\0";
+    assert_eq!(rt; text.as_slice(), expected.as_slice());
+    assert_eq!(rt; fs::read(&rt, "frames.img")?.as_slice(), ring().as_slice());
+    fs::remove_file(&rt, "frames.img")?;
+    fs::remove_file(&rt, "frames.y4m")?;
+    Ok(())
+}
