@@ -32,7 +32,12 @@ impl<A: Allocator> Model for Group<A> {
     ghost Value = { Grouped };
 
     ghost view = { λ g.
-        record { size = g.frame_bytes; limit = g.limit; first = g.first; frames = frames_in g.frame_bytes g.slots.items g.count } };
+        record {
+          size = g.frame_bytes;
+          limit = g.limit;
+          first = g.first;
+          frames = frames_in g.frame_bytes g.slots.items g.count;
+        } };
 
     ghost invariant = { λ g. IsGrouped g.frame_bytes g.limit g.first g.count g.slots.items (vec_capacity g.slots) };
 }
@@ -43,7 +48,12 @@ impl<A: Allocator> Group<A> {
     pub fn new(alloc: A, geometry: &Geometry) -> Result<Self, AllocError>
         requires { IsTrue (is_good geometry.now) }
         ensures { IfOk result (λ group.
-            group ≡ record { size = frame_bytes geometry.now; limit = min 8 geometry.now.slots; first = 0; frames = [] }) }
+            group ≡ record {
+              size = frame_bytes geometry.now;
+              limit = min 8 geometry.now.slots;
+              first = 0;
+              frames = [];
+            }) }
     {
         let frame_bytes = geometry.frame_bytes() as usize;
         let limit = MAX_GROUP.min(geometry.slots as usize);

@@ -136,7 +136,8 @@ pub(crate) fn lock_clip<D: Disk, A: Allocator>(
     ensures goes { Goes D.medium (seen_with disk.old index.old must_reopen.old)
         (seen_with disk.new index.new must_reopen.new)
         (locked span result ∷ []) }
-    ensures refused { Refused (seen_with disk.old index.old must_reopen.old) (seen_with disk.new index.new must_reopen.new) result }
+    ensures refused { Refused (seen_with disk.old index.old must_reopen.old)
+        (seen_with disk.new index.new must_reopen.new) result }
 {
     if *must_reopen {
         return Err(StoreFault::MustReopen);
@@ -164,7 +165,8 @@ pub(crate) fn unlock_clip<D: Disk, A: Allocator>(
     ensures goes { Goes D.medium (seen_with disk.old index.old must_reopen.old)
         (seen_with disk.new index.new must_reopen.new)
         (unlocked id result ∷ []) }
-    ensures refused { Refused (seen_with disk.old index.old must_reopen.old) (seen_with disk.new index.new must_reopen.new) result }
+    ensures refused { Refused (seen_with disk.old index.old must_reopen.old)
+        (seen_with disk.new index.new must_reopen.new) result }
 {
     if *must_reopen {
         return Err(StoreFault::MustReopen);

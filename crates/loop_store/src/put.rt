@@ -26,14 +26,16 @@ pub(crate) fn put<D: Disk, A: Allocator>(
 ) -> Result<u64, StoreFault>
     requires kept { IsKept D.medium disk.old index.old must_reopen.old }
     requires some { 1 ≤ length group.now.frames }
-    requires room { index.old.next % index.old.ring.geometry.slots + length group.now.frames ≤ index.old.ring.geometry.slots }
+    requires room { index.old.next % index.old.ring.geometry.slots + length group.now.frames
+        ≤ index.old.ring.geometry.slots }
     requires size { group.now.size ≡ frame_bytes index.old.ring.geometry }
     requires first { group.now.first ≡ index.old.next }
     ensures kept { IsKept D.medium disk.new index.new must_reopen.new }
     ensures goes { Goes D.medium (seen_with disk.old index.old must_reopen.old)
         (seen_with disk.new index.new must_reopen.new)
         (appended group.now.frames result ∷ []) }
-    ensures refused { Refused (seen_with disk.old index.old must_reopen.old) (seen_with disk.new index.new must_reopen.new) result }
+    ensures refused { Refused (seen_with disk.old index.old must_reopen.old)
+        (seen_with disk.new index.new must_reopen.new) result }
 {
     if *must_reopen {
         return Err(StoreFault::MustReopen);
