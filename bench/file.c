@@ -1,8 +1,9 @@
-/* The system's calls of `bench_store append-file` as a plain program, with the same places and sizes and in the same order; it checks
-   nothing. And one bare write of the same bytes and one fdatasync for each group.
+/* The system's calls of `bench_store append-file` and `lock-file` as a plain program, with the same places and sizes and in the same order;
+   it checks nothing. And one bare write of the same bytes and one fdatasync for each group.
 
        file append PATH GROUP GROUPS
        file bare PATH GROUP GROUPS
+       file lock PATH ROUNDS
        file forget PATH
 
    The store in the file has no clips, and the blocks from 0 on, each full but the last. `forget` asks the system to drop the file's pages. */
@@ -127,9 +128,30 @@ static int forget(const char *path) {
     return file < 0 || fsync(file) || posix_fadvise(file, 0, 0, POSIX_FADV_DONTNEED);
 }
 
+/* The newest frame is locked as clip 0, and unlocked again. */
+static void lock_and_unlock(const struct store *s) {
+    uint8_t entry[31] = {0};
+    put64(entry + 7, s->next - 1);
+    put64(entry + 15, s->next - 1);
+    write_at(s, 513, entry, 31);
+    sync_file(s);
+    write_at(s, 512, open_gates, 1);
+    sync_file(s);
+    write_at(s, 512, &closed_gate, 1);
+    sync_file(s);
+}
+
 int main(int argc, char **argv) {
     if (argc == 3 && !strcmp(argv[1], "forget"))
         return forget(argv[2]);
+    if (argc == 4 && !strcmp(argv[1], "lock")) {
+        struct store s;
+        open_store(&s, argv[2]);
+        for (int rounds = atoi(argv[3]); rounds > 0; rounds--)
+            lock_and_unlock(&s);
+        printf("locked, next %llu\n", (unsigned long long)s.next);
+        return 0;
+    }
     if (argc != 5 || (strcmp(argv[1], "append") && strcmp(argv[1], "bare")))
         return 2;
     struct store s;

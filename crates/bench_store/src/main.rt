@@ -1,5 +1,5 @@
-//! What `bench/run` and `bench/files` time: appends to a ring in memory, and a store in a file that is opened or appended to. It prints
-//! only what was done.
+//! What `bench/run` and `bench/files` time, and `tools/kill_check` kills: appends to a ring in memory, and a store in
+//! a file that is opened, listed, locked or appended to. It prints only what was done.
 //!
 //!     append WIDTH HEIGHT SEGMENTS SLOTS GROUP GROUPS ROUNDS
 //!
@@ -11,7 +11,20 @@
 //!
 //!     append-file PATH GROUP GROUPS
 //!
-//! opens the store in a file once, and appends so many groups of GROUP frames. Without a word it does nothing.
+//! opens the store in a file once, and appends so many groups of GROUP frames;
+//!
+//!     lock-file PATH ROUNDS
+//!
+//! opens the store in a file once, and locks its newest frame and unlocks it again, as many times;
+//!
+//!     list PATH ROUNDS
+//!
+//! opens the store in a file and lists its frames and clips, as many times;
+//!
+//!     record PATH FRAMES
+//!
+//! opens the store in a file once, appends so many frames one by one, and prints the number behind each once it is
+//! stored. Without a word it does nothing.
 #![tactic(auto)]
 
 ghost use Rattle.std.specs.Prelude.{◌≡◌, All, IfOk, IsTrue, length};
@@ -145,6 +158,65 @@ fn run_append_file(rt: &impl Files<File = File>, alloc: Global, words: &mut Args
     Ok(store.next())
 }
 
+// Locks the newest frame and unlocks it again, so many times.
+fn lock_and_unlock<D: Disk + Drop>(store: &mut Store<D>, rounds: u32) -> Result<()> {
+    let newest = store.next().checked_sub(1).context("no frame is there")?;
+    for _ in 0..rounds {
+        let id = store.lock(newest, newest).map_err(refused)?;
+        store.unlock(id).map_err(refused)?;
+    }
+    Ok(())
+}
+
+// Locks in a file as the next words say, and answers the number of the next frame.
+fn run_locks(rt: &impl Files<File = File>, alloc: Global, words: &mut Args) -> Result<u64> {
+    let path = words.next().context("a path is missing")?;
+    let mut store = open_file(rt, alloc, &path)?;
+    lock_and_unlock(&mut store, number(words)?)?;
+    Ok(store.next())
+}
+
+// Lists as the next words say, and answers how many frames and clips there are.
+fn run_list(rt: &impl Files<File = File>, alloc: Global, words: &mut Args) -> Result<usize> {
+    let path = words.next().context("a path is missing")?;
+    let mut count = 0;
+    for _ in 0..number(words)? {
+        let store = open_file(rt, alloc, &path)?;
+        let frames = store.frames(alloc).map_err(refused)?;
+        let clips = store.clips(alloc).map_err(refused)?;
+        count = frames.len().wrapping_add(clips.len());
+    }
+    Ok(count)
+}
+
+// Appends a frame so many times, and prints the number behind it each time.
+fn record<D: Disk + Drop>(
+    rt: &HostRuntime,
+    store: &mut Store<D>,
+    frame: &[Frame],
+    frames: u32,
+) -> Result<()>
+    requires { All (λ frame. length frame.bytes.items ≡ frame_bytes store.old.geometry) frame.now }
+{
+    for _ in 0..frames {
+        if frame.len() != 1 || store.room() == 0 {
+            return Err(anyhow!("the frame doesn't fit"));
+        }
+        store.append(frame).map_err(refused)?;
+        let next = store.next();
+        println!(rt; "next {next}")?;
+    }
+    Ok(())
+}
+
+// Records into a file as the next words say.
+fn run_record(rt: &HostRuntime, words: &mut Args) -> Result<()> {
+    let path = words.next().context("a path is missing")?;
+    let mut store = open_file(rt, rt.alloc(), &path)?;
+    let frame = group_of(rt.alloc(), &store.geometry(), 1)?;
+    record(rt, &mut store, &frame, number(words)?)
+}
+
 fn main(rt: HostRuntime) -> Result<()> {
     let mut words = env::args(&rt)?;
     let _program = words.next();
@@ -165,6 +237,17 @@ fn main(rt: HostRuntime) -> Result<()> {
             println!(&rt; "appended, next {next}")?;
             Ok(())
         }
-        Some(_) => Err(anyhow!("append, append-file or open")),
+        Some(word) if word.as_str() == "lock-file" => {
+            let next = run_locks(&rt, rt.alloc(), &mut words)?;
+            println!(&rt; "locked, next {next}")?;
+            Ok(())
+        }
+        Some(word) if word.as_str() == "list" => {
+            let count = run_list(&rt, rt.alloc(), &mut words)?;
+            println!(&rt; "listed {count}")?;
+            Ok(())
+        }
+        Some(word) if word.as_str() == "record" => run_record(&rt, &mut words),
+        Some(_) => Err(anyhow!("append, append-file, open, list, lock-file or record")),
     }
 }

@@ -1,5 +1,5 @@
 -- The words of a line, first word by first word.
-use Rattle.std.proofs.Common.{◌≡◌, ℕ, ◌<◌, ◌≤◌, ◌==◌, List, [], ◌∷◌, length, true, false, cond, ap, refl, get_or, ◌≢◌, Option, Some, None, codes, arith, rules, tests}
+use Rattle.std.proofs.Common.{◌≡◌, ℕ, ◌<◌, ◌==◌, List, [], ◌∷◌, length, true, false, cond, ap, refl, get_or, ◌≢◌, Option, Some, None, codes, arith, rules, tests}
 use Rattle.std.specs.List.{position_or_len, before_first, after_first, onto_first}
 use Rattle.std.specs.Option.{is_some}
 use Rattle.std.specs.Str.{bytes_eq}
@@ -7,7 +7,6 @@ use Rattle.std.proofs.lemmas.Bool.{false≢true}
 use denote.Ref.{Bor}
 use Rattle.std.proofs.lemmas.List.Splits.{slice_split_first, slice_split_none}
 use Rattle.std.proofs.lemmas.Grind.{common_steps}
-use Rattle.loop_cli.specs.Tasks.{on_file_said}
 use Rattle.loop_cli.specs.Script.{behind, geometry_said, lock_said, said, words}
 
 -- a line with a space: its first word, and the words behind that space
@@ -48,14 +47,3 @@ lock-long from to (Some rest) there = let some = words-some rest.now in rw some.
 pub geometry-long : (a b c d e f : List ℕ) (rest : Option (Bor (List ℕ))) → is_some rest ≡ true → geometry_said (a ∷ b ∷ c ∷ d ∷ e ∷ f ∷ behind rest) ≡ None
 geometry-long a b c d e f None there = absurd (false≢true there)
 geometry-long a b c d e f (Some rest) there = let some = words-some rest.now in rw some.2 refl
-
--- six words or more behind a path name nothing but a geometry
-pub six-words : (name : List ℕ) (words : List (Bor (List ℕ))) → 6 ≤ length words → bytes_eq name (codes "format") ≡ false → on_file_said name words ≡ None
-six-words name [] many other = absurd (omega (arith, many))
-six-words name (a ∷ []) many other = absurd (omega (arith, many))
-six-words name (a ∷ b ∷ []) many other = absurd (omega (arith, many))
-six-words name (a ∷ b ∷ c ∷ []) many other = absurd (omega (arith, many))
-six-words name (a ∷ b ∷ c ∷ d ∷ []) many other = absurd (omega (arith, many))
-six-words name (a ∷ b ∷ c ∷ d ∷ e ∷ []) many other = absurd (omega (arith, many))
-six-words name (a ∷ b ∷ c ∷ d ∷ e ∷ f ∷ []) many other = rw other refl
-six-words name (a ∷ b ∷ c ∷ d ∷ e ∷ f ∷ g ∷ more) many other = refl
