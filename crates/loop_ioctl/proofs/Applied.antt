@@ -38,17 +38,17 @@ on_fds : (b : Body Plane) (fd : ℕ) → in_buffers fd (body_streaming b).buffer
 on_fds b fd =
     elim b.streaming as (λ t. in_buffers fd (cond t b (settled (record b { streaming = true }))).buffers ≡ in_buffers fd b.buffers) [ true ↦ refl | false ↦ settled_fds (record b { streaming = true }) fd ]
 
-on_kind : (b : Body Plane) → (body_streaming b).kind ≡ b.kind
+pub on_kind : (b : Body Plane) → (body_streaming b).kind ≡ b.kind
 on_kind b = elim b.streaming as (λ t. (cond t b (settled (record b { streaming = true }))).kind ≡ b.kind) [ true ↦ refl | false ↦ settled_kind (record b { streaming = true }) ]
 
-on_linked : (s : QueueState) (n : Names Plane) → IsLinked s.body n → IsLinked (streaming s).body n
-on_linked s n linked = still_linked s.body (streaming s).body n (on_kind s.body) (on_fds s.body) linked
+on_linked : (s : QueueState) (out : List (ℕ × Plane)) (n : Names Plane) → IsLinked s.body out n → IsLinked (streaming s).body out n
+on_linked s out n linked = still_linked s.body (streaming s).body out n (on_kind s.body) (on_fds s.body) linked
 
-off_linked : (s : QueueState) (n : Names Plane) → IsLinked s.body n → IsLinked (stopped_state s).body n
-off_linked s n linked = still_linked s.body (stopped_state s).body n refl (λ (fd : ℕ). kept_mapped stopped s.body.buffers fd (λ b d. refl)) linked
+off_linked : (s : QueueState) (out : List (ℕ × Plane)) (n : Names Plane) → IsLinked s.body out n → IsLinked (stopped_state s).body out n
+off_linked s out n linked = still_linked s.body (stopped_state s).body out n refl (λ (fd : ℕ). kept_mapped stopped s.body.buffers fd (λ b d. refl)) linked
 
-mapped_linked : (mapped : Bool) (index : ℕ) (s : QueueState) (n : Names Plane) → IsLinked s.body n → IsLinked (touched (mapped_as mapped) index s).body n
-mapped_linked mapped index s n linked = still_linked s.body (touched (mapped_as mapped) index s).body n refl (λ (fd : ℕ). kept_changed (mapped_as mapped) index s.body.buffers fd (λ b d. refl)) linked
+mapped_linked : (mapped : Bool) (index : ℕ) (s : QueueState) (out : List (ℕ × Plane)) (n : Names Plane) → IsLinked s.body out n → IsLinked (touched (mapped_as mapped) index s).body out n
+mapped_linked mapped index s out n linked = still_linked s.body (touched (mapped_as mapped) index s).body out n refl (λ (fd : ℕ). kept_changed (mapped_as mapped) index s.body.buffers fd (λ b d. refl)) linked
 
 wants : (why : Option Reason) (e : Errno) → (option_map errno why ≡ Some e) ⊎ ((why ≡ None) × (e ≡ errno NoMemory)) → (option_map errno why ≡ Some e) ⊎ ((why ≡ None) × (Unit {0} × (e ≡ errno NoMemory)))
 wants why e (inl h) = inl h
@@ -79,7 +79,7 @@ module _ {P A : Type 0} (m : P → Plane) where
     pub tells : (j : IoctlState) → IsReply m c j reply.Done
     pub planes : planes_given c ≡ None
     pub supply : supply_given c ≡ []
-    pub links : (s : QueueState) (n : Names Plane) → IsLinked s.body n → IsLinked (effect s).body n
+    pub links : (s : QueueState) (out : List (ℕ × Plane)) (n : Names Plane) → IsLinked s.body out n → IsLinked (effect s).body out n
 
   back_of : (c : Ioctl P A) (planes : Option (PlaneSet P)) (supply : List (PlaneSet P)) (r : Refused P A) → planes_given c ≡ planes → supply_given c ≡ supply → HandsBack planes supply r → HandsBack (planes_given c) (supply_given c) r
   back_of c planes supply r e f back = (back.0 ∙ sym e, back.1 ∙ sym f)
@@ -87,7 +87,7 @@ module _ {P A : Type 0} (m : P → Plane) where
   plain_step : (c : Ioctl P A) (why : QueueState → Option Reason) (effect : QueueState → QueueState) → IsPlain c why effect → (result : Result (IoctlReply P A) (Refused P A)) (q q' : Lined P) (table : Fds P) → Steps m (Plain why effect) result q q' → IfErr result (HandsBack None []) → (j : IoctlState) → Stands m q table j → IsAnsweredFor m c j (call_refusal m c j) result × Stands m q' table (after m c j result)
   plain_step c why effect is (Ok reply.Done) q q' table step back j stands =
       let t = step j.queue stands.queue in
-      ((is.judged j ∙ t.1.0, is.tells j), subst (λ k. Stands m q' table k) (sym (is.makes j)) (moves m q q' table j (effect j.queue) stands (subst (λ s. StandsFor m q' s) t.1.1 t.2) (is.links j.queue j.names stands.linked)))
+      ((is.judged j ∙ t.1.0, is.tells j), subst (λ k. Stands m q' table k) (sym (is.makes j)) (moves m q q' table j (effect j.queue) stands (subst (λ s. StandsFor m q' s) t.1.1 t.2) (is.links j.queue j.out j.names stands.linked)))
   plain_step c why effect is (Ok (reply.Granted g)) q q' table step back j stands = let t = step j.queue stands.queue in absurd t.1
   plain_step c why effect is (Ok (reply.Info info)) q q' table step back j stands = let t = step j.queue stands.queue in absurd t.1
   plain_step c why effect is (Ok (reply.Dequeued d)) q q' table step back j stands = let t = step j.queue stands.queue in absurd t.1

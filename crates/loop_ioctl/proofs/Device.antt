@@ -48,19 +48,19 @@ filled_fds shape bytes (Some set) fd =
     (slot_fds fd f1 set.planes.cb b1 (in_place f0 (slot_filled set.planes.y b0)) (in_place f0 set.planes.y) (last_fds fd f0 set.planes.y b0))
     ∙ sym (ap (times fd) (last_none (values_in set))))
 
-completed_linked : (index : ℕ) (stamp : Stamp) (bytes : List ℕ) (s : QueueState) (n : Names Plane) → IsLinked s.body n → IsLinked (completed index stamp bytes s).body n
-completed_linked index stamp bytes s n linked =
-    still_linked s.body (completed index stamp bytes s).body n refl
+completed_linked : (index : ℕ) (stamp : Stamp) (bytes : List ℕ) (s : QueueState) (out : List (ℕ × Plane)) (n : Names Plane) → IsLinked s.body out n → IsLinked (completed index stamp bytes s).body out n
+completed_linked index stamp bytes s out n linked =
+    still_linked s.body (completed index stamp bytes s).body out n refl
     (λ (fd : ℕ). kept_changed (completed_with s.body.shape stamp bytes) index s.body.buffers fd (λ b d. filled_fds s.body.shape bytes b.planes d)) linked
 
-failed_linked : (index : ℕ) (stamp : Stamp) (s : QueueState) (n : Names Plane) → IsLinked s.body n → IsLinked (failed index stamp s).body n
-failed_linked index stamp s n linked = still_linked s.body (failed index stamp s).body n refl (λ (fd : ℕ). kept_changed (failed_with stamp) index s.body.buffers fd (λ b d. refl)) linked
+failed_linked : (index : ℕ) (stamp : Stamp) (s : QueueState) (out : List (ℕ × Plane)) (n : Names Plane) → IsLinked s.body out n → IsLinked (failed index stamp s).body out n
+failed_linked index stamp s out n linked = still_linked s.body (failed index stamp s).body out n refl (λ (fd : ℕ). kept_changed (failed_with stamp) index s.body.buffers fd (λ b d. refl)) linked
 
 module _ {P : Type 0} (m : P → Plane) where
-  ends : {U : Type 0} (why : QueueState → Option Reason) (effect : QueueState → QueueState) (result : Result U Errno) (q q' : Lined P) (table : Fds P) → Steps m (Does why effect) result q q' → ((s : QueueState) (n : Names Plane) → IsLinked s.body n → IsLinked (effect s).body n) → (j : IoctlState) → Stands m q table j → Judged (why j.queue) result × Stands m q' table (either result (with_queue effect j) j)
+  ends : {U : Type 0} (why : QueueState → Option Reason) (effect : QueueState → QueueState) (result : Result U Errno) (q q' : Lined P) (table : Fds P) → Steps m (Does why effect) result q q' → ((s : QueueState) (out : List (ℕ × Plane)) (n : Names Plane) → IsLinked s.body out n → IsLinked (effect s).body out n) → (j : IoctlState) → Stands m q table j → Judged (why j.queue) result × Stands m q' table (either result (with_queue effect j) j)
   ends why effect (Ok u) q q' table step links j stands =
       let t = step j.queue stands.queue in
-      (t.1.0, moves m q q' table j (effect j.queue) stands (subst (λ s. StandsFor m q' s) t.1.1 t.2) (links j.queue j.names stands.linked))
+      (t.1.0, moves m q q' table j (effect j.queue) stands (subst (λ s. StandsFor m q' s) t.1.1 t.2) (links j.queue j.out j.names stands.linked))
   ends why effect (Err e) q q' table step links j stands =
       let t = step j.queue stands.queue in
       (t.1.0, stays m q q' table j t.0 stands t.2 t.1.1)

@@ -6,3 +6,4 @@ pub mod Out
 pub mod Applied
 pub mod Ran
 pub mod Device
+pub mod Aside

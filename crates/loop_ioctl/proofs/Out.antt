@@ -1,5 +1,5 @@
 -- Planes that leave a queue: DQBUF and REQBUFS, of queue and table.
-use Rattle.std.proofs.Common.{◌≡◌, ℕ, zero, suc, ◌+◌, ◌==◌, Bool, true, false, not, ◌&&◌, nat_lt, cond, List, [], ◌∷◌, length, map, replicate, Option, Some, None, option_map, Ok, Err, refl, sym, ◌∙◌, ap, subst, arith, ◌⊎◌, inl}
+use Rattle.std.proofs.Common.{◌≡◌, ℕ, zero, suc, ◌+◌, ◌==◌, Bool, true, false, not, ◌&&◌, nat_lt, cond, List, [], ◌∷◌, length, map, replicate, Option, Some, None, option_map, Ok, Err, refl, sym, ◌∙◌, ap, subst, arith, ◌⊎◌}
 use Rattle.std.specs.Prelude.{option_to_list, slice_get}
 use Rattle.std.specs.List.{list_all, list_any}
 use Rattle.std.proofs.lemmas.Bool.{eqb-true}
@@ -19,12 +19,12 @@ use Rattle.loop_vb2.specs.Checks.{is_supply, granted, serves, request_refusal}
 use Rattle.loop_vb2.specs.Effects.{dequeued}
 use Rattle.loop_vb2.specs.Errnos.{errno}
 use Rattle.loop_vb2.specs.Planes.{read_set}
-use Rattle.loop_vb2.specs.Requests.{grants_or_none, new_buffer, new_buffers, held, left_in, body_requested, requested}
+use Rattle.loop_vb2.specs.Requests.{grants_or_none, new_buffer, new_buffers, held, left_in, body_requested}
 use Rattle.loop_vb2.specs.State.{Body, Lined, StandsFor}
 use Rattle.loop_vb2.specs.Steps.{Steps, read_given, Dequeues, Requests}
 use Rattle.loop_ioctl.specs.declared.call.IoctlReply.TheVariants as reply
 use Rattle.loop_ioctl.specs.Names.{Names, names_in, values_in, values_of, given_back, AreAway, GivesBack}
-use Rattle.loop_ioctl.specs.Attached.{times, values_held, IsOnce, IsLinked}
+use Rattle.loop_ioctl.specs.Attached.{times, values_by_fd, values_held, IsLinked}
 use Rattle.loop_ioctl.specs.Calls.{IoctlState, Stands, read_names, planes_at, names_left, handed_out, taken_out, TellsFrame}
 use Rattle.loop_ioctl.specs.Parts.{LetsOut, LetsOneOut, Replaces}
 use Rattle.loop_ioctl.proofs.Attached.{in_buffers, let_out, last_none, AreOnce, once_same, IsLetOut, given_once, in_more}
@@ -37,7 +37,10 @@ gives_one set before after h = subst (λ vs. GivesBack vs before after) (sym (la
 -- the names, and the counts that are left
 record IsLeft {P : Type 0} (m : P → Plane) (kind : Memory) (sets : List (PlaneSet Plane)) (n : ℕ → ℕ) (before : Names Plane) (after : Fds P) : Type 0 where
   names : names_left kind sets before ≡ read_names m (names_in after)
-  once : kind ≡ DmaBuf → AreOnce n (names_left kind sets before)
+  once : AreOnce n (names_left kind sets before)
+
+none_left : (n : ℕ → ℕ) (before : Names Plane) → AreOnce (λ x. n x + 0) before → AreOnce n before
+none_left n before once = λ (x : ℕ). once_same (n x + 0) (n x) (before x) (before x) (omega arith) refl (once x)
 
 module _ {P : Type 0} (m : P → Plane) where
   dma_left : (sets : List (PlaneSet P)) (hs : List (PlaneSet Plane)) (n : ℕ → ℕ) (a b : Fds P) (before : Names Plane) → before ≡ read_names m (names_in a) → GivesBack (values_of sets) a b → map (read_set m) sets ≡ hs → AreOnce (λ x. n x + times x (values_of hs)) before → IsLeft m DmaBuf hs n before b
@@ -49,26 +52,20 @@ module _ {P : Type 0} (m : P → Plane) where
         names = ap (given_back (values_of hs)) is
             ∙ (ap (λ l. given_back l (read_names m (names_in a))) vs
             ∙ (back_read m (values_of sets) (names_in a) ∙ ap (read_names m) (sym (gives (away_read m (values_of sets) (names_in a) away)))));
-        once = λ _. out.once;
+        once = out.once;
       }
 
-  left : (kind : Memory) (sets : List (PlaneSet P)) (hs : List (PlaneSet Plane)) (n : ℕ → ℕ) (a b : Fds P) (before : Names Plane) → before ≡ read_names m (names_in a) → LetsOut kind sets a b → (kind ≡ DmaBuf → map (read_set m) sets ≡ hs) → (kind ≡ DmaBuf → AreOnce (λ x. n x + times x (values_of hs)) before) → IsLeft m kind hs n before b
-  left Mmap sets hs n a b before is lets read once = record { names = is ∙ ap (λ t. read_names m (names_in t)) (sym lets); once = λ e. absurd (cc) }
-  left UserPtr sets hs n a b before is lets read once = record { names = is ∙ ap (λ t. read_names m (names_in t)) (sym lets); once = λ e. absurd (cc) }
-  left DmaBuf sets hs n a b before is lets read once = dma_left sets hs n a b before is lets (read refl) (once refl)
-
--- the fds of a queue where it has some
-linked_if : (b : Body Plane) (k : Memory) (n : Names Plane) → b.kind ≡ k → (k ≡ DmaBuf → AreOnce (λ x. in_buffers x b.buffers) n) → IsLinked b n
-linked_if b Mmap n e once = λ (fd : ℕ). subst (λ k. IsOnce (times fd (values_held k b.buffers)) (n fd)) (sym e) (inl refl)
-linked_if b UserPtr n e once = λ (fd : ℕ). subst (λ k. IsOnce (times fd (values_held k b.buffers)) (n fd)) (sym e) (inl refl)
-linked_if b DmaBuf n e once = λ (fd : ℕ). subst (λ k. IsOnce (times fd (values_held k b.buffers)) (n fd)) (sym e) (once refl fd)
+  left : (kind : Memory) (sets : List (PlaneSet P)) (hs : List (PlaneSet Plane)) (n : ℕ → ℕ) (a b : Fds P) (before : Names Plane) → before ≡ read_names m (names_in a) → LetsOut kind sets a b → (kind ≡ DmaBuf → map (read_set m) sets ≡ hs) → AreOnce (λ x. n x + times x (values_by_fd kind hs)) before → IsLeft m kind hs n before b
+  left Mmap sets hs n a b before is lets read once = record { names = is ∙ ap (λ t. read_names m (names_in t)) (sym lets); once = none_left n before once }
+  left UserPtr sets hs n a b before is lets read once = record { names = is ∙ ap (λ t. read_names m (names_in t)) (sym lets); once = none_left n before once }
+  left DmaBuf sets hs n a b before is lets read once = dma_left sets hs n a b before is lets (read refl) once
 
 -- ---- DQBUF
 
 got : (x : Buffer Plane) (b : Buffer Plane) → Some x ≡ Some b → x.planes ≡ b.planes
 got x b e = let f : x ≡ b = cc in ap (λ y. y.planes) f
 
-planes_got : (bs : List (Buffer Plane)) (index : ℕ) (b : Buffer Plane) → slice_get bs index ≡ Some b → planes_at bs index ≡ b.planes
+pub planes_got : (bs : List (Buffer Plane)) (index : ℕ) (b : Buffer Plane) → slice_get bs index ≡ Some b → planes_at bs index ≡ b.planes
 planes_got [] index b e = absurd (cc)
 planes_got (x ∷ bs) zero b e = got x b e
 planes_got (x ∷ bs) (suc index) b e = planes_got bs index b e
@@ -76,11 +73,6 @@ planes_got (x ∷ bs) (suc index) b e = planes_got bs index b e
 list_read : {P : Type 0} (m : P → Plane) (planes : Option (PlaneSet P)) → map (read_set m) (option_to_list planes) ≡ option_to_list (read_given m planes)
 list_read m None = refl
 list_read m (Some set) = refl
-
-lets_none : (kind : Memory) (b : Buffer Plane) → kind ≡ DmaBuf → (dequeued_from kind b).planes ≡ None
-lets_none Mmap b e = absurd (cc)
-lets_none UserPtr b e = refl
-lets_none DmaBuf b e = refl
 
 handed_all : (kind : Memory) (planes : Option (PlaneSet Plane)) → kind ≡ DmaBuf → handed kind planes ≡ planes
 handed_all Mmap planes e = absurd (cc)
@@ -93,10 +85,23 @@ out_read m Mmap planes b e = refl
 out_read m UserPtr planes b e = e
 out_read m DmaBuf planes b e = refl
 
-out_once : (bs : List (Buffer Plane)) (kind : Memory) (index : ℕ) (before : Names Plane) → ((fd : ℕ) → IsOnce (times fd (values_held kind bs)) (before fd)) → kind ≡ DmaBuf → AreOnce (λ x. in_buffers x (changed (dequeued_from kind) index bs) + times x (values_of (option_to_list (planes_at bs index)))) before
-out_once bs kind index before linked e =
-    λ (x : ℕ). once_same (in_buffers x bs) (in_buffers x (changed (dequeued_from kind) index bs) + times x (values_of (option_to_list (planes_at bs index)))) (before x) (before x)
-    (sym (let_out (dequeued_from kind) index bs x (λ b. lets_none kind b e))) refl (subst (λ k. IsOnce (times x (values_held k bs)) (before x)) e (linked x))
+apart : (a b c o : ℕ) → a ≡ b + c → (b + o) + c ≡ a + o
+apart a b c o e = omega arith
+
+nothing_apart : (o : ℕ) → (0 + o) + 0 ≡ 0 + o
+nothing_apart o = omega arith
+
+-- the planes of a buffer that goes to the application are the queue's no more
+pub out_count : (bs : List (Buffer Plane)) (kind : Memory) (index o fd : ℕ) → (times fd (values_held kind (changed (dequeued_from kind) index bs)) + o) + times fd (values_by_fd kind (option_to_list (planes_at bs index))) ≡ times fd (values_held kind bs) + o
+out_count bs Mmap index o fd = nothing_apart o
+out_count bs UserPtr index o fd = nothing_apart o
+out_count bs DmaBuf index o fd =
+    apart (in_buffers fd bs) (in_buffers fd (changed (dequeued_from DmaBuf) index bs)) (times fd (values_of (option_to_list (planes_at bs index)))) o (let_out (dequeued_from DmaBuf) index bs fd (λ b. refl))
+
+out_once : (bs : List (Buffer Plane)) (kind : Memory) (index : ℕ) (out : List (ℕ × Plane)) (before : Names Plane) → AreOnce (λ fd. times fd (values_held kind bs) + times fd out) before → AreOnce (λ x. (times x (values_held kind (changed (dequeued_from kind) index bs)) + times x out) + times x (values_by_fd kind (option_to_list (planes_at bs index)))) before
+out_once bs kind index out before linked =
+    λ (x : ℕ). once_same (times x (values_held kind bs) + times x out) ((times x (values_held kind (changed (dequeued_from kind) index bs)) + times x out) + times x (values_by_fd kind (option_to_list (planes_at bs index)))) (before x) (before x)
+    (out_count bs kind index (times x out) x) refl (linked x)
 
 module _ {P : Type 0} (m : P → Plane) where
   pub lets_one_out : (A : Type 0) (answer : Dequeued P) (told : Dequeued P) (kind : Memory) (q q' : Lined P) (a b : Fds P) → kind ≡ q.body.kind → Steps m (Dequeues m) (Ok answer) q q' → told ≡ record answer { planes = handed_out None kind answer.planes } → LetsOut kind (option_to_list answer.planes) a b → LetsOneOut {P = P} {A = A} m (Ok (reply.Dequeued told)) q a q' b
@@ -107,13 +112,13 @@ module _ {P : Type 0} (m : P → Plane) where
       let buffer = t.1.2.0 in
       let planes : planes_at s.body.buffers answer.index ≡ buffer.planes = planes_got s.body.buffers answer.index buffer t.1.2.1 in
       let hs = option_to_list (planes_at s.body.buffers answer.index) in
-      let n : ℕ → ℕ = λ x. in_buffers x (changed (dequeued_from s.body.kind) answer.index s.body.buffers) in
+      let n : ℕ → ℕ = λ x. times x (values_held s.body.kind (changed (dequeued_from s.body.kind) answer.index s.body.buffers)) + times x j.out in
       let lets_here : LetsOut s.body.kind (option_to_list answer.planes) a b = subst (λ x. LetsOut x (option_to_list answer.planes) a b) k lets in
       let read : s.body.kind ≡ DmaBuf → map (read_set m) (option_to_list answer.planes) ≡ hs =
       λ (e : s.body.kind ≡ DmaBuf). list_read m answer.planes ∙ ap option_to_list (t.1.2.2.planes ∙ (handed_all s.body.kind buffer.planes e ∙ sym planes)) in
-      let l : IsLeft m s.body.kind hs n j.names b = left m s.body.kind (option_to_list answer.planes) hs n a b j.names stands.names lets_here read (out_once s.body.buffers s.body.kind answer.index j.names stands.linked) in
-      let state : IoctlState = record { queue = dequeued answer.index s; names = names_left s.body.kind hs j.names } in
-      let now : Stands m q' b state = record { queue = subst (λ x. StandsFor m q' x) t.1.3 t.2; names = l.names; linked = linked_if (dequeued answer.index s).body s.body.kind (names_left s.body.kind hs j.names) refl l.once } in
+      let l : IsLeft m s.body.kind hs n j.names b = left m s.body.kind (option_to_list answer.planes) hs n a b j.names stands.names lets_here read (out_once s.body.buffers s.body.kind answer.index j.out j.names stands.linked) in
+      let state : IoctlState = record { queue = dequeued answer.index s; names = names_left s.body.kind hs j.names; out = j.out } in
+      let now : Stands m q' b state = record { queue = subst (λ x. StandsFor m q' x) t.1.3 t.2; names = l.names; linked = l.once } in
       let told_index : told.index ≡ answer.index = ap (λ d. d.index) tells in
       let frame : TellsFrame m j (record answer { planes = handed_out None s.body.kind answer.planes }) =
       (t.1.1, (buffer, t.1.2.1, record { sequence = t.1.2.2.sequence; timestamp = t.1.2.2.timestamp; flags = t.1.2.2.flags; used = t.1.2.2.used; planes = refl }, out_read m s.body.kind answer.planes buffer.planes t.1.2.2.planes)) in (
@@ -147,22 +152,33 @@ supply_passed a b t e =
     true_of t (passed_here (not t) BadSupply None e2)
 
 -- a new queue of DMA-BUF memory has no planes yet
-new_once : (count : ℕ) (kind : Memory) (sets : List (PlaneSet Plane)) (b : Body Plane) (n : Names Plane) → request_refusal count kind sets b ≡ None → kind ≡ DmaBuf → AreOnce (λ x. in_buffers x (body_requested count kind sets b).buffers) n
-new_once count Mmap sets b n e k = absurd (cc)
-new_once count UserPtr sets b n e k = absurd (cc)
-new_once count DmaBuf sets b n e k =
+new_none : (count : ℕ) (kind : Memory) (sets : List (PlaneSet Plane)) (b : Body Plane) → request_refusal count kind sets b ≡ None → (fd : ℕ) → times fd (values_held kind (body_requested count kind sets b).buffers) ≡ 0
+new_none count Mmap sets b e fd = refl
+new_none count UserPtr sets b e fd = refl
+new_none count DmaBuf sets b e fd =
     let serves_it : is_supply b.shape b.min_queued count DmaBuf sets ≡ true = supply_passed (nat_lt 0 count && b.streaming) (list_any (λ x. x.mapped) b.buffers) (is_supply b.shape b.min_queued count DmaBuf sets) e in
     let none : sets ≡ [] = no_supply (nat_lt 0 count) ((length sets == granted b.min_queued count) && list_all (serves b.shape) sets) sets serves_it in
-    λ (x : ℕ). inl (ap (λ l. in_buffers x (new_buffers (grants_or_none b.min_queued count) l)) none ∙ none_in_new (grants_or_none b.min_queued count) x)
+    ap (λ l. in_buffers fd (new_buffers (grants_or_none b.min_queued count) l)) none ∙ none_in_new (grants_or_none b.min_queued count) fd
+
+alone : (a o : ℕ) → a ≡ 0 → a + o ≡ o
+alone a o e = omega arith
+
+new_linked : (count : ℕ) (kind : Memory) (sets : List (PlaneSet Plane)) (b : Body Plane) (out : List (ℕ × Plane)) (n : Names Plane) → request_refusal count kind sets b ≡ None → AreOnce (λ x. times x out) n → IsLinked (body_requested count kind sets b) out n
+new_linked count kind sets b out n e once =
+    λ (x : ℕ). once_same (times x out) (times x (values_held kind (body_requested count kind sets b).buffers) + times x out) (n x) (n x) (alone (times x (values_held kind (body_requested count kind sets b).buffers)) (times x out) (new_none count kind sets b e x)) refl (once x)
 
 left_all : (kind : Memory) (bs : List (Buffer Plane)) → kind ≡ DmaBuf → left_in kind bs ≡ held bs
 left_all Mmap bs e = absurd (cc)
 left_all UserPtr bs e = refl
 left_all DmaBuf bs e = refl
 
-old_once : (bs : List (Buffer Plane)) (kind : Memory) (before : Names Plane) → ((fd : ℕ) → IsOnce (times fd (values_held kind bs)) (before fd)) → kind ≡ DmaBuf → AreOnce (λ x. 0 + times x (values_of (held bs))) before
-old_once bs kind before linked e =
-    λ (x : ℕ). once_same (in_buffers x bs) (0 + in_buffers x bs) (before x) (before x) (omega arith) refl (subst (λ k. IsOnce (times x (values_held k bs)) (before x)) e (linked x))
+behind : (a o : ℕ) → o + a ≡ a + o
+behind a o = omega arith
+
+old_once : (bs : List (Buffer Plane)) (kind : Memory) (out : List (ℕ × Plane)) (before : Names Plane) → AreOnce (λ fd. times fd (values_held kind bs) + times fd out) before → AreOnce (λ x. times x out + times x (values_by_fd kind (held bs))) before
+old_once bs kind out before linked =
+    λ (x : ℕ). once_same (times x (values_held kind bs) + times x out) (times x out + times x (values_by_fd kind (held bs))) (before x) (before x)
+    (behind (times x (values_held kind bs)) (times x out)) refl (linked x)
 
 out_all : {P : Type 0} (m : P → Plane) (kind : Memory) (sets : List (PlaneSet P)) (bs : List (Buffer Plane)) → map (read_set m) sets ≡ left_in kind bs → map (read_set m) (handed_out [] kind sets) ≡ handed_out [] kind (held bs)
 out_all m Mmap sets bs e = refl
@@ -177,14 +193,14 @@ module _ {P A : Type 0} (m : P → Plane) where
       let sets = map (read_set m) supply in
       let k : own ≡ s.body.kind = is ∙ ap (λ x. x.kind) stands.queue.shown.body in
       let lets_here : LetsOut s.body.kind g.left.items a b = subst (λ x. LetsOut x g.left.items a b) k lets in
-      let l : IsLeft m s.body.kind (held s.body.buffers) (λ x. 0) j.names b =
-      left m s.body.kind g.left.items (held s.body.buffers) (λ x. 0) a b j.names stands.names lets_here (λ (e : s.body.kind ≡ DmaBuf). t.1.2 ∙ left_all s.body.kind s.body.buffers e) (old_once s.body.buffers s.body.kind j.names stands.linked) in
+      let l : IsLeft m s.body.kind (held s.body.buffers) (λ x. times x j.out) j.names b =
+      left m s.body.kind g.left.items (held s.body.buffers) (λ x. times x j.out) a b j.names stands.names lets_here (λ (e : s.body.kind ≡ DmaBuf). t.1.2 ∙ left_all s.body.kind s.body.buffers e) (old_once s.body.buffers s.body.kind j.out j.names stands.linked) in
       let after = names_left s.body.kind (held s.body.buffers) j.names in (
         (t.1.0, (counts ∙ t.1.1, ap (map (read_set m)) (leaves ∙ ap (λ x. handed_out [] x g.left.items) k) ∙ out_all m s.body.kind g.left.items s.body.buffers t.1.2)),
         record {
           queue = subst (λ x. StandsFor m q' x) t.1.3 t.2;
           names = l.names;
-          linked = linked_if (requested count kind sets s).body kind after refl (new_once count kind sets s.body after t.1.0);
+          linked = new_linked count kind sets s.body j.out after t.1.0 l.once;
         },
       )
 

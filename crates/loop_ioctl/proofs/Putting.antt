@@ -1,5 +1,5 @@
 -- QBUF and PREPARE_BUF, of queue and table.
-use Rattle.std.proofs.Common.{◌≡◌, ℕ, suc, ◌+◌, ◌<◌, Bool, true, false, not, ◌||◌, nat_le, cond, List, [], ◌∷◌, length, map, Option, Some, None, option_map, Ok, Err, refl, sym, ◌∙◌, ap, subst, arith, inl}
+use Rattle.std.proofs.Common.{◌≡◌, ℕ, suc, ◌+◌, ◌<◌, Bool, true, false, not, ◌||◌, nat_le, cond, List, [], ◌∷◌, length, map, Option, Some, None, option_map, Ok, Err, refl, sym, ◌∙◌, ap, subst, arith}
 use Rattle.std.specs.Prelude.{Result, OnErr}
 use Rattle.std.proofs.lemmas.Bool.Decides.{nat_tests}
 use Rattle.slab.specs.Slab.{SameValues}
@@ -60,10 +60,10 @@ same_kind DmaBuf DmaBuf e = refl
 same_kind k l e = absurd (cc)
 
 -- what QBUF and PREPARE_BUF of given planes have found where they aren't refused
-record IsFit (index : ℕ) (k : Memory) (b : Body Plane) : Type 0 where
-  within : index < length b.buffers
-  kind : b.kind ≡ k
-  empty : holds_at b.buffers index ≡ false
+pub record IsFit (index : ℕ) (k : Memory) (b : Body Plane) : Type 0 where
+  pub within : index < length b.buffers
+  pub kind : b.kind ≡ k
+  pub empty : holds_at b.buffers index ≡ false
 
 fit_of : (index : ℕ) (k : Memory) (set : PlaneSet Plane) (b : Body Plane) (late : Option Reason) → cond (nat_le (length b.buffers) index) (Some BadIndex) (cond (not (same_memory k b.kind) || not (are_kind b.kind set)) (Some BadMemory) (cond (holds_at b.buffers index || not (has_count b.shape.count set)) (Some BadPlanes) late)) ≡ None → IsFit index k b
 fit_of index k set b late e =
@@ -78,7 +78,7 @@ fit_of index k set b late e =
       empty = first_false (holds_at b.buffers index) (not (has_count b.shape.count set)) (passed_here t3 BadPlanes late e2);
     }
 
-fit : (way : Use) (index : ℕ) (kind : Memory) (set : PlaneSet Plane) (b : Body Plane) → use_refusal way index kind (Some set) b ≡ None → IsFit index kind b
+pub fit : (way : Use) (index : ℕ) (kind : Memory) (set : PlaneSet Plane) (b : Body Plane) → use_refusal way index kind (Some set) b ≡ None → IsFit index kind b
 fit Prepare index kind set b e = fit_of index kind set b (first_of (prepare_late_checks index (Some set) b)) e
 fit Queue index kind set b e = fit_of index kind set b (first_of (queue_late_checks index (Some set) b)) e
 
@@ -91,61 +91,67 @@ settled_fds b fd =
 pub settled_kind : (b : Body Plane) → (settled b).kind ≡ b.kind
 settled_kind b = elim (device_runs b) as (λ t. (cond t (awake b) b).kind ≡ b.kind) [ true ↦ refl | false ↦ refl ]
 
-used_kind : (way : Use) (index : ℕ) (given : Option (PlaneSet Plane)) (s : QueueState) → (used way index given s).body.kind ≡ s.body.kind
+pub used_kind : (way : Use) (index : ℕ) (given : Option (PlaneSet Plane)) (s : QueueState) → (used way index given s).body.kind ≡ s.body.kind
 used_kind Prepare index given s = refl
 used_kind Queue index given s = settled_kind (with_buffer (queued_with given) index s.body)
 
-used_none : (way : Use) (index : ℕ) (s : QueueState) (fd : ℕ) → in_buffers fd (used way index None s).body.buffers ≡ in_buffers fd s.body.buffers
+pub used_none : (way : Use) (index : ℕ) (s : QueueState) (fd : ℕ) → in_buffers fd (used way index None s).body.buffers ≡ in_buffers fd s.body.buffers
 used_none Prepare index s fd = kept_changed (prepared_with None) index s.body.buffers fd (λ b d. refl)
 used_none Queue index s fd = settled_fds (with_buffer (queued_with None) index s.body) fd ∙ kept_changed (queued_with None) index s.body.buffers fd (λ b d. refl)
 
-used_some : (way : Use) (index : ℕ) (set : PlaneSet Plane) (s : QueueState) (fd : ℕ) → index < length s.body.buffers → holds_at s.body.buffers index ≡ false → in_buffers fd (used way index (Some set) s).body.buffers ≡ in_buffers fd s.body.buffers + in_buffer fd (Some set)
+pub used_some : (way : Use) (index : ℕ) (set : PlaneSet Plane) (s : QueueState) (fd : ℕ) → index < length s.body.buffers → holds_at s.body.buffers index ≡ false → in_buffers fd (used way index (Some set) s).body.buffers ≡ in_buffers fd s.body.buffers + in_buffer fd (Some set)
 used_some Prepare index set s fd within empty = added (prepared_with (Some set)) (Some set) index s.body.buffers fd within empty (λ b. refl)
 used_some Queue index set s fd within empty =
     settled_fds (with_buffer (queued_with (Some set)) index s.body) fd ∙ added (queued_with (Some set)) (Some set) index s.body.buffers fd within empty (λ b. refl)
 
-held_same : (kind : Memory) (bs cs : List (Buffer Plane)) (fd : ℕ) → in_buffers fd cs ≡ in_buffers fd bs → times fd (values_held kind cs) ≡ times fd (values_held kind bs)
+pub held_same : (kind : Memory) (bs cs : List (Buffer Plane)) (fd : ℕ) → in_buffers fd cs ≡ in_buffers fd bs → times fd (values_held kind cs) ≡ times fd (values_held kind bs)
 held_same Mmap bs cs fd e = refl
 held_same UserPtr bs cs fd e = refl
 held_same DmaBuf bs cs fd e = e
 
 -- a change that leaves the kind of memory and the fds
-pub still_linked : (b c : Body Plane) (n : Names Plane) → c.kind ≡ b.kind → ((fd : ℕ) → in_buffers fd c.buffers ≡ in_buffers fd b.buffers) → IsLinked b n → IsLinked c n
-still_linked b c n kind fds linked =
-    λ (fd : ℕ). once_same (times fd (values_held b.kind b.buffers)) (times fd (values_held c.kind c.buffers)) (n fd) (n fd)
-    (ap (λ k. times fd (values_held k c.buffers)) kind ∙ held_same b.kind b.buffers c.buffers fd (fds fd)) refl (linked fd)
+pub still_linked : (b c : Body Plane) (out : List (ℕ × Plane)) (n : Names Plane) → c.kind ≡ b.kind → ((fd : ℕ) → in_buffers fd c.buffers ≡ in_buffers fd b.buffers) → IsLinked b out n → IsLinked c out n
+still_linked b c out n kind fds linked =
+    λ (fd : ℕ). once_same (times fd (values_held b.kind b.buffers) + times fd out) (times fd (values_held c.kind c.buffers) + times fd out) (n fd) (n fd)
+    (ap (λ x. x + times fd out) (ap (λ k. times fd (values_held k c.buffers)) kind ∙ held_same b.kind b.buffers c.buffers fd (fds fd))) refl (linked fd)
 
 -- the application's memory has no fds
-pub user_linked : (b : Body Plane) (n : Names Plane) → b.kind ≡ UserPtr → IsLinked b n
-user_linked b n e = λ (fd : ℕ). subst (λ k. IsOnce (times fd (values_held k b.buffers)) (n fd)) (sym e) (inl refl)
+pub user_linked : (b c : Body Plane) (out : List (ℕ × Plane)) (n : Names Plane) → b.kind ≡ UserPtr → c.kind ≡ UserPtr → IsLinked b out n → IsLinked c out n
+user_linked b c out n e f linked =
+    λ (fd : ℕ). once_same (times fd (values_held b.kind b.buffers) + times fd out) (times fd (values_held c.kind c.buffers) + times fd out) (n fd) (n fd)
+    (ap (λ k. times fd (values_held k c.buffers) + times fd out) f ∙ sym (ap (λ k. times fd (values_held k b.buffers) + times fd out) e)) refl (linked fd)
 
 -- the queue's use of a buffer leaves all fds attached
-none_links : (way : Use) (index : ℕ) (kind : Memory) (s : QueueState) (n : Names Plane) → use_refusal way index kind None s.body ≡ None → IsLinked s.body n → IsLinked (used way index None s).body n
-none_links way index kind s n e linked = still_linked s.body (used way index None s).body n (used_kind way index None s) (used_none way index s) linked
+none_links : (way : Use) (index : ℕ) (kind : Memory) (s : QueueState) (out : List (ℕ × Plane)) (n : Names Plane) → use_refusal way index kind None s.body ≡ None → IsLinked s.body out n → IsLinked (used way index None s).body out n
+none_links way index kind s out n e linked = still_linked s.body (used way index None s).body out n (used_kind way index None s) (used_none way index s) linked
 
-user_links : (way : Use) (index : ℕ) (given : Option (PlaneSet Plane)) (s : QueueState) (n : Names Plane) → use_refusal way index UserPtr given s.body ≡ None → IsLinked s.body n → IsLinked (used way index given s).body n
-user_links way index None s n e linked = none_links way index UserPtr s n e linked
-user_links way index (Some set) s n e linked =
+user_links : (way : Use) (index : ℕ) (given : Option (PlaneSet Plane)) (s : QueueState) (out : List (ℕ × Plane)) (n : Names Plane) → use_refusal way index UserPtr given s.body ≡ None → IsLinked s.body out n → IsLinked (used way index given s).body out n
+user_links way index None s out n e linked = none_links way index UserPtr s out n e linked
+user_links way index (Some set) s out n e linked =
     let f : IsFit index UserPtr s.body = fit way index UserPtr set s.body e in
-    user_linked (used way index (Some set) s).body n (used_kind way index (Some set) s ∙ f.kind)
+    user_linked s.body (used way index (Some set) s).body out n f.kind (used_kind way index (Some set) s ∙ f.kind) linked
+
+beside : (a b c o : ℕ) → a ≡ b + c → a + o ≡ (b + o) + c
+beside a b c o e = omega arith
 
 -- planes by fd are attached
-fds_linked : (way : Use) (index : ℕ) (named : PlaneFds) (s : QueueState) (n : Names Plane) → set_refusal named n ≡ None → use_refusal way index DmaBuf (Some (set_named named n)) s.body ≡ None → IsLinked s.body n → IsLinked (used way index (Some (set_named named n)) s).body (set_taken named n)
-fds_linked way index named s n taken e linked =
+fds_linked : (way : Use) (index : ℕ) (named : PlaneFds) (s : QueueState) (out : List (ℕ × Plane)) (n : Names Plane) → set_refusal named n ≡ None → use_refusal way index DmaBuf (Some (set_named named n)) s.body ≡ None → IsLinked s.body out n → IsLinked (used way index (Some (set_named named n)) s).body out (set_taken named n)
+fds_linked way index named s out n taken e linked =
     let set = set_named named n in
     let f : IsFit index DmaBuf s.body = fit way index DmaBuf set s.body e in
-    let once : AreOnce (λ x. in_buffers x s.body.buffers) n = λ (x : ℕ). subst (λ k. IsOnce (times x (values_held k s.body.buffers)) (n x)) f.kind (linked x) in
-    let more : AreOnce (λ x. in_buffers x s.body.buffers + times x (values_in set)) (set_taken named n) = set_once (λ x. in_buffers x s.body.buffers) n named taken once in
-    λ (fd : ℕ). once_same (in_buffers fd s.body.buffers + times fd (values_in set)) (times fd (values_held (used way index (Some set) s).body.kind (used way index (Some set) s).body.buffers)) (set_taken named n fd) (set_taken named n fd)
-    (ap (λ k. times fd (values_held k (used way index (Some set) s).body.buffers)) (used_kind way index (Some set) s ∙ f.kind)
-    ∙ (used_some way index set s fd f.within f.empty ∙ ap (λ vs. in_buffers fd s.body.buffers + times fd vs) (last_none (values_in set))))
+    let once : AreOnce (λ x. in_buffers x s.body.buffers + times x out) n = λ (x : ℕ). subst (λ k. IsOnce (times x (values_held k s.body.buffers) + times x out) (n x)) f.kind (linked x) in
+    let more : AreOnce (λ x. (in_buffers x s.body.buffers + times x out) + times x (values_in set)) (set_taken named n) = set_once (λ x. in_buffers x s.body.buffers + times x out) n named taken once in
+    λ (fd : ℕ). once_same ((in_buffers fd s.body.buffers + times fd out) + times fd (values_in set)) (times fd (values_held (used way index (Some set) s).body.kind (used way index (Some set) s).body.buffers) + times fd out) (set_taken named n fd) (set_taken named n fd)
+    (ap (λ k. times fd (values_held k (used way index (Some set) s).body.buffers) + times fd out) (used_kind way index (Some set) s ∙ f.kind)
+    ∙ beside (in_buffers fd (used way index (Some set) s).body.buffers) (in_buffers fd s.body.buffers) (times fd (values_in set)) (times fd out)
+    (used_some way index set s fd f.within f.empty ∙ ap (λ vs. in_buffers fd s.body.buffers + times fd vs) (last_none (values_in set))))
     refl (more fd)
 
 -- ---- steps of queue and table
 
 module _ {P : Type 0} (m : P → Plane) where
   -- the queue has moved on, and the table is as it was
-  pub moves : (q q' : Lined P) (table : Fds P) (j : IoctlState) (t : QueueState) → Stands m q table j → StandsFor m q' t → IsLinked t.body j.names → Stands m q' table (record j { queue = t })
+  pub moves : (q q' : Lined P) (table : Fds P) (j : IoctlState) (t : QueueState) → Stands m q table j → StandsFor m q' t → IsLinked t.body j.out j.names → Stands m q' table (record j { queue = t })
   moves q q' table j t stands new linked = record { queue = new; names = stands.names; linked = linked }
 
   pub stays : (q q' : Lined P) (table : Fds P) (j : IoctlState) (t : QueueState) → Stands m q table j → StandsFor m q' t → t ≡ j.queue → Stands m q' table j
@@ -163,11 +169,11 @@ module _ {P : Type 0} (m : P → Plane) where
   uses_refused U r Queue index kind given s t h = h
 
   -- a call that leaves the table
-  pub puts_plain : {U A : Type 0} (result : Result U (Refused P A)) (way : Use) (index : ℕ) (kind : Memory) (given : Option (PlaneSet Plane)) (q q' : Lined P) (table : Fds P) → Steps m (Uses way index kind given) result q q' → ((s : QueueState) (n : Names Plane) → use_refusal way index kind given s.body ≡ None → IsLinked s.body n → IsLinked (used way index given s).body n) → (j : IoctlState) → Stands m q table j → JudgedBack (use_refusal way index kind given j.queue.body) result × Stands m q' table (either result (record j { queue = used way index given j.queue }) j)
+  pub puts_plain : {U A : Type 0} (result : Result U (Refused P A)) (way : Use) (index : ℕ) (kind : Memory) (given : Option (PlaneSet Plane)) (q q' : Lined P) (table : Fds P) → Steps m (Uses way index kind given) result q q' → ((s : QueueState) (out : List (ℕ × Plane)) (n : Names Plane) → use_refusal way index kind given s.body ≡ None → IsLinked s.body out n → IsLinked (used way index given s).body out n) → (j : IoctlState) → Stands m q table j → JudgedBack (use_refusal way index kind given j.queue.body) result × Stands m q' table (either result (record j { queue = used way index given j.queue }) j)
   puts_plain {U} {A} (Ok u) way index kind given q q' table step links j stands =
       let t = step j.queue stands.queue in
       let d = uses_done A u way index kind given j.queue t.0 t.1 in
-      (d.0, moves q q' table j (used way index given j.queue) stands (subst (λ s. StandsFor m q' s) d.1 t.2) (links j.queue j.names d.0 stands.linked))
+      (d.0, moves q q' table j (used way index given j.queue) stands (subst (λ s. StandsFor m q' s) d.1 t.2) (links j.queue j.out j.names d.0 stands.linked))
   puts_plain {U} {A} (Err r) way index kind given q q' table step links j stands =
       let t = step j.queue stands.queue in
       let d = uses_refused U r way index kind given j.queue t.0 t.1 in
@@ -230,7 +236,7 @@ module _ {P : Type 0} (m : P → Plane) where
         record {
           queue = subst (λ s. StandsFor m q' s) (t.1.1 ∙ ap (λ x. used way index (Some x) j.queue) (sym e)) t.2;
           names = ap (set_taken named) stands.names ∙ (set_taken_read m named (names_in a) ∙ ap (read_names m) (sym (ap names_in gives ∙ took.2)));
-          linked = fds_linked way index named j.queue j.names (set_read q a named j stands ∙ took.0) passes stands.linked;
+          linked = fds_linked way index named j.queue j.out j.names (set_read q a named j stands ∙ took.0) passes stands.linked;
         },
       )
   named_puts (Err e) way index named set q q' a b c early took step gives j stands =

@@ -33,20 +33,23 @@ use Rattle.loop_ioctl.specs.Types.{named_type, type_of, same_type}
 use Rattle.loop_ioctl.specs.Names.{Names, names_in, or_else, set_refusal, set_named, set_taken, values_of, given_back}
 use Rattle.loop_ioctl.specs.Attached.{IsLinked}
 
--- a queue, and what each fd names
+-- a queue, what each fd names, and planes that are out of the queue while their fds stay attached, each with its
+-- fd: the application keeps them. No ioctl changes them.
 pub record IoctlState : Type 0 where
   pub queue : QueueState
   pub names : Names Plane
+  pub out : List (ℕ × Plane)
 
 -- the names, each plane read as what it means
 abbrev pub read_names : {P : Type 0} → (P → Plane) → Names P → Names Plane
 read_names meaning before = λ fd. option_map (option_map meaning) (before fd)
 
--- a queue and a table stand for a state, in which each fd that the queue holds is attached, and stands there once
+-- a queue and a table stand for a state, in which each fd of a plane in the queue or out of it is attached, and
+-- stands there once
 pub record Stands {P : Type 0} (meaning : P → Plane) (code : Lined P) (table : Fds P) (j : IoctlState) : Type 0 where
   pub queue : StandsFor meaning code j.queue
   pub names : j.names ≡ read_names meaning (names_in table)
-  pub linked : IsLinked j.queue.body j.names
+  pub linked : IsLinked j.queue.body j.out j.names
 
 -- ---- QBUF and PREPARE_BUF
 
@@ -84,7 +87,7 @@ module _ {P : Type 0} (meaning : P → Plane) where
   put_in way index memory.Mmap j = record j { queue = used way index None j.queue }
   put_in way index (memory.UserPtr given) j = record j { queue = used way index (read_given meaning given) j.queue }
   put_in way index (memory.DmaBuf None) j = record j { queue = used way index None j.queue }
-  put_in way index (memory.DmaBuf (Some named)) j = record {
+  put_in way index (memory.DmaBuf (Some named)) j = record j {
     queue = used way index (Some (set_named named j.names)) j.queue;
     names = set_taken named j.names;
   }
@@ -112,14 +115,14 @@ handed_out none DmaBuf planes = none
 -- the buffer that ended first is the application's
 abbrev pub taken_out : Option ℕ → IoctlState → IoctlState
 taken_out None j = j
-taken_out (Some index) j = record {
+taken_out (Some index) j = record j {
   queue = dequeued index j.queue;
   names = names_left j.queue.body.kind (option_to_list (planes_at j.queue.body.buffers index)) j.names;
 }
 
 -- the old buffers are gone
 abbrev pub replaced : ℕ → Memory → List (PlaneSet Plane) → IoctlState → IoctlState
-replaced count kind sets j = record {
+replaced count kind sets j = record j {
   queue = requested count kind sets j.queue;
   names = names_left j.queue.body.kind (held j.queue.body.buffers) j.names;
 }
@@ -233,8 +236,8 @@ module _ {P A : Type 0} (meaning : P → Plane) where
       (j : IoctlState) → Stands meaning queue table j
       → IsAnswered c j result × Stands meaning new_queue new_table (after c j result)
 
--- A queue without buffers and any table stand for the state in which each fd names what it does.
+-- A queue without buffers and any table stand for the state in which each fd names what it does, and no plane is out.
 abbrev pub NewQueuesStand : {P : Type 0} → (P → Plane) → Type 0
 NewQueuesStand {P} meaning =
     (code : Lined P) (table : Fds P) (s : QueueState) → StandsFor meaning code s → s.body.buffers ≡ []
-    → Stands meaning code table (record { queue = s; names = read_names meaning (names_in table) })
+    → Stands meaning code table (record { queue = s; names = read_names meaning (names_in table); out = [] })

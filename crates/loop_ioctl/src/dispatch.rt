@@ -2,7 +2,6 @@
 ghost use Rattle.std.specs.Prelude.{◌≡◌, None, [], option_to_list, IfErr, OnErr};
 ghost use Rattle.slab.specs.Slab.{SameValues};
 ghost use Rattle.loop_vb2.specs.Errnos.{errno};
-ghost use Rattle.loop_vb2.specs.declared.reason.Reason.TheVariants.{BadType};
 ghost use Rattle.loop_vb2.specs.Steps.{Steps};
 ghost use Rattle.loop_ioctl.specs.Types.{same_type, named_type, type_of};
 ghost use Rattle.loop_ioctl.specs.Calls.{HandsBack, planes_of, planes_given, supply_given, handed_out, Applies};
@@ -195,12 +194,16 @@ fn planes_of<P: Drop>(memory: BufferMemory<P>) -> Option<PlaneSet<P>>
     }
 }
 
-// A refusal for another buffer type, with all planes that the call was given.
-fn bad_type<P: PlaneMemory, A: Allocator + Copy>(alloc: A, call: Ioctl<P, A>) -> Refused<P, A>
-    ensures errno { result.errno ≡ errno BadType }
+/// A refusal of a call for this reason, with all planes that it was given.
+pub fn hand_back<P: PlaneMemory, A: Allocator + Copy>(
+    alloc: A,
+    reason: Reason,
+    call: Ioctl<P, A>,
+) -> Refused<P, A>
+    ensures errno { result.errno ≡ errno reason }
     ensures back { HandsBack (planes_given call) (supply_given call) result }
 {
-    let errno = Errno::of(Reason::BadType);
+    let errno = Errno::of(reason);
     match call {
         Ioctl::ReqBufs { supply, .. } => Refused {
             errno,
@@ -273,6 +276,6 @@ pub fn apply<P: PlaneMemory, A: Allocator + Copy>(
     if is_type_of(call.buf_type(), queue.format()) {
         dispatch(queue, table, call)
     } else {
-        Err(bad_type(queue.allocator(), call))
+        Err(hand_back(queue.allocator(), Reason::BadType, call))
     }
 }

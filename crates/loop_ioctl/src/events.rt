@@ -41,8 +41,8 @@ pub enum QueueReply<P = Box<dyn PlaneMemory + Send>, A: Allocator = Global> {
     Fatal,
 }
 
-// Whether the bytes of a Complete are one whole frame.
-fn is_whole<P, A: Allocator>(shape: &Shape, event: &QueueEvent<P, A>) -> bool
+/// Whether the bytes of a Complete are one whole frame of this shape: what `react` asks of its event.
+pub fn is_whole<P, A: Allocator>(shape: &Shape, event: &QueueEvent<P, A>) -> bool
     ensures { result ≡ is_whole shape.now event.now }
 {
     match event {
@@ -68,8 +68,8 @@ pub fn are_whole<P, A: Allocator>(shape: &Shape, events: &[QueueEvent<P, A>]) ->
     true
 }
 
-// One event.
-fn react<P: PlaneMemory, A: Allocator + Copy>(
+/// One event, with its reply; a refused one changes nothing. The bytes of a Complete have to be one whole frame.
+pub fn react<P: PlaneMemory, A: Allocator + Copy>(
     queue: &mut Queue<P, A>,
     table: &mut FdTable<P, A>,
     event: QueueEvent<P, A>,

@@ -3,7 +3,7 @@
 //! - `call` has what an ioctl is given and what it answers;
 //! - `dispatch` has `apply`: one ioctl is one step of queue and table, and a refused one changes neither;
 //! - `put` has QBUF and PREPARE_BUF, and `fds` how the planes of a set are taken from the table and given back;
-//! - `events` has `run_events`: ioctls and calls of the device in a list, each answered in turn;
+//! - `events` has `react`: an ioctl or a call of the device, and `run_events`: a list of them, each answered in turn;
 //! - `laws` has what follows from the definitions.
 //!
 //! Of `specs/`, `Calls` has the model of an ioctl, `Names` that of the fds, `Attached` what holds of both (each
@@ -19,5 +19,5 @@ pub mod laws;
 mod put;
 
 pub use call::{BufferMemory, BufferType, Ioctl, IoctlReply, PlaneFds};
-pub use dispatch::apply;
-pub use events::{QueueEvent, QueueReply, are_whole, run_events};
+pub use dispatch::{apply, hand_back};
+pub use events::{QueueEvent, QueueReply, are_whole, is_whole, react, run_events};

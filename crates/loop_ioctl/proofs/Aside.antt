@@ -1,0 +1,118 @@
+-- What events leave of the planes that are out of the queue, and of the kind of its memory; the fds of planes that
+-- are queued; and a queue without buffers. Crates above cite it.
+use Rattle.std.proofs.Common.{◌≡◌, ℕ, ◌+◌, Bool, true, false, [], Option, Some, None, Ok, Err, refl, sym, subst, inl}
+use Rattle.std.specs.Prelude.{Result, Vec}
+use Rattle.loop_plane.specs.Plane.{Plane}
+use Rattle.loop_plane.specs.declared.memory.Memory.{Memory}
+use Rattle.loop_plane.specs.declared.memory.Memory.TheVariants.{Mmap, UserPtr, DmaBuf}
+use Rattle.loop_vb2.specs.declared.planes.PlaneSet.{PlaneSet}
+use Rattle.loop_vb2.specs.declared.reason.Refused.{Refused}
+use Rattle.loop_vb2.specs.Checks.{queue_refusal}
+use Rattle.loop_vb2.specs.Effects.{queued, first_ended}
+use Rattle.loop_vb2.specs.State.{Body, QueueState}
+use Rattle.loop_vb2.specs.Steps.{read_given}
+use Rattle.loop_ioctl.specs.declared.call.BufferMemory.{BufferMemory}
+use Rattle.loop_ioctl.specs.declared.call.BufferMemory.TheVariants as memory
+use Rattle.loop_ioctl.specs.declared.call.BufferType.{BufferType}
+use Rattle.loop_ioctl.specs.declared.call.Ioctl.{Ioctl}
+use Rattle.loop_ioctl.specs.declared.call.Ioctl.TheVariants as call
+use Rattle.loop_ioctl.specs.declared.call.IoctlReply.{IoctlReply}
+use Rattle.loop_ioctl.specs.declared.events.QueueEvent.{QueueEvent}
+use Rattle.loop_ioctl.specs.declared.events.QueueEvent.TheVariants as event
+use Rattle.loop_ioctl.specs.declared.events.QueueReply.{QueueReply}
+use Rattle.loop_ioctl.specs.declared.events.QueueReply.TheVariants as answer
+use Rattle.loop_ioctl.specs.declared.put.Use.{Use}
+use Rattle.loop_ioctl.specs.declared.put.Use.TheVariants.{Prepare, Queue}
+use Rattle.loop_ioctl.specs.Names.{Names, names_in, set_named}
+use Rattle.loop_ioctl.specs.Attached.{times, values_held, IsOnce, IsLinked}
+use Rattle.loop_ioctl.specs.Calls.{IoctlState, read_names, put_in, taken_out, done, after, NewQueuesStand}
+use Rattle.loop_ioctl.specs.Events.{state_after}
+use Rattle.loop_ioctl.proofs.Attached.{in_buffers, in_buffer}
+use Rattle.loop_ioctl.proofs.Applied.{on_kind}
+use Rattle.loop_ioctl.proofs.Putting.{used_kind, used_none, used_some, held_same, IsFit, fit}
+
+-- ---- a queue without buffers
+
+none_held : (kind : Memory) (fd : ℕ) (name : Option (Option Plane)) → IsOnce (times fd (values_held {T = Plane} kind []) + times {T = Plane} fd []) name
+none_held Mmap fd name = inl refl
+none_held UserPtr fd name = inl refl
+none_held DmaBuf fd name = inl refl
+
+none_linked : (b : Body Plane) (before : Names Plane) → b.buffers ≡ [] → IsLinked b [] before
+none_linked b before e = λ (fd : ℕ). subst (λ bs. IsOnce (times fd (values_held b.kind bs) + times {T = Plane} fd []) (before fd)) (sym e) (none_held b.kind fd (before fd))
+
+pub new_queues_stand : {P : Type 0} (m : P → Plane) → NewQueuesStand m
+new_queues_stand m code table s stands none = record { queue = stands; names = refl; linked = none_linked s.body (read_names m (names_in table)) none }
+
+-- ---- the fds of planes that are queued
+
+pub queued_kind : (index : ℕ) (given : Option (PlaneSet Plane)) (s : QueueState) → (queued index given s).body.kind ≡ s.body.kind
+queued_kind index given s = used_kind Queue index given s
+
+pub queued_none : (index : ℕ) (s : QueueState) (fd : ℕ) → times fd (values_held s.body.kind (queued index None s).body.buffers) ≡ times fd (values_held s.body.kind s.body.buffers)
+queued_none index s fd = held_same s.body.kind s.body.buffers (queued index None s).body.buffers fd (used_none Queue index s fd)
+
+pub queued_some : (index : ℕ) (set : PlaneSet Plane) (s : QueueState) (fd : ℕ) → queue_refusal index s.body.kind (Some set) s.body ≡ None → in_buffers fd (queued index (Some set) s).body.buffers ≡ in_buffers fd s.body.buffers + in_buffer fd (Some set)
+queued_some index set s fd e =
+    let f : IsFit index s.body.kind s.body = fit Queue index s.body.kind set s.body e in used_some Queue index set s fd f.within f.empty
+
+-- ---- events
+
+-- what an event leaves: the planes that are out, and the kind of memory
+pub record IsAside (j k : IoctlState) : Type 0 where
+  pub out : k.out ≡ j.out
+  pub kind : k.queue.body.kind ≡ j.queue.body.kind
+
+abbrev pub is_request : {P A : Type 0} → QueueEvent P A → Bool
+is_request (event.Ioctl (call.ReqBufs type count kind supply)) = true
+is_request e = false
+
+same_aside : (j : IoctlState) → IsAside j j
+same_aside j = record { out = refl; kind = refl }
+
+module _ {P : Type 0} (m : P → Plane) where
+  put_aside : (w : Use) (index : ℕ) (given : BufferMemory P) (j : IoctlState) → IsAside j (put_in m w index given j)
+  put_aside w index memory.Mmap j = record { out = refl; kind = used_kind w index None j.queue }
+  put_aside w index (memory.UserPtr given) j = record { out = refl; kind = used_kind w index (read_given m given) j.queue }
+  put_aside w index (memory.DmaBuf None) j = record { out = refl; kind = used_kind w index None j.queue }
+  put_aside w index (memory.DmaBuf (Some named)) j = record { out = refl; kind = used_kind w index (Some (set_named named j.names)) j.queue }
+
+taken_aside : (first : Option ℕ) (j : IoctlState) → IsAside j (taken_out first j)
+taken_aside None j = same_aside j
+taken_aside (Some index) j = record { out = refl; kind = refl }
+
+module _ {P A : Type 0} (m : P → Plane) where
+  done_aside : (c : Ioctl P A) (j : IoctlState) → is_request (event.Ioctl c) ≡ false → IsAside j (done m c j)
+  done_aside (call.ReqBufs type count kind supply) j e = absurd (cc)
+  done_aside (call.QueryBuf type index) j e = same_aside j
+  done_aside (call.PrepareBuf type index given) j e = put_aside m Prepare index given j
+  done_aside (call.QBuf type index given) j e = put_aside m Queue index given j
+  done_aside (call.DqBuf type) j e = taken_aside (first_ended j.queue) j
+  done_aside (call.StreamOn type) j e = record { out = refl; kind = on_kind j.queue.body }
+  done_aside (call.StreamOff type) j e = record { out = refl; kind = refl }
+  done_aside (call.Mmap type index) j e = record { out = refl; kind = refl }
+  done_aside (call.Munmap type index) j e = record { out = refl; kind = refl }
+
+  call_aside : (c : Ioctl P A) (result : Result (IoctlReply P A) (Refused P A)) (j : IoctlState) → is_request (event.Ioctl c) ≡ false → IsAside j (after m c j result)
+  call_aside c (Ok r) j e = done_aside c j e
+  call_aside c (Err r) j e = same_aside j
+
+  -- all but REQBUFS
+  pub event_aside : (e : QueueEvent P A) (r : QueueReply P A) (j : IoctlState) → is_request e ≡ false → IsAside j (state_after m e r j)
+  event_aside (event.Ioctl c) (answer.Ioctl result) j n = call_aside c result j n
+  event_aside (event.Complete index stamp bytes) (answer.Ended (Ok u)) j n = record { out = refl; kind = refl }
+  event_aside (event.Complete index stamp bytes) (answer.Ended (Err e)) j n = same_aside j
+  event_aside (event.Fail index stamp) (answer.Ended (Ok u)) j n = record { out = refl; kind = refl }
+  event_aside (event.Fail index stamp) (answer.Ended (Err e)) j n = same_aside j
+  event_aside event.Fatal answer.Fatal j n = record { out = refl; kind = refl }
+  event_aside e r j n = same_aside j
+
+  -- and REQBUFS
+  request_out : (type : BufferType) (count : ℕ) (kind : Memory) (supply : Vec (PlaneSet P) A) (result : Result (IoctlReply P A) (Refused P A)) (j : IoctlState) → (after m (call.ReqBufs type count kind supply) j result).out ≡ j.out
+  request_out type count kind supply (Ok r) j = refl
+  request_out type count kind supply (Err r) j = refl
+
+  pub call_out : (type : BufferType) (count : ℕ) (kind : Memory) (supply : Vec (PlaneSet P) A) (r : QueueReply P A) (j : IoctlState) → (state_after m (event.Ioctl (call.ReqBufs type count kind supply)) r j).out ≡ j.out
+  call_out type count kind supply (answer.Ioctl result) j = request_out type count kind supply result j
+  call_out type count kind supply (answer.Ended result) j = refl
+  call_out type count kind supply answer.Fatal j = refl
