@@ -9,8 +9,8 @@ use Rattle.loop_record.specs.declared.geometry.Geometry.{Geometry}
 use Rattle.loop_record.specs.Recording.{Recording, plain, ring_of}
 use Rattle.loop_record.specs.Turns.{EachIn, after_all}
 use Rattle.loop_record.proofs.Turned.{after-behind, each-behind, told-behind}
-use Rattle.loop_store.specs.Calls.{AreAnswered, Call, IsAllowed, IsAnswered, Outline, StoreState, after, after_calls, begun, begun_in, failed_for, made, made_in, outline_after}
-use Rattle.loop_store.specs.Goes.{CalledEach, Goes, Stands, outline_of, with_each}
+use Rattle.loop_store.specs.Calls.{AreAnswered, Call, IsAllowed, IsAnswered, Progress, StoreState, after, after_calls, begun, begun_in, failed_for, made, made_in, progress_after}
+use Rattle.loop_store.specs.Goes.{CalledEach, Goes, Stands, progress_of, with_each}
 use Rattle.loop_store.specs.Seen.{Seen}
 use Rattle.loop_store.specs.Steps.{LeavesSteps}
 use Rattle.loop_store.proofs.Leaves.{leaves-joined, leaves-none, leaves-same}
@@ -47,7 +47,7 @@ goes-none medium store sound = record {
       leaves-none store.geometry s.recording (medium store.disk) (sound now) (stands.recording.settled still now) (stands.recording.held still now);
   idle = λ must. refl;
   allowed = tt;
-  outline = refl;
+  progress = refl;
   geometry = refl;
   called = called-none (medium store.disk);
 }
@@ -59,8 +59,8 @@ pub record GoesOnce {D : Type 0} (medium : D → Medium) (old new : Seen D) (c :
   pub leaves : (s : StoreState) → Stands medium old s → (medium old.disk).honest → s.must_reopen ≡ false
       → LeavesSteps old.geometry s.recording (made old.geometry s c) (begun old.geometry s c) (medium old.disk) (medium new.disk)
   pub idle : old.must_reopen ≡ true → new ≡ old
-  pub allowed : IsAllowed old.geometry (outline_of old) c
-  pub outline : outline_of new ≡ outline_after (outline_of old) c
+  pub allowed : IsAllowed old.geometry (progress_of old) c
+  pub progress : progress_of new ≡ progress_after (progress_of old) c
   pub geometry : new.geometry ≡ old.geometry
   pub called : Called (medium old.disk) (medium new.disk) (failed_for c)
 
@@ -73,7 +73,7 @@ goes-once medium old new c one = record {
       leaves-same g s.recording (made g s c) (made g s c ++ []) (begun g s c) (begun g s c ++ []) (medium old.disk) (medium new.disk) (sym (append-nil (made g s c))) (sym (append-nil (begun g s c))) (one.leaves s stands now fine);
   idle = one.idle;
   allowed = (one.allowed, tt);
-  outline = one.outline;
+  progress = one.progress;
   geometry = one.geometry;
   called = called-one (medium old.disk) (medium new.disk) (failed_for c) one.called;
 }
@@ -90,9 +90,9 @@ goes-joined {D} medium old mid new xs ys first second = record {
       (sym (told-behind (after g) (made g) s xs ys)) (sym (told-behind (after g) (begun g) s xs ys)) (go s stands now fine (mid_state s).must_reopen refl);
   idle = λ must. let same = first.idle must in second.idle (ap (λ (t : Seen D). t.must_reopen) same ∙ must) ∙ same;
   allowed =
-      each-behind outline_after (IsAllowed g) (outline_of old) xs ys first.allowed
-      (subst (λ (o : Outline). EachIn outline_after (IsAllowed g) o ys) first.outline (subst (λ (h : Geometry). EachIn outline_after (IsAllowed h) (outline_of mid) ys) first.geometry second.allowed));
-  outline = second.outline ∙ ap (λ (o : Outline). after_all outline_after o ys) first.outline ∙ sym (after-behind outline_after (outline_of old) xs ys);
+      each-behind progress_after (IsAllowed g) (progress_of old) xs ys first.allowed
+      (subst (λ (o : Progress). EachIn progress_after (IsAllowed g) o ys) first.progress (subst (λ (h : Geometry). EachIn progress_after (IsAllowed h) (progress_of mid) ys) first.geometry second.allowed));
+  progress = second.progress ∙ ap (λ (o : Progress). after_all progress_after o ys) first.progress ∙ sym (after-behind progress_after (progress_of old) xs ys);
   geometry = second.geometry ∙ first.geometry;
   called =
       subst (λ (l : List (Option DiskFault)). CalledEach (medium old.disk) (medium new.disk) l) (sym (map-append failed_for xs ys))

@@ -5,6 +5,7 @@ pub mod NewStore
 pub mod Grown
 pub mod Placing
 pub mod Room
+pub mod HeldCount
 pub mod Looked
 pub mod Looks
 pub mod Numbers

@@ -1,5 +1,5 @@
 -- What a lock and an unlock make of an image, of what is known of it, and of a store.
-use Rattle.std.proofs.Common.{◌≡◌, ◌≢◌, inl, inr, ℕ, suc, ◌+◌, ◌*◌, ◌<◌, ◌≤◌, Bool, true, false, not, ◌&&◌, leb, ltb, if◌then◌else◌, is_some, Option, None, Some, Result, Ok, Err, OnOk, List, [], ◌∷◌, length, get_or, set, map, refl, sym, ap, ◌∙◌, subst, arith}
+use Rattle.std.proofs.Common.{◌≡◌, ◌≢◌, inl, inr, ℕ, suc, ◌+◌, ◌*◌, ◌<◌, ◌≤◌, Bool, true, false, not, ◌&&◌, leb, ltb, if◌then◌else◌, is_some, Option, None, Some, Result, Err, List, [], ◌∷◌, length, get_or, set, map, refl, sym, ap, ◌∙◌, subst, arith}
 use Rattle.std.proofs.lemmas.List.{length-map, set-get_or}
 use Rattle.std.proofs.lemmas.Result.{on_ok_weaker}
 use Rattle.std.proofs.lemmas.List.Sums.{prefix_len_stops}
@@ -14,9 +14,9 @@ use Rattle.loop_record.specs.declared.geometry.Geometry.{Geometry}
 use Rattle.loop_record.specs.declared.segment.SegmentHead.{SegmentHead}
 use Rattle.loop_record.specs.Change.{ShowsClip}
 use Rattle.loop_record.specs.Geometry.{clip_at, disk_size, gate_at, segment_at, segment_size}
-use Rattle.loop_record.specs.Layout.{Segment, clip_in, is_open, segment_in, whole_frames}
+use Rattle.loop_record.specs.Layout.{clip_in}
 use Rattle.loop_record.specs.Reading.{Holds, Parts, parts_of, shown}
-use Rattle.loop_record.specs.Recording.{Recording, Step, after, clip_of, first_free, free_id, holds, last_number, lock, plain, ring_of, unlock}
+use Rattle.loop_record.specs.Recording.{Recording, Step, after, clip_of, first_free, holds, last_number, lock, plain, ring_of, unlock}
 use Rattle.loop_record.proofs.Clips.{clip_of-entry, clips-are, parts-clip, reading-clip, reading-lock, reading-unlock}
 use Rattle.loop_record.proofs.Decided.{at_most, at_most_test, both}
 use Rattle.loop_record.proofs.Framing.{same_open, same_segment, same_whole_frames}
@@ -31,8 +31,8 @@ use Rattle.loop_store.specs.declared.fault.StoreFault.{StoreFault}
 use Rattle.loop_store.specs.declared.fault.StoreFault.TheVariants.{NoSuchClip}
 use Rattle.loop_store.specs.Calls.{Call, CanRefuseSpan, IsAllowed, IsAnswered, RefusesSpan, StoreState, begun, count_stored, failed_for, has_failed, locked, made, unlocked}
 use Rattle.loop_store.specs.Faults.{failed_by, is_disk}
-use Rattle.loop_store.specs.Goes.{Goes, outline_of}
-use Rattle.loop_store.specs.Held.{HasNoneStray, HoldsFrom, HoldsSome, Makes}
+use Rattle.loop_store.specs.Goes.{Goes, progress_of}
+use Rattle.loop_store.specs.Held.{HasNoneStray, HoldsSome, Makes}
 use Rattle.loop_store.specs.Locks.{KeepsSegments, CanTake}
 use Rattle.loop_store.specs.Recovered.{IsClipNoted, IsHeadIn, IsIndex, IsIndexOf}
 use Rattle.loop_store.specs.Seen.{IsKept, IsPresent, Seen, StandsFor, seen_with}
@@ -222,7 +222,7 @@ pub record IsClipCall (g : Geometry) (c : Call) (IsOne : Recording → Type 0) :
 pub goes-noted : {D A : Type 0} (medium : D → Medium) (old new : D) (was now : Index A) (must : Bool) (id : ℕ) (clip : Option Span) (IsOne : Recording → Type 0) (step : Step) (c : Call) → IsKept medium old was must → must ≡ false → 1 ≤ was.ring.geometry.slots
     → Noted medium old new was now id clip IsOne step → ((r : Recording) → IsOne r → (medium old).honest → Holds was.ring.geometry r (medium old).bytes → LeavesOnly (medium old) (medium new) (HoldsSome was.ring.geometry r (step ∷ [])))
     → ((r : Recording) → (medium old).honest → IsIndexOf was r (medium old).bytes → IsOne r) → IsClipCall was.ring.geometry c IsOne → has_failed c ≡ false → failed_for c ≡ None → ((s : StoreState) → made was.ring.geometry s c ≡ step ∷ []) → ((s : StoreState) → begun was.ring.geometry s c ≡ [])
-    → IsAllowed was.ring.geometry (outline_of (seen_with old was must)) c → Goes medium (seen_with old was must) (seen_with new now must) (c ∷ [])
+    → IsAllowed was.ring.geometry (progress_of (seen_with old was must)) c → Goes medium (seen_with old was must) (seen_with new now must) (c ∷ [])
 goes-noted medium old new was now must id clip IsOne step c kept fine some n moments one call unfailed none made_all begun_none allowed =
     goes-done medium (seen_with old was must) (seen_with new now must) c (λ r. step ∷ []) (record {
       fine = fine;
@@ -245,7 +245,7 @@ goes-noted medium old new was now must id clip IsOne step c kept fine some n mom
 pub goes-unnoted : {D A : Type 0} (medium : D → Medium) (old new : D) (was now : Index A) (must : Bool) (IsOne : Recording → Type 0) (step : Step) (c : Call) (fault : DiskFault) → IsKept medium old was must → must ≡ false → now ≡ was
     → ((medium new).honest → IsSound (medium new)) → Called (medium old) (medium new) (Some fault) → ((r : Recording) → IsOne r → (medium old).honest → Holds was.ring.geometry r (medium old).bytes → LeavesOnly (medium old) (medium new) (HoldsSome was.ring.geometry r (step ∷ [])))
     → ((r : Recording) → (medium old).honest → IsIndexOf was r (medium old).bytes → IsOne r) → IsClipCall was.ring.geometry c IsOne → has_failed c ≡ true → failed_for c ≡ Some fault → ((s : StoreState) → made was.ring.geometry s c ≡ []) → ((s : StoreState) → begun was.ring.geometry s c ≡ step ∷ [])
-    → IsAllowed was.ring.geometry (outline_of (seen_with old was must)) c → Goes medium (seen_with old was must) (seen_with new now true) (c ∷ [])
+    → IsAllowed was.ring.geometry (progress_of (seen_with old was must)) c → Goes medium (seen_with old was must) (seen_with new now true) (c ∷ [])
 goes-unnoted medium old new was now must IsOne step c fault kept fine same sound called moments one call has some made_none begun_all allowed =
     goes-failed medium (seen_with old was must) (seen_with new now true) c (λ r. step ∷ []) fault (record {
       fine = fine;

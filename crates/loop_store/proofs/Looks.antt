@@ -1,5 +1,5 @@
 -- A call that only looks leaves the store as it was.
-use Rattle.std.proofs.Common.{◌≡◌, ℕ, ◌<◌, ◌≤◌, Bool, true, false, is_some, Option, None, List, get_or, sym, ap, ◌∙◌, subst}
+use Rattle.std.proofs.Common.{◌≡◌, ℕ, ◌<◌, ◌≤◌, Bool, true, false, is_some, Option, None, List, get_or, length, sym, ap, ◌∙◌, subst}
 use Rattle.std.specs.List.{All, list_any}
 use Rattle.loop_disk.specs.Calls.{Stays}
 use Rattle.loop_disk.specs.Medium.{Medium, IsSettled}
@@ -13,7 +13,9 @@ pub use Rattle.loop_ring.proofs.SlotReads.{stays_on}
 use Rattle.loop_store.specs.Held.{HasNoneStray}
 use Rattle.loop_store.specs.declared.index.Index.{Index}
 use Rattle.loop_store.specs.Recovered.{IsFitting, IsHeadIn, IsIndexOf, IsRecovered}
+use Rattle.loop_store.specs.Numbers.{numbers_under}
 use Rattle.loop_store.specs.Seen.{IsKept, IsPresent, Seen, StandsFor, Tells, seen_with}
+use Rattle.loop_store.proofs.HeldCount.{count-held}
 use Rattle.loop_store.proofs.Looked.{held-slot}
 use Rattle.loop_store.proofs.Numbers.{among-under}
 use Rattle.loop_store.proofs.Room.{one-recording}
@@ -37,7 +39,7 @@ looked-kept medium old new index must_reopen kept size back stays = record {
 
 pub looked-stands : {D : Type 0} (medium : D → Medium) (old : Seen D) (disk : D) (r : Recording) → StandsFor medium old r → ((medium disk).honest → (medium old.disk).honest) → ((medium old.disk).honest → Stays (medium old.disk) (medium disk)) → StandsFor medium (record old { disk = disk }) r
 looked-stands medium old disk r stands back stays = record {
-  told = λ now. let told = stands.told (back now) in record { next_is = told.next_is; numbers_are = told.numbers_are; clips_are = told.clips_are };
+  told = λ now. let told = stands.told (back now) in record { next_is = told.next_is; numbers_are = told.numbers_are; count_is = told.count_is; clips_are = told.clips_are };
   settled = λ fine now. stays-settled (medium old.disk) (medium disk) (stays (back now)) (stands.settled fine (back now));
   held = λ fine now. subst (λ (image : List ℕ). Holds old.geometry r image) (sym (stays (back now)).bytes) (stands.held fine (back now));
 }
@@ -54,6 +56,7 @@ pub told-by : {D A : Type 0} (disk : D) (index : Index A) (must_reopen : Bool) (
 told-by disk index must_reopen r image some within known = record {
   next_is = known.next_is;
   numbers_are = λ n. among-under index.ring.geometry n index.table.heads some within ∙ ap (list_any (has_number index.ring.geometry.slots n)) known.heads_are ∙ held-number index.ring.geometry r image n known.held;
+  count_is = ap (λ (hs : List (Option SegmentHead)). length (numbers_under index.ring.geometry.slots hs)) known.heads_are ∙ count-held index.ring.geometry r image known.held;
   clips_are = known.clips_are;
 }
 

@@ -77,6 +77,7 @@ pub fresh-tells : {D A : Type 0} (g : Geometry) (disk : D) (index : Index A) →
 fresh-tells g disk index new = record {
   next_is = new.next;
   numbers_are = λ n. ap (λ (ns : List ℕ). is_among ns n) (ap (numbers_under index.ring.geometry.slots) new.closed ∙ none-under index.ring.geometry.slots g.segments);
+  count_is = ap length (ap (numbers_under index.ring.geometry.slots) new.closed ∙ none-under index.ring.geometry.slots g.segments);
   clips_are = new.none;
 }
 

@@ -10,7 +10,7 @@ use Rattle.loop_record.specs.Reading.{Holds}
 use Rattle.loop_record.specs.Recording.{Recording, Step, plain, ring_of}
 use Rattle.loop_record.proofs.Decided.{clash}
 use Rattle.loop_store.specs.Calls.{Call, IsAllowed, IsAnswered, StoreState, begun, count_stored, failed_for, has_failed, made}
-use Rattle.loop_store.specs.Goes.{Goes, Stands, outline_of}
+use Rattle.loop_store.specs.Goes.{Goes, Stands, progress_of}
 use Rattle.loop_store.specs.Held.{HoldsFrom, HoldsSome}
 use Rattle.loop_store.specs.Seen.{HasFailed, Seen, StandsFor}
 use Rattle.loop_store.specs.Steps.{LeavesSteps}
@@ -43,7 +43,7 @@ pub record IsQuiet (c : Call) : Type 0 where
   pub begun_none : (g : Geometry) (s : StoreState) → begun g s c ≡ []
 
 pub goes-refused : {D : Type 0} (medium : D → Medium) (s : Seen D) (c : Call) → ((medium s.disk).honest → IsSound (medium s.disk)) → IsQuiet c
-    → ((t : StoreState) → Stands medium s t → (medium s.disk).honest → IsAnswered s.geometry t c) → IsAllowed s.geometry (outline_of s) c → Goes medium s s (c ∷ [])
+    → ((t : StoreState) → Stands medium s t → (medium s.disk).honest → IsAnswered s.geometry t c) → IsAllowed s.geometry (progress_of s) c → Goes medium s s (c ∷ [])
 goes-refused {D} medium s c sound quiet answers allowed = goes-once medium s s c (record {
   answers = answers;
   stands = λ t stands now. record {
@@ -56,7 +56,7 @@ goes-refused {D} medium s c sound quiet answers allowed = goes-once medium s s c
       (leaves-none s.geometry t.recording (medium s.disk) (sound now) (stands.recording.settled still now) (stands.recording.held still now));
   idle = λ must. refl;
   allowed = allowed;
-  outline =
+  progress =
       let zero : s.next ≡ s.next + count_stored c = omega (arith, quiet.stored) in
       λ i. record { next = zero i; must_reopen = sym (or-quiet s.must_reopen (has_failed c) quiet.unfailed) i };
   geometry = refl;
@@ -83,7 +83,7 @@ pub record Done {D : Type 0} (medium : D → Medium) (old new : Seen D) (c : Cal
   pub made_all : (s : StoreState) → made old.geometry s c ≡ steps s.recording
   pub begun_none : (s : StoreState) → begun old.geometry s c ≡ []
   pub answers : (s : StoreState) → Stands medium old s → (medium old.disk).honest → IsAnswered old.geometry s c
-  pub allowed : IsAllowed old.geometry (outline_of old) c
+  pub allowed : IsAllowed old.geometry (progress_of old) c
   pub moments : (r : Recording) → StandsFor medium old r → (medium old.disk).honest → LeavesOnly (medium old.disk) (medium new.disk) (HoldsSome old.geometry r (steps r))
   pub stands : (r : Recording) → StandsFor medium old r → (medium old.disk).honest → StandsFor medium new (plain (ring_of old.geometry) r (steps r))
 
@@ -103,7 +103,7 @@ goes-done {D} medium old new c steps done = goes-once medium old new c (record {
       (subst (λ (g : Geometry). Holds g (plain (ring_of old.geometry) r (steps r)) (medium new.disk).bytes) done.geometry (later.held done.still there)));
   idle = λ must. absurd (clash old.must_reopen must done.fine);
   allowed = done.allowed;
-  outline = λ i. record { next = done.next i; must_reopen = (done.still ∙ sym (or-quiet old.must_reopen (has_failed c) done.unfailed ∙ done.fine)) i };
+  progress = λ i. record { next = done.next i; must_reopen = (done.still ∙ sym (or-quiet old.must_reopen (has_failed c) done.unfailed ∙ done.fine)) i };
   geometry = done.geometry;
   called = subst (λ (f : Option DiskFault). Called (medium old.disk) (medium new.disk) f) (sym done.none) done.called;
 })
@@ -122,7 +122,7 @@ pub record Failed {D : Type 0} (medium : D → Medium) (old new : Seen D) (c : C
   pub made_none : (s : StoreState) → made old.geometry s c ≡ []
   pub begun_all : (s : StoreState) → begun old.geometry s c ≡ steps s.recording
   pub answers : (s : StoreState) → Stands medium old s → (medium old.disk).honest → IsAnswered old.geometry s c
-  pub allowed : IsAllowed old.geometry (outline_of old) c
+  pub allowed : IsAllowed old.geometry (progress_of old) c
   pub moments : (r : Recording) → StandsFor medium old r → (medium old.disk).honest → LeavesOnly (medium old.disk) (medium new.disk) (HoldsSome old.geometry r (steps r))
 
 pub goes-failed : {D : Type 0} (medium : D → Medium) (old new : Seen D) (c : Call) (steps : Recording → List Step) (fault : DiskFault) → Failed medium old new c steps fault → Goes medium old new (c ∷ [])
@@ -142,7 +142,7 @@ goes-failed {D} medium old new c steps fault failed = goes-once medium old new c
       });
   idle = λ must. absurd (clash old.must_reopen must failed.fine);
   allowed = failed.allowed;
-  outline =
+  progress =
       let zero : old.next ≡ old.next + count_stored c = omega (arith, failed.stored) in
       λ i. record { next = (ap (λ (x : Seen D). x.next) failed.failed ∙ zero) i; must_reopen = (ap (λ (x : Seen D). x.must_reopen) failed.failed ∙ sym (or-loud old.must_reopen (has_failed c) failed.has)) i };
   geometry = ap (λ (x : Seen D). x.geometry) failed.failed;

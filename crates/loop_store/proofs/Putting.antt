@@ -1,30 +1,24 @@
 -- A group that was appended, or wasn't.
-use Rattle.std.proofs.Common.{◌≡◌, ◌≢◌, ◌⊎◌, inl, inr, ℕ, ◌+◌, Bool, true, false, Option, None, Some, Ok, Err, List, [], ◌∷◌, ◌++◌, length, if◌then◌else◌, refl, sym, ap, ◌∙◌, subst, arith}
-use Rattle.std.proofs.lemmas.List.{append-nil}
-use Rattle.std.specs.Prelude.{◌||◌}
+use Rattle.std.proofs.Common.{◌≡◌, ◌≢◌, ◌⊎◌, inl, inr, ◌+◌, Bool, false, None, Some, Ok, Err, List, [], ◌∷◌, length, if◌then◌else◌, refl, sym, ap, ◌∙◌}
 use Rattle.loop_disk.specs.declared.fault.DiskFault.{DiskFault}
 use Rattle.loop_disk.specs.Calls.{Called}
-use Rattle.loop_disk.specs.Medium.{Medium, IsSettled, IsSound, LeavesOnly}
-use Rattle.loop_record.specs.declared.geometry.Geometry.{Geometry}
-use Rattle.loop_record.specs.Reading.{Holds}
-use Rattle.loop_record.proofs.Decided.{clash}
-use Rattle.loop_record.specs.Recording.{Picture, Recording, Step, last_number, plain, ring_of, steps}
+use Rattle.loop_disk.specs.Medium.{Medium, IsSound, LeavesOnly}
+use Rattle.loop_record.specs.Recording.{Picture, Recording, last_number, plain, ring_of, steps}
 use Rattle.loop_store.specs.declared.fault.StoreFault.{StoreFault}
 use Rattle.loop_store.specs.declared.fault.StoreFault.TheVariants.{AllLocked, Disk, NumbersSpent}
 use Rattle.loop_store.specs.Calls.{IsAllowed, RefusesAppend, StoreState, appended, asked}
 use Rattle.loop_store.specs.Faults.{failed_by, is_disk}
-use Rattle.loop_store.specs.Goes.{Goes, Stands, outline_of}
-use Rattle.loop_store.specs.Held.{HoldsFrom, HoldsSome}
+use Rattle.loop_store.specs.Goes.{Goes, Stands, progress_of}
+use Rattle.loop_store.specs.Held.{HoldsSome}
 use Rattle.loop_store.specs.Places.{RefusesPlace}
 use Rattle.loop_store.specs.Seen.{HasFailed, Seen, StandsFor}
-use Rattle.loop_store.specs.Steps.{LeavesSteps}
 use Rattle.loop_store.proofs.Appended.{place-none}
 use Rattle.loop_store.proofs.Once.{goes-done, goes-failed, goes-refused}
 
 -- ---- refused before the disk was called
 
 pub put-refused : {D : Type 0} (medium : D → Medium) (s : Seen D) (ps : List Picture) (fault : StoreFault) → ((medium s.disk).honest → IsSound (medium s.disk)) → is_disk fault ≡ false → failed_by fault ≡ None
-    → ((t : StoreState) → Stands medium s t → (medium s.disk).honest → RefusesAppend s.geometry t ps fault) → IsAllowed s.geometry (outline_of s) (appended ps (Err fault)) → Goes medium s s (appended ps (Err fault) ∷ [])
+    → ((t : StoreState) → Stands medium s t → (medium s.disk).honest → RefusesAppend s.geometry t ps fault) → IsAllowed s.geometry (progress_of s) (appended ps (Err fault)) → Goes medium s s (appended ps (Err fault) ∷ [])
 put-refused medium s ps fault sound quiet none answers allowed = goes-refused medium s (appended ps (Err fault)) sound (record {
   unfailed = quiet;
   none = none;
@@ -47,7 +41,7 @@ place-refused {D} medium s ps fault sound fine either spent unspent known = put-
     none (inl e) = ap failed_by e
     none (inr e) = ap failed_by e
 
-    allowed : (fault ≡ NumbersSpent) ⊎ (fault ≡ AllLocked) → IsAllowed s.geometry (outline_of s) (appended ps (Err fault))
+    allowed : (fault ≡ NumbersSpent) ⊎ (fault ≡ AllLocked) → IsAllowed s.geometry (progress_of s) (appended ps (Err fault))
     allowed (inl e) = inr (inl (e, (fine, spent e)))
     allowed (inr e) = inr (inr (inl e, (fine, unspent e)))
 

@@ -10,9 +10,9 @@ use Rattle.loop_record.specs.declared.frame.FrameHead.{FrameHead}
 use Rattle.loop_record.specs.Recording.{Step, plain, ring_of}
 use Rattle.loop_store.specs.declared.fault.StoreFault.{StoreFault}
 use Rattle.loop_store.specs.declared.fault.StoreFault.TheVariants.{Damaged}
-use Rattle.loop_store.specs.Calls.{Call, IsAllowed, IsAnswered, Outline, StoreState, begun, count_stored, failed_for, has_failed, made, part_with, read_with, was_read, was_read_part}
+use Rattle.loop_store.specs.Calls.{Call, IsAllowed, IsAnswered, Progress, StoreState, begun, count_stored, failed_for, has_failed, made, part_with, read_with, was_read, was_read_part}
 use Rattle.loop_store.specs.Faults.{failed_in, is_disk}
-use Rattle.loop_store.specs.Goes.{Goes, Stands, outline_of}
+use Rattle.loop_store.specs.Goes.{Goes, Stands, progress_of}
 use Rattle.loop_store.specs.Reads.{AnswersFrame, AnswersFramePart}
 use Rattle.loop_store.specs.Seen.{Seen, StandsFor}
 use Rattle.loop_store.proofs.Gone.{goes-once}
@@ -39,7 +39,7 @@ look-part number at result = record { steps = λ g s. refl; begins = λ g s. ref
 -- what is known of a read
 pub record Looked {D : Type 0} (medium : D → Medium) (old : Seen D) (disk : D) (c : Call) : Type 0 where
   pub answers : (s : StoreState) → Stands medium old s → (medium old.disk).honest → IsAnswered old.geometry s c
-  pub allowed : IsAllowed old.geometry (outline_of old) c
+  pub allowed : IsAllowed old.geometry (progress_of old) c
   pub stays : (medium old.disk).honest → Stays (medium old.disk) (medium disk)
   pub called : Called (medium old.disk) (medium disk) (failed_for c)
   pub idle : old.must_reopen ≡ true → disk ≡ old.disk
@@ -58,7 +58,7 @@ goes-looked {D} medium old disk c look sound looked = goes-once medium old (reco
       (leaves-looked old.geometry s.recording (medium old.disk) (medium disk) (sound now) (stands.recording.settled still now) (stands.recording.held still now) (looked.stays now));
   idle = λ must. ap (λ (d : D). record old { disk = d }) (looked.idle must);
   allowed = looked.allowed;
-  outline =
+  progress =
       let zero : old.next ≡ old.next + count_stored c = omega (arith, look.none) in
       let must = unfailed old.must_reopen in
       λ i. record { next = zero i; must_reopen = must i };
@@ -75,7 +75,7 @@ still m = record { bytes = refl; images = λ c left. left; time = record { later
 
 -- refused before the disk was called
 pub goes-unread : {D : Type 0} (medium : D → Medium) (s : Seen D) (c : Call) → IsLook c → ((medium s.disk).honest → IsSound (medium s.disk)) → failed_for c ≡ None
-    → ((t : StoreState) → Stands medium s t → (medium s.disk).honest → IsAnswered s.geometry t c) → IsAllowed s.geometry (outline_of s) c → Goes medium s s (c ∷ [])
+    → ((t : StoreState) → Stands medium s t → (medium s.disk).honest → IsAnswered s.geometry t c) → IsAllowed s.geometry (progress_of s) c → Goes medium s s (c ∷ [])
 goes-unread medium s c look sound none answers allowed = goes-looked medium s s.disk c look sound (record {
   answers = answers;
   allowed = allowed;
@@ -89,7 +89,7 @@ pub read-answered : (g : Geometry) (s : StoreState) (number : ℕ) (result : Res
 read-answered g s number (Ok h) out fine said = (fine, said)
 read-answered g s number (Err fault) out fine said = inr (inr (inr said.0, (fine, said.1)))
 
-pub read-allowed : (g : Geometry) (o : Outline) (number : ℕ) (result : Result FrameHead StoreFault) (out : List ℕ) → o.must_reopen ≡ false → IfErr result (λ fault. (fault ≡ Damaged SlotHead) ⊎ (is_disk fault ≡ true)) → IsAllowed g o (was_read number (read_with result out))
+pub read-allowed : (g : Geometry) (o : Progress) (number : ℕ) (result : Result FrameHead StoreFault) (out : List ℕ) → o.must_reopen ≡ false → IfErr result (λ fault. (fault ≡ Damaged SlotHead) ⊎ (is_disk fault ≡ true)) → IsAllowed g o (was_read number (read_with result out))
 read-allowed g o number (Ok h) out fine said = fine
 read-allowed g o number (Err fault) out fine said = inr (inr (inr said), fine)
 
@@ -102,7 +102,7 @@ pub part-answered : (g : Geometry) (s : StoreState) (number at : ℕ) (result : 
 part-answered g s number at (Ok done) out fine said = (fine, said)
 part-answered g s number at (Err fault) out fine said = inr (inr (said.0, (fine, said.1)))
 
-pub part-allowed : (g : Geometry) (o : Outline) (number at : ℕ) (result : Result (Unit {0}) StoreFault) (out : List ℕ) → o.must_reopen ≡ false → IfErr result (λ fault. (fault ≡ Damaged SlotHead) ⊎ (is_disk fault ≡ true)) → IsAllowed g o (was_read_part number at (part_with result out))
+pub part-allowed : (g : Geometry) (o : Progress) (number at : ℕ) (result : Result (Unit {0}) StoreFault) (out : List ℕ) → o.must_reopen ≡ false → IfErr result (λ fault. (fault ≡ Damaged SlotHead) ⊎ (is_disk fault ≡ true)) → IsAllowed g o (was_read_part number at (part_with result out))
 part-allowed g o number at (Ok done) out fine said = fine
 part-allowed g o number at (Err fault) out fine said = inr (inr said, fine)
 

@@ -61,6 +61,10 @@ recovers-on {T} {U} (Err x) e P P' Q Q' h made said = subst (λ (y : StoreFault)
     go (StoreFault.ClipNotHeld number) said = said
     go StoreFault.ClipTableFull said = said
     go StoreFault.NoSuchClip said = said
+    go StoreFault.PendingFull said = said
+    go StoreFault.WrongSize said = said
+    go StoreFault.HandFull said = said
+    go StoreFault.HandEmpty said = said
 
 -- ---- the superblock
 

@@ -188,7 +188,7 @@ begun_in g s calls = told_in (after g) (begun g) s calls
 -- ---- what is known of every disk, honest or not
 
 -- the number that comes next, and whether a call that writes has failed
-pub record Outline : Type 0 where
+pub record Progress : Type 0 where
   pub next : ℕ
   pub must_reopen : Bool
 
@@ -198,8 +198,8 @@ count_stored (appended group (Ok number)) = length group
 count_stored (appended group (Err fault)) = 0
 count_stored _ = 0
 
-abbrev pub outline_after : Outline → Call → Outline
-outline_after o call = record { next = o.next + count_stored call; must_reopen = o.must_reopen || has_failed call }
+abbrev pub progress_after : Progress → Call → Progress
+progress_after o call = record { next = o.next + count_stored call; must_reopen = o.must_reopen || has_failed call }
 
 -- why a span may be refused, whatever is held
 abbrev pub CanRefuseSpan : Span → StoreFault → Type 0
@@ -209,7 +209,7 @@ CanRefuseSpan span fault =
     ⊎ (fault ≡ ClipTableFull) × (span.from ≤ span.to))
 
 -- the answer is one of those that the call may give there
-abbrev pub IsAllowed : Geometry → Outline → Call → Type 0
+abbrev pub IsAllowed : Geometry → Progress → Call → Type 0
 IsAllowed g o (appended group (Ok number)) =
     (o.must_reopen ≡ false) × ((o.next ≢ last_number (ring_of g)) × (number ≡ o.next))
 IsAllowed g o (appended group (Err fault)) =

@@ -4,7 +4,7 @@ use Rattle.loop_disk.specs.declared.fault.DiskFault.{DiskFault}
 use Rattle.loop_ring.specs.declared.fault.SlotFault.{SlotFault}
 use Rattle.loop_ring.specs.declared.fault.SlotFault.TheVariants as slot
 use Rattle.loop_store.specs.declared.fault.StoreFault.{StoreFault}
-use Rattle.loop_store.specs.declared.fault.StoreFault.TheVariants.{NoMemory, Disk, MustReopen, NotFormatted, Damaged, NotHeld, BadGeometry, NumbersSpent, AllLocked, ClipEmpty, ClipNotHeld, ClipTableFull, NoSuchClip}
+use Rattle.loop_store.specs.declared.fault.StoreFault.TheVariants.{NoMemory, Disk, MustReopen, NotFormatted, Damaged, NotHeld, BadGeometry, NumbersSpent, AllLocked, ClipEmpty, ClipNotHeld, ClipTableFull, NoSuchClip, PendingFull, WrongSize, HandFull, HandEmpty}
 
 -- the number of each refusal
 abbrev pub fault_number : StoreFault → ℕ
@@ -14,6 +14,8 @@ fault_number MustReopen = 3
 fault_number NotFormatted = 4
 fault_number (Damaged damage) = 5
 fault_number AllLocked = 6
+fault_number PendingFull = 7
+fault_number WrongSize = 8
 fault_number ClipEmpty = 9
 fault_number (ClipNotHeld number) = 10
 fault_number ClipTableFull = 11
@@ -21,6 +23,8 @@ fault_number NoSuchClip = 12
 fault_number NotHeld = 13
 fault_number NumbersSpent = 14
 fault_number BadGeometry = 16
+fault_number HandFull = 18
+fault_number HandEmpty = 19
 
 -- the name of each refusal
 abbrev pub fault_name : StoreFault → List ℕ
@@ -30,6 +34,8 @@ fault_name MustReopen = codes "MustReopen"
 fault_name NotFormatted = codes "NotFormatted"
 fault_name (Damaged damage) = codes "Damaged"
 fault_name AllLocked = codes "AllLocked"
+fault_name PendingFull = codes "PendingFull"
+fault_name WrongSize = codes "WrongSize"
 fault_name ClipEmpty = codes "ClipEmpty"
 fault_name (ClipNotHeld number) = codes "ClipNotHeld"
 fault_name ClipTableFull = codes "ClipTableFull"
@@ -37,6 +43,8 @@ fault_name NoSuchClip = codes "NoSuchClip"
 fault_name NotHeld = codes "NotHeld"
 fault_name NumbersSpent = codes "NumbersSpent"
 fault_name BadGeometry = codes "BadGeometry"
+fault_name HandFull = codes "HandFull"
+fault_name HandEmpty = codes "HandEmpty"
 
 -- a call of the disk has failed
 abbrev pub is_disk : StoreFault → Bool

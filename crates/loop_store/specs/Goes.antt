@@ -5,7 +5,7 @@ use Rattle.loop_disk.specs.declared.fault.Failures.{Failures}
 use Rattle.loop_disk.specs.Calls.{with_failed}
 use Rattle.loop_disk.specs.Medium.{Medium}
 use Rattle.loop_record.specs.Turns.{after_all, EachIn}
-use Rattle.loop_store.specs.Calls.{AreAnswered, Call, IsAllowed, Outline, StoreState, after_calls, begun_in, failed_for, made_in, outline_after}
+use Rattle.loop_store.specs.Calls.{AreAnswered, Call, IsAllowed, Progress, StoreState, after_calls, begun_in, failed_for, made_in, progress_after}
 use Rattle.loop_store.specs.Seen.{Seen, StandsFor}
 use Rattle.loop_store.specs.Steps.{LeavesSteps}
 
@@ -26,8 +26,8 @@ pub record Stands {D : Type 0} (medium : D → Medium) (store : Seen D) (s : Sto
   pub must_reopen : store.must_reopen ≡ s.must_reopen
 
 -- what is known of every disk
-abbrev pub outline_of : {D : Type 0} → Seen D → Outline
-outline_of store = record { next = store.next; must_reopen = store.must_reopen }
+abbrev pub progress_of : {D : Type 0} → Seen D → Progress
+progress_of store = record { next = store.next; must_reopen = store.must_reopen }
 
 -- The first three are said of each state that the store stood for, where its disk is honest; the others of every disk.
 pub record Goes {D : Type 0} (medium : D → Medium) (old new : Seen D) (calls : List Call) : Type 0 where
@@ -43,7 +43,7 @@ pub record Goes {D : Type 0} (medium : D → Medium) (old new : Seen D) (calls :
       (medium old.disk) (medium new.disk)
   -- where the store must be reopened, nothing is moved
   pub idle : old.must_reopen ≡ true → new ≡ old
-  pub allowed : EachIn outline_after (IsAllowed old.geometry) (outline_of old) calls
-  pub outline : outline_of new ≡ after_all outline_after (outline_of old) calls
+  pub allowed : EachIn progress_after (IsAllowed old.geometry) (progress_of old) calls
+  pub progress : progress_of new ≡ after_all progress_after (progress_of old) calls
   pub geometry : new.geometry ≡ old.geometry
   pub called : CalledEach (medium old.disk) (medium new.disk) (map failed_for calls)

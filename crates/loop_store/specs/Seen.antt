@@ -1,5 +1,5 @@
 -- A store as its callers see it, and the recording that it stands for.
-use Rattle.std.specs.Prelude.{◌≡◌, ℕ, Result, Ok, Err, Bool, true, false, Option, List, min}
+use Rattle.std.specs.Prelude.{◌≡◌, ℕ, Result, Ok, Err, Bool, true, false, Option, List, length, min}
 use Rattle.loop_disk.specs.Medium.{Medium, IsSettled}
 use Rattle.loop_record.specs.declared.clip.Span.{Span}
 use Rattle.loop_record.specs.declared.geometry.Geometry.{Geometry}
@@ -39,6 +39,7 @@ seen_with disk index must_reopen = record {
 pub record Tells {D : Type 0} (s : Seen D) (r : Recording) : Type 0 where
   pub next_is : s.next ≡ r.next
   pub numbers_are : (n : ℕ) → is_among s.numbers n ≡ holds r n
+  pub count_is : length s.numbers ≡ length r.frames
   pub clips_are : s.clips ≡ r.clips
 
 -- The store stands for a recording, where its disk is honest: it tells of that recording, after a failed call

@@ -53,6 +53,18 @@ pub enum StoreFault {
     /// No clip has this id.
     #[error("no clip has this id")]
     NoSuchClip,
+    /// As many frames wait at a desk as may.
+    #[error("as many frames wait as may")]
+    PendingFull,
+    /// The frame has another size than the geometry's.
+    #[error("the frame has another size")]
+    WrongSize,
+    /// A lane's hand holds a buffer already.
+    #[error("the hand holds a buffer")]
+    HandFull,
+    /// A lane's hand holds no frame, or no buffer, where one is asked for.
+    #[error("the hand is empty")]
+    HandEmpty,
 }
 
 impl StoreFault {
@@ -67,6 +79,8 @@ impl StoreFault {
             StoreFault::NotFormatted => 4,
             StoreFault::Damaged(_) => 5,
             StoreFault::AllLocked => 6,
+            StoreFault::PendingFull => 7,
+            StoreFault::WrongSize => 8,
             StoreFault::ClipEmpty => 9,
             StoreFault::ClipNotHeld(_) => 10,
             StoreFault::ClipTableFull => 11,
@@ -74,6 +88,8 @@ impl StoreFault {
             StoreFault::NotHeld => 13,
             StoreFault::NumbersSpent => 14,
             StoreFault::BadGeometry => 16,
+            StoreFault::HandFull => 18,
+            StoreFault::HandEmpty => 19,
         }
     }
 
@@ -88,6 +104,8 @@ impl StoreFault {
             StoreFault::NotFormatted => "NotFormatted",
             StoreFault::Damaged(_) => "Damaged",
             StoreFault::AllLocked => "AllLocked",
+            StoreFault::PendingFull => "PendingFull",
+            StoreFault::WrongSize => "WrongSize",
             StoreFault::ClipEmpty => "ClipEmpty",
             StoreFault::ClipNotHeld(_) => "ClipNotHeld",
             StoreFault::ClipTableFull => "ClipTableFull",
@@ -95,6 +113,8 @@ impl StoreFault {
             StoreFault::NotHeld => "NotHeld",
             StoreFault::NumbersSpent => "NumbersSpent",
             StoreFault::BadGeometry => "BadGeometry",
+            StoreFault::HandFull => "HandFull",
+            StoreFault::HandEmpty => "HandEmpty",
         }
     }
 }

@@ -26,7 +26,7 @@ pub(crate) struct Index<A: Allocator> {
 }
 
 /// The number that no frame gets: the first of a block that would reach 2^62.
-fn last_number(geometry: &Geometry) -> u64
+pub(crate) fn last_number(geometry: &Geometry) -> u64
     requires { IsTrue (is_good geometry.now) }
     ensures { result ≡ last_number (ring_of geometry.now) }
 {

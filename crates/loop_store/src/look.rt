@@ -1,6 +1,6 @@
 //! What a read of a frame looks at.
 
-ghost use Rattle.std.specs.Prelude.{◌≡◌, ◌<◌, ◌≤◌, ◌+◌, ◌*◌, ◌++◌, ◌↔◌, ◌⊎◌, ◌||◌, Bool, ℕ, List, IfErr, IfNone, IfOk, IfSome, IsTrue, None, false, length, slice_index_or, true, vec_capacity};
+ghost use Rattle.std.specs.Prelude.{◌≡◌, ◌∷◌, [], ◌<◌, ◌≤◌, ◌+◌, ◌*◌, ◌++◌, ◌↔◌, ◌⊎◌, ◌||◌, Bool, ℕ, List, IfErr, IfNone, IfOk, IfSome, IsTrue, None, false, length, slice_index_or, true, vec_capacity};
 ghost use Rattle.std.specs.List.{list_any, range_with_len};
 ghost use Rattle.loop_disk.specs.Calls.{Called, Stays};
 ghost use Rattle.loop_record.specs.Geometry.{disk_size, frame_bytes, is_good};
@@ -12,7 +12,7 @@ ghost use Rattle.loop_record.specs.declared.damage.Damage.TheVariants.{SlotHead}
 ghost use Rattle.loop_ring.specs.Heads.{has_number, heads_of};
 ghost use Rattle.loop_store.specs.declared.fault.StoreFault.TheVariants.{Damaged};
 ghost use Rattle.loop_store.specs.Faults.{answers_disk, is_disk, failed_in};
-ghost use Rattle.loop_store.specs.Numbers.{IsLeastFrom, numbers_in};
+ghost use Rattle.loop_store.specs.Numbers.{IsLeastFrom, numbers_in, numbers_under};
 ghost use Rattle.loop_store.specs.Recovered.{IsHeadIn, IsIndex, IsIndexOf};
 ghost use Rattle.loop_store.specs.Reads.{AnswersFrame, AnswersFramePart};
 
@@ -133,6 +133,28 @@ pub(crate) fn read_held_part<D: Disk>(
     let slot = (number % u64::from(ring.geometry.slots)) as u32;
     ring.read_part(disk, segment, slot, number, at, out)?;
     Ok(())
+}
+
+/// How many frames a header names.
+fn frames_under(head: Option<SegmentHead>) -> u32
+    ensures { (slots : ℕ) → result ≡ length (numbers_under slots (head ∷ [])) }
+{
+    match head {
+        Some(head) => head.frames,
+        None => 0,
+    }
+}
+
+/// How many frames are held.
+pub(crate) fn count_held<A: Allocator>(index: &Index<A>) -> u64
+    requires { IsIndex index.now }
+    ensures { result ≡ length (numbers_under index.now.ring.geometry.slots index.now.table.heads) }
+{
+    let mut count = 0;
+    for head in index.table.heads() {
+        count += u64::from(frames_under(*head));
+    }
+    count
 }
 
 /// Puts the numbers of a segment's frames behind others, in memory that was taken before.

@@ -5,7 +5,7 @@ ghost use Rattle.loop_clips.specs.Table.{listed};
 ghost use Rattle.loop_disk.specs.Calls.{Stays};
 ghost use Rattle.loop_record.specs.Geometry.{frame_bytes, is_good};
 ghost use Rattle.loop_record.specs.Plain.{pictures};
-ghost use Rattle.loop_record.specs.Recording.{Recording, picture, ring_of, room, victim, numbers_end};
+ghost use Rattle.loop_record.specs.Recording.{Recording, last_number, picture, ring_of, room, victim, numbers_end};
 ghost use Rattle.loop_store.specs.Calls.{appended, locked, read_with, unlocked, was_read, part_with, was_read_part};
 ghost use Rattle.loop_store.specs.Goes.{Goes};
 ghost use Rattle.loop_store.specs.Numbers.{IsLeastFrom, is_among};
@@ -13,9 +13,9 @@ ghost use Rattle.loop_store.specs.Seen.{IsGroupFor, IsKept, Refused, Seen, Stand
 
 use crate::StoreFault;
 use crate::found::in_order;
-use crate::index::Index;
+use crate::index::{Index, last_number};
 use crate::lock::{lock_clip, unlock_clip};
-use crate::look::{next_held, numbers_of, read_held, read_held_part, segment_with};
+use crate::look::{count_held, next_held, numbers_of, read_held, read_held_part, segment_with};
 use crate::put::put;
 use loop_clips::Clip;
 use loop_disk::Disk;
@@ -59,7 +59,8 @@ impl<D: Disk + Drop, A: Allocator> Store<D, A> {
 
     /// The number that the next frame gets.
     pub fn next(&self) -> u64
-        ensures { result ≡ self.now.next }
+        ensures next { result ≡ self.now.next }
+        ensures low { result ≤ last_number (ring_of self.now.geometry) }
     {
         self.index.next
     }
@@ -67,11 +68,29 @@ impl<D: Disk + Drop, A: Allocator> Store<D, A> {
     /// How many frames an append may store at most: as many as the block of the next number still takes.
     pub fn room(&self) -> u32
         ensures room { result ≡ self.now.geometry.slots - self.now.next % self.now.geometry.slots }
+        ensures some { 1 ≤ result }
         ensures recording { (r : Recording) → StandsFor D.medium self.now r → (D.medium self.now.disk).honest
             → result ≡ room (ring_of self.now.geometry) r }
     {
         let slots = self.index.ring.geometry.slots;
         slots - (self.index.next % u64::from(slots)) as u32
+    }
+
+    /// The number that no frame gets, since its block would reach 2^62: where it comes next, no number is left.
+    pub fn last_number(&self) -> u64
+        ensures last { result ≡ last_number (ring_of self.now.geometry) }
+        ensures low { result ≤ numbers_end }
+    {
+        last_number(&self.index.ring.geometry)
+    }
+
+    /// How many frames are held.
+    pub fn held(&self) -> u64
+        ensures count { result ≡ length self.now.numbers }
+        ensures recording { (r : Recording) → StandsFor D.medium self.now r → (D.medium self.now.disk).honest
+            → result ≡ length r.frames }
+    {
+        count_held(&self.index)
     }
 
     /// Whether a frame has this number.

@@ -1,4 +1,4 @@
-use Rattle.std.proofs.Common.{◌≡◌, inl, inr, suc, ◌<◌, ◌≤◌, ◌&&◌, refl, sym, ap, ◌∙◌, arith}
+use Rattle.std.proofs.Common.{inl, inr, suc, ◌≤◌, ◌&&◌, refl, sym, ap, ◌∙◌, arith}
 use Rattle.loop_record.specs.Recording.{first_free, free_id}
 use Rattle.loop_record.proofs.Decided.{at_most_test}
 use Rattle.loop_store.proofs.lock.id_for.Goals as goal

@@ -1,13 +1,12 @@
-use Rattle.std.proofs.Common.{ℕ, Ok, Err, None, Some, List, set, inr, refl, sym, ap, ◌∙◌}
+use Rattle.std.proofs.Common.{ℕ, Ok, Err, Some, set, inr, refl, sym, ap}
 use Rattle.std.proofs.lemmas.Result.{err_from_is_err_and}
-use Rattle.loop_record.specs.Recording.{Recording, lock}
+use Rattle.loop_record.specs.Recording.{lock}
 use Rattle.loop_record.proofs.Bounds.{limits}
 use Rattle.loop_store.specs.declared.fault.StoreFault.TheVariants.{Disk}
 use Rattle.loop_store.specs.Calls.{locked}
 use Rattle.loop_store.specs.Locks.{CanTake}
-use Rattle.loop_store.specs.Recovered.{IsIndexOf}
 use Rattle.loop_store.specs.Seen.{seen_with}
-use Rattle.loop_store.proofs.Locked.{Noted, goes-noted, goes-unnoted, kept-noted, lock-refused}
+use Rattle.loop_store.proofs.Locked.{goes-noted, goes-unnoted, kept-noted, lock-refused}
 use Rattle.loop_store.proofs.Looks.{known-by}
 use Rattle.loop_store.proofs.lock.lock_clip.Goals as goal
 

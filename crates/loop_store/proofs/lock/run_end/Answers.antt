@@ -1,4 +1,4 @@
-use Rattle.std.proofs.Common.{◌≡◌, ◌+◌, ◌*◌, ◌<◌, ℕ, sym, ◌∙◌, subst}
+use Rattle.std.proofs.Common.{◌+◌, ◌*◌, ◌<◌, ℕ, sym, ◌∙◌, subst}
 use Rattle.loop_record.proofs.Bounds.{limits}
 use Rattle.loop_store.proofs.Locked.{run-held}
 use Rattle.loop_store.proofs.lock.run_end.Goals as goal

@@ -1,6 +1,6 @@
-use Rattle.std.proofs.Common.{◌≡◌, ◌≢◌, ℕ, Option, Ok, Err, None, Some, List, get_or, inl, inr, refl, sym, ap, ◌∙◌}
+use Rattle.std.proofs.Common.{◌≡◌, ◌≢◌, Option, Ok, Err, None, Some, inr, refl, sym, ◌∙◌}
 use Rattle.loop_record.specs.declared.clip.Span.{Span}
-use Rattle.loop_record.specs.Recording.{Recording, clip_of, unlock}
+use Rattle.loop_record.specs.Recording.{clip_of, unlock}
 use Rattle.loop_record.proofs.Bounds.{limits}
 use Rattle.loop_store.specs.declared.fault.StoreFault.TheVariants.{Disk}
 use Rattle.loop_store.specs.Calls.{unlocked}

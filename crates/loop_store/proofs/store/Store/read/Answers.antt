@@ -4,7 +4,7 @@ use Rattle.loop_record.proofs.Decided.{clash}
 use Rattle.loop_ring.specs.Heads.{has_number}
 use Rattle.loop_store.specs.declared.fault.StoreFault.TheVariants.{NotHeld}
 use Rattle.loop_store.specs.Calls.{read_with, was_read}
-use Rattle.loop_store.specs.Goes.{Goes, outline_of}
+use Rattle.loop_store.specs.Goes.{Goes, progress_of}
 use Rattle.loop_store.specs.Seen.{Seen, seen_with}
 use Rattle.loop_store.proofs.Looks.{known-by, looked-kept}
 use Rattle.loop_store.proofs.Reading.{goes-looked, goes-unread, look-read, read-allowed, read-answered, read-failed}
@@ -26,7 +26,7 @@ returns-in-Some-clause-goes g c =
           let known = known-by medium s.disk s.index s.must_reopen t.recording c.self.invariant.0 stands.recording c.if-self.false honest in
           let has = subst (λ (hs : List (Option SegmentHead)). has_number s.index.ring.geometry.slots c.args.number (get_or hs c.in-Some.segment None) ≡ true) known.heads_are c.in-Some.ensures.there in
           read-answered s.index.ring.geometry t c.args.number c.read_held.result c.read_held.new.out (sym stands.must_reopen ∙ c.if-self.false) (c.read_held.ensures.frame t.recording honest (stands.recording.held c.if-self.false honest) has);
-      allowed = read-allowed s.index.ring.geometry (outline_of old) c.args.number c.read_held.result c.read_held.new.out c.if-self.false c.read_held.ensures.refusals;
+      allowed = read-allowed s.index.ring.geometry (progress_of old) c.args.number c.read_held.result c.read_held.new.out c.if-self.false c.read_held.ensures.refusals;
       stays = c.read_held.ensures.stays;
       called = read-failed c.read_held.result c.read_held.new.out _ _ c.read_held.ensures.called;
       idle = λ must. absurd (clash s.must_reopen must c.if-self.false);
