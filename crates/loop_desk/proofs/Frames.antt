@@ -1,0 +1,86 @@
+-- No frame is lost between a desk and the recording, and they keep their order.
+use Rattle.std.proofs.Common.{◌≡◌, ◌≢◌, ℕ, Bool, true, false, min, if◌then◌else◌, Option, Some, None, Ok, Err, List, [], ◌∷◌, ◌++◌, length, take, drop, map, refl, sym, ap, ◌∙◌, append_assoc}
+use Rattle.std.proofs.lemmas.Grind.{flat_map-append}
+use Rattle.std.proofs.lemmas.List.{append-nil, length-take, take-append-drop, take_min}
+use Rattle.std.specs.Prelude.{◌==◌, ◌-◌, ◌%◌}
+use Rattle.loop_record.specs.declared.geometry.Geometry.{Geometry}
+use Rattle.loop_record.specs.Recording.{Picture, Recording, Ring, Step, store, last_number, needs_recycling, recycling_first, ring_of, steps, stores_after, victim}
+use Rattle.loop_record.specs.Turns.{after_all, EachIn}
+use Rattle.loop_record.proofs.Turned.{told-behind}
+use Rattle.loop_store.specs.declared.fault.StoreFault.{StoreFault}
+use Rattle.loop_store.specs.Calls.{AreAnswered, IsAnswered, StoreState, after, after_calls, made, made_in}
+use Rattle.loop_store.specs.Steps.{steps_or_none}
+use Rattle.loop_desk.specs.declared.limits.Flushed.{Flushed}
+use Rattle.loop_desk.specs.Desk.{AreTold, DeskCall, IsFlush, IsDeskTold, Rules, Waiting, accepted, accepted_in, append_of, clip_locked, clip_unlocked, flushed, frame_read, frames_stored, group_of, pending_after, store_calls, store_calls_in, stored_by, submitted, waiting_after, waiting_after_calls}
+
+pub each-parts : {S X : Type 0} (next : S → X → S) (P : S → X → Type 0) (s : S) (xs ys : List X) → EachIn next P s (xs ++ ys) → EachIn next P s xs × EachIn next P (after_all next s xs) ys
+each-parts next P s [] ys both = (tt, both)
+each-parts next P s (x ∷ xs) ys both = let rest = each-parts next P (next s x) xs ys both.1 in ((both.0, rest.0), rest.1)
+
+frames-stores : (ps : List Picture) → frames_stored (map store ps) ≡ ps
+frames-stores [] = refl
+frames-stores (p ∷ ps) = ap (λ l. p ∷ l) (frames-stores ps)
+
+-- an append's steps store its frames
+frames-steps : (ring : Ring) (r : Recording) (group : List Picture) → steps ring r group ≢ None → frames_stored (steps_or_none (steps ring r group)) ≡ group
+frames-steps ring r group some = go (r.next == last_number ring) (needs_recycling ring r) (victim ring r) some
+  where
+    go : (b n : Bool) (v : Option ℕ) → (if b then None else stores_after (recycling_first n v) group) ≢ None → frames_stored (steps_or_none (if b then None else stores_after (recycling_first n v) group)) ≡ group
+    go true n v some = absurd (some refl)
+    go false false v some = frames-stores group
+    go false true None some = absurd (some refl)
+    go false true (Some b) some = frames-stores group
+
+frames-both : (a b : List Step) → frames_stored (a ++ b) ≡ frames_stored a ++ frames_stored b
+frames-both a b = flat_map-append stored_by a b
+
+-- a group and the frames behind it
+group-and-rest : (most : ℕ) (waiting : List Picture) → take most waiting ++ drop (length (take most waiting)) waiting ≡ waiting
+group-and-rest most waiting =
+    let count = length-take most waiting in
+    let front = take_min most waiting in
+    (λ i. sym front i ++ drop (count i) waiting) ∙ take-append-drop (min most (length waiting)) waiting
+
+flush-frames : (g : Geometry) (w : Waiting) (s : StoreState) (group : List Picture) (f : Flushed) → IsFlush w group (Ok f) → AreAnswered g s (append_of group (Ok f)) → group ++ drop (length group) w.pending ≡ w.pending
+    → frames_stored (made_in g s (append_of group (Ok f))) ++ drop f.stored w.pending ≡ w.pending
+flush-frames g w s [] f told said whole = (λ i. drop (told.1 i).stored w.pending) ∙ whole
+flush-frames g w s (p ∷ ps) f told said whole =
+    let list = steps_or_none (steps (ring_of g) s.recording (p ∷ ps)) in
+    let frames : frames_stored (list ++ []) ≡ p ∷ ps = ap frames_stored (append-nil list) ∙ frames-steps (ring_of g) s.recording (p ∷ ps) said.0.1.0 in
+    let count = told.1 in
+    (λ i. frames i ++ drop (count i).stored w.pending) ∙ whole
+
+none-stored : (g : Geometry) (s : StoreState) (group : List Picture) (fault : StoreFault) → frames_stored (made_in g s (append_of group (Err fault))) ≡ []
+none-stored g s [] fault = refl
+none-stored g s (p ∷ ps) fault = refl
+
+call-frames : (k : Rules) (w : Waiting) (s : StoreState) (c : DeskCall) → IsDeskTold k w c → AreAnswered k.geometry s (store_calls k w c) → w.pending ++ accepted c ≡ frames_stored (made_in k.geometry s (store_calls k w c)) ++ pending_after w.pending c
+call-frames k w s (submitted p size (Ok number)) told said = refl
+call-frames k w s (submitted p size (Err fault)) told said = append-nil w.pending
+call-frames k w s (flushed (Ok f)) told said =
+    append-nil w.pending ∙ sym (flush-frames k.geometry w s (group_of k w) f told said (group-and-rest (min k.limits.group (k.geometry.slots - w.store.next % k.geometry.slots)) w.pending))
+call-frames k w s (flushed (Err fault)) told said = append-nil w.pending ∙ ap (λ (l : List Picture). l ++ w.pending) (sym (none-stored k.geometry s (group_of k w) fault))
+call-frames k w s (clip_locked span (Ok id)) told said = append-nil w.pending
+call-frames k w s (clip_locked span (Err fault)) told said = append-nil w.pending
+call-frames k w s (clip_unlocked id (Ok x)) told said = append-nil w.pending
+call-frames k w s (clip_unlocked id (Err fault)) told said = append-nil w.pending
+call-frames k w s (frame_read number result) told said = append-nil w.pending
+
+-- what waited, and then what was accepted, is what was stored, and then what waits
+pub none-lost : (k : Rules) (w : Waiting) (s : StoreState) (calls : List DeskCall) → AreTold k w calls → AreAnswered k.geometry s (store_calls_in k w calls) → w.pending ++ accepted_in calls ≡ frames_stored (made_in k.geometry s (store_calls_in k w calls)) ++ (waiting_after_calls k w calls).pending
+none-lost k w s [] told said = append-nil w.pending
+none-lost k w s (c ∷ calls) told said =
+    let g = k.geometry in
+    let here = store_calls k w c in
+    let v = waiting_after k w c in
+    let there = store_calls_in k v calls in
+    let t = after_calls g s here in
+    let parts = each-parts (after g) (IsAnswered g) s here there said in
+    let one = call-frames k w s c told.0 parts.0 in
+    let rest = none-lost k v t calls told.1 parts.1 in
+    let split : frames_stored (made_in g s (here ++ there)) ≡ frames_stored (made_in g s here) ++ frames_stored (made_in g t there) = ap frames_stored (told-behind (after g) (made g) s here there) ∙ frames-both (made_in g s here) (made_in g t there) in
+    sym (append_assoc w.pending (accepted c) (accepted_in calls)) ∙ (λ i. one i ++ accepted_in calls)
+    ∙ append_assoc (frames_stored (made_in g s here)) v.pending (accepted_in calls)
+    ∙ ap (λ l. frames_stored (made_in g s here) ++ l) rest
+    ∙ sym (append_assoc (frames_stored (made_in g s here)) (frames_stored (made_in g t there)) (waiting_after_calls k v calls).pending)
+    ∙ ap (λ l. l ++ (waiting_after_calls k v calls).pending) (sym split)

@@ -1,0 +1,13 @@
+pub mod Kept
+pub mod Gone
+pub mod Called
+pub mod Whole
+pub mod Frames
+pub mod Lasting
+pub mod Modelling
+pub mod Turning
+pub mod Framed
+pub mod Order
+pub mod Ran
+pub mod Told
+pub mod Completed

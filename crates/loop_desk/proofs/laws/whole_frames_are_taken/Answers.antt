@@ -1,0 +1,5 @@
+use Rattle.loop_desk.proofs.Completed.{whole_taken}
+use Rattle.loop_desk.proofs.laws.whole_frames_are_taken.Goals as goal
+
+pub returns : goal.returns
+returns c = whole_taken

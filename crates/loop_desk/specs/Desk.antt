@@ -1,0 +1,167 @@
+-- The desk: frames that wait before a store, and what each call makes of them. What a call makes of the store is
+-- said by the store's own calls.
+use Rattle.std.specs.Prelude.{◌≡◌, ℕ, ◌+◌, ◌-◌, ◌%◌, ◌==◌, not, min, true, false, if◌then◌else◌, Result, Ok, Err, List, [], ◌∷◌, ◌++◌, length, take, drop}
+use Rattle.std.specs.List.{flat_map}
+use Rattle.loop_record.specs.declared.clip.Span.{Span}
+use Rattle.loop_record.specs.declared.frame.FrameHead.{FrameHead}
+use Rattle.loop_record.specs.declared.geometry.Geometry.{Geometry}
+use Rattle.loop_record.specs.Geometry.{frame_bytes}
+use Rattle.loop_record.specs.Recording.{Picture, Step, last_number, lock, recycle, ring_of, store, unlock}
+use Rattle.loop_record.specs.Turns.{after_all, told_in, EachIn}
+use Rattle.loop_store.specs.Calls.{AreAnswered, Call, Progress, StoreState, after_calls, appended, locked, progress_after, unlocked, was_read}
+use Rattle.loop_store.specs.declared.fault.StoreFault.{StoreFault}
+use Rattle.loop_store.specs.declared.fault.StoreFault.TheVariants.{MustReopen, NumbersSpent, PendingFull, WrongSize}
+use Rattle.loop_desk.specs.declared.limits.DeskLimits.{DeskLimits}
+use Rattle.loop_desk.specs.declared.limits.Flushed.{Flushed}
+
+-- what doesn't change: the geometry, and the limits
+pub record Rules : Type 0 where
+  pub geometry : Geometry
+  pub limits : DeskLimits
+
+-- A call and its answer. A submitted frame comes with the count of its bytes, so that a history without pixels says
+-- the same of it.
+pub data DeskCall : Type 0 where
+  submitted : Picture → ℕ → Result ℕ StoreFault → DeskCall
+  flushed : Result Flushed StoreFault → DeskCall
+  clip_locked : Span → Result ℕ StoreFault → DeskCall
+  clip_unlocked : ℕ → Result (Unit {0}) StoreFault → DeskCall
+  frame_read : ℕ → Result (FrameHead × List ℕ) StoreFault → DeskCall
+
+-- what decides on a call, whatever is recorded: how far the store is, and what waits
+pub record Waiting : Type 0 where
+  pub store : Progress
+  pub pending : List Picture
+
+-- what is recorded, whether a call that writes has failed, and what waits
+pub record DeskState : Type 0 where
+  pub store : StoreState
+  pub pending : List Picture
+
+abbrev pub waiting_at : DeskState → Waiting
+waiting_at s = record {
+  store = record { next = s.store.recording.next; must_reopen = s.store.must_reopen };
+  pending = s.pending;
+}
+
+-- ---- the calls of the store
+
+-- the frames that a flush stores: the first that wait, as many as a group may have and the block of the next number
+-- takes
+abbrev pub group_of : Rules → Waiting → List Picture
+group_of k w = take (min k.limits.group (k.geometry.slots - w.store.next % k.geometry.slots)) w.pending
+
+-- what the append of a flush answered
+abbrev pub appended_as : Result Flushed StoreFault → Result ℕ StoreFault
+appended_as (Ok f) = Ok f.first
+appended_as (Err fault) = Err fault
+
+-- a flush of a group appends it, where it has a frame
+abbrev pub append_of : List Picture → Result Flushed StoreFault → List Call
+append_of [] result = []
+append_of (p ∷ ps) result = appended (p ∷ ps) (appended_as result) ∷ []
+
+-- the calls of the store that a call makes, with their answers
+abbrev pub store_calls : Rules → Waiting → DeskCall → List Call
+store_calls k w (submitted p size result) = []
+store_calls k w (flushed result) = append_of (group_of k w) result
+store_calls k w (clip_locked span result) = locked span result ∷ []
+store_calls k w (clip_unlocked id result) = unlocked id result ∷ []
+store_calls k w (frame_read number result) = was_read number result ∷ []
+
+-- ---- what waits after a call
+
+-- a submitted frame waits behind the others, and those that were stored wait no more
+abbrev pub pending_after : List Picture → DeskCall → List Picture
+pending_after pending (submitted p size (Ok number)) = pending ++ p ∷ []
+pending_after pending (flushed (Ok f)) = drop f.stored pending
+pending_after pending _ = pending
+
+abbrev pub waiting_after : Rules → Waiting → DeskCall → Waiting
+waiting_after k w call = record {
+  store = after_all progress_after w.store (store_calls k w call);
+  pending = pending_after w.pending call;
+}
+
+-- ---- the answers
+
+-- the answer to a submit of so many bytes: the number that the frame will have, or the first refusal that is due
+abbrev pub submit_answer : Rules → Waiting → ℕ → Result ℕ StoreFault
+submit_answer k w size =
+    if w.store.must_reopen then Err MustReopen
+    else if not (size == frame_bytes k.geometry) then Err WrongSize
+    else if length w.pending == k.limits.pending then Err PendingFull
+    else if (w.store.next + length w.pending) == last_number (ring_of k.geometry) then Err NumbersSpent
+    else Ok (w.store.next + length w.pending)
+
+-- what a flush answers that stored so many
+abbrev pub flushed_of : Waiting → ℕ → Flushed
+flushed_of w count = record { first = w.store.next; stored = count; left = length w.pending - count }
+
+-- the answer to a flush of a group: all of it was stored; where it has no frame it is refused only because the store
+-- must be reopened, and otherwise as the append was
+abbrev pub IsFlush : Waiting → List Picture → Result Flushed StoreFault → Type 0
+IsFlush w group (Ok f) = (w.store.must_reopen ≡ false) × (f ≡ flushed_of w (length group))
+IsFlush w [] (Err fault) = (fault ≡ MustReopen) × (w.store.must_reopen ≡ true)
+IsFlush w (p ∷ ps) (Err fault) = Unit {0}
+
+-- the desk's own part of an answer; all else is the answer of the store's call
+abbrev pub IsDeskTold : Rules → Waiting → DeskCall → Type 0
+IsDeskTold k w (submitted p size result) = result ≡ submit_answer k w size
+IsDeskTold k w (flushed result) = IsFlush w (group_of k w) result
+IsDeskTold k w _ = Unit {0}
+
+-- ---- the model: a desk's state, what a call makes of it, and whether it was answered so
+
+abbrev pub desk_after : Rules → DeskState → DeskCall → DeskState
+desk_after k s call = record {
+  store = after_calls k.geometry s.store (store_calls k (waiting_at s) call);
+  pending = pending_after s.pending call;
+}
+
+abbrev pub IsDeskAnswer : Rules → DeskState → DeskCall → Type 0
+IsDeskAnswer k s call =
+    IsDeskTold k (waiting_at s) call × AreAnswered k.geometry s.store (store_calls k (waiting_at s) call)
+
+-- ---- lists of calls
+
+-- the calls of the store, one behind the other
+abbrev pub store_calls_in : Rules → Waiting → List DeskCall → List Call
+store_calls_in k w calls = told_in (waiting_after k) (store_calls k) w calls
+
+-- what decides on the next call
+abbrev pub waiting_after_calls : Rules → Waiting → List DeskCall → Waiting
+waiting_after_calls k w calls = after_all (waiting_after k) w calls
+
+-- each was told so at its point
+abbrev pub AreTold : Rules → Waiting → List DeskCall → Type 0
+AreTold k w calls = EachIn (waiting_after k) (IsDeskTold k) w calls
+
+-- the state after calls, and that each was answered so at its point
+abbrev pub desk_after_calls : Rules → DeskState → List DeskCall → DeskState
+desk_after_calls k s calls = after_all (desk_after k) s calls
+
+abbrev pub AreDeskAnswers : Rules → DeskState → List DeskCall → Type 0
+AreDeskAnswers k s calls = EachIn (desk_after k) (IsDeskAnswer k) s calls
+
+-- ---- the frames of calls
+
+-- the frame of a submit that was answered
+abbrev pub accepted : DeskCall → List Picture
+accepted (submitted p size (Ok number)) = p ∷ []
+accepted _ = []
+
+-- those of calls, in order
+abbrev pub accepted_in : List DeskCall → List Picture
+accepted_in calls = flat_map accepted calls
+
+-- the frame of a step that stores one
+abbrev pub stored_by : Step → List Picture
+stored_by (store p) = p ∷ []
+stored_by (recycle b) = []
+stored_by (lock span) = []
+stored_by (unlock id) = []
+
+-- the frames that steps store, in order
+abbrev pub frames_stored : List Step → List Picture
+frames_stored steps = flat_map stored_by steps

@@ -1,0 +1,229 @@
+-- The front of a lane: a queue with its table of fds, and the hand, which has what was taken from the queue.
+use Rattle.std.specs.Prelude.{◌≡◌, ℕ, Bool, true, false, cond, ◌==◌, is_some, List, [], ◌++◌, take, slice_get, Option, Some, None, option_to_list, Result, Ok, Err}
+use Rattle.loop_plane.specs.Plane.{Plane}
+use Rattle.loop_plane.specs.Fds.{Fds}
+use Rattle.loop_plane.specs.declared.memory.Memory.{Memory}
+use Rattle.loop_record.specs.Recording.{Picture, picture}
+use Rattle.loop_store.specs.declared.fault.StoreFault.{StoreFault}
+use Rattle.loop_store.specs.declared.fault.StoreFault.TheVariants.{NoMemory, WrongSize, HandFull, HandEmpty}
+use Rattle.loop_vb2.specs.declared.buffer.Buffer.{Buffer}
+use Rattle.loop_vb2.specs.declared.planes.PlaneSet.{PlaneSet}
+use Rattle.loop_vb2.specs.declared.planes.Shape.{Shape}
+use Rattle.loop_vb2.specs.declared.reason.Reason.TheVariants.{HandHolds}
+use Rattle.loop_vb2.specs.declared.state.BufferState.{BufferState}
+use Rattle.loop_vb2.specs.declared.state.BufferState.TheVariants.{Error}
+use Rattle.loop_vb2.specs.Buffers.{handed}
+use Rattle.loop_vb2.specs.Checks.{dequeue_refusal, queue_refusal}
+use Rattle.loop_vb2.specs.Effects as effect
+use Rattle.loop_vb2.specs.Errnos.{errno}
+use Rattle.loop_vb2.specs.Flags.{dequeue_bits}
+use Rattle.loop_vb2.specs.Planes.{number_at, bytes_in, plane_in}
+use Rattle.loop_vb2.specs.State.{Body, Lined}
+use Rattle.loop_vb2.specs.Steps.{Passes, Fails, read_given}
+use Rattle.loop_ioctl.specs.declared.call.Ioctl.TheVariants as call
+use Rattle.loop_ioctl.specs.declared.events.QueueEvent.{QueueEvent}
+use Rattle.loop_ioctl.specs.declared.events.QueueEvent.TheVariants as event
+use Rattle.loop_ioctl.specs.declared.events.QueueReply.{QueueReply}
+use Rattle.loop_ioctl.specs.declared.events.QueueReply.TheVariants as answer
+use Rattle.loop_ioctl.specs.Attached.{values_by_fd}
+use Rattle.loop_ioctl.specs.Calls.{IoctlState, Stands, HandsBack, planes_given, supply_given}
+use Rattle.loop_ioctl.specs.Events.{is_whole, IsTold, state_after}
+use Rattle.loop_desk.specs.declared.hand.Hand.{Hand}
+use Rattle.loop_desk.specs.declared.hand.Hand.TheVariants as hand
+use Rattle.loop_desk.specs.declared.hand.LaneFault.{LaneFault}
+use Rattle.loop_desk.specs.declared.hand.LaneFault.TheVariants.{Store, Queue}
+
+-- ---- the hand
+
+-- nothing, a buffer with its frame, or a buffer whose frame is gone; each with the planes that aren't the queue's
+pub data HandState : Type 0 where
+  empty : HandState
+  full : ℕ → Picture → Option (PlaneSet Plane) → HandState
+  spent : ℕ → Option (PlaneSet Plane) → HandState
+
+abbrev pub hand_state : {P A : Type 0} → (P → Plane) → Hand P A → HandState
+hand_state meaning hand.Empty = empty
+hand_state meaning (hand.Frame index frame planes) = full index (picture frame) (read_given meaning planes)
+hand_state meaning (hand.Spent index planes) = spent index (read_given meaning planes)
+
+-- which buffer it has
+abbrev pub index_in : HandState → Option ℕ
+index_in empty = None
+index_in (full index p planes) = Some index
+index_in (spent index planes) = Some index
+
+-- its planes
+abbrev pub planes_held : HandState → Option (PlaneSet Plane)
+planes_held empty = None
+planes_held (full index p planes) = planes
+planes_held (spent index planes) = planes
+
+-- ---- the front
+
+pub record Front : Type 0 where
+  pub queue : IoctlState
+  pub hand : HandState
+
+-- the kind of the queue's memory
+abbrev pub kind_of : IoctlState → Memory
+kind_of j = j.queue.body.kind
+
+-- queue, table and hand stand for a front: the planes of the hand are those that are out of the queue, each with
+-- its fd, which is attached
+pub record StandsFront {P A : Type 0} (meaning : P → Plane) (code : Lined P) (table : Fds P) (held : Hand P A)
+    (f : Front) : Type 0 where
+  pub queue : Stands meaning code table f.queue
+  pub hand : hand_state meaning held ≡ f.hand
+  pub out : f.queue.out ≡ values_by_fd (kind_of f.queue) (option_to_list (planes_held f.hand))
+
+-- ---- the frame of a buffer
+
+-- its part in a plane: the bytes that were used, as far as they are there, and no more than the shape has
+abbrev pub part : Shape → Buffer Plane → ℕ → List ℕ
+part shape b i = take (number_at shape.sizes i) (take (number_at b.used i) (bytes_in (plane_in b.planes i)))
+
+abbrev pub taken_bytes : Shape → Buffer Plane → List ℕ
+taken_bytes shape b = part shape b 0 ++ (part shape b 1 ++ part shape b 2)
+
+abbrev pub taken_frame : Shape → Buffer Plane → Picture
+taken_frame shape b = record {
+  sequence = b.stamp.sequence;
+  flags = dequeue_bits b.state b.mapped;
+  timestamp = b.stamp.timestamp;
+  bytes = taken_bytes shape b;
+}
+
+-- the device gave the buffer up
+abbrev pub was_given_up : BufferState → Bool
+was_given_up Error = true
+was_given_up state = false
+
+-- what the hand has of a buffer that was dequeued
+abbrev pub hand_of : Body Plane → ℕ → Buffer Plane → HandState
+hand_of body index b =
+    cond (was_given_up b.state) (spent index (handed body.kind b.planes))
+    (full index (taken_frame body.shape b) (handed body.kind b.planes))
+
+abbrev pub hand_with : Body Plane → ℕ → Option (Buffer Plane) → HandState
+hand_with body index None = empty
+hand_with body index (Some b) = hand_of body index b
+
+-- ---- turns
+
+-- An event of the front with its reply.
+pub data Turn (P A : Type 0) : Type 0 where
+  on_queue : QueueEvent P A → Result (QueueReply P A) LaneFault → Turn P A
+  dequeued : Result ℕ LaneFault → Turn P A
+  requeued : Result ℕ LaneFault → Turn P A
+  offered : Result ℕ StoreFault → Turn P A
+
+-- an index is the hand's
+abbrev pub is_at : Option ℕ → ℕ → Bool
+is_at None index = false
+is_at (Some i) index = i == index
+
+module _ {P A : Type 0} where
+  -- the hand forbids REQBUFS, and QBUF and PREPARE_BUF of its buffer
+  abbrev pub forbids : Option ℕ → QueueEvent P A → Bool
+  forbids held (event.Ioctl (call.ReqBufs type count kind supply)) = is_some held
+  forbids held (event.Ioctl (call.PrepareBuf type index given)) = is_at held index
+  forbids held (event.Ioctl (call.QBuf type index given)) = is_at held index
+  forbids held e = false
+
+  -- what is answered then: all that the call brought goes back
+  abbrev pub IsForbidden : QueueEvent P A → QueueReply P A → Type 0
+  IsForbidden (event.Ioctl c) (answer.Ioctl (Err r)) =
+      (r.errno ≡ errno HandHolds) × HandsBack (planes_given c) (supply_given c) r
+  IsForbidden e r = ⊥
+
+-- ---- what a turn does to the front
+
+-- the hand gets what was dequeued: its planes are out of the queue
+abbrev pub taken : ℕ → IoctlState → HandState → Front
+taken index j h = record {
+  queue = record j {
+    queue = effect.dequeued index j.queue;
+    out = values_by_fd (kind_of j) (option_to_list (planes_held h));
+  };
+  hand = h;
+}
+
+-- the hand's buffer is queued with its planes
+abbrev pub put_back : IoctlState → HandState → Front
+put_back j empty = record { queue = j; hand = empty }
+put_back j (full index p planes) = record { queue = j; hand = full index p planes }
+put_back j (spent index planes) =
+    record { queue = record j { queue = effect.queued index planes j.queue; out = [] }; hand = empty }
+
+-- the hand after a submit: its frame is gone where it was accepted
+abbrev pub hand_given : HandState → Result ℕ StoreFault → HandState
+hand_given (full index p planes) (Ok number) = spent index planes
+hand_given h result = h
+
+module _ {P A : Type 0} (meaning : P → Plane) where
+  abbrev pub front_after : Front → Turn P A → Front
+  front_after f (on_queue e (Ok r)) =
+      record f { queue = cond (forbids (index_in f.hand) e) f.queue (state_after meaning e r f.queue) }
+  front_after f (on_queue e (Err fault)) = f
+  front_after f (dequeued (Ok index)) =
+      taken index f.queue (hand_with f.queue.queue.body index (slice_get f.queue.queue.body.buffers index))
+  front_after f (dequeued (Err fault)) = f
+  front_after f (requeued (Ok index)) = put_back f.queue f.hand
+  front_after f (requeued (Err fault)) = f
+  front_after f (offered result) = record f { hand = hand_given f.hand result }
+
+-- ---- the replies
+
+module _ {P A : Type 0} (meaning : P → Plane) where
+  abbrev pub IsToldIf : Bool → QueueEvent P A → QueueReply P A → IoctlState → Type 0
+  IsToldIf true e r j = IsForbidden e r
+  IsToldIf false e r j = IsTold meaning e r j
+
+  -- a Complete of another length than a frame's is refused before all else, then what the hand forbids
+  abbrev pub IsOnQueue : Front → QueueEvent P A → Result (QueueReply P A) LaneFault → Type 0
+  IsOnQueue f e (Ok r) =
+      (is_whole f.queue.queue.body.shape e ≡ true) × IsToldIf (forbids (index_in f.hand) e) e r f.queue
+  IsOnQueue f e (Err fault) = (is_whole f.queue.queue.body.shape e ≡ false) × (fault ≡ Store WrongSize)
+
+-- an empty hand takes the buffer that ended first
+abbrev pub IsDequeue : IoctlState → HandState → Result ℕ LaneFault → Type 0
+IsDequeue j empty (Ok index) =
+    Passes (dequeue_refusal j.queue.body) × (effect.first_ended j.queue ≡ Some index)
+IsDequeue j empty (Err (Queue e)) = Fails (dequeue_refusal j.queue.body) e
+IsDequeue j empty (Err (Store fault)) = fault ≡ NoMemory
+IsDequeue j (full i p planes) result = result ≡ Err (Store HandFull)
+IsDequeue j (spent i planes) result = result ≡ Err (Store HandFull)
+
+-- a buffer whose frame is gone is queued again
+abbrev pub IsRequeue : IoctlState → HandState → Result ℕ LaneFault → Type 0
+IsRequeue j empty result = result ≡ Err (Store HandEmpty)
+IsRequeue j (full i p planes) result = result ≡ Err (Store HandFull)
+IsRequeue j (spent i planes) (Ok index) = Passes (queue_refusal i (kind_of j) planes j.queue.body) × (index ≡ i)
+IsRequeue j (spent i planes) (Err (Queue e)) = Fails (queue_refusal i (kind_of j) planes j.queue.body) e
+IsRequeue j (spent i planes) (Err (Store fault)) = ⊥
+
+-- only a frame is offered to the desk
+abbrev pub IsSubmit : HandState → Result ℕ StoreFault → Type 0
+IsSubmit empty result = result ≡ Err HandEmpty
+IsSubmit (full i p planes) result = Unit {0}
+IsSubmit (spent i planes) result = result ≡ Err HandEmpty
+
+module _ {P A : Type 0} (meaning : P → Plane) where
+  -- the reply is the model's
+  abbrev pub IsFrontTurn : Front → Turn P A → Type 0
+  IsFrontTurn f (on_queue e result) = IsOnQueue meaning f e result
+  IsFrontTurn f (dequeued result) = IsDequeue f.queue f.hand result
+  IsFrontTurn f (requeued result) = IsRequeue f.queue f.hand result
+  IsFrontTurn f (offered result) = IsSubmit f.hand result
+
+  -- from each front that queue, table and hand stand for, the reply is the model's, and they stand for the front
+  -- after it
+  abbrev pub Turns : Lined P → Fds P → Hand P A → Turn P A → Lined P → Fds P → Hand P A → Type 0
+  Turns code table held turn new_code new_table new_held =
+      (f : Front) → StandsFront meaning code table held f
+      → IsFrontTurn f turn × StandsFront meaning new_code new_table new_held (front_after meaning f turn)
+
+  -- likewise with any table, which the turn leaves
+  abbrev pub TurnsBeside : Lined P → Hand P A → Turn P A → Lined P → Hand P A → Type 0
+  TurnsBeside code held turn new_code new_held =
+      (table : Fds P) → Turns code table held turn new_code table new_held

@@ -1,0 +1,164 @@
+-- A lane: the front, which is a queue, its table of fds and a hand, and behind it a desk. What the front does never
+-- depends on the desk's state, and what the desk is asked for is said by the events, the replies and the hand.
+use Rattle.std.specs.Prelude.{◌≡◌, ◌⊎◌, ℕ, Bool, false, if◌then◌else◌, Result, Ok, Err, List, [], ◌∷◌, ◌++◌, length}
+use Rattle.std.specs.List.{zip}
+use Rattle.loop_plane.specs.Plane.{Plane}
+use Rattle.loop_disk.specs.Medium.{Medium}
+use Rattle.loop_record.specs.declared.geometry.PixelFormat.{PixelFormat}
+use Rattle.loop_record.specs.Recording.{Picture}
+use Rattle.loop_record.specs.Turns.{after_all, told_in, EachIn}
+use Rattle.loop_store.specs.declared.fault.StoreFault.{StoreFault}
+use Rattle.loop_store.specs.declared.fault.StoreFault.TheVariants.{HandEmpty}
+use Rattle.loop_store.specs.Runs.{read_of}
+use Rattle.loop_ioctl.specs.declared.call.Ioctl.TheVariants as call
+use Rattle.loop_ioctl.specs.declared.events.QueueEvent.{QueueEvent}
+use Rattle.loop_ioctl.specs.declared.events.QueueEvent.TheVariants as queue_event
+use Rattle.loop_ioctl.specs.Types.{same_type, type_of}
+use Rattle.loop_desk.specs.declared.event.LaneEvent.{LaneEvent}
+use Rattle.loop_desk.specs.declared.event.LaneEvent.TheVariants as event
+use Rattle.loop_desk.specs.declared.event.LaneReply.{LaneReply}
+use Rattle.loop_desk.specs.declared.event.LaneReply.TheVariants as reply
+use Rattle.loop_desk.specs.declared.lane.Lane.{Lane}
+use Rattle.loop_desk.specs.Desk.{DeskCall, accepted, clip_locked, clip_unlocked, flushed, frame_read, submitted}
+use Rattle.loop_desk.specs.Front.{Front, HandState, IsFrontTurn, StandsFront, Turn, dequeued, empty, front_after, full, on_queue, requeued, spent, offered}
+use Rattle.loop_desk.specs.Seen.{DeskGoes}
+
+-- ---- what an event and its reply are
+
+-- A turn of the front, or a call of the desk, or a reply of another event.
+pub data LaneTurn (P A : Type 0) : Type 0 where
+  at_front : Turn P A → LaneTurn P A
+  at_desk : DeskCall → LaneTurn P A
+  mixed : LaneTurn P A
+
+module _ {P A : Type 0} where
+  -- an ioctl DQBUF of the queue's own type
+  abbrev pub is_dequeue : PixelFormat → QueueEvent P A → Bool
+  is_dequeue format (queue_event.Ioctl (call.DqBuf type)) = same_type type (type_of format)
+  is_dequeue format e = false
+
+  -- at a queue of this format
+  abbrev pub turn_of : PixelFormat → LaneEvent P A → LaneReply P A → LaneTurn P A
+  turn_of format (event.Queue e) (reply.Queue result) =
+      if is_dequeue format e then mixed else at_front (on_queue e result)
+  turn_of format (event.Queue e) (reply.Dequeue result) =
+      if is_dequeue format e then at_front (dequeued result) else mixed
+  turn_of format event.Dequeue (reply.Dequeue result) = at_front (dequeued result)
+  turn_of format event.Submit (reply.Submit result) = at_front (offered result)
+  turn_of format event.Requeue (reply.Requeue result) = at_front (requeued result)
+  turn_of format event.Flush (reply.Flush result) = at_desk (flushed result)
+  turn_of format (event.Lock span) (reply.Lock result) = at_desk (clip_locked span result)
+  turn_of format (event.Unlock id) (reply.Unlock result) = at_desk (clip_unlocked id result)
+  turn_of format (event.Read number) (reply.Read result) = at_desk (frame_read number (read_of result))
+  turn_of format e p = mixed
+
+  -- at this front
+  abbrev pub turn_at : Front → LaneEvent P A × LaneReply P A → LaneTurn P A
+  turn_at f x = turn_of f.queue.queue.body.format x.0 x.1
+
+-- the desk's call where the hand's frame is submitted
+abbrev pub submit_calls : HandState → Result ℕ StoreFault → List DeskCall
+submit_calls (full index p planes) result = submitted p (length p.bytes) result ∷ []
+submit_calls h result = []
+
+module _ {P A : Type 0} where
+  -- the desk's calls of a turn
+  abbrev pub calls_of_turn : Front → LaneTurn P A → List DeskCall
+  calls_of_turn f (at_front (offered result)) = submit_calls f.hand result
+  calls_of_turn f (at_front t) = []
+  calls_of_turn f (at_desk c) = c ∷ []
+  calls_of_turn f mixed = []
+
+  abbrev pub calls_at : Front → LaneEvent P A × LaneReply P A → List DeskCall
+  calls_at f x = calls_of_turn f (turn_at f x)
+
+module _ {P A : Type 0} (meaning : P → Plane) where
+  -- the reply is the model's, as far as the front says it: what the desk answers is said of its calls, and a frame is
+  -- taken in by a submit of the hand's alone
+  abbrev pub IsAtFront : Front → LaneTurn P A → Type 0
+  IsAtFront f (at_front t) = IsFrontTurn meaning f t
+  IsAtFront f (at_desk c) = accepted c ≡ []
+  IsAtFront f mixed = ⊥
+
+  abbrev pub IsLaneTurn : Front → LaneEvent P A × LaneReply P A → Type 0
+  IsLaneTurn f x = IsAtFront f (turn_at f x)
+
+  -- the front after it
+  abbrev pub after_turn : Front → LaneTurn P A → Front
+  after_turn f (at_front t) = front_after meaning f t
+  after_turn f (at_desk c) = f
+  after_turn f mixed = f
+
+  abbrev pub lane_after : Front → LaneEvent P A × LaneReply P A → Front
+  lane_after f x = after_turn f (turn_at f x)
+
+-- ---- which calls of the desk events and replies show, whatever the front
+
+module _ {P A : Type 0} where
+  -- A submit that isn't HandEmpty is a submit of some frame; a call of the queue is no call of the desk.
+  abbrev pub AreCallsOf : LaneEvent P A → LaneReply P A → List DeskCall → Type 0
+  AreCallsOf event.Submit (reply.Submit result) calls =
+      (calls ≡ []) × (result ≡ Err HandEmpty) ⊎ ((p : Picture) × (calls ≡ submitted p (length p.bytes) result ∷ []))
+  AreCallsOf event.Flush (reply.Flush result) calls = calls ≡ flushed result ∷ []
+  AreCallsOf (event.Lock span) (reply.Lock result) calls = calls ≡ clip_locked span result ∷ []
+  AreCallsOf (event.Unlock id) (reply.Unlock result) calls = calls ≡ clip_unlocked id result ∷ []
+  AreCallsOf (event.Read number) (reply.Read result) calls = calls ≡ frame_read number (read_of result) ∷ []
+  AreCallsOf (event.Queue e) (reply.Queue result) calls = calls ≡ []
+  AreCallsOf (event.Queue e) (reply.Dequeue result) calls = calls ≡ []
+  AreCallsOf event.Dequeue (reply.Dequeue result) calls = calls ≡ []
+  AreCallsOf event.Requeue (reply.Requeue result) calls = calls ≡ []
+  AreCallsOf e p calls = ⊥
+
+  -- each event has its reply, and these are the calls of all, in order
+  abbrev pub AreShownBy : List (LaneEvent P A) → List (LaneReply P A) → List DeskCall → Type 0
+  AreShownBy [] [] calls = calls ≡ []
+  AreShownBy (e ∷ es) (p ∷ ps) calls =
+      (here : List DeskCall) × ((rest : List DeskCall)
+      × ((calls ≡ here ++ rest) × (AreCallsOf e p here × AreShownBy es ps rest)))
+  AreShownBy es ps calls = ⊥
+
+-- ---- runs
+
+module _ {D P A : Type 0} (meaning : P → Plane) where
+  -- a lane stands for a front
+  abbrev pub StandsLane : Lane D P A → Front → Type 0
+  StandsLane lane f = StandsFront meaning lane.queue lane.table lane.hand f
+
+  -- From a front: each reply is the model's at its point, the lane stands for the front after them, and the desk's
+  -- calls are those that the front shows.
+  pub record FrontRan (new : Lane D P A) (es : List (LaneEvent P A)) (ps : List (LaneReply P A))
+      (calls : List DeskCall) (f : Front) : Type 0 where
+    pub told : EachIn (lane_after meaning) (IsLaneTurn meaning) f (zip es ps)
+    pub stands : StandsLane new (after_all (lane_after meaning) f (zip es ps))
+    pub are : calls ≡ told_in (lane_after meaning) calls_at f (zip es ps)
+
+-- What a list of events makes of a lane: the desk made the calls that events and replies show, and from each front
+-- that the lane stood for, each reply was the model's.
+pub record LaneRan {D P A : Type 0} (meaning : P → Plane) (medium : D → Medium) (old new : Lane D P A)
+    (es : List (LaneEvent P A)) (ps : List (LaneReply P A)) : Type 0 where
+  pub calls : List DeskCall
+  pub shown : AreShownBy es ps calls
+  pub desk : DeskGoes medium old.desk new.desk calls
+  pub front : (f : Front) → StandsLane meaning old f → FrontRan meaning new es ps calls f
+
+-- ---- frames
+
+-- the frame in the hand
+abbrev pub hand_frame : HandState → List Picture
+hand_frame empty = []
+hand_frame (full index p planes) = p ∷ []
+hand_frame (spent index planes) = []
+
+module _ {P A : Type 0} (meaning : P → Plane) where
+  -- the frame of a buffer that was dequeued without an error
+  abbrev pub frame_of_turn : Front → LaneTurn P A → List Picture
+  frame_of_turn f (at_front (dequeued (Ok index))) =
+      hand_frame (front_after {P = P} {A = A} meaning f (dequeued (Ok index))).hand
+  frame_of_turn f t = []
+
+  abbrev pub frame_at : Front → LaneEvent P A × LaneReply P A → List Picture
+  frame_at f x = frame_of_turn f (turn_at f x)
+
+  -- those of events and their replies, in order
+  abbrev pub frames_taken : Front → List (LaneEvent P A × LaneReply P A) → List Picture
+  frames_taken f turns = told_in (lane_after meaning) frame_at f turns

@@ -1,0 +1,7 @@
+pub mod Desk
+pub mod Seen
+pub mod Footage
+pub mod Front
+pub mod Lane
+pub mod FrontLaws
+pub mod Parts

@@ -1,0 +1,84 @@
+-- A desk as its callers see it, and what calls make of it.
+use Rattle.std.specs.Prelude.{◌≡◌, ◌⊎◌, ◌+◌, ◌≤◌, true, false, Result, Ok, Err, List, All, length, map}
+use Rattle.circular_buffer.specs.Buffer.{Buffer}
+use Rattle.loop_clips.specs.Table.{listed}
+use Rattle.loop_disk.specs.Medium.{Medium}
+use Rattle.loop_record.specs.declared.frame.Frame.{Frame}
+use Rattle.loop_record.specs.Geometry.{frame_bytes}
+use Rattle.loop_record.specs.Recording.{Picture, Recording, last_number, ring_of}
+use Rattle.loop_store.specs.declared.fault.StoreFault.{StoreFault}
+use Rattle.loop_store.specs.declared.fault.StoreFault.TheVariants.{MustReopen, NoMemory}
+use Rattle.loop_store.specs.Goes.{Goes, Stands, progress_of}
+use Rattle.loop_store.specs.Seen.{Seen, StandsFor}
+use Rattle.loop_desk.specs.declared.limits.DeskLimits.{DeskLimits}
+use Rattle.loop_desk.specs.declared.limits.Outline.{Outline}
+use Rattle.loop_desk.specs.declared.limits.Status.{Status}
+use Rattle.loop_desk.specs.Desk.{AreTold, DeskCall, DeskState, Rules, Waiting, store_calls_in, waiting_after_calls}
+
+-- the store, the frames that wait, and the limits
+pub record SeenDesk (D : Type 0) : Type 0 where
+  pub store : Seen D
+  pub pending : List Picture
+  pub limits : DeskLimits
+
+-- an answer without the frame that a refusal hands back
+abbrev pub answer_of : {T X : Type 0} → Result T (StoreFault × X) → Result T StoreFault
+answer_of (Ok x) = Ok x
+answer_of (Err refused) = Err refused.0
+
+-- what doesn't change
+abbrev pub rules_of : {D : Type 0} → SeenDesk D → Rules
+rules_of d = record { geometry = d.store.geometry; limits = d.limits }
+
+-- what decides on a call, of every disk
+abbrev pub waiting_of : {D : Type 0} → SeenDesk D → Waiting
+waiting_of d = record { store = progress_of d.store; pending = d.pending }
+
+-- the desk stands for a state
+pub record StandsAt {D : Type 0} (medium : D → Medium) (d : SeenDesk D) (s : DeskState) : Type 0 where
+  pub store : Stands medium d.store s.store
+  pub pending : d.pending ≡ s.pending
+
+-- What calls, one after the other, make of a desk, whatever its disk. All that they leave on the disk, and what they
+-- are answered of it, is said by the store's calls.
+pub record DeskGoes {D : Type 0} (medium : D → Medium) (old new : SeenDesk D) (calls : List DeskCall) : Type 0 where
+  -- the store went on by its own calls
+  pub store : Goes medium old.store new.store (store_calls_in (rules_of old) (waiting_of old) calls)
+  -- each answer is the model's
+  pub told : AreTold (rules_of old) (waiting_of old) calls
+  pub pending : new.pending ≡ (waiting_after_calls (rules_of old) (waiting_of old) calls).pending
+  pub limits : new.limits ≡ old.limits
+
+-- ---- what a desk tells without a call of the disk
+
+pub record TellsStatus {D : Type 0} (medium : D → Medium) (d : SeenDesk D) (status : Status) : Type 0 where
+  pub next : status.next ≡ d.store.next
+  pub pending : status.pending ≡ length d.pending
+  pub must_reopen : status.must_reopen ≡ d.store.must_reopen
+  pub count : status.held ≡ length d.store.numbers
+  pub held : (r : Recording) → StandsFor medium d.store r → (medium d.store.disk).honest
+      → status.held ≡ length r.frames
+
+pub record TellsOutline {D A : Type 0} (medium : D → Medium) (d : SeenDesk D) (outline : Outline A) : Type 0 where
+  pub next : outline.next ≡ d.store.next
+  pub pending : outline.pending ≡ length d.pending
+  pub clips : outline.clips.items ≡ listed 0 d.store.clips
+  pub frames : (r : Recording) → StandsFor medium d.store r → (medium d.store.disk).honest
+      → outline.frames.items ≡ map (λ f. f.0) r.frames
+
+-- why no outline is given: the store must be reopened, or otherwise memory was refused
+abbrev pub OutlineRefuses : {D : Type 0} → SeenDesk D → StoreFault → Type 0
+OutlineRefuses d fault =
+    (fault ≡ MustReopen) × (d.store.must_reopen ≡ true) ⊎ (fault ≡ NoMemory) × (d.store.must_reopen ≡ false)
+
+-- ---- what only the desk's own code looks at
+
+-- the numbers of the frames that wait are given out, these have the geometry's size, and the buffer has room for as
+-- many as may wait
+pub record IsDesk {D A : Type 0} (store : Seen D) (limits : DeskLimits) (buffer : Buffer (Frame A)) : Type 0 where
+  pub capacity : buffer.capacity ≡ limits.pending
+  pub most : (1 ≤ limits.pending) × (limits.pending ≤ 64)
+  pub group : (1 ≤ limits.group) × (limits.group ≤ 8)
+  pub few : length buffer.items ≤ limits.pending
+  pub numbers : store.next + length buffer.items ≤ last_number (ring_of store.geometry)
+  pub sizes : All (λ frame. length frame.bytes.items ≡ frame_bytes store.geometry) buffer.items

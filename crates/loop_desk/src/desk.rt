@@ -1,0 +1,207 @@
+//! A desk: frames that wait, before a store.
+
+ghost use Rattle.std.specs.Prelude.{◌≡◌, ◌≢◌, ◌≤◌, ◌+◌, ◌∷◌, [], Err, IfErr, IfOk, length};
+ghost use Rattle.loop_record.specs.Geometry.{frame_bytes};
+ghost use Rattle.loop_record.specs.Plain.{pictures};
+ghost use Rattle.loop_record.specs.Recording.{last_number, picture, ring_of};
+ghost use Rattle.loop_desk.specs.Desk.{clip_locked, clip_unlocked, flushed, frame_read, submit_answer, submitted};
+ghost use Rattle.loop_desk.specs.Seen.{DeskGoes, IsDesk, OutlineRefuses, SeenDesk, TellsOutline, TellsStatus, answer_of, rules_of, waiting_of};
+ghost use Rattle.loop_store.specs.Runs.{read_of};
+
+use crate::group::append_first;
+use crate::{DeskLimits, Flushed, Outline, Status};
+use circular_buffer::HeapCircularBuffer;
+use loop_disk::Disk;
+use loop_record::{Frame, Geometry};
+use loop_store::{ReadFrame, Store, StoreFault};
+use std::alloc::{Allocator, Global};
+use std::marker::Model;
+
+/// A store, and the frames that wait to be stored. What waits is lost when the desk is, or the power.
+#[derive(Drop)]
+pub struct Desk<D: Disk + Drop, A: Allocator = Global> {
+    store: Store<D, A>,
+    pending: HeapCircularBuffer<Frame<A>, A>,
+    limits: DeskLimits,
+}
+
+impl<D: Disk + Drop, A: Allocator> Model for Desk<D, A> {
+    ghost Value = { SeenDesk D };
+
+    ghost view = { λ d. record { store = d.store; pending = pictures d.pending.items; limits = d.limits } };
+
+    ghost invariant = { λ d. IsDesk d.store d.limits d.pending };
+}
+
+impl<D: Disk + Drop, A: Allocator> Desk<D, A> {
+    /// A desk at which nothing waits. It takes the room for all frames that may wait; where there is none, the
+    /// store comes back.
+    pub fn new(alloc: A, store: Store<D, A>, limits: DeskLimits) -> Result<Self, Store<D, A>>
+        requires pending { (1 ≤ limits.pending) × (limits.pending ≤ 64) }
+        requires group { (1 ≤ limits.group) × (limits.group ≤ 8) }
+        ensures made { IfOk result (λ desk. desk ≡ record { store = store; pending = []; limits = limits }) }
+        ensures refused { IfErr result (λ back. back ≡ store) }
+    {
+        match HeapCircularBuffer::with_capacity(alloc, limits.pending as usize) {
+            Ok(pending) => Ok(Desk {
+                store,
+                pending,
+                limits,
+            }),
+            Err(_) => Err(store),
+        }
+    }
+
+    /// The geometry of the store.
+    pub fn geometry(&self) -> Geometry
+        ensures { result ≡ self.now.store.geometry }
+    {
+        self.store.geometry()
+    }
+
+    /// The number that a frame will have, or why it isn't taken in.
+    fn number_for(&self, frame: &Frame<A>) -> Result<u64, StoreFault>
+        ensures answer { result
+            ≡ submit_answer (rules_of self.now) (waiting_of self.now) (length frame.now.bytes.items) }
+        ensures size { IfOk result (λ _. length frame.now.bytes.items ≡ frame_bytes self.now.store.geometry) }
+        ensures room { IfOk result (λ _. length self.now.pending ≢ self.now.limits.pending) }
+        ensures low { IfOk result (λ _. self.now.store.next + length self.now.pending
+            ≢ last_number (ring_of self.now.store.geometry)) }
+    {
+        if self.store.must_reopen() {
+            return Err(StoreFault::MustReopen);
+        }
+        if frame.bytes.len() != self.store.geometry().frame_bytes() as usize {
+            return Err(StoreFault::WrongSize);
+        }
+        if self.pending.is_full() {
+            return Err(StoreFault::PendingFull);
+        }
+        let number = self.store.next() + self.pending.len() as u64;
+        if number == self.store.last_number() {
+            return Err(StoreFault::NumbersSpent);
+        }
+        Ok(number)
+    }
+
+    /// Takes a frame in behind the others that wait, and answers the number that it will have if it is stored in
+    /// this session.
+    ///
+    /// `MustReopen` where a call that writes has failed; otherwise `WrongSize` where the frame hasn't the bytes of
+    /// the geometry's; then `PendingFull` where as many wait as may; then `NumbersSpent` where no number is left.
+    /// Each hands the frame back. It takes no memory and makes no call of the disk.
+    pub fn submit(&mut self, frame: Frame<A>) -> Result<u64, (StoreFault, Frame<A>)>
+        ensures goes { DeskGoes D.medium self.old self.new
+            (submitted (picture frame) (length frame.bytes.items) (answer_of result) ∷ []) }
+        ensures back { IfErr result (λ refused. refused.1 ≡ frame) }
+        ensures same { IfErr result (λ refused. self.new ≡ self.old) }
+    {
+        match self.number_for(&frame) {
+            Ok(number) => {
+                self.pending.push_back(frame);
+                Ok(number)
+            }
+            Err(fault) => Err((fault, frame)),
+        }
+    }
+
+    /// Stores the first frames that wait, all or none: as many as a group may have and the block of the next
+    /// number takes. It takes no memory and copies no pixel but into the group.
+    ///
+    /// Where nothing waits it makes no call of the disk. `MustReopen` comes before that; all else is as
+    /// `Store::append` has it. A refusal keeps every frame that waits.
+    pub fn flush(&mut self) -> Result<Flushed, StoreFault>
+        ensures goes { DeskGoes D.medium self.old self.new (flushed result ∷ []) }
+    {
+        let waiting = self.pending.len();
+        let most = self.limits.group.min(self.store.room()) as usize;
+        let count = most.min(waiting);
+        if count == 0 {
+            if self.store.must_reopen() {
+                return Err(StoreFault::MustReopen);
+            }
+            return Ok(Flushed {
+                first: self.store.next(),
+                stored: 0,
+                left: 0,
+            });
+        }
+        match append_first(&mut self.store, self.pending.make_contiguous(), count) {
+            Ok(first) => {
+                self.pending.truncate_front(waiting - count);
+                Ok(Flushed {
+                    first,
+                    stored: count as u32,
+                    left: (waiting - count) as u32,
+                })
+            }
+            Err(fault) => Err(fault),
+        }
+    }
+
+    /// Locks the frames from a number to another, as `Store::lock`, and answers the clip's id. A frame that waits
+    /// isn't held yet.
+    pub fn lock_clip(&mut self, from: u64, to: u64) -> Result<u32, StoreFault>
+        ensures { DeskGoes D.medium self.old self.new (clip_locked (record { from = from; to = to }) result ∷ []) }
+    {
+        self.store.lock(from, to)
+    }
+
+    /// Unlocks the clip of an id, as `Store::unlock`.
+    pub fn unlock_clip(&mut self, id: u32) -> Result<(), StoreFault>
+        ensures { DeskGoes D.medium self.old self.new (clip_unlocked id result ∷ []) }
+    {
+        self.store.unlock(id)
+    }
+
+    /// How the desk stands. It takes no memory, makes no call of the disk and is never refused; where the store
+    /// must be reopened it tells of the recording from before the call that failed.
+    pub fn status(&self) -> Status
+        ensures { TellsStatus D.medium self.now result }
+    {
+        Status {
+            next: self.store.next(),
+            held: self.store.held(),
+            pending: self.pending.len() as u32,
+            must_reopen: self.store.must_reopen(),
+        }
+    }
+
+    /// The disk, as the calls left it. What waits is lost.
+    pub fn into_disk(self) -> D
+        ensures { result ≡ self.store.disk }
+    {
+        let Desk {
+            store,
+            pending: _,
+            limits: _,
+        } = self;
+        store.into_disk()
+    }
+}
+
+impl<D: Disk + Drop, A: Allocator + Copy> Desk<D, A> {
+    /// Reads a stored frame into memory of its own: `MustReopen`, `NotHeld`, `NoMemory`, then `Disk` or `Damaged`,
+    /// as `Store::read_frame`. A frame that waits isn't held yet.
+    pub fn read_frame(&mut self, alloc: A, number: u64) -> Result<ReadFrame<A>, StoreFault>
+        ensures { DeskGoes D.medium self.old self.new (frame_read number (read_of result) ∷ []) }
+    {
+        self.store.read_frame(alloc, number)
+    }
+
+    /// What the desk holds: the next number, the numbers of the held frames, the clips, and how many frames wait.
+    /// `MustReopen` where a call that writes has failed; otherwise `NoMemory`.
+    pub fn outline(&self, alloc: A) -> Result<Outline<A>, StoreFault>
+        ensures outline { IfOk result (TellsOutline D.medium self.now) }
+        ensures refused { IfErr result (λ fault. OutlineRefuses self.now fault) }
+    {
+        let frames = self.store.frames(alloc)?;
+        let clips = self.store.clips(alloc)?;
+        Ok(Outline {
+            next: self.store.next(),
+            frames,
+            clips,
+            pending: self.pending.len() as u32,
+        })
+    }
+}

@@ -1,0 +1,145 @@
+//! A lane: a queue with its table of fds, a hand, and a desk, and lists of their events.
+
+ghost use Rattle.std.specs.Prelude.{◌≡◌, ◌++◌, [], ◌∷◌, IfErr, IfOk, List};
+ghost use Rattle.std.specs.List.{zip};
+ghost use Rattle.loop_record.specs.Recording.{Picture};
+ghost use Rattle.loop_store.specs.Calls.{StoreState};
+ghost use Rattle.loop_store.specs.Goes.{Stands};
+ghost use Rattle.loop_ioctl.specs.Types.{type_of};
+ghost use Rattle.loop_desk.specs.Desk.{DeskCall, accepted_in};
+ghost use Rattle.loop_desk.specs.Footage.{KeepsFootage};
+ghost use Rattle.loop_desk.specs.Front.{Front, IsSubmit, hand_given, hand_state};
+ghost use Rattle.loop_desk.specs.Lane.{AreShownBy, LaneRan, StandsLane, frames_taken, hand_frame, is_dequeue, submit_calls};
+ghost use Rattle.loop_desk.specs.Seen.{DeskGoes};
+
+use crate::front::{dequeue, on_queue, requeue};
+use crate::{Desk, Hand, LaneEvent, LaneReply};
+use loop_disk::Disk;
+use loop_ioctl::{BufferType, Ioctl, QueueEvent};
+use loop_plane::{FdTable, PlaneMemory};
+use loop_record::PixelFormat;
+use loop_store::StoreFault;
+use loop_vb2::Queue;
+use std::alloc::{Allocator, Global};
+use std::mem;
+
+/// A queue with its table of fds, what was taken from it, and the desk that its frames go to. The queue's format
+/// and size are those of the desk's store; a frame of another size is refused at the desk.
+#[derive(Drop)]
+pub struct Lane<D: Disk + Drop, P = Box<dyn PlaneMemory + Send>, A: Allocator + Copy = Global> {
+    /// The queue.
+    pub queue: Queue<P, A>,
+    /// What fds name.
+    pub table: FdTable<P, A>,
+    /// What was taken from the queue.
+    pub hand: Hand<P, A>,
+    /// Where frames go.
+    pub desk: Desk<D, A>,
+}
+
+/// Whether an event is the ioctl DQBUF of a queue of this format.
+fn is_dequeue<P, A: Allocator>(format: PixelFormat, event: &QueueEvent<P, A>) -> bool
+    ensures { result ≡ is_dequeue format event.now }
+{
+    match event {
+        QueueEvent::Ioctl(Ioctl::DqBuf { buf_type }) => *buf_type == BufferType::of(format),
+        _ => false,
+    }
+}
+
+/// Gives the hand's frame to the desk; a refused one stays in the hand. `HandEmpty` where there is none.
+fn submit<D: Disk + Drop, P: PlaneMemory, A: Allocator + Copy>(
+    hand: &mut Hand<P, A>,
+    desk: &mut Desk<D, A>,
+) -> Result<u64, StoreFault>
+    ensures told { IsSubmit (hand_state P.plane hand.old) result }
+    ensures hand { hand_state P.plane hand.new ≡ hand_given (hand_state P.plane hand.old) result }
+    ensures goes { DeskGoes D.medium desk.old desk.new (submit_calls (hand_state P.plane hand.old) result) }
+{
+    match mem::replace(hand, Hand::Empty) {
+        Hand::Frame {
+            index,
+            frame,
+            planes,
+        } => match desk.submit(frame) {
+            Ok(number) => {
+                *hand = Hand::Spent { index, planes };
+                Ok(number)
+            }
+            Err((fault, frame)) => {
+                *hand = Hand::Frame {
+                    index,
+                    frame,
+                    planes,
+                };
+                Err(fault)
+            }
+        },
+        Hand::Spent { index, planes } => {
+            *hand = Hand::Spent { index, planes };
+            Err(StoreFault::HandEmpty)
+        }
+        Hand::Empty => Err(StoreFault::HandEmpty),
+    }
+}
+
+/// Does one event.
+fn answer<D: Disk + Drop, P: PlaneMemory, A: Allocator + Copy>(
+    alloc: A,
+    lane: &mut Lane<D, P, A>,
+    event: LaneEvent<P, A>,
+) -> LaneReply<P, A>
+    ensures { LaneRan P.plane D.medium lane.old lane.new (event ∷ []) (result ∷ []) }
+{
+    match event {
+        LaneEvent::Queue(event) => {
+            if is_dequeue(lane.queue.format(), &event) {
+                return LaneReply::Dequeue(dequeue(alloc, &mut lane.queue, &mut lane.hand));
+            }
+            LaneReply::Queue(on_queue(&mut lane.queue, &mut lane.table, &lane.hand, event))
+        }
+        LaneEvent::Dequeue => {
+            LaneReply::Dequeue(dequeue(alloc, &mut lane.queue, &mut lane.hand))
+        }
+        LaneEvent::Submit => LaneReply::Submit(submit(&mut lane.hand, &mut lane.desk)),
+        LaneEvent::Requeue => LaneReply::Requeue(requeue(&mut lane.queue, &mut lane.hand)),
+        LaneEvent::Flush => LaneReply::Flush(lane.desk.flush()),
+        LaneEvent::Lock(span) => LaneReply::Lock(lane.desk.lock_clip(span.from, span.to)),
+        LaneEvent::Unlock(id) => LaneReply::Unlock(lane.desk.unlock_clip(id)),
+        LaneEvent::Read(number) => LaneReply::Read(lane.desk.read_frame(alloc, number)),
+    }
+}
+
+/// Does events one after the other, and answers each by its own call's answer; a refused one doesn't end the list.
+/// Its memory for the replies is taken first: where there is none, the events come back with `NoMemory`, and nothing
+/// was done.
+///
+/// Whenever the power fails in it, before, between or within any writes, the disk reads as the recording after a
+/// beginning of the steps of the events that were answered Ok, and then of the one that was under way or failed; at
+/// the end it has all steps of those answered Ok (`headline`), and each clip that stands there has all its frames,
+/// each the one that was given.
+pub fn lane_run<D: Disk + Drop, P: PlaneMemory, A: Allocator + Copy>(
+    alloc: A,
+    lane: &mut Lane<D, P, A>,
+    events: Vec<LaneEvent<P, A>, A>,
+) -> Result<Vec<LaneReply<P, A>, A>, (StoreFault, Vec<LaneEvent<P, A>, A>)>
+    ensures ran { IfOk result (λ replies. LaneRan P.plane D.medium lane.old lane.new events.items replies.items) }
+    ensures headline { IfOk result (λ replies. (calls : List DeskCall) × (AreShownBy events.items replies.items calls
+        × ((s : StoreState) → Stands D.medium lane.old.desk.store s → (D.medium lane.old.desk.store.disk).honest
+        → KeepsFootage D.medium lane.old.desk lane.new.desk calls s))) }
+    ensures in_order { IfOk result (λ replies. (f : Front) → StandsLane P.plane lane.old f
+        → (calls : List DeskCall) × (AreShownBy events.items replies.items calls
+        × (accepted_in calls ++ hand_frame (hand_state P.plane lane.new.hand)
+        ≡ hand_frame (hand_state P.plane lane.old.hand) ++ frames_taken P.plane f (zip events.items replies.items)))) }
+    ensures refused { IfErr result (λ refused. (refused.0 ≡ StoreFault.NoMemory)
+        × ((refused.1 ≡ events) × (lane.new ≡ lane.old))) }
+{
+    let mut replies = match Vec::with_capacity(alloc, events.len()) {
+        Ok(replies) => replies,
+        Err(_) => return Err((StoreFault::NoMemory, events)),
+    };
+    for event in events {
+        replies.push_reserved(answer(alloc, lane, event));
+    }
+    Ok(replies)
+}

@@ -1,0 +1,67 @@
+//! What calls leave, one after the other. The functions do nothing: their contracts are the laws.
+
+ghost use Rattle.std.specs.Prelude.{◌++◌, List};
+ghost use Rattle.loop_store.specs.Calls.{StoreState};
+ghost use Rattle.loop_store.specs.Goes.{Stands};
+ghost use Rattle.loop_desk.specs.Desk.{AreDeskAnswers, DeskCall, DeskState, desk_after_calls};
+ghost use Rattle.loop_desk.specs.Footage.{KeepsFootage};
+ghost use Rattle.loop_desk.specs.declared.event.LaneEvent.{LaneEvent};
+ghost use Rattle.loop_desk.specs.declared.event.LaneReply.{LaneReply};
+ghost use Rattle.loop_desk.specs.FrontLaws.{NewFrontsStand, WholeFramesAreTaken};
+ghost use Rattle.loop_desk.specs.Lane.{LaneRan};
+ghost use Rattle.loop_desk.specs.Seen.{DeskGoes, StandsAt, rules_of};
+
+use crate::{Desk, Lane};
+use loop_disk::Disk;
+use loop_plane::PlaneMemory;
+use std::alloc::Allocator;
+
+/// A queue without buffers, any table and an empty hand stand for a front.
+pub fn new_fronts_stand<P: PlaneMemory, A: Allocator>()
+    ensures { NewFrontsStand A P.plane }
+{}
+
+/// A buffer with the planes of its format that was completed with a whole frame has that frame's bytes.
+pub fn whole_frames_are_taken()
+    ensures { WholeFramesAreTaken }
+{}
+
+/// Some calls of a desk, and others behind them, are one list of calls.
+pub fn calls_join<D: Disk + Drop, A: Allocator>(
+    before: &Desk<D, A>,
+    between: &Desk<D, A>,
+    after: &Desk<D, A>,
+)
+    ensures { (first second : List DeskCall) → DeskGoes D.medium before.now between.now first
+        → DeskGoes D.medium between.now after.now second
+        → DeskGoes D.medium before.now after.now (first ++ second) }
+{}
+
+/// Calls of a desk keep its footage, whenever the power fails: the crash safety of each call alone, and of any list
+/// of them.
+pub fn calls_keep_footage<D: Disk + Drop, A: Allocator>(before: &Desk<D, A>, after: &Desk<D, A>)
+    ensures { (calls : List DeskCall) (s : StoreState) → DeskGoes D.medium before.now after.now calls
+        → Stands D.medium before.now.store s → (D.medium before.now.store.disk).honest
+        → KeepsFootage D.medium before.now after.now calls s }
+{}
+
+/// Two runs of a lane, one behind the other, are one run of both lists of events.
+pub fn runs_join<D: Disk + Drop, P: PlaneMemory, A: Allocator + Copy>(
+    before: &Lane<D, P, A>,
+    between: &Lane<D, P, A>,
+    after: &Lane<D, P, A>,
+)
+    ensures { (es fs : List (LaneEvent P A)) (ps qs : List (LaneReply P A))
+        → LaneRan P.plane D.medium before.now between.now es ps
+        → LaneRan P.plane D.medium between.now after.now fs qs
+        → LaneRan P.plane D.medium before.now after.now (es ++ fs) (ps ++ qs) }
+{}
+
+/// Calls of a desk are calls of the model: from a state that the desk stood for, each was answered as the model has
+/// it at its point, and the desk stands for the state after them.
+pub fn calls_are_the_models<D: Disk + Drop, A: Allocator>(before: &Desk<D, A>, after: &Desk<D, A>)
+    ensures { (calls : List DeskCall) (s : DeskState) → DeskGoes D.medium before.now after.now calls
+        → StandsAt D.medium before.now s → (D.medium before.now.store.disk).honest
+        → AreDeskAnswers (rules_of before.now) s calls
+        × StandsAt D.medium after.now (desk_after_calls (rules_of before.now) s calls) }
+{}

@@ -1,0 +1,29 @@
+//! A desk of frames that wait before a store, and a lane from a queue of buffers to it.
+//!
+//! - `desk` has the desk and its calls, each of which is one call of the model in `specs/Desk`; `group`: the first
+//!   of the frames that wait, stored as one group; `limits`: how much a desk takes in, and what it tells;
+//! - `hand` has what was taken from a queue; `front` the events of queue, table of fds and hand, each of which is one
+//!   turn of the model in `specs/Front`; `frame` copies a frame's bytes out of a buffer's planes;
+//! - `lane` has `lane_run`, whose contract is the promise of the whole: whenever the power fails, the recording is
+//!   there after a beginning of the steps, with all that was answered (`specs/Footage`, `specs/Lane`); `event`: what a
+//!   lane is asked for and what it answers;
+//! - `laws` has what follows for lists of calls and of events.
+//!
+//! Only private functions speak of `specs/Parts`.
+#![tactic(auto)]
+
+mod desk;
+mod event;
+mod frame;
+mod front;
+mod group;
+mod hand;
+mod lane;
+pub mod laws;
+mod limits;
+
+pub use desk::Desk;
+pub use event::{LaneEvent, LaneReply};
+pub use hand::{Hand, LaneFault};
+pub use lane::{Lane, lane_run};
+pub use limits::{DeskLimits, Flushed, Outline, Status};

@@ -1,0 +1,52 @@
+//! The limits of a desk, and what its calls answer.
+
+use loop_store::Clip;
+use std::alloc::{Allocator, Global};
+
+/// How much a desk takes in.
+#[derive(Clone, Copy, Debug, PartialEq, Eq)]
+pub struct DeskLimits {
+    /// How many frames may wait: 1 to 64.
+    pub pending: u32,
+    /// How many frames one flush stores at most: 1 to 8.
+    pub group: u32,
+    /// How many calls one session of a recorder takes: 1 to 1,000,000. It doesn't bind the desk itself.
+    pub calls: u32,
+}
+
+/// What a flush stored.
+#[derive(Clone, Copy, Debug, PartialEq, Eq)]
+pub struct Flushed {
+    /// The number of the first frame that was stored; where none was, the next one.
+    pub first: u64,
+    /// How many frames were stored.
+    pub stored: u32,
+    /// How many still wait.
+    pub left: u32,
+}
+
+/// How a desk stands, in counts.
+#[derive(Clone, Copy, Debug, PartialEq, Eq)]
+pub struct Status {
+    /// The number that the next stored frame gets.
+    pub next: u64,
+    /// How many frames are held.
+    pub held: u64,
+    /// How many frames wait.
+    pub pending: u32,
+    /// Whether a call that writes has failed, so that the disk is to be taken out and opened again.
+    pub must_reopen: bool,
+}
+
+/// What a desk holds, without pixels.
+#[derive(Drop)]
+pub struct Outline<A: Allocator = Global> {
+    /// The number that the next stored frame gets.
+    pub next: u64,
+    /// The numbers of the held frames, which rise.
+    pub frames: Vec<u64, A>,
+    /// The clips that stand, by rising id.
+    pub clips: Vec<Clip, A>,
+    /// How many frames wait.
+    pub pending: u32,
+}
