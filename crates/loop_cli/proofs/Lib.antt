@@ -1,3 +1,5 @@
 pub mod Words
 pub mod Numerals
 pub mod FirstLine
+pub mod Kept
+pub mod Called

@@ -7,7 +7,7 @@ use Rattle.std.specs.Str.{bytes_eq}
 use Rattle.std.specs.Str.Parse.{digits_value}
 use denote.Ref.{Bor}
 use Rattle.loop_cli.specs.declared.command.Command.{Command}
-use Rattle.loop_cli.specs.declared.command.Command.TheVariants.{Format, Store, Read, Lock, Unlock, List as ListAll, Reopen}
+use Rattle.loop_cli.specs.declared.command.Command.TheVariants.{Format, Store, Submit, Flush, Read, Lock, Unlock, List as ListAll, Reopen}
 use Rattle.loop_record.specs.declared.geometry.Geometry.{Geometry}
 use Rattle.loop_record.specs.declared.geometry.PixelFormat.{PixelFormat}
 use Rattle.loop_record.specs.declared.geometry.PixelFormat.TheVariants.{Grey, Ym12, Ym16, Ym24}
@@ -67,6 +67,7 @@ geometry_said _ = None
 abbrev pub counted_said : List ℕ → List ℕ → Option Command
 counted_said name argument =
     if bytes_eq name (codes "store") then option_map Store (number argument)
+    else if bytes_eq name (codes "submit") then option_map Submit (number argument)
     else if bytes_eq name (codes "read") then option_map Read (number argument)
     else if bytes_eq name (codes "unlock") then option_map Unlock (small_number argument) else None
 
@@ -79,7 +80,8 @@ lock_said from _ = None
 abbrev pub named_said : List ℕ → Option Command
 named_said name =
     if bytes_eq name (codes "list") then Some ListAll
-    else if bytes_eq name (codes "reopen") then Some Reopen else None
+    else if bytes_eq name (codes "reopen") then Some Reopen
+    else if bytes_eq name (codes "flush") then Some Flush else None
 
 -- what the words of a line ask for, if they can be read
 abbrev pub said : List (List ℕ) → Option Command

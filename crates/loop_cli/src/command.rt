@@ -10,8 +10,12 @@ use loop_record::{Geometry, PixelFormat};
 pub enum Command {
     /// `format W H X N:D S F`: a fresh store. The geometry isn't checked yet.
     Format(Geometry),
-    /// `store K`: so many frames of the pattern.
+    /// `store K`: so many frames of the pattern, each submitted and flushed.
     Store(u64),
+    /// `submit K`: so many frames of the pattern, which then wait.
+    Submit(u64),
+    /// `flush`: the first of the frames that wait are stored.
+    Flush,
     /// `read N`: the frame of that number.
     Read(u64),
     /// `lock A B`: a clip of the frames from A to B.
@@ -32,12 +36,14 @@ pub fn read_command(line: &str) -> Option<Command>
     match rest {
         None if name == "list" => Some(Command::List),
         None if name == "reopen" => Some(Command::Reopen),
+        None if name == "flush" => Some(Command::Flush),
         None => None,
         Some(rest) if name == "format" => Some(Command::Format(geometry(rest)?)),
         Some(rest) => {
             let (argument, rest) = first_word(rest);
             match rest {
                 None if name == "store" => Some(Command::Store(number(argument)?)),
+                None if name == "submit" => Some(Command::Submit(number(argument)?)),
                 None if name == "read" => Some(Command::Read(number(argument)?)),
                 None if name == "unlock" => Some(Command::Unlock(small_number(argument)?)),
                 Some(rest) if name == "lock" => lock(argument, rest),

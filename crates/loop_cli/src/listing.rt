@@ -5,13 +5,14 @@ ghost use Rattle.loop_record.specs.Recording.{Recording};
 ghost use Rattle.loop_store.specs.Seen.{StandsFor};
 
 use crate::runs::run_length;
+use loop_desk::Outline;
 use loop_disk::Disk;
 use loop_store::{Clip, Store, StoreFault};
 use std::alloc::Allocator;
 use std::io;
 use std::io::Write;
 
-/// What is listed of a store: the next number, the held ones and the clips, both rising.
+/// What is listed of a store or a desk: the next number, the held ones and the clips, both rising.
 #[derive(Drop)]
 pub struct Listing<A: Allocator> {
     pub next: u64,
@@ -33,6 +34,24 @@ impl<A: Allocator + Copy> Listing<A> {
             numbers: store.frames(alloc)?,
             clips: store.clips(alloc)?,
         })
+    }
+
+    /// What is listed of a desk's outline, which is all but how many frames wait.
+    pub fn of_outline(outline: Outline<A>) -> Self
+        ensures { result
+            ≡ record { next = outline.next; numbers = outline.frames; clips = outline.clips } }
+    {
+        let Outline {
+            next,
+            frames,
+            clips,
+            pending: _,
+        } = outline;
+        Listing {
+            next,
+            numbers: frames,
+            clips,
+        }
     }
 
     /// Prints the next number, each longest run of held ones, and each clip.

@@ -3,8 +3,8 @@
 //!
 //! `program` reads the program's words and chooses what to do, and ends with a status. `simulate` runs a script
 //! line by line; `lines` reads a line in bounded memory, `command` says what a line means, `number` reads a
-//! number in it. `session` is a formatted store and the frames that a script makes for it, `pattern` has their
-//! bytes and timestamps, `runs` the runs of numbers that `list` prints, and `refusal` the words of a refusal.
+//! number in it. `session` is a desk before a formatted store, and the frames that a script makes for it; `pattern`
+//! has these frames, `runs` the runs of numbers that `list` prints, and `refusal` the words of a refusal.
 //!
 //! What a line means, the calls of a session, the bytes and timestamps of frames, the runs of numbers and the
 //! words of refusals are proved (`specs/`); the other lines that are printed are tested.

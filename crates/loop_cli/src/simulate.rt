@@ -1,4 +1,6 @@
 // Scripts, run line by line.
+ghost use Rattle.std.specs.Prelude.{◌≡◌};
+ghost use Rattle.loop_cli.specs.Sessions.{stored_since};
 
 use crate::command::{Command, read_command};
 use crate::lines::{MAX_LINE, next_line};
@@ -6,7 +8,7 @@ use crate::listing::Listing;
 use crate::refusal::print_refusal;
 use crate::session::Session;
 use loop_record::Geometry;
-use loop_store::StoreFault;
+use loop_store::{ReadFrame, StoreFault};
 use std::alloc::Allocator;
 use std::io::{BufReader, BufWriter, Error, Read, Write};
 use std::{io, str};
@@ -106,7 +108,7 @@ fn show_before_waiting<A: Allocator, R: Read, W: Write>(
     out.flush()
 }
 
-// The store of a script, from its first accepted `format` on, until a `reopen` is refused.
+// The desk of a script, from its first accepted `format` on, until a `reopen` is refused.
 #[derive(Drop)]
 struct Simulation<A: Allocator + Copy> {
     alloc: A,
@@ -127,8 +129,10 @@ impl<A: Allocator + Copy> Simulation<A> {
             (Command::Format(geometry), _) => self.format(geometry, out),
             (Command::Reopen, _) => self.reopen(out),
             (_, None) => print_refusal(out, StoreFault::NotFormatted),
-            (Command::Store(count), Some(session)) => store(session, count, out),
-            (Command::Read(number), Some(session)) => read(session, number, out),
+            (Command::Store(count), Some(session)) => store(session, self.alloc, count, out),
+            (Command::Submit(count), Some(session)) => submit(session, self.alloc, count, out),
+            (Command::Flush, Some(session)) => flush(session, out),
+            (Command::Read(number), Some(session)) => read(session, self.alloc, number, out),
             (Command::Lock(from, to), Some(session)) => lock(session, from, to, out),
             (Command::Unlock(id), Some(session)) => unlock(session, id, out),
             (Command::List, Some(session)) => list(session, self.alloc, out),
@@ -161,16 +165,47 @@ impl<A: Allocator + Copy> Simulation<A> {
     }
 }
 
-// Stores so many frames, up to the first refusal.
+// Submits and flushes so many frames, up to the first refusal, and prints what the flushes stored.
 fn store<A: Allocator + Copy, W: Write>(
     session: &mut Session<A>,
+    alloc: A,
     count: u64,
     out: &mut W,
 ) -> io::Result<()> {
-    let (stored, refusal) = store_up_to(session, count);
-    match stored {
-        Some((first, last)) => writeln!(out, "stored {first}..{last}")?,
-        None if refusal.is_none() => writeln!(out, "stored none")?,
+    let before = session.next();
+    let refusal = store_up_to(session, alloc, count);
+    print_done("stored", since(before, session), refusal, out)
+}
+
+// Stores the first of the frames that wait, and prints which.
+fn flush<A: Allocator + Copy, W: Write>(session: &mut Session<A>, out: &mut W) -> io::Result<()> {
+    let before = session.next();
+    let refusal = session.flush().err();
+    print_done("stored", since(before, session), refusal, out)
+}
+
+// Submits so many frames, up to the first refusal, and prints the numbers that they will have.
+fn submit<A: Allocator + Copy, W: Write>(
+    session: &mut Session<A>,
+    alloc: A,
+    count: u64,
+    out: &mut W,
+) -> io::Result<()> {
+    let (submitted, refusal) = submit_up_to(session, alloc, count);
+    print_done("submitted", submitted, refusal, out)
+}
+
+// Prints the first and the last number of what was done, if anything was, or that nothing was; and then the refusal
+// that ended it, if one did.
+fn print_done<W: Write>(
+    done: &str,
+    numbers: Option<(u64, u64)>,
+    refusal: Option<StoreFault>,
+    out: &mut W,
+) -> io::Result<()> {
+    match numbers {
+        Some((first, last)) => writeln!(out, "{done} {first}..{last}")?,
+        None if refusal.is_none() => writeln!(out, "{done} none")?,
         None => (),
     }
     match refusal {
@@ -179,37 +214,66 @@ fn store<A: Allocator + Copy, W: Write>(
     }
 }
 
-// The first and the last number of the frames that were stored, if any, and the refusal that stopped it, if one did.
+// The first and the last number of what was stored since a number was the next one, if anything was.
+fn since<A: Allocator + Copy>(before: u64, session: &Session<A>) -> Option<(u64, u64)>
+    ensures { result ≡ stored_since before session.now.desk.store.next }
+{
+    let next = session.next();
+    if before < next {
+        Some((before, next - 1))
+    } else {
+        None
+    }
+}
+
+// Submits and flushes so many frames; answers the refusal that stopped it, if one did.
 fn store_up_to<A: Allocator + Copy>(
     session: &mut Session<A>,
+    alloc: A,
     count: u64,
-) -> (Option<(u64, u64)>, Option<StoreFault>) {
-    let mut stored = None;
+) -> Option<StoreFault> {
     for _ in 0..count {
-        match session.store_next() {
-            Ok(number) => {
-                let first = stored.map_or(number, |(first, _)| first);
-                stored = Some((first, number));
-            }
-            Err(fault) => return (stored, Some(fault)),
+        match session.store_next(alloc) {
+            Ok(_) => (),
+            Err(fault) => return Some(fault),
         }
     }
-    (stored, None)
+    None
+}
+
+// The first and the last number of the frames that were submitted, if any, and the refusal that stopped it, if one did.
+fn submit_up_to<A: Allocator + Copy>(
+    session: &mut Session<A>,
+    alloc: A,
+    count: u64,
+) -> (Option<(u64, u64)>, Option<StoreFault>) {
+    let mut submitted = None;
+    for _ in 0..count {
+        match session.submit_next(alloc) {
+            Ok(number) => {
+                let first = submitted.map_or(number, |(first, _)| first);
+                submitted = Some((first, number));
+            }
+            Err(fault) => return (submitted, Some(fault)),
+        }
+    }
+    (submitted, None)
 }
 
 // Prints a frame's head and its first bytes.
 fn read<A: Allocator + Copy, W: Write>(
     session: &mut Session<A>,
+    alloc: A,
     number: u64,
     out: &mut W,
 ) -> io::Result<()> {
-    match session.read(number) {
+    match session.read(alloc, number) {
         Err(fault) => print_refusal(out, fault),
-        Ok(head) => {
+        Ok(ReadFrame { head, bytes }) => {
             let sequence = head.sequence;
             let time = head.timestamp;
             write!(out, "frame {number} sequence {sequence} time {time} bytes ")?;
-            for byte in session.pixels().iter().take(SHOWN_BYTES) {
+            for byte in bytes.iter().take(SHOWN_BYTES) {
                 write!(out, "{byte:02x}")?;
             }
             writeln!(out)
@@ -242,14 +306,14 @@ fn unlock<A: Allocator + Copy, W: Write>(
     }
 }
 
-// Prints what is listed of the store.
+// Prints what is listed of the desk.
 fn list<A: Allocator + Copy, W: Write>(
     session: &Session<A>,
     alloc: A,
     out: &mut W,
 ) -> io::Result<()> {
-    match Listing::of(session.store(), alloc) {
+    match session.outline(alloc) {
         Err(fault) => print_refusal(out, fault),
-        Ok(listing) => listing.print(out),
+        Ok(outline) => Listing::of_outline(outline).print(out),
     }
 }

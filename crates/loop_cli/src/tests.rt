@@ -7,6 +7,7 @@ use crate::refusal::print_refusal;
 use crate::session::Session;
 use crate::simulate::simulate;
 use loop_budget::Budget;
+use loop_desk::Flushed;
 use loop_disk::DiskFault;
 use loop_record::{Damage, Geometry, PixelFormat};
 use loop_store::StoreFault;
@@ -22,7 +23,7 @@ mod files;
 type Row = (&'static [u8], &'static str, &'static str, u8);
 
 // Scripts that are read to their end.
-static RUNS: [Row; 20] = [
+static RUNS: [Row; 26] = [
     (b"", "", "", 0),
     (
         b"format 4 2 YM12 25:1 3 2\nstore 2\nlist\n",
@@ -67,6 +68,48 @@ static RUNS: [Row; 20] = [
     (
         b"lock 0 0\nunlock 0\nformat 4 2 YM12 25:1 3 2\nstore 7\nlock 2 2\nstore 2\nlock 6 6\nstore 2\nlist\nunlock 1\nreopen\nstore 1\nlist\nlock 2 18446744073709551615\n",
         "refused 4 NotFormatted\nrefused 4 NotFormatted\nformatted\nstored 0..6\nlocked 0\nstored 7..8\nlocked 1\nstored 9..9\nrefused 6 AllLocked\nnext 10\nframes 2..3\nframes 6..9\nclip 0 2..2\nclip 1 6..6\nunlocked 1\nopened\nstored 10..10\nnext 11\nframes 2..3\nframes 8..10\nclip 0 2..2\nrefused 10 ClipNotHeld 4\n",
+        "",
+        0,
+    ),
+    // A clip that goes lets a frame that waits be stored.
+    (
+        b"format 4 2 YM12 25:1 3 2\nstore 7\nlock 2 2\nstore 2\nlock 6 6\nstore 1\nstore 1\nlist\nunlock 1\nflush\nlist\n",
+        "formatted\nstored 0..6\nlocked 0\nstored 7..8\nlocked 1\nstored 9..9\nrefused 6 AllLocked\nnext 10\nframes 2..3\nframes 6..9\nclip 0 2..2\nclip 1 6..6\nunlocked 1\nstored 10..10\nnext 11\nframes 2..3\nframes 8..10\nclip 0 2..2\n",
+        "",
+        0,
+    ),
+    // A group never crosses a block.
+    (
+        b"submit 1\nflush\nformat 4 2 YM12 25:1 3 2\nsubmit 0\nflush\nsubmit 3\nflush\nflush\nflush\nlist\n",
+        "refused 4 NotFormatted\nrefused 4 NotFormatted\nformatted\nsubmitted none\nstored none\nsubmitted 0..2\nstored 0..1\nstored 2..2\nstored none\nnext 3\nframes 0..2\n",
+        "",
+        0,
+    ),
+    // What a store prints is what its flushes stored, which older frames that waited are too.
+    (
+        b"format 4 2 YM12 25:1 3 2\nsubmit 2\nlist\nstore 0\nstore 1\nstore 2\nread 3\nflush\nflush\n",
+        "formatted\nsubmitted 0..1\nnext 0\nstored none\nstored 0..1\nstored 2..4\nframe 3 sequence 3 time 120000 bytes 030405060708090a\nstored none\nstored none\n",
+        "",
+        0,
+    ),
+    // Sixty-four frames may wait. One that is refused is made again.
+    (
+        b"format 4 2 YM12 25:1 2 8\nsubmit 65\nstore 1\nlist\nflush\nsubmit 1\nflush\nflush\nflush\nflush\nflush\nflush\nflush\nflush\nread 64\nlist\n",
+        "formatted\nsubmitted 0..63\nrefused 7 PendingFull\nrefused 7 PendingFull\nnext 0\nstored 0..7\nsubmitted 64..64\nstored 8..15\nstored 16..23\nstored 24..31\nstored 32..39\nstored 40..47\nstored 48..55\nstored 56..63\nstored 64..64\nframe 64 sequence 64 time 2560000 bytes 4041424344454647\nnext 65\nframes 56..64\n",
+        "",
+        0,
+    ),
+    // A flush that is refused keeps what waits, and a store behind it adds to that.
+    (
+        b"format 4 2 YM12 25:1 3 2\nstore 7\nlock 2 2\nstore 2\nlock 6 6\nsubmit 2\nflush\nflush\nstore 1\nunlock 1\nstore 1\nread 11\nflush\nlist\n",
+        "formatted\nstored 0..6\nlocked 0\nstored 7..8\nlocked 1\nsubmitted 9..10\nstored 9..9\nrefused 6 AllLocked\nrefused 6 AllLocked\nunlocked 1\nstored 10..11\nframe 11 sequence 11 time 440000 bytes 0b0c0d0e0f101112\nstored 12..12\nnext 13\nframes 2..3\nframes 10..12\nclip 0 2..2\n",
+        "",
+        0,
+    ),
+    // Frames that waited are lost where the store is opened again, and keep their places in the pattern.
+    (
+        b"format 4 2 YM12 25:1 3 2\nstore 1\nsubmit 2\nread 1\nlock 1 1\nreopen\nlist\nstore 1\nread 1\n",
+        "formatted\nstored 0..0\nsubmitted 1..2\nrefused 13 NotHeld\nrefused 10 ClipNotHeld 1\nopened\nnext 1\nframes 0..0\nstored 1..1\nframe 1 sequence 3 time 120000 bytes 030405060708090a\n",
         "",
         0,
     ),
@@ -153,7 +196,7 @@ static RUNS: [Row; 20] = [
 ];
 
 // Lines that can't be read, each alone.
-static BAD_LINES: [&[u8]; 40] = [
+static BAD_LINES: [&[u8]; 42] = [
     b"\n",
     b"list\r\n",
     b"list \n",
@@ -177,8 +220,10 @@ static BAD_LINES: [&[u8]; 40] = [
     b"read 1 2",
     b"reopen 1\n",
     b"reopen \n",
-    b"flush\n",
-    b"submit 1\n",
+    b"flush 1\n",
+    b"submit\n",
+    b"submit 1 1\n",
+    b"submit -1\n",
     b"lock 0\n",
     b"lock 0 \n",
     b"lock 0 x\n",
@@ -481,10 +526,16 @@ fn is_refused_format(out: &[u8]) -> bool {
     out.starts_with(b"refused 1 NoMemory\n") && out.ends_with(none)
 }
 
+// Whether it is printed that there is no memory for the first frame, or none for the second.
+fn is_refused_store(out: &[u8]) -> bool {
+    out.starts_with(b"formatted\nrefused 1 NoMemory\n")
+        || out.starts_with(b"formatted\nstored 0..0\nrefused 1 NoMemory\n")
+}
+
 #[test]
 fn want_of_memory_is_a_refusal_of_its_line(rt: HostRuntime) -> Result<(), Fail> {
     let budget = Budget::new(rt.alloc());
-    let (mut buffers, mut formats, mut reopens) = (0u32, 0u32, 0u32);
+    let (mut buffers, mut formats, mut stores, mut reopens) = (0u32, 0u32, 0u32, 0u32);
     for blocks in 0..100u64 {
         budget.allow(blocks);
         let (status, out, err) = printed(&budget, rt.alloc())?;
@@ -501,6 +552,9 @@ fn want_of_memory_is_a_refusal_of_its_line(rt: HostRuntime) -> Result<(), Fail> 
             formats = formats.saturating_add(1);
             assert_eq!(rt; status, 0, "{blocks}");
             assert!(rt; is_refused_format(&out), "{blocks}");
+        } else if is_refused_store(&out) {
+            stores = stores.saturating_add(1);
+            assert_eq!(rt; status, 0, "{blocks}");
         } else {
             assert_eq!(rt; status, 0, "{blocks}");
             // A refused reopen leaves no store.
@@ -511,6 +565,8 @@ fn want_of_memory_is_a_refusal_of_its_line(rt: HostRuntime) -> Result<(), Fail> 
     }
     assert_eq!(rt; buffers, 3);
     assert!(rt; formats >= 4, "{formats}");
+    // One for each frame.
+    assert_eq!(rt; stores, 2);
     assert!(rt; reopens >= 3, "{reopens}");
     budget.allow(1000);
     let (status, out, _) = printed(&budget, rt.alloc())?;
@@ -521,7 +577,9 @@ fn want_of_memory_is_a_refusal_of_its_line(rt: HostRuntime) -> Result<(), Fail> 
 }
 
 #[test]
-fn stores_and_reads_take_no_memory(rt: HostRuntime) -> Result<(), Fail> {
+fn a_frame_takes_one_block_of_memory_and_without_it_nothing_is_changed(
+    rt: HostRuntime,
+) -> Result<(), Fail> {
     let budget = Budget::new(rt.alloc());
     budget.allow(1000);
     let geometry = Geometry {
@@ -534,15 +592,43 @@ fn stores_and_reads_take_no_memory(rt: HostRuntime) -> Result<(), Fail> {
         slots: 2,
     };
     let mut session = Session::format(&budget, geometry)?;
-    budget.allow(0);
-    for number in 0..1000 {
-        assert_eq!(rt; session.store_next(), Ok(number));
+    for first in 0..1000 {
+        budget.allow(0);
+        assert_eq!(rt; session.submit_next(&budget), Err(StoreFault::NoMemory));
+        assert_eq!(rt; session.store_next(&budget), Err(StoreFault::NoMemory));
+        budget.allow(1);
+        let flushed = Flushed {
+            first,
+            stored: 1,
+            left: 0,
+        };
+        assert_eq!(rt; session.store_next(&budget), Ok(flushed));
     }
-    let head = session.read(999)?;
-    assert_eq!(rt; u64::from(head.sequence), 999);
+    budget.allow(0);
+    assert_eq!(rt;
+        session.read(&budget, 999).err(),
+        Some(StoreFault::NoMemory)
+    );
+    assert_eq!(rt;
+        session.read(&budget, 1000).err(),
+        Some(StoreFault::NotHeld)
+    );
+    assert_eq!(rt; session.outline(&budget).err(), Some(StoreFault::NoMemory));
+    budget.allow(1);
+    assert_eq!(rt; session.submit_next(&budget), Ok(1000));
+    budget.allow(1);
+    assert_eq!(rt; session.read(&budget, 999)?.head.sequence, 999);
     budget.allow(1000);
     let mut session = session.reopen(&budget)?;
-    assert_eq!(rt; session.store_next(), Ok(1000));
+    assert_eq!(rt; session.next(), 1000);
+    let none = Flushed {
+        first: 1000,
+        stored: 0,
+        left: 0,
+    };
+    assert_eq!(rt; session.flush(), Ok(none));
+    assert_eq!(rt; session.submit_next(&budget), Ok(1000));
+    assert_eq!(rt; session.outline(&budget)?.pending, 1);
     Ok(())
 }
 
