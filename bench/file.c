@@ -1,12 +1,15 @@
-/* The system's calls of `bench_store append-file` and `lock-file` as a plain program, with the same places and sizes and in the same order;
-   it checks nothing. And one bare write of the same bytes and one fdatasync for each group.
+/* The system's calls of `bench_store append-file` and `lock-file`, and of `bench_lane`, as a plain program, with the same places and sizes
+   and in the same order; it checks nothing. And one bare write of the same bytes and one fdatasync for each group.
 
        file append PATH GROUP GROUPS
        file bare PATH GROUP GROUPS
+       file lane PATH GROUP GROUPS
        file lock PATH ROUNDS
        file forget PATH
 
-   The store in the file has no clips, and the blocks from 0 on, each full but the last. `forget` asks the system to drop the file's pages. */
+   The store in the file has no clips, and the blocks from 0 on, each full but the last. `lane` makes the copies of a lane too: each frame is
+   made anew, copied into the memory of a buffer, and out of it into memory of its own, before its group is appended. `forget` asks the
+   system to drop the file's pages. */
 #define _GNU_SOURCE
 #include <fcntl.h>
 #include <stdint.h>
@@ -24,6 +27,11 @@ struct store {
     int file;
     uint32_t segments, slots, size;
     uint64_t segment, next;
+};
+
+struct frame {
+    uint32_t sequence;
+    uint8_t *bytes;
 };
 
 static void put32(uint8_t *at, uint32_t value) { memcpy(at, &value, 4); }
@@ -79,20 +87,20 @@ static void open_store(struct store *s, const char *path) {
 }
 
 /* The slots of a group, one after the other. */
-static void put_group(const struct store *s, uint8_t *slots, const uint8_t *frames, uint32_t count) {
+static void put_group(const struct store *s, uint8_t *slots, const struct frame *frames, uint32_t count) {
     for (uint32_t i = 0; i < count; i++) {
         uint8_t *slot = slots + i * (32 + (size_t)s->size);
         put64(slot, s->next + i);
-        put32(slot + 8, 0);
+        put32(slot + 8, frames[i].sequence);
         put32(slot + 12, 0x2000);
         put64(slot + 16, 0);
         put32(slot + 24, s->size);
         put32(slot + 28, 0);
-        memcpy(slot + 32, frames + i * (size_t)s->size, s->size);
+        memcpy(slot + 32, frames[i].bytes, s->size);
     }
 }
 
-static void append(struct store *s, uint8_t *slots, const uint8_t *frames, uint32_t count) {
+static void append(struct store *s, uint8_t *slots, const struct frame *frames, uint32_t count) {
     uint64_t block = s->next / s->slots, first = s->next % s->slots, at = 2560 + block % s->segments * s->segment;
     if (first == 0) {
         static uint8_t header[512];
@@ -115,7 +123,7 @@ static void append(struct store *s, uint8_t *slots, const uint8_t *frames, uint3
 }
 
 /* The same slots at the same places, and nothing else. */
-static void append_bare(struct store *s, uint8_t *slots, const uint8_t *frames, uint32_t count) {
+static void append_bare(struct store *s, uint8_t *slots, const struct frame *frames, uint32_t count) {
     uint64_t at = 2560 + s->next / s->slots % s->segments * s->segment;
     put_group(s, slots, frames, count);
     write_at(s, at + 512 + s->next % s->slots * (32 + (uint64_t)s->size), slots, count * (32 + (size_t)s->size));
@@ -141,6 +149,51 @@ static void lock_and_unlock(const struct store *s) {
     sync_file(s);
 }
 
+static uint8_t *memory(size_t size) {
+    uint8_t *bytes = malloc(size);
+    if (!bytes)
+        exit(1);
+    return bytes;
+}
+
+/* A frame of its own memory, all of whose bytes are the last one of its number. */
+static struct frame made(const struct store *s, uint32_t sequence) {
+    struct frame frame = {sequence, memory(s->size)};
+    memset(frame.bytes, sequence, s->size);
+    return frame;
+}
+
+/* The same group, so many times. Pages that were never written would all be the system's one page of zeros, and stay in the cache. */
+static void append_groups(struct store *s, uint8_t *slots, uint32_t count, uint32_t groups, int bare) {
+    struct frame frames[8];
+    for (uint32_t i = 0; i < count; i++) {
+        frames[i] = made(s, 1);
+        frames[i].sequence = 0;
+    }
+    for (uint32_t n = 0; n < groups; n++)
+        (bare ? append_bare : append)(s, slots, frames, count);
+}
+
+/* So many groups through two buffers: the frames of a group are made, each goes through a buffer, and all are appended. */
+static void run_lane(struct store *s, uint8_t *slots, uint32_t count, uint32_t groups) {
+    uint8_t *buffers[2] = {memory(s->size), memory(s->size)};
+    struct frame frames[8];
+    for (uint32_t n = 0; n < groups; n++) {
+        for (uint32_t i = 0; i < count; i++)
+            frames[i] = made(s, n * count + i);
+        for (uint32_t i = 0; i < count; i++) {
+            uint8_t *buffer = buffers[frames[i].sequence % 2];
+            memcpy(buffer, frames[i].bytes, s->size);
+            free(frames[i].bytes);
+            frames[i].bytes = memory(s->size);
+            memcpy(frames[i].bytes, buffer, s->size);
+        }
+        append(s, slots, frames, count);
+        for (uint32_t i = 0; i < count; i++)
+            free(frames[i].bytes);
+    }
+}
+
 int main(int argc, char **argv) {
     if (argc == 3 && !strcmp(argv[1], "forget"))
         return forget(argv[2]);
@@ -152,18 +205,19 @@ int main(int argc, char **argv) {
         printf("locked, next %llu\n", (unsigned long long)s.next);
         return 0;
     }
-    if (argc != 5 || (strcmp(argv[1], "append") && strcmp(argv[1], "bare")))
+    if (argc != 5 || (strcmp(argv[1], "append") && strcmp(argv[1], "bare") && strcmp(argv[1], "lane")))
         return 2;
     struct store s;
     open_store(&s, argv[2]);
     uint32_t count = atoi(argv[3]), groups = atoi(argv[4]);
-    uint8_t *frames = malloc(count * (size_t)s.size), *slots = malloc(8 * (32 + (size_t)s.size));
-    if (!frames || !slots || count == 0 || count > 8)
+    int lane = !strcmp(argv[1], "lane");
+    if (count == 0 || count > 8)
         return 1;
-    /* Pages that were never written would all be the system's one page of zeros, and stay in the cache. */
-    memset(frames, 1, count * (size_t)s.size);
-    for (uint32_t n = 0; n < groups; n++)
-        (strcmp(argv[1], "bare") ? append : append_bare)(&s, slots, frames, count);
-    printf("appended, next %llu\n", (unsigned long long)s.next);
+    uint8_t *slots = memory(8 * (32 + (size_t)s.size));
+    if (lane)
+        run_lane(&s, slots, count, groups);
+    else
+        append_groups(&s, slots, count, groups, !strcmp(argv[1], "bare"));
+    printf("%s, next %llu\n", lane ? "stored" : "appended", (unsigned long long)s.next);
     return 0;
 }

@@ -1,0 +1,31 @@
+-- What was recorded is what is exported.
+use Rattle.std.proofs.Common.{◌≡◌, ℕ, false, Option, Result, Ok, Err, List, sym, ap, ◌∙◌, subst}
+use Rattle.std.specs.Io.KnownBytes.{Appends}
+use Rattle.loop_disk.specs.Medium.{Medium}
+use Rattle.loop_record.specs.declared.damage.LayoutFault.{LayoutFault}
+use Rattle.loop_record.specs.declared.geometry.Geometry.{Geometry}
+use Rattle.loop_record.specs.Reading.{Contents, Holds}
+use Rattle.loop_record.specs.Recording.{Recording}
+use Rattle.loop_store.specs.Opened.{IsOpened}
+use Rattle.loop_store.specs.Seen.{Seen, StandsFor}
+use Rattle.loop_y4m.specs.Export.{IsExport, frames_between}
+use Rattle.loop_y4m.specs.Text.{text}
+
+abbrev contents_of : Contents → Result Contents LayoutFault → Contents
+contents_of other (Ok c) = c
+contents_of other (Err fault) = other
+
+-- one image reads as one recording
+one-reading : (g h : Geometry) (q r : Recording) (image : List ℕ) → Holds g q image → Holds h r image → ◌≡◌ {A = Contents} (record { geometry = g; recording = q }) (record { geometry = h; recording = r })
+one-reading g h q r image first second = ap (contents_of (record { geometry = h; recording = r })) (sym first ∙ second)
+
+-- the text of what an image reads as
+pub exported : {D : Type 0} (medium : D → Medium) (kept : Seen D) (g : Geometry) (r : Recording) (opened : Seen D) (image : List ℕ) (from to count : ℕ) (before after : Option (List ℕ))
+    → StandsFor medium kept r → kept.must_reopen ≡ false → (medium kept.disk).honest → kept.geometry ≡ g → image ≡ (medium kept.disk).bytes → IsOpened medium image opened → (medium opened.disk).honest
+    → ((q : Recording) → StandsFor medium opened q → (medium opened.disk).honest → IsExport opened.geometry opened.must_reopen (frames_between from to q.frames) before after (Ok count))
+    → Appends before after (text g (frames_between from to r.frames))
+exported medium kept g r opened image from to count before after stands fine now same is found honest exports =
+    let there : Holds g r image = subst (λ (h : Geometry). Holds h r image) same (subst (λ (l : List ℕ). Holds kept.geometry r l) (sym is) (stands.held fine now)) in
+    let one = one-reading opened.geometry g found.recording r image found.held there in
+    let said = exports found.recording found.stands honest in
+    subst (λ (c : Contents). Appends before after (text c.geometry (frames_between from to c.recording.frames))) one said.1.1.0

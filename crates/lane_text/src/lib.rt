@@ -1,0 +1,76 @@
+//! From a lane to a text: what was recorded is found again on the disk, and written as YUV4MPEG2.
+//!
+//! `record_and_export` calls nothing but what a program would, one after the other; its contract follows from theirs
+//! alone.
+#![tactic(auto)]
+
+ghost use Rattle.std.specs.Prelude.{IfOk, List};
+ghost use Rattle.std.specs.Io.KnownBytes.{Appends};
+ghost use Rattle.loop_record.specs.Recording.{plain, ring_of};
+ghost use Rattle.loop_store.specs.Calls.{StoreState};
+ghost use Rattle.loop_store.specs.Goes.{Stands};
+ghost use Rattle.loop_desk.specs.Desk.{DeskCall};
+ghost use Rattle.loop_desk.specs.Footage.{steps_made};
+ghost use Rattle.loop_desk.specs.Lane.{AreShownBy};
+ghost use Rattle.loop_y4m.specs.Export.{frames_between};
+ghost use Rattle.loop_y4m.specs.Text.{text};
+
+use loop_desk::{Lane, LaneEvent, LaneReply, lane_run};
+use loop_disk::Disk;
+use loop_plane::PlaneMemory;
+use loop_store::{OpenRefused, Store, StoreFault};
+use loop_y4m::{ExportFault, export};
+use std::alloc::Allocator;
+use std::io::Write;
+
+/// Where a recording didn't become a text, and why.
+#[derive(Clone, Copy, Debug, PartialEq, Eq)]
+pub enum TextFault {
+    /// In the run: there was no room for the replies, or a call that writes failed.
+    Run(StoreFault),
+    /// As the store was opened again.
+    Open(StoreFault),
+    /// In the export.
+    Export(ExportFault),
+}
+
+/// Runs a lane through events, opens the store on its disk again, and writes the held frames whose numbers are from
+/// `from` to `to`. Where that is answered Ok, the text is that of the plain recorder's frames after all steps of the
+/// events that were answered Ok.
+pub fn record_and_export<D: Disk + Drop, P: PlaneMemory, A: Allocator + Copy, W: Write>(
+    alloc: A,
+    lane: Lane<D, P, A>,
+    events: Vec<LaneEvent<P, A>, A>,
+    from: u64,
+    to: u64,
+    out: &mut W,
+) -> Result<Vec<LaneReply<P, A>, A>, TextFault>
+    ensures { (s : StoreState) → Stands D.medium lane.desk.store s → (D.medium lane.desk.store.disk).honest
+        → IfOk result (λ replies. (calls : List DeskCall) × (AreShownBy events.items replies.items calls
+        × Appends (W.contents out.old) (W.contents out.new) (text lane.desk.store.geometry
+        (frames_between from to (plain (ring_of lane.desk.store.geometry) s.recording
+        (steps_made lane.desk s calls)).frames)))) }
+{
+    let mut lane = lane;
+    let replies = match lane_run(alloc, &mut lane, events) {
+        Ok(replies) => replies,
+        Err((fault, _)) => return Err(TextFault::Run(fault)),
+    };
+    if lane.desk.status().must_reopen {
+        return Err(TextFault::Run(StoreFault::MustReopen));
+    }
+    let Lane {
+        queue: _,
+        table: _,
+        hand: _,
+        desk,
+    } = lane;
+    let mut store = match Store::open(alloc, desk.into_disk()) {
+        Ok(store) => store,
+        Err(OpenRefused { fault, disk: _ }) => return Err(TextFault::Open(fault)),
+    };
+    match export(alloc, &mut store, from, to, out) {
+        Ok(_) => Ok(replies),
+        Err(fault) => Err(TextFault::Export(fault)),
+    }
+}

@@ -1,0 +1,463 @@
+//! What the tests share: events and replies as they stand in tables, lanes and desks over images, and what is
+//! shown of a recording.
+
+ghost use Rattle.std.specs.Prelude.{◌≡◌, length};
+
+use loop_desk::{Desk, DeskLimits, Hand, Lane, LaneEvent, LaneFault, LaneReply, lane_run};
+use loop_disk::{Disk, MemDisk};
+use loop_ioctl::{BufferMemory, BufferType, Ioctl, IoctlReply, PlaneFds, QueueEvent, QueueReply};
+use loop_pages::{PageHold, PageLedger};
+use loop_plane::{FdTable, Memory, MmapPlane, PlaneMemory};
+use loop_record::{Frame, Geometry, PixelFormat, Span};
+use loop_store::{Clip, ReadFrame, Store, StoreFault, format};
+use loop_vb2::{PlaneSet, Planes, Queue, Reason, Stamp};
+use std::alloc::{AllocError, Allocator, Global};
+use std::mem;
+use std::process::Abort;
+use std::test::Fail;
+
+/// Three segments with two slots each, of frames of 12 bytes.
+pub(crate) const SMALL: Geometry = Geometry {
+    width: 4,
+    height: 2,
+    format: PixelFormat::Ym12,
+    rate_num: 25,
+    rate_den: 1,
+    segments: 3,
+    slots: 2,
+};
+
+/// Enough frames may wait, and a group is as long as a block allows.
+pub(crate) const AMPLE: DeskLimits = DeskLimits {
+    pending: 64,
+    group: 8,
+    calls: 1,
+};
+
+/// The buffer type of the queues here.
+const YM12: BufferType = BufferType::VideoCaptureMplane;
+
+/// An event of a lane.
+#[derive(Clone, Copy, PartialEq, Eq, Debug)]
+pub(crate) enum Call {
+    /// REQBUFS; that of mapped memory gives the sets at hand.
+    ReqBufs(u32, Memory),
+    /// QBUF: of mapped memory, of the set at hand, or of the fds 0, 1 and 2.
+    QBuf(u32, Memory),
+    /// PREPARE_BUF of mapped memory.
+    PrepareBuf(u32),
+    /// QBUF for a queue of another type.
+    OtherType(u32),
+    DqBuf,
+    StreamOn,
+    StreamOff,
+    /// The device has filled a buffer with the frame of a number.
+    Complete(u32, u64),
+    /// The device has filled a buffer with eleven bytes.
+    Short(u32),
+    Fail(u32),
+    Fatal,
+    Dequeue,
+    Submit,
+    Requeue,
+    Flush,
+    Lock(u64, u64),
+    Unlock(u32),
+    Read(u64),
+}
+
+/// What is told of a reply.
+#[derive(Clone, Copy, PartialEq, Eq, Debug)]
+pub(crate) enum Told {
+    Done,
+    Count(u32),
+    Index(u32),
+    Number(u64),
+    /// The first number that was stored, how many were, and how many still wait.
+    Flushed(u64, u32, u32),
+    Id(u32),
+    /// The number of a frame that is whole.
+    Frame(u64),
+    /// A reason of the queue and the number of its errno.
+    Refused(Reason, u32),
+    Fault(StoreFault),
+    Other,
+}
+
+/// The frame of a number, of so many bytes: byte i is the number + i.
+pub(crate) fn frame<A: Allocator + Copy>(
+    alloc: A,
+    size: usize,
+    number: u64,
+) -> Result<Frame<A>, AllocError> {
+    let n = number % 256;
+    let mut bytes = vec![in alloc; 0; size]?;
+    let mut next = n as u8;
+    for byte in bytes.iter_mut() {
+        *byte = next;
+        next = next.wrapping_add(1);
+    }
+    Ok(Frame {
+        sequence: n as u32,
+        flags: 0x2000,
+        timestamp: n * 40_000,
+        bytes,
+    })
+}
+
+/// Whether these bytes are those of the frame of a number.
+pub(crate) fn are_of(bytes: &[u8], number: u64) -> bool {
+    let mut next = (number % 256) as u8;
+    for byte in bytes {
+        if *byte != next {
+            return false;
+        }
+        next = next.wrapping_add(1);
+    }
+    bytes.len() == 12
+}
+
+/// Whether a frame that was read is the one of its number, with its head and all its bytes.
+pub(crate) fn is_whole<A: Allocator>(read: &ReadFrame<A>) -> bool {
+    let n = read.head.number % 256;
+    read.head.sequence == n as u32
+        && read.head.flags == 0x2000
+        && read.head.timestamp == n * 40_000
+        && are_of(&read.bytes, n)
+}
+
+// The ioctl of a call.
+fn ioctl<P: Drop, A: Allocator + Copy>(
+    alloc: A,
+    call: Call,
+    sets: &mut Vec<PlaneSet<P>, A>,
+) -> Ioctl<P, A> {
+    let buf_type = YM12;
+    match call {
+        Call::ReqBufs(count, memory) => Ioctl::ReqBufs {
+            buf_type,
+            count,
+            memory,
+            supply: if memory == Memory::Mmap {
+                mem::replace(sets, Vec::new(alloc))
+            } else {
+                Vec::new(alloc)
+            },
+        },
+        Call::QBuf(index, memory) => Ioctl::QBuf {
+            buf_type,
+            index,
+            memory: memory_of(memory, sets),
+        },
+        Call::PrepareBuf(index) => Ioctl::PrepareBuf {
+            buf_type,
+            index,
+            memory: BufferMemory::Mmap,
+        },
+        Call::OtherType(index) => Ioctl::QBuf {
+            buf_type: BufferType::VideoCapture,
+            index,
+            memory: BufferMemory::Mmap,
+        },
+        Call::StreamOn => Ioctl::StreamOn { buf_type },
+        Call::StreamOff => Ioctl::StreamOff { buf_type },
+        _ => Ioctl::DqBuf { buf_type },
+    }
+}
+
+// The memory of a QBUF.
+fn memory_of<P: Drop, A: Allocator>(
+    memory: Memory,
+    sets: &mut Vec<PlaneSet<P>, A>,
+) -> BufferMemory<P> {
+    match memory {
+        Memory::Mmap => BufferMemory::Mmap,
+        Memory::UserPtr => BufferMemory::UserPtr(sets.pop()),
+        Memory::DmaBuf => BufferMemory::DmaBuf(Some(PlaneFds {
+            count: 3,
+            fds: [0, 1, 2],
+        })),
+    }
+}
+
+// What happens to the queue.
+fn queue_event<P: Drop, A: Allocator + Copy>(
+    alloc: A,
+    call: Call,
+    sets: &mut Vec<PlaneSet<P>, A>,
+) -> Result<QueueEvent<P, A>, AllocError> {
+    let stamp = Stamp {
+        sequence: 7,
+        timestamp: 40,
+    };
+    match call {
+        Call::Complete(index, number) => {
+            let frame = frame(alloc, 12, number)?;
+            Ok(QueueEvent::Complete {
+                index,
+                stamp: Stamp {
+                    sequence: frame.sequence,
+                    timestamp: frame.timestamp,
+                },
+                bytes: frame.bytes,
+            })
+        }
+        Call::Short(index) => Ok(QueueEvent::Complete {
+            index,
+            stamp,
+            bytes: vec![in alloc; 9; 11]?,
+        }),
+        Call::Fail(index) => Ok(QueueEvent::Fail { index, stamp }),
+        Call::Fatal => Ok(QueueEvent::Fatal),
+        _ => Ok(QueueEvent::Ioctl(ioctl(alloc, call, sets))),
+    }
+}
+
+// The event of a call.
+fn event<P: Drop, A: Allocator + Copy>(
+    alloc: A,
+    call: Call,
+    sets: &mut Vec<PlaneSet<P>, A>,
+) -> Result<LaneEvent<P, A>, AllocError> {
+    Ok(match call {
+        Call::Dequeue => LaneEvent::Dequeue,
+        Call::Submit => LaneEvent::Submit,
+        Call::Requeue => LaneEvent::Requeue,
+        Call::Flush => LaneEvent::Flush,
+        Call::Lock(from, to) => LaneEvent::Lock(Span { from, to }),
+        Call::Unlock(id) => LaneEvent::Unlock(id),
+        Call::Read(number) => LaneEvent::Read(number),
+        _ => LaneEvent::Queue(queue_event(alloc, call, sets)?),
+    })
+}
+
+/// The events of a table. They use up the sets at hand.
+pub(crate) fn events_of<P: Drop, A: Allocator + Copy>(
+    alloc: A,
+    sets: Vec<PlaneSet<P>, A>,
+    lines: &[(Call, Told)],
+) -> Result<Vec<LaneEvent<P, A>, A>, AllocError> {
+    let mut sets = sets;
+    let mut events = Vec::new(alloc);
+    for (call, _) in lines {
+        events.push(event(alloc, *call, &mut sets)?)?;
+    }
+    Ok(events)
+}
+
+// What the queue's reply tells. Planes that come back aren't told.
+fn tell_queue<P, A: Allocator>(reply: &QueueReply<P, A>) -> Told {
+    match reply {
+        QueueReply::Ioctl(Ok(IoctlReply::Done)) => Told::Done,
+        QueueReply::Ioctl(Ok(IoctlReply::Granted(granted))) => Told::Count(granted.count),
+        QueueReply::Ioctl(Ok(_)) => Told::Other,
+        QueueReply::Ioctl(Err(refusal)) => {
+            Told::Refused(refusal.errno.reason, refusal.errno.number)
+        }
+        QueueReply::Ended(Ok(())) => Told::Done,
+        QueueReply::Ended(Err(errno)) => Told::Refused(errno.reason, errno.number),
+        QueueReply::Fatal => Told::Done,
+    }
+}
+
+// What a refusal of the lane tells.
+fn tell_fault(fault: LaneFault) -> Told {
+    match fault {
+        LaneFault::Store(fault) => Told::Fault(fault),
+        LaneFault::Queue(errno) => Told::Refused(errno.reason, errno.number),
+    }
+}
+
+/// What a reply tells.
+pub(crate) fn tell<P, A: Allocator>(reply: &LaneReply<P, A>) -> Told {
+    match reply {
+        LaneReply::Queue(Ok(reply)) => tell_queue(reply),
+        LaneReply::Queue(Err(fault)) => tell_fault(*fault),
+        LaneReply::Dequeue(Ok(index)) | LaneReply::Requeue(Ok(index)) => Told::Index(*index),
+        LaneReply::Dequeue(Err(fault)) | LaneReply::Requeue(Err(fault)) => tell_fault(*fault),
+        LaneReply::Submit(Ok(number)) => Told::Number(*number),
+        LaneReply::Flush(Ok(done)) => Told::Flushed(done.first, done.stored, done.left),
+        LaneReply::Lock(Ok(id)) => Told::Id(*id),
+        LaneReply::Unlock(Ok(())) => Told::Done,
+        LaneReply::Read(Ok(read)) if is_whole(read) => Told::Frame(read.head.number),
+        LaneReply::Read(Ok(_)) => Told::Other,
+        LaneReply::Submit(Err(fault)) => Told::Fault(*fault),
+        LaneReply::Flush(Err(fault)) => Told::Fault(*fault),
+        LaneReply::Lock(Err(fault)) => Told::Fault(*fault),
+        LaneReply::Unlock(Err(fault)) => Told::Fault(*fault),
+        LaneReply::Read(Err(fault)) => Told::Fault(*fault),
+    }
+}
+
+/// Each reply tells what is expected of it.
+pub(crate) fn all_tell<P, A: Allocator>(
+    rt: &impl Abort,
+    replies: &[LaneReply<P, A>],
+    lines: &[(Call, Told)],
+) {
+    assert_eq!(rt; replies.len(), lines.len());
+    for (line, ((call, want), reply)) in lines.iter().zip(replies).enumerate() {
+        let answer = tell(reply);
+        assert!(rt; answer == *want, "line {line}: {call:?} tells {answer:?}");
+    }
+}
+
+/// Does the events of a table in one list. The first that answers something else fails the test.
+pub(crate) fn runs<D: Disk + Drop, P: PlaneMemory, A: Allocator + Copy>(
+    rt: &impl Abort,
+    alloc: A,
+    lane: &mut Lane<D, P, A>,
+    sets: Vec<PlaneSet<P>, A>,
+    lines: &[(Call, Told)],
+) {
+    let Ok(events) = events_of(alloc, sets, lines) else {
+        panic!(rt; "memory for events")
+    };
+    match lane_run(alloc, lane, events) {
+        Ok(replies) => all_tell(rt, &replies, lines),
+        Err(_) => panic!(rt; "memory for replies"),
+    }
+}
+
+/// A page of a ledger of its own.
+pub(crate) fn page<A: Allocator + Copy>(rt: &impl Abort, alloc: A) -> PageHold<A>
+    ensures { length result.pages ≡ 1 }
+{
+    let Ok((ledger, seat)) = PageLedger::new(alloc, 1) else {
+        panic!(rt; "memory for a ledger")
+    };
+    match PageLedger::claim(alloc, &ledger, seat, 1) {
+        Ok(hold) => hold,
+        Err((fault, _)) => panic!(rt; "a page: {fault}"),
+    }
+}
+
+/// The set of three planes.
+pub(crate) fn three<P>(y: P, cb: P, cr: P) -> PlaneSet<P> {
+    PlaneSet {
+        count: 3,
+        planes: Planes {
+            y: Some(y),
+            cb: Some(cb),
+            cr: Some(cr),
+        },
+        fds: [0; 3],
+    }
+}
+
+// A plane of mapped memory.
+fn mapped<A: Allocator + Copy>(rt: &impl Abort, alloc: A) -> MmapPlane<A> {
+    match MmapPlane::new(alloc, page(rt, alloc)) {
+        Ok(plane) => plane,
+        Err(_) => panic!(rt; "memory for a plane"),
+    }
+}
+
+/// Two sets of mapped memory.
+pub(crate) fn two_sets<A: Allocator + Copy>(
+    rt: &impl Abort,
+    alloc: A,
+) -> Result<Vec<PlaneSet<MmapPlane<A>>, A>, AllocError> {
+    let mut sets = Vec::new(alloc);
+    for _ in 0..2 {
+        sets.push(three(mapped(rt, alloc), mapped(rt, alloc), mapped(rt, alloc)))?;
+    }
+    Ok(sets)
+}
+
+/// A freshly formatted image.
+pub(crate) fn fresh(alloc: Global) -> Result<Vec<u8>, Fail> {
+    match format(alloc, MemDisk::new(alloc, 4360)?, SMALL) {
+        Ok(store) => Ok(store.into_disk().bytes().to_vec(alloc)?),
+        Err(_) => Err("the disk is formatted".into()),
+    }
+}
+
+/// The store of a disk that has a recording.
+pub(crate) fn opened<D: Disk + Drop, A: Allocator + Copy>(
+    rt: &impl Abort,
+    alloc: A,
+    disk: D,
+) -> Store<D, A> {
+    match Store::open(alloc, disk) {
+        Ok(store) => store,
+        Err(refused) => panic!(rt; "the disk is opened: {}", refused.fault),
+    }
+}
+
+/// A desk of a store, or the store where there is no memory for it.
+pub(crate) fn desk_of<D: Disk + Drop, A: Allocator + Copy>(
+    rt: &impl Abort,
+    alloc: A,
+    store: Store<D, A>,
+    limits: DeskLimits,
+) -> Result<Desk<D, A>, Store<D, A>> {
+    assert!(rt; 1 <= limits.pending && limits.pending <= 64);
+    assert!(rt; 1 <= limits.group && limits.group <= 8);
+    Desk::new(alloc, store, limits)
+}
+
+/// A desk over a disk that has a recording.
+pub(crate) fn desk_over<D: Disk + Drop, A: Allocator + Copy>(
+    rt: &impl Abort,
+    alloc: A,
+    disk: D,
+    limits: DeskLimits,
+) -> Desk<D, A> {
+    match desk_of(rt, alloc, opened(rt, alloc, disk), limits) {
+        Ok(desk) => desk,
+        Err(_) => panic!(rt; "memory for a desk"),
+    }
+}
+
+/// A lane to such a desk, whose queue starts with one buffer.
+pub(crate) fn lane_over<D: Disk + Drop, P: PlaneMemory, A: Allocator + Copy>(
+    rt: &impl Abort,
+    alloc: A,
+    disk: D,
+) -> Lane<D, P, A> {
+    Lane {
+        queue: Queue::new(alloc, PixelFormat::Ym12, 4, 2, 1),
+        table: FdTable::new(alloc),
+        hand: Hand::Empty,
+        desk: desk_over(rt, alloc, disk, AMPLE),
+    }
+}
+
+/// What a store shows: the frames that are held, and each clip with its id.
+pub(crate) type Shown = (&'static [(u64, u64)], &'static [(u32, u64, u64)]);
+
+// Whether just the numbers of these spans are held, and each frame is whole.
+fn are_held(
+    alloc: Global,
+    store: &mut Store<MemDisk>,
+    spans: &[(u64, u64)],
+) -> Result<bool, StoreFault> {
+    let found = store.frames(alloc)?;
+    let mut left = found.iter();
+    for (from, to) in spans {
+        for number in *from..=*to {
+            if left.next() != Some(&number) || !is_whole(&store.read_frame(alloc, number)?) {
+                return Ok(false);
+            }
+        }
+    }
+    Ok(left.next().is_none())
+}
+
+/// Whether a store shows just this.
+pub(crate) fn is_shown(
+    alloc: Global,
+    store: &mut Store<MemDisk>,
+    (spans, clips): Shown,
+) -> Result<bool, StoreFault> {
+    let listed = store.clips(alloc)?;
+    let same = |(clip, (id, from, to)): (&Clip, &(u32, u64, u64))| {
+        clip.id == *id && clip.from == *from && clip.to == *to
+    };
+    Ok(
+        listed.len() == clips.len()
+            && listed.iter().zip(clips).all(same)
+            && are_held(alloc, store, spans)?,
+    )
+}
