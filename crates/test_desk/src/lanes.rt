@@ -73,7 +73,8 @@ fn a_list_is_answered_as_its_events_are(rt: HostRuntime) -> Result<(), Fail> {
 }
 
 /// The text of the one frame that the list of fifteen stores.
-const TEXT: &[u8] = b"YUV4MPEG2 W4 H2 F25:1 Ip A0:0 C420jpeg\nFRAME\n\x00\x01\x02\x03\x04\x05\x06\x07\x08\x09\x0a\x0b";
+const TEXT: &[u8] =
+    b"YUV4MPEG2 W4 H2 F25:1 Ip A0:0 C420jpeg\nFRAME\n\x00\x01\x02\x03\x04\x05\x06\x07\x08\x09\x0a\x0b";
 
 #[test]
 fn what_a_lane_recorded_becomes_a_text(rt: HostRuntime) -> Result<(), Fail> {
