@@ -4,14 +4,14 @@
 //! alone.
 #![tactic(auto)]
 
-ghost use Rattle.std.specs.Prelude.{IfOk, List};
+ghost use Rattle.std.specs.Prelude.{IfOk};
 ghost use Rattle.std.specs.Io.KnownBytes.{Appends};
 ghost use Rattle.loop_record.specs.Recording.{plain, ring_of};
 ghost use Rattle.loop_store.specs.Calls.{StoreState};
 ghost use Rattle.loop_store.specs.Goes.{Stands};
-ghost use Rattle.loop_desk.specs.Desk.{DeskCall};
 ghost use Rattle.loop_desk.specs.Footage.{steps_made};
-ghost use Rattle.loop_desk.specs.Lane.{AreShownBy};
+ghost use Rattle.loop_desk.specs.Lane.{LaneRan};
+ghost use Rattle.loop_desk.specs.declared.lane.Lane.{Lane};
 ghost use Rattle.loop_y4m.specs.Export.{frames_between};
 ghost use Rattle.loop_y4m.specs.Text.{text};
 
@@ -46,10 +46,11 @@ pub fn record_and_export<D: Disk + Drop, P: PlaneMemory, A: Allocator + Copy, W:
     out: &mut W,
 ) -> Result<Vec<LaneReply<P, A>, A>, TextFault>
     ensures { (s : StoreState) → Stands D.medium lane.desk.store s → (D.medium lane.desk.store.disk).honest
-        → IfOk result (λ replies. (calls : List DeskCall) × (AreShownBy events.items replies.items calls
+        → IfOk result (λ replies. (after : Lane D P A) ×
+        ((ran : LaneRan P.plane D.medium lane after events.items replies.items)
         × Appends (W.contents out.old) (W.contents out.new) (text lane.desk.store.geometry
         (frames_between from to (plain (ring_of lane.desk.store.geometry) s.recording
-        (steps_made lane.desk s calls)).frames)))) }
+        (steps_made lane.desk s ran.calls)).frames)))) }
 {
     let mut lane = lane;
     let replies = match lane_run(alloc, &mut lane, events) {

@@ -140,7 +140,7 @@ fn export_into<'a, R: AllocGlobal + Files<File = File>>(
     if is_file && file.set_len(0).is_err() {
         return Err(Undone::CannotWrite(target));
     }
-    let Ok(mut text) = BufWriter::new(rt.alloc(), file) else {
+    let Ok(mut text) = BufWriter::with_capacity(rt.alloc(), TEXT_AT_ONCE, file) else {
         return Err(Undone::Refused(StoreFault::NoMemory));
     };
     let written = export(rt.alloc(), &mut store, from, to, &mut text);

@@ -96,11 +96,13 @@ impl<A: Allocator + Copy> Session<A> {
         }
     }
 
-    /// Stores the first of the frames that wait, as `Desk::flush`. It answers AllLocked, and then they wait on.
+    /// Stores the first of the frames that wait, as `Desk::flush`. It answers AllLocked; then nothing is changed, and
+    /// they wait on.
     pub fn flush(&mut self) -> Result<Flushed, StoreFault>
         ensures goes { DeskGoes ⟦<MemDisk<A> as Disk>⟧.medium self.old.desk self.new.desk
             (flushed result ∷ []) }
         ensures refusals { IfErr result (λ fault. fault ≡ StoreFault.AllLocked) }
+        ensures unchanged { OnErr result (self.new ≡ self.old) }
         ensures accepted { self.new.accepted ≡ self.old.accepted }
     {
         self.desk.flush()
@@ -127,6 +129,7 @@ impl<A: Allocator + Copy> Session<A> {
         ensures goes { DeskGoes ⟦<MemDisk<A> as Disk>⟧.medium self.old.desk self.new.desk
             (clip_locked (record { from = from; to = to }) result ∷ []) }
         ensures fine { IfErr result (λ fault. is_disk fault ≡ false) }
+        ensures unchanged { OnErr result (self.new ≡ self.old) }
         ensures accepted { self.new.accepted ≡ self.old.accepted }
     {
         self.desk.lock_clip(from, to)
@@ -137,6 +140,7 @@ impl<A: Allocator + Copy> Session<A> {
         ensures goes { DeskGoes ⟦<MemDisk<A> as Disk>⟧.medium self.old.desk self.new.desk
             (clip_unlocked id result ∷ []) }
         ensures fine { IfErr result (λ fault. is_disk fault ≡ false) }
+        ensures unchanged { OnErr result (self.new ≡ self.old) }
         ensures accepted { self.new.accepted ≡ self.old.accepted }
     {
         self.desk.unlock_clip(id)

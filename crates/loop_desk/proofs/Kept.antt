@@ -1,5 +1,5 @@
--- What always holds of a desk, after a frame more and after some fewer.
-use Rattle.std.proofs.Common.{◌≡◌, ℕ, ◌+◌, ◌-◌, ◌<◌, ◌≤◌, List, [], ◌∷◌, ◌++◌, length, take, drop, All, refl, sym, ap, ◌∙◌, subst, arith}
+-- What always holds of a desk, after a frame more and after some fewer, and what a refusal says.
+use Rattle.std.proofs.Common.{◌≡◌, ℕ, ◌+◌, ◌-◌, ◌<◌, ◌≤◌, Err, List, [], ◌∷◌, ◌++◌, length, take, drop, All, refl, sym, ap, ◌∙◌, subst, arith}
 use Rattle.std.proofs.lemmas.List.{length-append, length-drop, length-map, length-take-le}
 use Rattle.std.proofs.lemmas.List.Elements.{All-append, All-cons, All-drop, All-nil}
 use Rattle.circular_buffer.specs.Buffer.{Buffer, buffer, keep_last}
@@ -8,7 +8,9 @@ use Rattle.loop_record.specs.declared.geometry.Geometry.{Geometry}
 use Rattle.loop_record.specs.Geometry.{frame_bytes}
 use Rattle.loop_record.specs.Plain.{pictures}
 use Rattle.loop_record.specs.Recording.{last_number, picture, ring_of}
-use Rattle.loop_store.specs.Seen.{Seen}
+use Rattle.loop_store.specs.declared.fault.StoreFault.{StoreFault}
+use Rattle.loop_store.specs.declared.fault.StoreFault.TheVariants.{Disk}
+use Rattle.loop_store.specs.Seen.{Refused, Seen}
 use Rattle.loop_desk.specs.declared.limits.DeskLimits.{DeskLimits}
 use Rattle.loop_desk.specs.Seen.{IsDesk}
 
@@ -73,3 +75,8 @@ none-of (x ∷ xs) none = absurd (omega (arith, none))
 pub stored-size : {A : Type 0} (count : ℕ) (items frames : List (Frame A)) → frames ≡ items → count ≤ length items → length (pictures (take count frames)) ≡ count
 stored-size {A} count items frames same few =
     length-map (take count frames) picture ∙ length-take-le count frames (subst (λ (l : List (Frame A)). count ≤ length l) (sym same) few)
+
+-- a refusal says the same of the store, whatever would have been answered
+pub refused-as : {D : Type 0} (S T : Type 0) (old new : Seen D) (fault : StoreFault) → Refused {T = S} old new (Err fault) → Refused {T = T} old new (Err fault)
+refused-as S T old new (Disk f) refused = refused
+refused-as S T old new _ refused = refused

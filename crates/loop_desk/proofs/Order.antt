@@ -1,4 +1,4 @@
--- Frames keep their order on their way from the queue to the desk.
+-- Frames keep their order on their way from the queue to the desk, and what else a run keeps.
 use Rattle.std.proofs.Common.{◌≡◌, ℕ, Result, Ok, Err, List, [], ◌∷◌, ◌++◌, refl, sym, ap, ◌∙◌, append_assoc}
 use Rattle.std.proofs.lemmas.Grind.{flat_map-append}
 use Rattle.std.proofs.lemmas.List.{append-nil}
@@ -15,7 +15,8 @@ use Rattle.loop_desk.specs.declared.lane.Lane.{Lane}
 use Rattle.loop_desk.specs.declared.hand.LaneFault.{LaneFault}
 use Rattle.loop_desk.specs.Desk.{DeskCall, accepted, accepted_in}
 use Rattle.loop_desk.specs.Front.{Front, HandState, IsDequeue, IsSubmit, dequeued, empty, front_after, full, offered, hand_given, hand_state, on_queue, put_back, requeued, spent}
-use Rattle.loop_desk.specs.Lane.{IsAtFront, IsLaneTurn, LaneRan, LaneTurn, StandsLane, after_turn, at_desk, at_front, calls_at, calls_of_turn, frame_at, frame_of_turn, frames_taken, hand_frame, lane_after, mixed, submit_calls, turn_at}
+use Rattle.loop_desk.specs.Lane.{IsAtFront, IsLaneTurn, LaneKeeps, LaneRan, LaneTurn, StandsLane, after_turn, at_desk, at_front, calls_at, calls_of_turn, frame_at, frame_of_turn, frames_taken, hand_frame, lane_after, mixed, submit_calls, turn_at}
+use Rattle.loop_desk.proofs.Lasting.{keeps-footage}
 
 submit-frames : (h : HandState) (result : Result ℕ StoreFault) → IsSubmit h result → accepted_in (submit_calls h result) ++ hand_frame (hand_given h result) ≡ hand_frame h ++ []
 submit-frames empty result said = refl
@@ -69,3 +70,11 @@ module _ {D P A : Type 0} (m : P → Plane) (medium : D → Medium) where
       let was = stands.hand in
       let is = ran.stands.hand in
       (λ i. accepted_in (ran.are i) ++ hand_frame (is i)) ∙ along m f (zip es ps) ran.told ∙ ap (λ (h : HandState). hand_frame h ++ frames_taken m f (zip es ps)) (sym was)
+
+  -- what a run keeps
+  pub keeps : (old new : Lane D P A) (es : List (LaneEvent P A)) (ps : List (LaneReply P A)) → LaneRan m medium old new es ps → LaneKeeps m medium old new es ps
+  keeps old new es ps run = record {
+    ran = run;
+    footage = λ s stands now. keeps-footage medium old.desk new.desk run.calls s run.desk stands now;
+    in_order = in-order old new es ps run;
+  }

@@ -9,6 +9,8 @@ use Rattle.loop_record.specs.Recording.{Picture}
 use Rattle.loop_record.specs.Turns.{after_all, told_in, EachIn}
 use Rattle.loop_store.specs.declared.fault.StoreFault.{StoreFault}
 use Rattle.loop_store.specs.declared.fault.StoreFault.TheVariants.{HandEmpty}
+use Rattle.loop_store.specs.Calls.{StoreState}
+use Rattle.loop_store.specs.Goes.{Stands}
 use Rattle.loop_store.specs.Runs.{read_of}
 use Rattle.loop_ioctl.specs.declared.call.Ioctl.TheVariants as call
 use Rattle.loop_ioctl.specs.declared.events.QueueEvent.{QueueEvent}
@@ -19,8 +21,9 @@ use Rattle.loop_desk.specs.declared.event.LaneEvent.TheVariants as event
 use Rattle.loop_desk.specs.declared.event.LaneReply.{LaneReply}
 use Rattle.loop_desk.specs.declared.event.LaneReply.TheVariants as reply
 use Rattle.loop_desk.specs.declared.lane.Lane.{Lane}
-use Rattle.loop_desk.specs.Desk.{DeskCall, accepted, clip_locked, clip_unlocked, flushed, frame_read, submitted}
-use Rattle.loop_desk.specs.Front.{Front, HandState, IsFrontTurn, StandsFront, Turn, dequeued, empty, front_after, full, on_queue, requeued, spent, offered}
+use Rattle.loop_desk.specs.Desk.{DeskCall, accepted, accepted_in, clip_locked, clip_unlocked, flushed, frame_read, submitted}
+use Rattle.loop_desk.specs.Footage.{KeepsFootage}
+use Rattle.loop_desk.specs.Front.{Front, HandState, IsFrontTurn, StandsFront, Turn, dequeued, empty, front_after, full, hand_state, on_queue, requeued, spent, offered}
 use Rattle.loop_desk.specs.Seen.{DeskGoes}
 
 -- ---- what an event and its reply are
@@ -162,3 +165,17 @@ module _ {P A : Type 0} (meaning : P → Plane) where
   -- those of events and their replies, in order
   abbrev pub frames_taken : Front → List (LaneEvent P A × LaneReply P A) → List Picture
   frames_taken f turns = told_in (lane_after meaning) frame_at f turns
+
+-- ---- what a list of events keeps
+
+-- The run, and what its calls keep of the footage and of the frames' order.
+pub record LaneKeeps {D P A : Type 0} (meaning : P → Plane) (medium : D → Medium) (old new : Lane D P A)
+    (es : List (LaneEvent P A)) (ps : List (LaneReply P A)) : Type 0 where
+  pub ran : LaneRan meaning medium old new es ps
+  -- whenever the power fails, and at the end
+  pub footage : (s : StoreState) → Stands medium old.desk.store s → (medium old.desk.store.disk).honest
+      → KeepsFootage medium old.desk new.desk ran.calls s
+  -- what the desk accepted, and then what the hand has, is what the hand had, and then what was taken from the queue
+  pub in_order : (f : Front) → StandsLane meaning old f
+      → accepted_in ran.calls ++ hand_frame (hand_state meaning new.hand)
+      ≡ hand_frame (hand_state meaning old.hand) ++ frames_taken meaning f (zip es ps)

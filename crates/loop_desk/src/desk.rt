@@ -7,6 +7,7 @@ ghost use Rattle.loop_record.specs.Recording.{last_number, picture, ring_of};
 ghost use Rattle.loop_desk.specs.Desk.{clip_locked, clip_unlocked, flushed, frame_read, submit_answer, submitted};
 ghost use Rattle.loop_desk.specs.Seen.{DeskGoes, IsDesk, OutlineRefuses, SeenDesk, TellsOutline, TellsStatus, answer_of, rules_of, waiting_of};
 ghost use Rattle.loop_store.specs.Runs.{read_of};
+ghost use Rattle.loop_store.specs.Seen.{Refused};
 
 use crate::group::append_first;
 use crate::{DeskLimits, Flushed, Outline, Status};
@@ -94,7 +95,7 @@ impl<D: Disk + Drop, A: Allocator> Desk<D, A> {
         ensures goes { DeskGoes D.medium self.old self.new
             (submitted (picture frame) (length frame.bytes.items) (answer_of result) ∷ []) }
         ensures back { IfErr result (λ refused. refused.1 ≡ frame) }
-        ensures same { IfErr result (λ refused. self.new ≡ self.old) }
+        ensures same { self.new ≡ record self.old { pending = self.new.pending } }
     {
         match self.number_for(&frame) {
             Ok(number) => {
@@ -112,6 +113,7 @@ impl<D: Disk + Drop, A: Allocator> Desk<D, A> {
     /// `Store::append` has it. A refusal keeps every frame that waits.
     pub fn flush(&mut self) -> Result<Flushed, StoreFault>
         ensures goes { DeskGoes D.medium self.old self.new (flushed result ∷ []) }
+        ensures refused { Refused self.old.store self.new.store result }
     {
         let waiting = self.pending.len();
         let most = self.limits.group.min(self.store.room()) as usize;
@@ -142,14 +144,17 @@ impl<D: Disk + Drop, A: Allocator> Desk<D, A> {
     /// Locks the frames from a number to another, as `Store::lock`, and answers the clip's id. A frame that waits
     /// isn't held yet.
     pub fn lock_clip(&mut self, from: u64, to: u64) -> Result<u32, StoreFault>
-        ensures { DeskGoes D.medium self.old self.new (clip_locked (record { from = from; to = to }) result ∷ []) }
+        ensures goes { DeskGoes D.medium self.old self.new
+            (clip_locked (record { from = from; to = to }) result ∷ []) }
+        ensures refused { Refused self.old.store self.new.store result }
     {
         self.store.lock(from, to)
     }
 
     /// Unlocks the clip of an id, as `Store::unlock`.
     pub fn unlock_clip(&mut self, id: u32) -> Result<(), StoreFault>
-        ensures { DeskGoes D.medium self.old self.new (clip_unlocked id result ∷ []) }
+        ensures goes { DeskGoes D.medium self.old self.new (clip_unlocked id result ∷ []) }
+        ensures refused { Refused self.old.store self.new.store result }
     {
         self.store.unlock(id)
     }
@@ -184,7 +189,8 @@ impl<D: Disk + Drop, A: Allocator + Copy> Desk<D, A> {
     /// Reads a stored frame into memory of its own: `MustReopen`, `NotHeld`, `NoMemory`, then `Disk` or `Damaged`,
     /// as `Store::read_frame`. A frame that waits isn't held yet.
     pub fn read_frame(&mut self, alloc: A, number: u64) -> Result<ReadFrame<A>, StoreFault>
-        ensures { DeskGoes D.medium self.old self.new (frame_read number (read_of result) ∷ []) }
+        ensures goes { DeskGoes D.medium self.old self.new (frame_read number (read_of result) ∷ []) }
+        ensures same { self.new.store ≡ record self.old.store { disk = self.new.store.disk } }
     {
         self.store.read_frame(alloc, number)
     }

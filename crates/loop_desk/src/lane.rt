@@ -1,15 +1,9 @@
 //! A lane: a queue with its table of fds, a hand, and a desk, and lists of their events.
 
-ghost use Rattle.std.specs.Prelude.{◌≡◌, ◌++◌, [], ◌∷◌, IfErr, IfOk, List};
-ghost use Rattle.std.specs.List.{zip};
-ghost use Rattle.loop_record.specs.Recording.{Picture};
-ghost use Rattle.loop_store.specs.Calls.{StoreState};
-ghost use Rattle.loop_store.specs.Goes.{Stands};
+ghost use Rattle.std.specs.Prelude.{◌≡◌, [], ◌∷◌, IfErr, IfOk};
 ghost use Rattle.loop_ioctl.specs.Types.{type_of};
-ghost use Rattle.loop_desk.specs.Desk.{DeskCall, accepted_in};
-ghost use Rattle.loop_desk.specs.Footage.{KeepsFootage};
-ghost use Rattle.loop_desk.specs.Front.{Front, IsSubmit, hand_given, hand_state};
-ghost use Rattle.loop_desk.specs.Lane.{AreShownBy, LaneRan, StandsLane, frames_taken, hand_frame, is_dequeue, submit_calls};
+ghost use Rattle.loop_desk.specs.Front.{IsSubmit, hand_given, hand_state};
+ghost use Rattle.loop_desk.specs.Lane.{LaneKeeps, LaneRan, is_dequeue, submit_calls};
 ghost use Rattle.loop_desk.specs.Seen.{DeskGoes};
 
 use crate::front::{dequeue, on_queue, requeue};
@@ -114,23 +108,18 @@ fn answer<D: Disk + Drop, P: PlaneMemory, A: Allocator + Copy>(
 /// Its memory for the replies is taken first: where there is none, the events come back with `NoMemory`, and nothing
 /// was done.
 ///
-/// Whenever the power fails in it, before, between or within any writes, the disk reads as the recording after a
-/// beginning of the steps of the events that were answered Ok, and then of the one that was under way or failed; at
-/// the end it has all steps of those answered Ok (`headline`), and each clip that stands there has all its frames,
-/// each the one that was given.
+/// Each reply is the model's at its point, and the desk makes the calls that events and replies show. Of these
+/// calls `headline` says: whenever the power fails in the run, before, between or within any writes, the disk reads
+/// as the recording after a beginning of the steps of the events that were answered Ok, and then of the one that was
+/// under way or failed; at the end it has all steps of those answered Ok; each clip that stands there has all its
+/// frames, each the one that was given; and frames keep their order from the queue to the desk.
 pub fn lane_run<D: Disk + Drop, P: PlaneMemory, A: Allocator + Copy>(
     alloc: A,
     lane: &mut Lane<D, P, A>,
     events: Vec<LaneEvent<P, A>, A>,
 ) -> Result<Vec<LaneReply<P, A>, A>, (StoreFault, Vec<LaneEvent<P, A>, A>)>
-    ensures ran { IfOk result (λ replies. LaneRan P.plane D.medium lane.old lane.new events.items replies.items) }
-    ensures headline { IfOk result (λ replies. (calls : List DeskCall) × (AreShownBy events.items replies.items calls
-        × ((s : StoreState) → Stands D.medium lane.old.desk.store s → (D.medium lane.old.desk.store.disk).honest
-        → KeepsFootage D.medium lane.old.desk lane.new.desk calls s))) }
-    ensures in_order { IfOk result (λ replies. (f : Front) → StandsLane P.plane lane.old f
-        → (calls : List DeskCall) × (AreShownBy events.items replies.items calls
-        × (accepted_in calls ++ hand_frame (hand_state P.plane lane.new.hand)
-        ≡ hand_frame (hand_state P.plane lane.old.hand) ++ frames_taken P.plane f (zip events.items replies.items)))) }
+    ensures headline { IfOk result (λ replies.
+        LaneKeeps P.plane D.medium lane.old lane.new events.items replies.items) }
     ensures refused { IfErr result (λ refused. (refused.0 ≡ StoreFault.NoMemory)
         × ((refused.1 ≡ events) × (lane.new ≡ lane.old))) }
 {

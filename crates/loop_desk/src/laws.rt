@@ -8,7 +8,7 @@ ghost use Rattle.loop_desk.specs.Footage.{KeepsFootage};
 ghost use Rattle.loop_desk.specs.declared.event.LaneEvent.{LaneEvent};
 ghost use Rattle.loop_desk.specs.declared.event.LaneReply.{LaneReply};
 ghost use Rattle.loop_desk.specs.FrontLaws.{NewFrontsStand, WholeFramesAreTaken};
-ghost use Rattle.loop_desk.specs.Lane.{LaneRan};
+ghost use Rattle.loop_desk.specs.Lane.{LaneKeeps, LaneRan};
 ghost use Rattle.loop_desk.specs.Seen.{DeskGoes, StandsAt, rules_of};
 
 use crate::{Desk, Lane};
@@ -45,7 +45,7 @@ pub fn calls_keep_footage<D: Disk + Drop, A: Allocator>(before: &Desk<D, A>, aft
         → KeepsFootage D.medium before.now after.now calls s }
 {}
 
-/// Two runs of a lane, one behind the other, are one run of both lists of events.
+/// Two runs of a lane, one behind the other, are one run of both lists of events, and it keeps what one run does.
 pub fn runs_join<D: Disk + Drop, P: PlaneMemory, A: Allocator + Copy>(
     before: &Lane<D, P, A>,
     between: &Lane<D, P, A>,
@@ -54,7 +54,7 @@ pub fn runs_join<D: Disk + Drop, P: PlaneMemory, A: Allocator + Copy>(
     ensures { (es fs : List (LaneEvent P A)) (ps qs : List (LaneReply P A))
         → LaneRan P.plane D.medium before.now between.now es ps
         → LaneRan P.plane D.medium between.now after.now fs qs
-        → LaneRan P.plane D.medium before.now after.now (es ++ fs) (ps ++ qs) }
+        → LaneKeeps P.plane D.medium before.now after.now (es ++ fs) (ps ++ qs) }
 {}
 
 /// Calls of a desk are calls of the model: from a state that the desk stood for, each was answered as the model has

@@ -49,7 +49,8 @@ impl<D: Disk + Drop, A: Allocator + Copy> Store<D, A> {
     /// Reads a frame into memory of its own. `MustReopen`, `NotHeld`, then `NoMemory` for its bytes, then
     /// `Disk` or `Damaged`.
     pub fn read_frame(&mut self, alloc: A, number: u64) -> Result<ReadFrame<A>, StoreFault>
-        ensures { Goes D.medium self.old self.new (was_read number (read_of result) ∷ []) }
+        ensures goes { Goes D.medium self.old self.new (was_read number (read_of result) ∷ []) }
+        ensures same { self.new ≡ record self.old { disk = self.new.disk } }
     {
         if self.must_reopen {
             return Err(StoreFault::MustReopen);

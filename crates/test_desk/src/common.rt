@@ -373,6 +373,15 @@ pub(crate) fn fresh(alloc: Global) -> Result<Vec<u8>, Fail> {
     }
 }
 
+/// Puts bytes into an image from a place on.
+pub(crate) fn put(image: &mut [u8], at: usize, bytes: &[u8]) {
+    for (i, byte) in bytes.iter().enumerate() {
+        if let Some(place) = image.get_mut(at.wrapping_add(i)) {
+            *place = *byte;
+        }
+    }
+}
+
 /// The store of a disk that has a recording.
 pub(crate) fn opened<D: Disk + Drop, A: Allocator + Copy>(
     rt: &impl Abort,

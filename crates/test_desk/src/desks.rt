@@ -164,3 +164,32 @@ fn a_frame_waits_until_a_block_may_go(rt: HostRuntime) -> Result<(), Fail> {
     assert!(rt; is_shown(alloc, &mut store, shown)?);
     Ok(())
 }
+
+/// The last number of all, 2^62 - 1.
+const LAST: u64 = 4_611_686_018_427_387_903;
+
+// An image whose only frame has the number before the last.
+fn nearly_spent(rt: &impl Abort, alloc: Global) -> Result<Vec<u8>, Fail> {
+    let mut desk = desk_over(rt, alloc, MemDisk::of(fresh(alloc)?), AMPLE);
+    assert!(rt; matches!(desk.submit(frame(alloc, 12, LAST - 1)?), Ok(0)));
+    assert_eq!(rt; desk.flush(), flushed(0, 1, 0));
+    let mut image = desk.into_disk().bytes().to_vec(alloc)?;
+    put(image.as_mut_slice(), 2568, &(LAST / 2).to_le_bytes());
+    put(image.as_mut_slice(), 3072, &(LAST - 1).to_le_bytes());
+    Ok(image)
+}
+
+#[test]
+fn no_frame_is_taken_in_behind_the_last_number(rt: HostRuntime) -> Result<(), Fail> {
+    let alloc = rt.alloc();
+    let image = nearly_spent(&rt, alloc)?;
+    let mut desk = desk_over(&rt, alloc, MemDisk::of(image), AMPLE);
+    let spent = Err(StoreFault::NumbersSpent);
+    assert_eq!(rt; submits(&rt, alloc, &mut desk, 12, LAST)?, Ok(LAST));
+    assert_eq!(rt; submits(&rt, alloc, &mut desk, 12, LAST + 1)?, spent);
+    assert_eq!(rt; desk.flush(), flushed(LAST, 1, 0));
+    assert_eq!(rt; submits(&rt, alloc, &mut desk, 12, LAST + 1)?, spent);
+    let mut store = opened(&rt, alloc, desk.into_disk());
+    assert!(rt; is_shown(alloc, &mut store, (&[(LAST - 1, LAST)], &[]))?);
+    Ok(())
+}

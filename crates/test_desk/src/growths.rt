@@ -1,13 +1,14 @@
 //! Each growth is refused in turn.
 
 use crate::common::Call::*;
-use crate::common::Told::{Count, Done, Fault, Flushed, Frame, Index, Number};
+use crate::common::Told::{Count, Done, Fault, Flushed, Frame, Index, Number, Refused};
 use crate::common::*;
 use loop_budget::Budget;
 use loop_desk::{Lane, lane_run};
 use loop_disk::MemDisk;
 use loop_plane::{Memory, MmapPlane};
 use loop_store::StoreFault;
+use loop_vb2::Reason;
 use std::alloc::Global;
 use std::process::Abort;
 use std::test::Fail;
@@ -93,6 +94,35 @@ fn a_refused_growth_of_an_event_changes_nothing(rt: HostRuntime) -> Result<(), F
     let mut lane = ready(&rt, alloc, &memory)?;
     runs_within(&rt, &memory, &mut lane, 2, &NO_READ)?;
     runs_within(&rt, &memory, &mut lane, 2, &[(Read(0), Frame(0))])
+}
+
+// The growth behind that of the replies is the one of the queue.
+const BUFFERS: [(u64, [(Call, Told); 1]); 2] = [
+    (
+        1,
+        [(ReqBufs(2, Memory::Mmap), Refused(Reason::NoMemory, 12))],
+    ),
+    (2, [(ReqBufs(2, Memory::Mmap), Count(2))]),
+];
+
+#[test]
+fn a_request_for_buffers_without_memory_is_refused(rt: HostRuntime) -> Result<(), Fail> {
+    let alloc = rt.alloc();
+    let memory = Budget::new(alloc);
+    memory.allow(u64::MAX);
+    let mut lane: Thrifty = lane_over(&rt, &memory, MemDisk::of(fresh(alloc)?));
+    for (allowed, lines) in &BUFFERS {
+        memory.allow(u64::MAX);
+        let sets = two_sets(&rt, &memory)?;
+        let events = events_of(&memory, sets, lines)?;
+        memory.allow(*allowed);
+        let Ok(replies) = lane_run(&memory, &mut lane, events) else {
+            return Err("there is memory for replies".into());
+        };
+        all_tell(&rt, &replies, lines);
+        assert_eq!(rt; memory.left(), 0);
+    }
+    Ok(())
 }
 
 #[test]

@@ -4,10 +4,11 @@ use Rattle.lane_text.proofs.record_and_export.Goals as goal
 
 pub returns-in-Ok-export : goal.returns-in-Ok-export
 returns-in-Ok-export g c = λ s stands now.
-    let ran = c.in-Ok.ensures.ran in
-    let head = c.in-Ok.ensures.headline in
-    let kept = head.1.1 s stands now in
-    let new = c.lane_run.new.lane.desk in
+    let keeps = c.in-Ok.ensures.headline in
+    let ran = keeps.ran in
+    let kept = keeps.footage s stands now in
+    let lane = c.lane_run.new.lane in
+    let new = lane.desk in
     let medium = g.D.Disk.medium in
     let honest = ran.desk.store.called.honest.0 now in
     let fine = sym c.status.ensures.must_reopen ∙ c.if-status.false in
@@ -15,9 +16,9 @@ returns-in-Ok-export g c = λ s stands now.
     let there = subst (λ d. (medium d).honest) (sym c.into_disk.ensures) honest in
     let store = c.in-Ok-open.store in
     let opened = c.in-Ok-open.ensures.called.honest.0 there in (
-      head.0,
+      lane,
       (
-        head.1.0,
+        ran,
         exported medium new.store c.args.lane.desk.store.geometry _ store image c.args.from c.args.to c.in-Ok-export.field-0 (g.W.Write.contents c.args.out.now) (g.W.Write.contents c.export.new.out)
             kept.recording fine honest ran.desk.store.geometry (ap (λ d. (medium d).bytes) c.into_disk.ensures) (c.in-Ok-open.ensures.opened there) opened
             (λ q stood held. c.in-Ok-export.ensures.exported q stood held),

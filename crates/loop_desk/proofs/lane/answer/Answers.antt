@@ -56,18 +56,18 @@ returns-in-Lock g c =
     let lane = c.args.lane.now in
     let new : Lane g.row.D.Denot g.row.P.Denot g.row.A.Denot = record { queue = lane.queue; table = lane.table; hand = lane.hand; desk = c.lock_clip.new.self } in
     subst (λ (e : LaneEvent g.row.P.Denot g.row.A.Denot). LaneRan g.P.PlaneMemory.plane g.D.Disk.medium lane new (e ∷ []) (reply.Lock c.lock_clip.result ∷ [])) (sym c.in-Lock.is)
-    (told-lock g.P.PlaneMemory.plane g.D.Disk.medium lane new c.in-Lock.span c.lock_clip.result (record { queue = refl; table = refl; hand = refl }) c.lock_clip.ensures)
+    (told-lock g.P.PlaneMemory.plane g.D.Disk.medium lane new c.in-Lock.span c.lock_clip.result (record { queue = refl; table = refl; hand = refl }) c.lock_clip.ensures.goes)
 
 pub returns-in-Unlock : goal.returns-in-Unlock
 returns-in-Unlock g c =
     let lane = c.args.lane.now in
     let new : Lane g.row.D.Denot g.row.P.Denot g.row.A.Denot = record { queue = lane.queue; table = lane.table; hand = lane.hand; desk = c.unlock_clip.new.self } in
     subst (λ (e : LaneEvent g.row.P.Denot g.row.A.Denot). LaneRan g.P.PlaneMemory.plane g.D.Disk.medium lane new (e ∷ []) (reply.Unlock c.unlock_clip.result ∷ [])) (sym c.in-Unlock.is)
-    (told-unlock g.P.PlaneMemory.plane g.D.Disk.medium lane new c.in-Unlock.id c.unlock_clip.result (record { queue = refl; table = refl; hand = refl }) c.unlock_clip.ensures)
+    (told-unlock g.P.PlaneMemory.plane g.D.Disk.medium lane new c.in-Unlock.id c.unlock_clip.result (record { queue = refl; table = refl; hand = refl }) c.unlock_clip.ensures.goes)
 
 pub returns-in-Read : goal.returns-in-Read
 returns-in-Read g c =
     let lane = c.args.lane.now in
     let new : Lane g.row.D.Denot g.row.P.Denot g.row.A.Denot = record { queue = lane.queue; table = lane.table; hand = lane.hand; desk = c.read_frame.new.self } in
     subst (λ (e : LaneEvent g.row.P.Denot g.row.A.Denot). LaneRan g.P.PlaneMemory.plane g.D.Disk.medium lane new (e ∷ []) (reply.Read c.read_frame.result ∷ [])) (sym c.in-Read.is)
-    (told-read g.P.PlaneMemory.plane g.D.Disk.medium lane new c.in-Read.number c.read_frame.result (record { queue = refl; table = refl; hand = refl }) c.read_frame.ensures)
+    (told-read g.P.PlaneMemory.plane g.D.Disk.medium lane new c.in-Read.number c.read_frame.result (record { queue = refl; table = refl; hand = refl }) c.read_frame.ensures.goes)

@@ -4,8 +4,7 @@ use Rattle.std.proofs.lemmas.Iterator.Consumers.{YieldsList-end}
 use Rattle.loop_desk.specs.declared.event.LaneEvent.{LaneEvent}
 use Rattle.loop_desk.specs.declared.event.LaneReply.{LaneReply}
 use Rattle.loop_desk.specs.Lane.{LaneRan}
-use Rattle.loop_desk.proofs.Lasting.{keeps-footage}
-use Rattle.loop_desk.proofs.Order.{in-order}
+use Rattle.loop_desk.proofs.Order.{keeps}
 use Rattle.loop_desk.proofs.Ran.{all-items, ran-joined, ran-none, same-count}
 use Rattle.loop_desk.proofs.lane.lane_run.Given.{Over}
 use Rattle.loop_desk.proofs.lane.lane_run.Goals as goal
@@ -43,13 +42,6 @@ all-run g c =
     let all = all-items c.loop-event.yielded c.args.events.items (YieldsList-end begun c.loop-event.yielded c.loop-event.event-iterator c.loop-event.yielded_by c.next.result c.next.new.self c.in-None.is c.next.ensures.steps).0 in
     subst (λ (es : List (LaneEvent g.row.P.Denot g.row.A.Denot)). LaneRan g.P.PlaneMemory.plane g.D.Disk.medium c.args.lane.now c.loop-event.lane es c.loop-event.replies.items) all c.loop-event.invariant.ran
 
-pub returns-clause-ran : goal.returns-clause-ran
-returns-clause-ran g c = all-run g c
-
 pub returns-clause-headline : goal.returns-clause-headline
 returns-clause-headline g c =
-    let run = all-run g c in
-    (run.calls, (run.shown, λ s stands now. keeps-footage g.D.Disk.medium c.args.lane.now.desk c.loop-event.lane.desk run.calls s run.desk stands now))
-
-pub returns-clause-in_order : goal.returns-clause-in_order
-returns-clause-in_order g c = λ f stands. let run = all-run g c in (run.calls, (run.shown, in-order g.P.PlaneMemory.plane g.D.Disk.medium c.args.lane.now c.loop-event.lane c.args.events.items c.loop-event.replies.items run f stands))
+    keeps g.P.PlaneMemory.plane g.D.Disk.medium c.args.lane.now c.loop-event.lane c.args.events.items c.loop-event.replies.items (all-run g c)

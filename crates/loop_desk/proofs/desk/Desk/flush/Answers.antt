@@ -7,11 +7,13 @@ use Rattle.loop_record.specs.Plain.{pictures}
 use Rattle.loop_record.specs.Recording.{Picture, picture}
 use Rattle.loop_store.specs.Calls.{Progress, appended}
 use Rattle.loop_store.specs.Goes.{Goes}
+use Rattle.loop_store.specs.Seen.{Refused}
 use Rattle.loop_store.specs.declared.fault.StoreFault.{StoreFault}
+use Rattle.loop_desk.specs.declared.limits.Flushed.{Flushed}
 use Rattle.loop_desk.specs.Desk.{flushed}
 use Rattle.loop_desk.specs.Seen.{DeskGoes, IsDesk, SeenDesk}
 use Rattle.loop_desk.proofs.Called.{IsGroup, flush-none, flush-refused, flush-stored}
-use Rattle.loop_desk.proofs.Kept.{keep-rest, kept-flushed, none-of, stored-size}
+use Rattle.loop_desk.proofs.Kept.{keep-rest, kept-flushed, none-of, refused-as, stored-size}
 use Rattle.loop_desk.proofs.desk.Desk.flush.Goals as goal
 
 pub returns-then-count-eq0 : goal.returns-then-count-eq0
@@ -24,6 +26,7 @@ returns-then-count-eq0 g c =
     record {
       goes = subst (λ (v : SeenDesk g.row.D.Denot). DeskGoes g.D.Disk.medium v v (flushed (Ok (record { first = c.next.result; stored = 0; left = 0 })) ∷ [])) c.self.view_is
           (flush-none g.D.Disk.medium d c.next.result c.next.ensures.next none fine (λ now. g.met.D.Disk.sound s.store.disk now));
+      refused = tt;
     }
 
 pub invariant_of-self : goal.invariant_of-self
@@ -65,6 +68,7 @@ returns-in-Ok g c =
           (subst (λ (l : List Picture). DeskGoes g.D.Disk.medium d (record { store = c.append_first.new.store; pending = l; limits = s.limits }) (flushed (Ok (record { first = c.in-Ok.first; stored = count; left = c.len-waiting.result - count })) ∷ [])) pending
           (flush-stored g.D.Disk.medium d c.append_first.new.store c.min-most.result count c.in-Ok.first c.len-waiting.result group waiting
           (subst (λ (l : List Picture). Goes g.D.Disk.medium s.store c.append_first.new.store (appended l (Ok c.in-Ok.first) ∷ [])) first goes)));
+      refused = tt;
     }
 
 pub returns-in-Err : goal.returns-in-Err
@@ -88,4 +92,6 @@ returns-in-Err g c =
           (subst (λ (l : List Picture). DeskGoes g.D.Disk.medium d (record { store = c.append_first.new.store; pending = l; limits = s.limits }) (flushed (Err c.in-Err.fault) ∷ [])) (sym (ap pictures same))
           (flush-refused g.D.Disk.medium d c.append_first.new.store c.min-most.result count c.in-Err.fault group
           (subst (λ (l : List Picture). Goes g.D.Disk.medium s.store c.append_first.new.store (appended l (Err c.in-Err.fault) ∷ [])) first goes)));
+      refused = subst (λ (v : SeenDesk g.row.D.Denot). Refused {T = Flushed} v.store c.append_first.new.store (Err c.in-Err.fault)) c.self.view_is
+          (refused-as ℕ Flushed s.store c.append_first.new.store c.in-Err.fault (subst (λ (x : Result ℕ StoreFault). Refused s.store c.append_first.new.store x) c.in-Err.is c.append_first.ensures.refused));
     }

@@ -5,15 +5,15 @@ use Rattle.loop_store.specs.Calls.{was_read}
 use Rattle.loop_store.proofs.Reading.{goes-unread, look-read}
 use Rattle.loop_store.proofs.store.Store.read_frame.Goals as goal
 
-pub returns-then-not-holds : goal.returns-then-not-holds
-returns-then-not-holds g c =
+pub returns-then-not-holds-clause-goes : goal.returns-then-not-holds-clause-goes
+returns-then-not-holds-clause-goes g c =
     let fine : c.args.self.now.must_reopen ≡ false = sym (ap (λ v. v.must_reopen) c.self.view_is) ∙ c.if-self.false in
     goes-unread g.D.Disk.medium c.args.self.now (was_read c.args.number (Err NotHeld)) (look-read c.args.number (Err NotHeld)) (λ honest. g.met.D.Disk.sound c.args.self.now.disk honest) refl
     (λ t stands honest. inr (inl (refl, (sym stands.must_reopen ∙ fine, sym ((stands.recording.told honest).numbers_are c.args.number) ∙ sym c.holds.ensures ∙ c.if-not-holds.true))))
     (inr (inl refl, fine))
 
-pub returns-in_err-bytes : goal.returns-in_err-bytes
-returns-in_err-bytes g c =
+pub returns-in_err-bytes-clause-goes : goal.returns-in_err-bytes-clause-goes
+returns-in_err-bytes-clause-goes g c =
     let fine : c.args.self.now.must_reopen ≡ false = sym (ap (λ v. v.must_reopen) c.self.view_is) ∙ c.if-self.false in
     let p = err_from_is_err_and c.from_residual.result c.from_residual.ensures.1 in
     rw (p.1, p.2) (goes-unread g.D.Disk.medium c.args.self.now (was_read c.args.number (Err NoMemory)) (look-read c.args.number (Err NoMemory)) (λ honest. g.met.D.Disk.sound c.args.self.now.disk honest) refl
