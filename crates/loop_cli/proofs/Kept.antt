@@ -1,6 +1,7 @@
 -- What always holds of a session, after each call of its desk.
 use Rattle.std.proofs.Common.{◌≡◌, ◌≢◌, ◌⊎◌, ℕ, ◌+◌, ◌-◌, ◌%◌, ◌<◌, ◌≤◌, ◌==◌, min, ◌||◌, Bool, true, false, not, if◌then◌else◌, IsTrue, Option, Some, None, Result, Ok, Err, List, [], ◌∷◌, ◌++◌, length, take, drop, inl, inr, refl, sym, ap, ◌∙◌, subst, eq-eqb, add-zero, arith}
 use Rattle.std.proofs.lemmas.Bool.{false≢true}
+use Rattle.std.specs.Prelude.{IfErr, OnErr}
 use Rattle.std.proofs.lemmas.List.{length-append, length-drop, length-take}
 use Rattle.std.proofs.Math.Seq.{take-nil}
 use Rattle.loop_disk.specs.declared.fault.DiskFault.{DiskFault}
@@ -16,12 +17,12 @@ use Rattle.loop_store.specs.declared.fault.StoreFault.TheVariants.{AllLocked, Di
 use Rattle.loop_store.specs.Calls.{Call, Progress, appended, count_stored, failed_for, has_failed, locked, unlocked, was_read, was_read_part}
 use Rattle.loop_store.specs.Faults.{answers_disk, failed_by, failed_in, is_disk}
 use Rattle.loop_store.specs.Goes.{Goes}
-use Rattle.loop_store.specs.Seen.{Seen}
+use Rattle.loop_store.specs.Seen.{Refused, Seen}
 use Rattle.loop_desk.specs.declared.limits.Flushed.{Flushed}
 use Rattle.loop_desk.specs.Desk.{IsFlush, append_of, flushed, group_of, submitted}
 use Rattle.loop_desk.specs.Seen.{DeskGoes, SeenDesk, rules_of, waiting_of}
 use Rattle.loop_desk.proofs.Kept.{below}
-use Rattle.loop_cli.specs.Sessions.{IsSession}
+use Rattle.loop_cli.specs.Sessions.{IsSession, Shown}
 
 -- ---- a disk of which no call fails
 
@@ -199,3 +200,31 @@ module _ {D : Type 0} {medium : D → Medium} (never : (d : D) → (medium d).fa
   flush-refused old new fault goes kept =
       flush-refusal old new (group_of (rules_of old) (waiting_of old)) fault goes.store goes.told.0
       (some-wait (min old.limits.group (old.store.geometry.slots - old.store.next % old.store.geometry.slots)) old.pending) kept
+
+  pub flush-fault : (old new : SeenDesk D) (result : Result Flushed StoreFault) → DeskGoes medium old new (flushed result ∷ []) → IsSession old → IfErr result (λ fault. is_disk fault ≡ false)
+  flush-fault old new (Ok f) goes kept = tt
+  flush-fault old new (Err fault) goes kept = ap is_disk (flush-refused old new fault goes kept)
+
+-- ---- a refusal changes nothing
+
+pub fine-of : {T : Type 0} (result : Result T StoreFault) → failed_in result ≡ None → IfErr result (λ fault. is_disk fault ≡ false)
+fine-of (Ok x) none = tt
+fine-of (Err fault) none = fine-fault fault none
+
+same-store : {D : Type 0} (T : Type 0) (old new : Seen D) (fault : StoreFault) → Refused {T = T} old new (Err fault) → is_disk fault ≡ false → new ≡ old
+same-store T old new (Disk f) refused fine = cc
+same-store T old new _ refused fine = refused
+
+pub flush-waits : {D : Type 0} {medium : D → Medium} (old new : SeenDesk D) (result : Result Flushed StoreFault) → DeskGoes medium old new (flushed result ∷ []) → OnErr result (new.pending ≡ old.pending)
+flush-waits old new (Ok f) goes = tt
+flush-waits old new (Err fault) goes = goes.pending
+
+pub on-err : {T : Type 0} {P : Type 0} (result : Result T StoreFault) → P → OnErr result P
+on-err (Ok x) p = tt
+on-err (Err fault) p = p
+
+pub unchanged : {D T : Type 0} (old new : Shown D) (result : Result T StoreFault) → Refused old.desk.store new.desk.store result → IfErr result (λ fault. is_disk fault ≡ false) → OnErr result (new.desk.pending ≡ old.desk.pending) → new.desk.limits ≡ old.desk.limits → new.accepted ≡ old.accepted → OnErr result (new ≡ old)
+unchanged {T = T} old new (Ok x) refused fine pending limits count = tt
+unchanged {T = T} old new (Err fault) refused fine pending limits count =
+    let store = same-store T old.desk.store new.desk.store fault refused fine in
+    λ i. record { desk = record { store = store i; pending = pending i; limits = limits i }; accepted = count i }

@@ -13,6 +13,9 @@ use std::io;
 use std::io::{BufWriter, Error, Write};
 use std::rt::Files;
 
+/// How many bytes of a text are gathered before they are written to its file.
+const TEXT_AT_ONCE: usize = 131_072;
+
 /// Why a command wasn't done, or not to its end.
 #[derive(Debug, Drop)]
 enum Undone<'a> {

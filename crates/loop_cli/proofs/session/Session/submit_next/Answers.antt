@@ -22,6 +22,11 @@ invariant_of-self g c =
     let bytes = c.in-Ok.frame.bytes.items in
     kept-submit c.self.inside.desk c.submit.new.self (picture c.in-Ok.frame) (length bytes) (answer_of c.submit.result) c.submit.ensures.goes c.self.invariant
 
+pub invariant_of-self-in-Err-submit : goal.invariant_of-self-in-Err-submit
+invariant_of-self-in-Err-submit g c =
+    let bytes = c.in-Ok.frame.bytes.items in
+    kept-submit c.self.inside.desk c.submit.new.self (picture c.in-Ok.frame) (length bytes) (answer_of c.submit.result) c.submit.ensures.goes c.self.invariant
+
 pub returns-clause-goes : goal.returns-clause-goes
 returns-clause-goes g c =
     let d = c.self.inside.desk in
