@@ -1,9 +1,11 @@
 // Commands on stores in files.
 
+use crate::even::EvenWriter;
 use crate::listing::Listing;
 use crate::refusal::print_refusal;
 use crate::task::FileCommand;
-use loop_disk::FileDisk;
+use loop_ahead::AheadDisk;
+use loop_disk::{Disk, FileDisk};
 use loop_record::Geometry;
 use loop_store::{OpenRefused, Store, StoreFault};
 use loop_y4m::export;
@@ -14,7 +16,10 @@ use std::io::{BufWriter, Error, Write};
 use std::rt::Files;
 
 /// How many bytes of a text are gathered before they are written to its file.
-const TEXT_AT_ONCE: usize = 131_072;
+const TEXT_AT_ONCE: usize = 262_144;
+
+/// How many bytes of a store are fetched at once where an export reads on.
+const READ_AHEAD: usize = 65_536;
 
 /// Why a command wasn't done, or not to its end.
 #[derive(Debug, Drop)]
@@ -135,17 +140,21 @@ fn export_into<'a, R: AllocGlobal + Files<File = File>>(
         return Err(Undone::CannotOpen(path));
     };
     let (file, is_file) = target_of(rt, target)?;
+    let Ok(disk) = AheadDisk::new(rt.alloc(), disk, READ_AHEAD) else {
+        return Err(Undone::Refused(StoreFault::NoMemory));
+    };
     let mut store = find(rt.alloc(), disk)?;
     match store.next_held(from) {
         Some(number) if number <= to => (),
         _ => return Err(Undone::Refused(StoreFault::NotHeld)),
     }
-    if is_file && file.set_len(0).is_err() {
+    if is_file && empty(&file).is_err() {
         return Err(Undone::CannotWrite(target));
     }
-    let Ok(mut text) = BufWriter::with_capacity(rt.alloc(), TEXT_AT_ONCE, file) else {
+    let Ok(gathered) = BufWriter::with_capacity(rt.alloc(), TEXT_AT_ONCE, file) else {
         return Err(Undone::Refused(StoreFault::NoMemory));
     };
+    let mut text = EvenWriter::new(gathered, TEXT_AT_ONCE);
     let written = export(rt.alloc(), &mut store, from, to, &mut text);
     match (written, text.flush()) {
         (Ok(count), Ok(())) => Ok(count),
@@ -176,6 +185,15 @@ fn target_of<'a, R: Files<File = File>>(
     Ok((file, is_file))
 }
 
+// Takes from a file what it has. One that has nothing is left alone, since some file systems write a file that was
+// cut to nothing through to the disk when it is closed.
+fn empty(file: &File) -> io::Result<()> {
+    if file.metadata()?.len() > 0 {
+        file.set_len(0)?;
+    }
+    Ok(())
+}
+
 // Opens the file, and then the store in it.
 fn open<'a, R: AllocGlobal + Files<File = File>>(
     rt: &R,
@@ -187,8 +205,8 @@ fn open<'a, R: AllocGlobal + Files<File = File>>(
     }
 }
 
-// The store on an open file.
-fn find<'a>(alloc: Global, disk: FileDisk) -> Result<Store<FileDisk>, Undone<'a>> {
+// The store on an open file, which may be read ahead.
+fn find<'a, D: Disk + Drop>(alloc: Global, disk: D) -> Result<Store<D>, Undone<'a>> {
     match Store::open(alloc, disk) {
         Err(OpenRefused { fault, disk: _ }) => Err(Undone::Refused(fault)),
         Ok(store) => Ok(store),

@@ -4,13 +4,15 @@
 //! `program` reads the program's words and chooses what to do, and ends with a status. `simulate` runs a script
 //! line by line; `lines` reads a line in bounded memory, `command` says what a line means, `number` reads a
 //! number in it. `session` is a desk before a formatted store, and the frames that a script makes for it; `pattern`
-//! has these frames, `runs` the runs of numbers that `list` prints, and `refusal` the words of a refusal.
+//! has these frames, `runs` the runs of numbers that `list` prints, and `refusal` the words of a refusal. `files`
+//! does commands on stores in files, whose words `task` reads; `even` makes the writes of an export even.
 //!
 //! What a line means, the calls of a session, the bytes and timestamps of frames, the runs of numbers and the
 //! words of refusals are proved (`specs/`); the other lines that are printed are tested.
 #![tactic(auto)]
 
 mod command;
+mod even;
 mod files;
 mod lines;
 mod listing;

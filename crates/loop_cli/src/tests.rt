@@ -17,6 +17,7 @@ use std::io;
 use std::io::{Error, ErrorKind, Read, Write};
 use std::test::Fail;
 
+mod even;
 mod files;
 
 // A script, what it prints, what it tells on the other output, and the status.

@@ -1,0 +1,89 @@
+// A disk that reads ahead, over another disk.
+ghost use Rattle.std.specs.Prelude.{◌≡◌, ◌+◌, ◌≤◌, IfErr, IfOk, OnOk, length};
+ghost use Rattle.loop_disk.specs.declared.fault.DiskFault.TheVariants.{Read, Write, Sync};
+ghost use Rattle.loop_disk.specs.Medium.{LeavesEach, LeavesEachTorn, piece};
+ghost use Rattle.loop_disk.specs.Calls.{Called, Stays, Syncs, Writes, failed_call};
+ghost use Rattle.loop_ahead.specs.Windows.{IsAhead};
+
+use crate::window::{Window, read_by};
+use loop_disk::{Disk, DiskFault};
+use std::alloc::{Allocator, Global};
+use std::marker::Model;
+
+/// Passes each write and each sync to the disk beneath it, and answers reads out of a window of bytes that it
+/// fetches from there. A read of at most half the window is made by way of it: where it goes on from what the
+/// window holds, the window is filled in one read, else it gets just the bytes that are asked for. A longer read
+/// goes past the window, but for the beginning that the window holds. A write empties the window, as a failed
+/// fetch does. In contracts it is the disk beneath.
+#[derive(Drop)]
+pub struct AheadDisk<D: Disk + Drop, A: Allocator = Global> {
+    inner: D,
+    window: Window<A>,
+}
+
+impl<D: Disk + Drop, A: Allocator> Model for AheadDisk<D, A> {
+    ghost Value = { D };
+
+    ghost view = { λ ahead. ahead.inner };
+
+    ghost invariant = { λ ahead.
+        IsAhead ahead.window.bytes.items ahead.window.start ahead.window.held (D.medium ahead.inner) };
+}
+
+impl<D: Disk + Drop, A: Allocator> AheadDisk<D, A> {
+    /// A disk over this one, whose window has room for so many bytes. It takes their memory, and no later call takes
+    /// any. Its only error is want of memory, and then the disk comes back.
+    pub fn new(alloc: A, inner: D, bytes: usize) -> Result<Self, D>
+        ensures ahead { IfOk result (λ ahead. ahead ≡ inner) }
+        ensures back { IfErr result (λ disk. disk ≡ inner) }
+    {
+        let Ok(bytes) = vec![in alloc; 0; bytes] else {
+            return Err(inner);
+        };
+        let window = Window {
+            bytes,
+            start: 0,
+            held: 0,
+        };
+        Ok(AheadDisk { inner, window })
+    }
+
+    /// The disk beneath, as the calls left it.
+    pub fn into_inner(self) -> D
+        ensures { result ≡ self }
+    {
+        let AheadDisk { inner, window: _ } = self;
+        inner
+    }
+}
+
+impl<D: Disk + Drop, A: Allocator> Disk for AheadDisk<D, A> {
+    ghost medium = { D.medium };
+
+    ghost harsh = { D.harsh };
+
+    ghost sound = { D.sound };
+
+    fn size(&self) -> u64 {
+        self.inner.size()
+    }
+
+    fn read(&mut self, at: u64, buf: &mut [u8]) -> Result<(), DiskFault> {
+        let _size = self.inner.size();
+        let known = self.window.give(at, buf);
+        if known == buf.len() {
+            return Ok(());
+        }
+        let rest = at + known as u64;
+        read_by(&mut self.inner, &mut self.window, rest, &mut buf[known..])
+    }
+
+    fn write_at(&mut self, at: u64, bytes: &[u8]) -> Result<(), DiskFault> {
+        self.window.held = 0;
+        self.inner.write_at(at, bytes)
+    }
+
+    fn sync(&mut self) -> Result<(), DiskFault> {
+        self.inner.sync()
+    }
+}

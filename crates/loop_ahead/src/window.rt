@@ -1,0 +1,120 @@
+// The bytes of a disk that were read before they are asked for.
+ghost use Rattle.std.specs.Prelude.{◌≡◌, ◌+◌, ◌-◌, ◌≤◌, ℕ, List, IfErr, OnOk, length};
+ghost use Rattle.loop_disk.specs.declared.fault.DiskFault.TheVariants.{Read};
+ghost use Rattle.loop_disk.specs.Medium.{LeavesEach, piece};
+ghost use Rattle.loop_disk.specs.Calls.{Called, Stays, failed_call};
+ghost use Rattle.loop_ahead.specs.Windows.{IsAhead, IsCopy};
+
+use loop_disk::{Disk, DiskFault};
+use std::alloc::Allocator;
+
+/// So many bytes of a disk, from a place on, and room for more.
+#[derive(Drop)]
+pub(crate) struct Window<A: Allocator> {
+    pub(crate) bytes: Vec<u8, A>,
+    pub(crate) start: u64,
+    pub(crate) held: usize,
+}
+
+impl<A: Allocator> Window<A> {
+    // Copies the bytes from `at` on that it holds to the beginning of a buffer, and tells how many these are.
+    pub(crate) fn give(&self, at: u64, buf: &mut [u8]) -> usize
+        requires { self.now.held ≤ length self.now.bytes.items }
+        ensures few { result ≤ length buf.old }
+        ensures all { self.now.start ≤ at → at + length buf.old ≤ self.now.start + self.now.held
+            → result ≡ length buf.old }
+        ensures bytes { (image : List ℕ) → IsCopy self.now.start self.now.held image self.now.bytes.items
+            → IsCopy at result image buf.new }
+    {
+        if at < self.start || at - self.start >= self.held as u64 {
+            return 0;
+        }
+        let from = (at - self.start) as usize;
+        let count = buf.len().min(self.held - from);
+        buf[..count].copy_from_slice(&self.bytes[from..from + count]);
+        count
+    }
+
+    // How many bytes are to be fetched from `at` on, of a disk of that size, where so many are asked for: all that
+    // it has room for where they go on from those that it holds.
+    fn reach(&self, at: u64, least: usize, size: u64) -> usize
+        requires inside { at + least ≤ size }
+        requires room { least ≤ length self.now.bytes.items }
+        ensures enough { least ≤ result }
+        ensures inside { at + result ≤ size }
+        ensures room { result ≤ length self.now.bytes.items }
+    {
+        if at < self.start || at - self.start != self.held as u64 {
+            return least;
+        }
+        let behind = size - at;
+        if behind < self.bytes.len() as u64 {
+            behind as usize
+        } else {
+            self.bytes.len()
+        }
+    }
+}
+
+// Fetches the bytes from `at` on into the window, in one read: so many or more, as `reach`
+// tells. After a failure it holds none.
+fn fetch<D: Disk, A: Allocator>(
+    disk: &mut D,
+    window: &mut Window<A>,
+    at: u64,
+    least: usize,
+) -> Result<(), DiskFault>
+    requires inside { at + least ≤ (D.medium disk.old).size }
+    requires room { least ≤ length window.old.bytes.items }
+    ensures ahead { IsAhead window.new.bytes.items window.new.start window.new.held (D.medium disk.new) }
+    ensures got { OnOk result ((window.new.start ≡ at) × (least ≤ window.new.held)) }
+    ensures disk { (D.medium disk.old).honest → Stays (D.medium disk.old) (D.medium disk.new) }
+    ensures each { D.harsh disk.old → D.harsh disk.new × LeavesEach (D.medium disk.old) (D.medium disk.new) }
+    ensures fault { IfErr result (λ fault. fault ≡ Read) }
+    ensures called { Called (D.medium disk.old) (D.medium disk.new) (failed_call result) }
+{
+    let count = window.reach(at, least, disk.size());
+    window.held = 0;
+    fill(disk, &mut window.bytes, at, count)?;
+    window.start = at;
+    window.held = count;
+    Ok(())
+}
+
+// Reads so many bytes of the disk from `at` on to the beginning of a buffer.
+fn fill<D: Disk>(disk: &mut D, buf: &mut [u8], at: u64, count: usize) -> Result<(), DiskFault>
+    requires inside { at + count ≤ (D.medium disk.old).size }
+    requires room { count ≤ length buf.old }
+    ensures read { (D.medium disk.old).honest → OnOk result (IsCopy at count (D.medium disk.old).bytes buf.new) }
+    ensures disk { (D.medium disk.old).honest → Stays (D.medium disk.old) (D.medium disk.new) }
+    ensures each { D.harsh disk.old → D.harsh disk.new × LeavesEach (D.medium disk.old) (D.medium disk.new) }
+    ensures fault { IfErr result (λ fault. fault ≡ Read) }
+    ensures called { Called (D.medium disk.old) (D.medium disk.new) (failed_call result) }
+{
+    disk.read(at, &mut buf[..count])
+}
+
+// Reads the bytes from `at` on: by way of the window where they are at most half of it.
+pub(crate) fn read_by<D: Disk, A: Allocator>(
+    disk: &mut D,
+    window: &mut Window<A>,
+    at: u64,
+    buf: &mut [u8],
+) -> Result<(), DiskFault>
+    requires inside { at + length buf.old ≤ (D.medium disk.old).size }
+    requires ahead { IsAhead window.old.bytes.items window.old.start window.old.held (D.medium disk.old) }
+    ensures ahead { IsAhead window.new.bytes.items window.new.start window.new.held (D.medium disk.new) }
+    ensures read { (D.medium disk.old).honest
+        → OnOk result (buf.new ≡ piece at (length buf.old) (D.medium disk.old).bytes) }
+    ensures disk { (D.medium disk.old).honest → Stays (D.medium disk.old) (D.medium disk.new) }
+    ensures each { D.harsh disk.old → D.harsh disk.new × LeavesEach (D.medium disk.old) (D.medium disk.new) }
+    ensures fault { IfErr result (λ fault. fault ≡ Read) }
+    ensures called { Called (D.medium disk.old) (D.medium disk.new) (failed_call result) }
+{
+    if buf.len() > window.bytes.len() / 2 {
+        return disk.read(at, buf);
+    }
+    fetch(disk, window, at, buf.len())?;
+    window.give(at, buf);
+    Ok(())
+}
