@@ -2,29 +2,32 @@
 ghost use Rattle.std.specs.Prelude.{◌≡◌, ◌+◌, ◌≤◌, IfErr, IfOk, OnOk, length};
 ghost use Rattle.loop_disk.specs.declared.fault.DiskFault.TheVariants.{Read, Write, Sync};
 ghost use Rattle.loop_disk.specs.Medium.{LeavesEach, LeavesEachTorn, piece};
-ghost use Rattle.loop_disk.specs.Calls.{Called, Stays, Syncs, Writes, failed_call};
-ghost use Rattle.loop_ahead.specs.Windows.{IsAhead};
+ghost use Rattle.loop_disk.specs.Calls.{Called, Stays, Syncs, Writes, failed_call, no_failures};
+ghost use Rattle.loop_disk.specs.Sound.{sound_recounted};
+ghost use Rattle.loop_ahead.specs.Windows.{IsAhead, Recounted};
 
 use crate::window::{Window, read_by};
-use loop_disk::{Disk, DiskFault};
+use loop_disk::{Disk, DiskFault, Failures};
 use std::alloc::{Allocator, Global};
 use std::marker::Model;
 
 /// Passes each write and each sync to the disk beneath it, and answers reads out of a window of bytes that it
 /// fetches from there. A read of at most half the window is made by way of it: where it goes on from what the
-/// window holds, the window is filled in one read, else it gets just the bytes that are asked for. A longer read
-/// goes past the window, but for the beginning that the window holds. A write empties the window, as a failed
-/// fetch does. In contracts it is the disk beneath.
+/// window holds, the window is filled in one read, else, and where that read fails, it gets just the bytes that are
+/// asked for. A longer read goes past the window, but for the beginning that the window holds. A write empties the
+/// window, as a failed fetch does. In contracts it is the disk beneath with a count of its own of the calls that
+/// failed, in which a read of bytes that nobody asked for isn't one.
 #[derive(Drop)]
 pub struct AheadDisk<D: Disk + Drop, A: Allocator = Global> {
     inner: D,
     window: Window<A>,
+    failures: Failures,
 }
 
 impl<D: Disk + Drop, A: Allocator> Model for AheadDisk<D, A> {
-    ghost Value = { D };
+    ghost Value = { Recounted D };
 
-    ghost view = { λ ahead. ahead.inner };
+    ghost view = { λ ahead. record { disk = ahead.inner; failures = ahead.failures } };
 
     ghost invariant = { λ ahead.
         IsAhead ahead.window.bytes.items ahead.window.start ahead.window.held (D.medium ahead.inner) };
@@ -34,7 +37,7 @@ impl<D: Disk + Drop, A: Allocator> AheadDisk<D, A> {
     /// A disk over this one, whose window has room for so many bytes. It takes their memory, and no later call takes
     /// any. Its only error is want of memory, and then the disk comes back.
     pub fn new(alloc: A, inner: D, bytes: usize) -> Result<Self, D>
-        ensures ahead { IfOk result (λ ahead. ahead ≡ inner) }
+        ensures ahead { IfOk result (λ ahead. ahead ≡ record { disk = inner; failures = no_failures }) }
         ensures back { IfErr result (λ disk. disk ≡ inner) }
     {
         let Ok(bytes) = vec![in alloc; 0; bytes] else {
@@ -45,24 +48,32 @@ impl<D: Disk + Drop, A: Allocator> AheadDisk<D, A> {
             start: 0,
             held: 0,
         };
-        Ok(AheadDisk { inner, window })
+        Ok(AheadDisk {
+            inner,
+            window,
+            failures: Failures::none(),
+        })
     }
 
     /// The disk beneath, as the calls left it.
     pub fn into_inner(self) -> D
-        ensures { result ≡ self }
+        ensures { result ≡ self.disk }
     {
-        let AheadDisk { inner, window: _ } = self;
+        let AheadDisk {
+            inner,
+            window: _,
+            failures: _,
+        } = self;
         inner
     }
 }
 
 impl<D: Disk + Drop, A: Allocator> Disk for AheadDisk<D, A> {
-    ghost medium = { D.medium };
+    ghost medium = { λ ahead. record (D.medium ahead.disk) { failures = ahead.failures } };
 
-    ghost harsh = { D.harsh };
+    ghost harsh = { λ ahead. D.harsh ahead.disk };
 
-    ghost sound = { D.sound };
+    ghost sound = { λ ahead honest. sound_recounted (D.medium ahead.disk) ahead.failures (D.sound ahead.disk honest) };
 
     fn size(&self) -> u64 {
         self.inner.size()
@@ -75,15 +86,18 @@ impl<D: Disk + Drop, A: Allocator> Disk for AheadDisk<D, A> {
             return Ok(());
         }
         let rest = at + known as u64;
-        read_by(&mut self.inner, &mut self.window, rest, &mut buf[known..])
+        let outcome = read_by(&mut self.inner, &mut self.window, rest, &mut buf[known..]);
+        self.failures.note(outcome)
     }
 
     fn write_at(&mut self, at: u64, bytes: &[u8]) -> Result<(), DiskFault> {
         self.window.held = 0;
-        self.inner.write_at(at, bytes)
+        let outcome = self.inner.write_at(at, bytes);
+        self.failures.note(outcome)
     }
 
     fn sync(&mut self) -> Result<(), DiskFault> {
-        self.inner.sync()
+        let outcome = self.inner.sync();
+        self.failures.note(outcome)
     }
 }

@@ -1,9 +1,9 @@
 // The bytes of a disk that were read before they are asked for.
-ghost use Rattle.std.specs.Prelude.{◌≡◌, ◌+◌, ◌-◌, ◌≤◌, ℕ, List, IfErr, OnOk, length};
+ghost use Rattle.std.specs.Prelude.{◌≡◌, ◌+◌, ◌-◌, ◌≤◌, ℕ, List, IfErr, IfOk, OnOk, length};
 ghost use Rattle.loop_disk.specs.declared.fault.DiskFault.TheVariants.{Read};
 ghost use Rattle.loop_disk.specs.Medium.{LeavesEach, piece};
-ghost use Rattle.loop_disk.specs.Calls.{Called, Stays, failed_call};
-ghost use Rattle.loop_ahead.specs.Windows.{IsAhead, IsCopy};
+ghost use Rattle.loop_disk.specs.Calls.{Stays};
+ghost use Rattle.loop_ahead.specs.Windows.{IsAhead, IsAlike, IsCopy};
 
 use loop_disk::{Disk, DiskFault};
 use std::alloc::Allocator;
@@ -56,8 +56,8 @@ impl<A: Allocator> Window<A> {
     }
 }
 
-// Fetches the bytes from `at` on into the window, in one read: so many or more, as `reach`
-// tells. After a failure it holds none.
+// Fetches the bytes from `at` on into the window: all that `reach` tells, or, where they can't be read at once, just
+// those that are asked for. After a failure it holds none.
 fn fetch<D: Disk, A: Allocator>(
     disk: &mut D,
     window: &mut Window<A>,
@@ -71,14 +71,45 @@ fn fetch<D: Disk, A: Allocator>(
     ensures disk { (D.medium disk.old).honest → Stays (D.medium disk.old) (D.medium disk.new) }
     ensures each { D.harsh disk.old → D.harsh disk.new × LeavesEach (D.medium disk.old) (D.medium disk.new) }
     ensures fault { IfErr result (λ fault. fault ≡ Read) }
-    ensures called { Called (D.medium disk.old) (D.medium disk.new) (failed_call result) }
+    ensures alike { IsAlike (D.medium disk.old) (D.medium disk.new) }
 {
-    let count = window.reach(at, least, disk.size());
+    let most = window.reach(at, least, disk.size());
     window.held = 0;
-    fill(disk, &mut window.bytes, at, count)?;
+    let count = fill_most(disk, &mut window.bytes, at, least, most)?;
     window.start = at;
     window.held = count;
     Ok(())
+}
+
+// Reads the bytes from `at` on to the beginning of a buffer: as many as wanted, or, where these can't be read at
+// once, just as many as are asked for. Tells how many it read.
+fn fill_most<D: Disk>(
+    disk: &mut D,
+    buf: &mut [u8],
+    at: u64,
+    least: usize,
+    most: usize,
+) -> Result<usize, DiskFault>
+    requires inside { at + most ≤ (D.medium disk.old).size }
+    requires room { most ≤ length buf.old }
+    requires enough { least ≤ most }
+    ensures count { IfOk result (λ count. (least ≤ count) × (count ≤ most)) }
+    ensures read { (D.medium disk.old).honest
+        → IfOk result (λ count. IsCopy at count (D.medium disk.old).bytes buf.new) }
+    ensures disk { (D.medium disk.old).honest → Stays (D.medium disk.old) (D.medium disk.new) }
+    ensures each { D.harsh disk.old → D.harsh disk.new × LeavesEach (D.medium disk.old) (D.medium disk.new) }
+    ensures fault { IfErr result (λ fault. fault ≡ Read) }
+    ensures alike { IsAlike (D.medium disk.old) (D.medium disk.new) }
+{
+    if least < most {
+        match fill(disk, buf, at, most) {
+            Ok(()) => return Ok(most),
+            // The place that can't be read may lie behind what is asked for.
+            Err(_) => (),
+        }
+    }
+    fill(disk, buf, at, least)?;
+    Ok(least)
 }
 
 // Reads so many bytes of the disk from `at` on to the beginning of a buffer.
@@ -89,7 +120,7 @@ fn fill<D: Disk>(disk: &mut D, buf: &mut [u8], at: u64, count: usize) -> Result<
     ensures disk { (D.medium disk.old).honest → Stays (D.medium disk.old) (D.medium disk.new) }
     ensures each { D.harsh disk.old → D.harsh disk.new × LeavesEach (D.medium disk.old) (D.medium disk.new) }
     ensures fault { IfErr result (λ fault. fault ≡ Read) }
-    ensures called { Called (D.medium disk.old) (D.medium disk.new) (failed_call result) }
+    ensures alike { IsAlike (D.medium disk.old) (D.medium disk.new) }
 {
     disk.read(at, &mut buf[..count])
 }
@@ -109,7 +140,7 @@ pub(crate) fn read_by<D: Disk, A: Allocator>(
     ensures disk { (D.medium disk.old).honest → Stays (D.medium disk.old) (D.medium disk.new) }
     ensures each { D.harsh disk.old → D.harsh disk.new × LeavesEach (D.medium disk.old) (D.medium disk.new) }
     ensures fault { IfErr result (λ fault. fault ≡ Read) }
-    ensures called { Called (D.medium disk.old) (D.medium disk.new) (failed_call result) }
+    ensures alike { IsAlike (D.medium disk.old) (D.medium disk.new) }
 {
     if buf.len() > window.bytes.len() / 2 {
         return disk.read(at, buf);

@@ -45,8 +45,8 @@ impl Failures {
         }
     }
 
-    /// Hands on the answer of a call, and counts it if it failed.
-    pub(crate) fn note(&mut self, outcome: Result<(), DiskFault>) -> Result<(), DiskFault>
+    /// Hands on the answer of a call, and counts it if it failed: for a disk that wraps another.
+    pub fn note(&mut self, outcome: Result<(), DiskFault>) -> Result<(), DiskFault>
         ensures same { result ≡ outcome }
         ensures counted { self.new ≡ with_failed (failed_call outcome) self.old }
     {

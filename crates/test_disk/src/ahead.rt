@@ -109,26 +109,44 @@ fn what_is_written_is_read(rt: HostRuntime) -> Result<(), Fail> {
 }
 
 #[test]
-fn a_failure_beneath_is_the_answer_and_leaves_no_bytes(rt: HostRuntime) -> Result<(), Fail> {
+fn where_the_window_cant_be_filled_what_is_asked_for_is_read(rt: HostRuntime) -> Result<(), Fail> {
+    // The second call beneath fails: the one that would have filled the window from 16 on.
     let once = OnceDisk::new(numbered(rt.alloc())?, 1);
     let mut ahead = ahead_of(rt.alloc(), once)?;
     let mut seen = [0; 4];
     assert_eq!(rt; read_at(&mut ahead, 0, &mut seen), Ok(()));
-    // The window has 0 to 15: these are read out of it, and the next fetch fails.
-    assert_eq!(rt; read_at(&mut ahead, 12, &mut seen), Ok(()));
-    assert_eq!(rt; read_at(&mut ahead, 16, &mut seen), Err(DiskFault::Read));
-    // What it held before is fetched anew.
-    assert_eq!(rt; read_at(&mut ahead, 12, &mut seen), Ok(()));
-    assert_eq!(rt; seen, [12, 13, 14, 15]);
     assert_eq!(rt; read_at(&mut ahead, 16, &mut seen), Ok(()));
     assert_eq!(rt; seen, [16, 17, 18, 19]);
+    // These bytes are what the window has, and those before them are fetched anew.
+    assert_eq!(rt; read_at(&mut ahead, 17, &mut seen[..3]), Ok(()));
+    assert_eq!(rt; seen, [17, 18, 19, 19]);
+    assert_eq!(rt; read_at(&mut ahead, 12, &mut seen), Ok(()));
+    assert_eq!(rt; seen, [12, 13, 14, 15]);
+    let once = ahead.into_inner();
+    let want = Failures {
+        reads: 1,
+        writes: 0,
+        syncs: 0,
+    };
+    assert_eq!(rt; once.failures, want);
+    Ok(())
+}
 
-    let fuse = FuseDisk::new(numbered(rt.alloc())?, 0);
+#[test]
+fn a_failure_beneath_is_the_answer_and_leaves_no_bytes(rt: HostRuntime) -> Result<(), Fail> {
+    let fuse = FuseDisk::new(numbered(rt.alloc())?, 1);
     let mut ahead = ahead_of(rt.alloc(), fuse)?;
+    let mut seen = [0; 4];
+    assert_eq!(rt; read_at(&mut ahead, 0, &mut seen), Ok(()));
+    // The window has 0 to 15: these are read out of it, and the next fetch fails, at once and of what is asked for.
+    assert_eq!(rt; read_at(&mut ahead, 12, &mut seen), Ok(()));
+    assert_eq!(rt; read_at(&mut ahead, 16, &mut seen), Err(DiskFault::Read));
+    // What it held before would have to be fetched anew.
+    assert_eq!(rt; read_at(&mut ahead, 12, &mut seen), Err(DiskFault::Read));
     assert_eq!(rt; write_at(&mut ahead, 0, &[1]), Err(DiskFault::Write));
     assert_eq!(rt; ahead.sync(), Err(DiskFault::Sync));
     let want = Failures {
-        reads: 0,
+        reads: 3,
         writes: 1,
         syncs: 1,
     };
