@@ -1,7 +1,10 @@
-/* The export of a full store of GREY frames as a plain program: the calls that `loop_cli export` makes, with the same places and sizes, and
-   no more checks than it needs.
+/* The export of a full store of GREY frames as a plain program: a read of a frame's head, one of each piece of its pixels, and a write of
+   each piece, with no more checks than it needs. It neither reads ahead nor gathers what it writes, as `loop_cli export` does.
 
-       export STORE OUT */
+       export STORE OUT
+       export copy FROM TO
+
+   The second one copies a file as plainly as reads and writes can, a piece at a time: what an export could cost at best. */
 #define _GNU_SOURCE
 #include <fcntl.h>
 #include <stdint.h>
@@ -24,7 +27,18 @@ static void give(int file, const void *bytes, size_t size) { have(write(file, by
 static uint32_t get32(const uint8_t *at) { uint32_t value; memcpy(&value, at, 4); return value; }
 static uint64_t get64(const uint8_t *at) { uint64_t value; memcpy(&value, at, 8); return value; }
 
+static int copy(const char *from, const char *to) {
+    static uint8_t piece[PIECE];
+    int in = open(from, O_RDONLY), out = open(to, O_WRONLY | O_CREAT | O_TRUNC, 0666);
+    have(in >= 0 && out >= 0);
+    ssize_t size;
+    while ((size = read(in, piece, sizeof piece)) > 0) give(out, piece, (size_t)size);
+    have(size == 0);
+    return 0;
+}
+
 int main(int count, char **words) {
+    if (count == 4 && strcmp(words[1], "copy") == 0) return copy(words[2], words[3]);
     static uint8_t front[512], piece[PIECE], head[HEAD];
     have(count == 3);
     int store = open(words[1], O_RDWR), out = open(words[2], O_WRONLY | O_CREAT | O_TRUNC, 0666);
