@@ -91,8 +91,7 @@ fn fill_most<D: Disk>(
     most: usize,
 ) -> Result<usize, DiskFault>
     requires inside { at + most ≤ (D.medium disk.old).size }
-    requires room { most ≤ length buf.old }
-    requires enough { least ≤ most }
+    requires room { (least ≤ most) × (most ≤ length buf.old) }
     ensures count { IfOk result (λ count. (least ≤ count) × (count ≤ most)) }
     ensures read { (D.medium disk.old).honest
         → IfOk result (λ count. IsCopy at count (D.medium disk.old).bytes buf.new) }
