@@ -1,10 +1,12 @@
 //! Inputs and outputs that give or take one byte a call, and what a whole input is read as.
 
+use crate::told::same;
 use loop_record::PixelFormat;
 use loop_y4m::{Y4mFault, Y4mReader};
 use std::alloc::{AllocError, Global};
 use std::io;
 use std::io::{Error, ErrorKind, Read, Write};
+use std::process::Abort;
 
 /// Gives one byte a call. The call of one number fails once, with one kind of error.
 #[derive(Drop)]
@@ -12,6 +14,16 @@ pub struct Drip<'a> {
     pub bytes: &'a [u8],
     pub calls: usize,
     pub fails: Option<(usize, ErrorKind)>,
+}
+
+impl<'a> Drip<'a> {
+    pub fn new(bytes: &'a [u8], fails: Option<(usize, ErrorKind)>) -> Drip<'a> {
+        Drip {
+            bytes,
+            calls: 0,
+            fails,
+        }
+    }
 }
 
 impl<'a> Read for Drip<'a> {
@@ -91,25 +103,9 @@ fn next<R: Read + Drop>(reader: &mut Y4mReader<R>, out: &mut [u8]) -> Result<boo
     reader.next_frame(out)
 }
 
-/// Reads a whole input of at most eight frames.
-pub fn tell<R: Read + Drop>(alloc: Global, input: R) -> Result<Story, AllocError> {
+/// The frames of a reader that was opened, at most eight.
+fn go_on<R: Read + Drop>(alloc: Global, mut reader: Y4mReader<R>) -> Result<Story, AllocError> {
     let mut frames = Vec::new(alloc);
-    let mut reader = match Y4mReader::open(input) {
-        Ok(reader) => reader,
-        Err(fault) => {
-            return Ok(Story {
-                opened: Err(fault),
-                frames,
-                ends: [Err(fault); 2],
-            });
-        }
-    };
-    let opened = Ok((
-        reader.format(),
-        reader.width(),
-        reader.height(),
-        reader.rate(),
-    ));
     let mut out = vec![in alloc; 0u8; reader.frame_bytes() as usize]?;
     let mut end = Ok(true);
     for _ in 0..9 {
@@ -119,9 +115,45 @@ pub fn tell<R: Read + Drop>(alloc: Global, input: R) -> Result<Story, AllocError
         }
         frames.extend_from_slice(&out)?;
     }
+    let shape = (
+        reader.format(),
+        reader.width(),
+        reader.height(),
+        reader.rate(),
+    );
     Ok(Story {
-        opened,
+        opened: Ok(shape),
         frames,
         ends: [end, next(&mut reader, &mut out)],
     })
+}
+
+/// Reads a whole input of at most eight frames.
+pub fn tell<R: Read + Drop>(alloc: Global, input: R) -> Result<Story, AllocError> {
+    match Y4mReader::open(input) {
+        Ok(reader) => go_on(alloc, reader),
+        Err(fault) => Ok(Story {
+            opened: Err(fault),
+            frames: Vec::new(alloc),
+            ends: [Err(fault); 2],
+        }),
+    }
+}
+
+/// What an input has to be read as: its header, the bytes of its frames, and what ends them both times.
+pub type Want<'a> = (Result<Shape, Y4mFault>, &'a [u8], Result<bool, Y4mFault>);
+
+/// Reads a whole input, which has to be read as this.
+pub fn reads<R: Read + Drop>(
+    rt: &impl Abort,
+    alloc: Global,
+    input: R,
+    want: &Want,
+    note: usize,
+) -> Result<(), AllocError> {
+    let told = tell(alloc, input)?;
+    same!(rt; told.opened, want.0, note);
+    same!(rt; told.frames.as_slice(), want.1, note);
+    same!(rt; told.ends, [want.2; 2], note);
+    Ok(())
 }

@@ -11,4 +11,6 @@ mod reading;
 #[cfg(test)]
 mod real;
 #[cfg(test)]
+mod told;
+#[cfg(test)]
 mod writing;

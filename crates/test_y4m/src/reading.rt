@@ -1,9 +1,13 @@
 //! The rows of the format, as they are read.
 
-use crate::fakes::{Drip, Shape, tell};
+use crate::fakes::{Drip, Shape, Want, reads, tell};
+use crate::told::same;
 use loop_record::PixelFormat;
 use loop_y4m::Y4mFault;
+use std::alloc::{AllocError, Global};
 use std::io::ErrorKind;
+use std::ops::RangeInclusive;
+use std::process::Abort;
 use std::test::Fail;
 
 /// Two frames of 4 by 2: byte i of frame n is n + i.
@@ -38,31 +42,66 @@ const CUTS: [Cut; 7] = [
     (75, 75, Ok(SMALL), 24, Ok(false)),
 ];
 
+// Reads what is left of the two frames, whole and by one byte a call.
+fn reads_cut(rt: &impl Abort, alloc: Global, rows: &[Cut]) -> Result<(), Fail> {
+    for row in rows {
+        let frames = PIXELS.get(..row.3).ok_or("too long")?;
+        reads_each(rt, alloc, row.0..=row.1, &(row.2, frames, row.4))?;
+    }
+    Ok(())
+}
+
+// So many bytes of the two frames are all read as this.
+fn reads_each(
+    rt: &impl Abort,
+    alloc: Global,
+    counts: RangeInclusive<usize>,
+    want: &Want,
+) -> Result<(), Fail> {
+    for count in counts {
+        let bytes = TWO.get(..count).ok_or("too long")?;
+        reads(rt, alloc, bytes, want, count)?;
+        reads(rt, alloc, Drip::new(bytes, None), want, count)?;
+    }
+    Ok(())
+}
+
 #[test]
 fn an_input_that_is_cut_gives_its_whole_frames_and_then_truncated(
     rt: HostRuntime,
 ) -> Result<(), Fail> {
-    for (first, last, opened, frames, end) in CUTS {
-        for count in first..=last {
-            let bytes = TWO.get(..count).ok_or("too long")?;
-            let whole = tell(rt.alloc(), bytes)?;
-            let input = Drip {
-                bytes,
-                calls: 0,
-                fails: None,
-            };
-            let drip = tell(rt.alloc(), input)?;
-            for told in [whole, drip] {
-                assert_eq!(rt; told.opened, opened, "{count}");
-                assert_eq!(rt;
-                    Some(told.frames.as_slice()),
-                    PIXELS.get(..frames),
-                    "{count}"
-                );
-                assert_eq!(rt; told.ends, [end; 2], "{count}");
-            }
-        }
-    }
+    reads_cut(&rt, rt.alloc(), &CUTS)
+}
+
+// Reads by one byte a call, of which the call of this number fails or is interrupted.
+fn reads_failing(rt: &impl Abort, alloc: Global, number: usize) -> Result<(), Fail> {
+    let frames = match number {
+        0..=56 => 0,
+        57..=74 => 12,
+        _ => 24,
+    };
+    let opened = if number < 39 {
+        Err(Y4mFault::Read)
+    } else {
+        Ok(SMALL)
+    };
+    let frames = PIXELS.get(..frames).ok_or("too long")?;
+    let failing = Drip::new(TWO, Some((number, ErrorKind::Other)));
+    reads(
+        rt,
+        alloc,
+        failing,
+        &(opened, frames, Err(Y4mFault::Read)),
+        number,
+    )?;
+    let interrupted = Drip::new(TWO, Some((number, ErrorKind::Interrupted)));
+    reads(
+        rt,
+        alloc,
+        interrupted,
+        &(Ok(SMALL), PIXELS, Ok(false)),
+        number,
+    )?;
     Ok(())
 }
 
@@ -70,39 +109,7 @@ fn an_input_that_is_cut_gives_its_whole_frames_and_then_truncated(
 #[test]
 fn a_read_that_fails_is_answered_then_and_from_then_on(rt: HostRuntime) -> Result<(), Fail> {
     for number in 0..=75usize {
-        let fails = Some((number, ErrorKind::Other));
-        let input = Drip {
-            bytes: TWO,
-            calls: 0,
-            fails,
-        };
-        let told = tell(rt.alloc(), input)?;
-        let frames = match number {
-            0..=56 => 0,
-            57..=74 => 12,
-            _ => 24,
-        };
-        let opened = if number < 39 {
-            Err(Y4mFault::Read)
-        } else {
-            Ok(SMALL)
-        };
-        assert_eq!(rt; told.opened, opened, "{number}");
-        assert_eq!(rt;
-            Some(told.frames.as_slice()),
-            PIXELS.get(..frames),
-            "{number}"
-        );
-        assert_eq!(rt; told.ends, [Err(Y4mFault::Read); 2], "{number}");
-
-        let input = Drip {
-            bytes: TWO,
-            calls: 0,
-            fails: Some((number, ErrorKind::Interrupted)),
-        };
-        let told = tell(rt.alloc(), input)?;
-        assert_eq!(rt; told.frames.as_slice(), PIXELS.as_slice(), "{number}");
-        assert_eq!(rt; told.ends, [Ok(false); 2], "{number}");
+        reads_failing(&rt, rt.alloc(), number)?;
     }
     Ok(())
 }
@@ -186,14 +193,23 @@ const HEADERS: [(&[u8], Result<Shape, Y4mFault>); 36] = [
     ),
 ];
 
-#[test]
-fn a_header_is_read_or_refused_by_name(rt: HostRuntime) -> Result<(), Fail> {
-    for (line, opened) in HEADERS {
-        let told = tell(rt.alloc(), line)?;
-        let text = String::from_utf8(Vec::from_slice(rt.alloc(), line)?)?;
-        assert_eq!(rt; told.opened, opened, "{text}");
+// Each of these header lines says this.
+fn opens(
+    rt: &impl Abort,
+    alloc: Global,
+    rows: &[(&[u8], Result<Shape, Y4mFault>)],
+) -> Result<(), Fail> {
+    for (line, opened) in rows {
+        let told = tell(alloc, *line)?;
+        let text = String::from_utf8(Vec::from_slice(alloc, line)?)?;
+        same!(rt; told.opened, *opened, text);
     }
     Ok(())
+}
+
+#[test]
+fn a_header_is_read_or_refused_by_name(rt: HostRuntime) -> Result<(), Fail> {
+    opens(&rt, rt.alloc(), &HEADERS)
 }
 
 /// What stands behind a header of frames of one byte, the frames' bytes, and what ends them.
@@ -209,45 +225,59 @@ const FRAMES: [(&[u8], &[u8], Result<bool, Y4mFault>); 9] = [
     (b"FRAME\n", b"", TRUNCATED),
 ];
 
-#[test]
-fn frames_are_read_up_to_the_end_or_a_fault(rt: HostRuntime) -> Result<(), Fail> {
-    for (behind, frames, end) in FRAMES {
-        let mut input = Vec::from_slice(rt.alloc(), b"YUV4MPEG2 W1 H1 Cmono\n")?;
+/// A header of frames of one byte, and what it says.
+const POINT: &[u8; 22] = b"YUV4MPEG2 W1 H1 Cmono\n";
+
+const ONE: Result<Shape, Y4mFault> = Ok((PixelFormat::Grey, 1, 1, (0, 0)));
+
+// What stands behind the header of frames of one byte is read as this.
+fn reads_behind(
+    rt: &impl Abort,
+    alloc: Global,
+    rows: &[(&[u8], &[u8], Result<bool, Y4mFault>)],
+) -> Result<(), Fail> {
+    for (row, (behind, frames, end)) in rows.iter().enumerate() {
+        let mut input = POINT.to_vec(alloc)?;
         input.extend_from_slice(behind)?;
-        let told = tell(rt.alloc(), input.as_slice())?;
-        assert_eq!(rt; told.frames.as_slice(), frames);
-        assert_eq!(rt; told.ends, [end; 2]);
+        reads(rt, alloc, input.as_slice(), &(ONE, *frames, *end), row)?;
     }
     Ok(())
+}
+
+#[test]
+fn frames_are_read_up_to_the_end_or_a_fault(rt: HostRuntime) -> Result<(), Fail> {
+    reads_behind(&rt, rt.alloc(), &FRAMES)
+}
+
+// A header line of so many bytes.
+fn long_header(alloc: Global, length: usize) -> Result<Vec<u8>, AllocError> {
+    let mut line = Vec::from_slice(alloc, b"YUV4MPEG2 W1 H1 Cmono X")?;
+    line.resize(length.saturating_sub(1), b'x')?;
+    line.push(b'\n')?;
+    Ok(line)
+}
+
+// A frame of one byte behind a frame's line of so many bytes.
+fn long_frame(alloc: Global, length: usize) -> Result<Vec<u8>, AllocError> {
+    let mut input = Vec::from_slice(alloc, b"YUV4MPEG2 W1 H1 Cmono\nFRAME")?;
+    input.resize(length.saturating_add(21), b' ')?;
+    input.extend_from_slice(b"\na")?;
+    Ok(input)
 }
 
 // A line is read up to 4,096 bytes, its 0x0A among them.
 #[test]
 fn a_line_of_4_097_bytes_is_too_long(rt: HostRuntime) -> Result<(), Fail> {
-    for (length, is_read) in [(4_096usize, true), (4_097, false), (9_999, false)] {
-        let mut line = Vec::from_slice(rt.alloc(), b"YUV4MPEG2 W1 H1 Cmono X")?;
-        line.resize(length.saturating_sub(1), b'x')?;
-        line.push(b'\n')?;
-        let told = tell(rt.alloc(), line.as_slice())?;
-        assert_eq!(rt;
-            told.opened.err(),
-            if is_read {
-                None
-            } else {
-                Some(Y4mFault::BadHeader)
-            }
-        );
-
-        let mut input = Vec::from_slice(rt.alloc(), b"YUV4MPEG2 W1 H1 Cmono\nFRAME")?;
-        input.resize(length.saturating_add(21), b' ')?;
-        input.extend_from_slice(b"\na")?;
-        let told = tell(rt.alloc(), input.as_slice())?;
-        let end = if is_read {
-            Ok(false)
-        } else {
-            Err(Y4mFault::BadHeader)
-        };
-        assert_eq!(rt; told.ends, [end; 2]);
+    let rows = [
+        (4_096usize, None, Ok(false)),
+        (4_097, Some(Y4mFault::BadHeader), Err(Y4mFault::BadHeader)),
+        (9_999, Some(Y4mFault::BadHeader), Err(Y4mFault::BadHeader)),
+    ];
+    for (length, refusal, end) in &rows {
+        let told = tell(rt.alloc(), long_header(rt.alloc(), *length)?.as_slice())?;
+        same!(rt; told.opened.err(), *refusal, *length);
+        let told = tell(rt.alloc(), long_frame(rt.alloc(), *length)?.as_slice())?;
+        same!(rt; told.ends, [*end; 2], *length);
     }
     Ok(())
 }

@@ -1,11 +1,14 @@
 //! The text that is written, and that it is read back.
 
-use crate::fakes::{Gutter, tell};
+use crate::fakes::{Gutter, reads};
 use crate::reading::{PIXELS, TWO};
+use crate::told::same;
 use loop_record::{Geometry, PixelFormat};
 use loop_y4m::{write_frame, write_header};
+use std::alloc::{AllocError, Global};
 use std::io;
 use std::io::{ErrorKind, Write};
+use std::process::Abort;
 use std::test::Fail;
 
 const SMALL: Geometry = Geometry {
@@ -26,35 +29,46 @@ fn write_two<W: Write>(out: &mut W) -> io::Result<()> {
     write_frame(second, out)
 }
 
+// Writes the two frames by one byte a call, of which the call of a number fails with a kind of error or, with none,
+// takes nothing: the refusal is this, and so many bytes are written.
+fn writes_failing(
+    rt: &impl Abort,
+    alloc: Global,
+    fails: (usize, Option<ErrorKind>),
+    refusal: Option<ErrorKind>,
+    count: usize,
+) {
+    let mut out = Gutter::new(alloc, Some(fails));
+    let kind = write_two(&mut out).err().map(|error| error.kind());
+    same!(rt; kind, refusal, fails);
+    same!(rt; Some(out.got.as_slice()), TWO.get(..count), fails);
+}
+
 #[test]
 fn two_frames_are_written_as_these_75_bytes(rt: HostRuntime) -> Result<(), Fail> {
-    let mut out: Vec<u8> = Vec::new(rt.alloc());
+    let alloc = rt.alloc();
+    let mut out: Vec<u8> = Vec::new(alloc);
     write_two(&mut out)?;
-    assert_eq!(rt; out.as_slice(), TWO.as_slice());
-    for number in 0..=75usize {
-        let mut out = Gutter::new(rt.alloc(), Some((number, Some(ErrorKind::BrokenPipe))));
-        let kind = write_two(&mut out).err().map(|error| error.kind());
-        let want = if number < 75 {
-            Some(ErrorKind::BrokenPipe)
-        } else {
-            None
-        };
-        assert_eq!(rt; kind, want, "{number}");
-        assert_eq!(rt; Some(out.got.as_slice()), TWO.get(..number), "{number}");
-
-        let mut out = Gutter::new(rt.alloc(), Some((number, None)));
-        let kind = write_two(&mut out).err().map(|error| error.kind());
-        let want = if number < 75 {
-            Some(ErrorKind::WriteZero)
-        } else {
-            None
-        };
-        assert_eq!(rt; kind, want, "{number}");
-        assert_eq!(rt; Some(out.got.as_slice()), TWO.get(..number), "{number}");
-
-        let mut out = Gutter::new(rt.alloc(), Some((number, Some(ErrorKind::Interrupted))));
-        write_two(&mut out)?;
-        assert_eq!(rt; out.got.as_slice(), TWO.as_slice(), "{number}");
+    same!(rt; out.as_slice(), TWO.as_slice());
+    for number in 0..75usize {
+        let broken = Some(ErrorKind::BrokenPipe);
+        writes_failing(&rt, alloc, (number, broken), broken, number);
+        writes_failing(
+            &rt,
+            alloc,
+            (number, None),
+            Some(ErrorKind::WriteZero),
+            number,
+        );
+        writes_failing(&rt, alloc, (number, Some(ErrorKind::Interrupted)), None, 75);
+    }
+    // There is no call of number 75.
+    for kind in &[
+        None,
+        Some(ErrorKind::BrokenPipe),
+        Some(ErrorKind::Interrupted),
+    ] {
+        writes_failing(&rt, alloc, (75, *kind), None, 75);
     }
     Ok(())
 }
@@ -96,33 +110,55 @@ fn the_longest_header_is_written(rt: HostRuntime) -> Result<(), Fail> {
     let mut out: Vec<u8> = Vec::new(rt.alloc());
     write_header(&geometry, &mut out)?;
     let line = b"YUV4MPEG2 W4294967295 H4294967295 F4294967295:4294967295 Ip A0:0 C420jpeg\n";
-    assert_eq!(rt; out.as_slice(), line.as_slice());
+    same!(rt; out.as_slice(), line.as_slice());
+    Ok(())
+}
+
+// So many bytes, from 200 on.
+fn pixels(alloc: Global, size: usize) -> Result<Vec<u8>, AllocError> {
+    let mut pixels = vec![in alloc; 0; size]?;
+    let mut next = 200u8;
+    for byte in pixels.iter_mut() {
+        *byte = next;
+        next = next.wrapping_add(1);
+    }
+    Ok(pixels)
+}
+
+// Writes a frame of 5 by 3 pixels, of a format and a size, behind this header, and reads it back.
+fn is_read_back(
+    rt: &impl Abort,
+    alloc: Global,
+    row: &(PixelFormat, usize, &[u8]),
+) -> Result<(), Fail> {
+    let geometry = Geometry {
+        width: 5,
+        height: 3,
+        format: row.0,
+        rate_num: u32::MAX,
+        rate_den: 1001,
+        ..SMALL
+    };
+    let pixels = pixels(alloc, row.1)?;
+    let mut out: Vec<u8> = Vec::new(alloc);
+    write_header(&geometry, &mut out)?;
+    same!(rt; out.as_slice(), row.2, row.1);
+    write_frame(&pixels, &mut out)?;
+    let shape = (row.0, 5, 3, (u32::MAX, 1001));
+    reads(
+        rt,
+        alloc,
+        out.as_slice(),
+        &(Ok(shape), pixels.as_slice(), Ok(false)),
+        row.1,
+    )?;
     Ok(())
 }
 
 #[test]
 fn what_is_written_is_read_back(rt: HostRuntime) -> Result<(), Fail> {
-    for (format, size, header) in ODD {
-        let geometry = Geometry {
-            width: 5,
-            height: 3,
-            format,
-            rate_num: u32::MAX,
-            rate_den: 1001,
-            ..SMALL
-        };
-        let mut pixels = Vec::new(rt.alloc());
-        for byte in 200..200 + size {
-            pixels.push((byte % 256) as u8)?;
-        }
-        let mut out: Vec<u8> = Vec::new(rt.alloc());
-        write_header(&geometry, &mut out)?;
-        assert_eq!(rt; out.as_slice(), header, "{format:?}");
-        write_frame(&pixels, &mut out)?;
-        let told = tell(rt.alloc(), out.as_slice())?;
-        assert_eq!(rt; told.opened, Ok((format, 5, 3, (u32::MAX, 1001))));
-        assert_eq!(rt; told.frames.as_slice(), pixels.as_slice(), "{format:?}");
-        assert_eq!(rt; told.ends, [Ok(false); 2], "{format:?}");
+    for row in ODD.as_slice() {
+        is_read_back(&rt, rt.alloc(), row)?;
     }
     Ok(())
 }
