@@ -1,8 +1,0 @@
-use Rattle.std.proofs.Common.{sym}
-use Rattle.loop_cli.proofs.Words.{said-long}
-use Rattle.loop_cli.proofs.command.read_command.Goals as goal
-
-pub returns-in_default-2 : goal.returns-in_default-2
-returns-in_default-2 c =
-    let long = said-long c.first_word.result.0.now c.first_word-in-Some-2.result.0.now c.in-Some-rest.rest.now (sym (c.if-eq-4.ensures)) (sym (c.if-eq-9.ensures)) in
-    rw (c.first_word.ensures, c.in-Some-2.is, c.first_word-in-Some-2.ensures, c.in-Some-rest.is) (sym long)

@@ -1,8 +1,0 @@
-use Rattle.std.proofs.Common.{rules}
-use Rattle.loop_cli.proofs.Numerals.{number-parsed}
-use Rattle.loop_cli.proofs.number.number.Goals as goal
-
-pub returns : goal.returns
-returns c =
-    let parsed = number-parsed c.args.word.now c.parse.result (search rules) (search rules) c.parse.ensures.value.0 in
-    search (rules, parsed)

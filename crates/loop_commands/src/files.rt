@@ -1,0 +1,295 @@
+// Commands on stores in files.
+
+use crate::even::EvenWriter;
+use loop_ahead::AheadDisk;
+use loop_disk::{Disk, FileDisk};
+use loop_record::Geometry;
+use loop_script::{FileCommand, Listing, print_line, print_parts, print_refusal};
+use loop_store::{OpenRefused, Store, StoreFault};
+use loop_y4m::export;
+use std::alloc::{AllocGlobal, Global};
+use std::fs::{File, OpenFile, OpenOptions};
+use std::io;
+use std::io::{BufWriter, Error, Write};
+use std::rt::Files;
+
+/// How many bytes of a text are gathered before they are written to its file.
+const TEXT_AT_ONCE: usize = 262_144;
+
+/// How many bytes of a store are fetched at once where an export reads on.
+const READ_AHEAD: usize = 65_536;
+
+/// Why a command wasn't done, or not to its end.
+#[derive(Drop)]
+enum Undone<'a> {
+    /// The file of this path can't be opened, or not made.
+    CannotOpen(&'a str),
+    /// The file or pipe of this path can't be opened for the text, or it can't be written to its end.
+    CannotWrite(&'a str),
+    /// The store refused.
+    Refused(StoreFault),
+    /// What was done couldn't be printed.
+    Write(Error),
+}
+
+impl From<StoreFault> for Undone<'_> {
+    fn from(fault: StoreFault) -> Self {
+        Undone::Refused(fault)
+    }
+}
+
+impl From<Error> for Undone<'_> {
+    fn from(error: Error) -> Self {
+        Undone::Write(error)
+    }
+}
+
+/// Does a command on the store in the file of this path, and answers the program's status: 0; 1 where the file
+/// can't be had or the store refuses, which `err` then names, and where `out` or `err` fails.
+pub fn run_on_file<R: AllocGlobal + Files<File = File>, W: Write, E: Write>(
+    rt: &R,
+    path: &str,
+    command: FileCommand<'_>,
+    out: &mut W,
+    err: &mut E,
+) -> u8 {
+    match perform(rt, path, command, out) {
+        Ok(()) => 0,
+        Err(undone) => tell(undone, err),
+    }
+}
+
+// Says why a command wasn't done, and answers the program's status.
+fn tell<E: Write>(undone: Undone<'_>, err: &mut E) -> u8 {
+    // The status is the same where this can't be said.
+    let _ = match undone {
+        Undone::CannotOpen(path) => print_path(err, "cannot open ", path),
+        Undone::CannotWrite(path) => print_path(err, "cannot write ", path),
+        Undone::Refused(fault) => print_refusal(err, fault),
+        Undone::Write(_) => Ok(()),
+    };
+    1
+}
+
+// Prints what can't be done with a path.
+fn print_path<E: Write>(err: &mut E, what: &str, path: &str) -> io::Result<()> {
+    print_parts(err, what, &[])?;
+    print_line(err, path, &[])
+}
+
+// Does a command, and writes what it prints at once. Memory for that comes first.
+fn perform<'a, R: AllocGlobal + Files<File = File>, W: Write>(
+    rt: &R,
+    path: &'a str,
+    command: FileCommand<'a>,
+    out: &mut W,
+) -> Result<(), Undone<'a>> {
+    let Ok(mut out) = BufWriter::new(rt.alloc(), &mut *out) else {
+        return Err(Undone::Refused(StoreFault::NoMemory));
+    };
+    print_command(rt, path, command, &mut out)?;
+    out.flush()?;
+    Ok(())
+}
+
+// Does a command, and prints what came of it.
+fn print_command<'a, R: AllocGlobal + Files<File = File>, W: Write>(
+    rt: &R,
+    path: &'a str,
+    command: FileCommand<'a>,
+    out: &mut W,
+) -> Result<(), Undone<'a>> {
+    match command {
+        FileCommand::Format(geometry) => print_format(rt, path, geometry, out),
+        FileCommand::List => print_list(&open(rt, path)?, rt.alloc(), out),
+        FileCommand::Lock(from, to) => print_lock(&mut open(rt, path)?, (from, to), out),
+        FileCommand::Unlock(id) => print_unlock(&mut open(rt, path)?, id, out),
+        FileCommand::Export(from, to, target) => print_export(rt, path, (from, to), target, out),
+    }
+}
+
+// Makes the file anew, and prints so.
+fn print_format<'a, R: AllocGlobal + Files<File = File>, W: Write>(
+    rt: &R,
+    path: &'a str,
+    geometry: Geometry,
+    out: &mut W,
+) -> Result<(), Undone<'a>> {
+    format(rt, path, geometry)?;
+    print_line(out, "formatted", &[])?;
+    Ok(())
+}
+
+// Prints what is listed of a store.
+fn print_list<'a, W: Write>(
+    store: &Store<FileDisk>,
+    alloc: Global,
+    out: &mut W,
+) -> Result<(), Undone<'a>> {
+    let listing = Listing::of(store, alloc)?;
+    listing.print(out)?;
+    Ok(())
+}
+
+// Locks a clip, and prints its id.
+fn print_lock<'a, W: Write>(
+    store: &mut Store<FileDisk>,
+    (from, to): (u64, u64),
+    out: &mut W,
+) -> Result<(), Undone<'a>> {
+    let id = store.lock(from, to)?;
+    print_line(out, "locked", &[(" ", u64::from(id))])?;
+    Ok(())
+}
+
+// Unlocks a clip, and prints its id.
+fn print_unlock<'a, W: Write>(
+    store: &mut Store<FileDisk>,
+    id: u32,
+    out: &mut W,
+) -> Result<(), Undone<'a>> {
+    store.unlock(id)?;
+    print_line(out, "unlocked", &[(" ", u64::from(id))])?;
+    Ok(())
+}
+
+// Exports frames, and prints how many.
+fn print_export<'a, R: AllocGlobal + Files<File = File>, W: Write>(
+    rt: &R,
+    path: &'a str,
+    numbers: (u64, u64),
+    target: &'a str,
+    out: &mut W,
+) -> Result<(), Undone<'a>> {
+    let count = export_into(rt, path, numbers, target)?;
+    print_line(out, "exported", &[(" ", count)])?;
+    Ok(())
+}
+
+// Makes the file anew, with a store in it. A bad geometry is refused before the file is touched.
+fn format<'a, R: AllocGlobal + Files<File = File>>(
+    rt: &R,
+    path: &'a str,
+    geometry: Geometry,
+) -> Result<(), Undone<'a>> {
+    match geometry.check() {
+        Ok(()) => (),
+        Err(_) => return Err(Undone::Refused(StoreFault::BadGeometry)),
+    }
+    match FileDisk::create(rt, path, geometry.disk_size()) {
+        Err(_) => Err(Undone::CannotOpen(path)),
+        Ok(disk) => match loop_store::format(rt.alloc(), disk, geometry) {
+            Err(OpenRefused { fault, disk: _ }) => Err(Undone::Refused(fault)),
+            Ok(_) => Ok(()),
+        },
+    }
+}
+
+// Writes the held frames from a number to another into the file or pipe of a path. Both files are opened before
+// the store is looked for. What the file had is gone only once a frame to write is found.
+fn export_into<'a, R: AllocGlobal + Files<File = File>>(
+    rt: &R,
+    path: &'a str,
+    numbers: (u64, u64),
+    target: &'a str,
+) -> Result<u64, Undone<'a>> {
+    let Ok(disk) = FileDisk::open(rt, path) else {
+        return Err(Undone::CannotOpen(path));
+    };
+    let (file, is_file) = target_of(rt, target)?;
+    let mut store = find_ahead(rt.alloc(), disk)?;
+    look_for(&store, numbers)?;
+    if is_file && empty(&file).is_err() {
+        return Err(Undone::CannotWrite(target));
+    }
+    write_text(rt, &mut store, numbers, file, target)
+}
+
+// The store on an open file, which is read ahead.
+fn find_ahead<'a>(alloc: Global, disk: FileDisk) -> Result<Store<AheadDisk<FileDisk>>, Undone<'a>> {
+    match AheadDisk::new(alloc, disk, READ_AHEAD) {
+        Ok(disk) => find(alloc, disk),
+        Err(_) => Err(Undone::Refused(StoreFault::NoMemory)),
+    }
+}
+
+// Refuses where no frame from a number to another is held.
+fn look_for<'a, D: Disk + Drop>(
+    store: &Store<D>,
+    (from, to): (u64, u64),
+) -> Result<(), Undone<'a>> {
+    match store.next_held(from) {
+        Some(number) if number <= to => Ok(()),
+        _ => Err(Undone::Refused(StoreFault::NotHeld)),
+    }
+}
+
+// Writes the held frames from a number to another into an open file or pipe, whose path may be told.
+fn write_text<'a, R: AllocGlobal, D: Disk + Drop>(
+    rt: &R,
+    store: &mut Store<D>,
+    (from, to): (u64, u64),
+    file: File,
+    target: &'a str,
+) -> Result<u64, Undone<'a>> {
+    let Ok(gathered) = BufWriter::with_capacity(rt.alloc(), TEXT_AT_ONCE, file) else {
+        return Err(Undone::Refused(StoreFault::NoMemory));
+    };
+    let mut text = EvenWriter::new(gathered, TEXT_AT_ONCE);
+    let written = export(rt.alloc(), store, from, to, &mut text);
+    match (written, text.flush()) {
+        (Ok(count), Ok(())) => Ok(count),
+        (Ok(_), Err(_)) => Err(Undone::CannotWrite(target)),
+        (Err(fault), _) => match fault.refusal() {
+            Some(refusal) => Err(Undone::Refused(refusal)),
+            None => Err(Undone::CannotWrite(target)),
+        },
+    }
+}
+
+// Opens a file or a pipe for the text, and tells whether it is a file. Nothing of it is changed. A file that has a
+// lock is a store that is in use, the one that is exported perhaps.
+fn target_of<'a, R: Files<File = File>>(
+    rt: &R,
+    target: &'a str,
+) -> Result<(File, bool), Undone<'a>> {
+    let Ok(file) = OpenOptions::new().write(true).create(true).open(rt, target) else {
+        return Err(Undone::CannotWrite(target));
+    };
+    let is_file = match file.metadata() {
+        Ok(data) => data.is_file(),
+        Err(_) => return Err(Undone::CannotWrite(target)),
+    };
+    if is_file && file.try_lock().is_err() {
+        return Err(Undone::CannotWrite(target));
+    }
+    Ok((file, is_file))
+}
+
+// Takes from a file what it has. One that has nothing is left alone, since some file systems write a file that was
+// cut to nothing through to the disk when it is closed.
+fn empty(file: &File) -> io::Result<()> {
+    if file.metadata()?.len() > 0 {
+        file.set_len(0)?;
+    }
+    Ok(())
+}
+
+// Opens the file, and then the store in it.
+fn open<'a, R: AllocGlobal + Files<File = File>>(
+    rt: &R,
+    path: &'a str,
+) -> Result<Store<FileDisk>, Undone<'a>> {
+    match FileDisk::open(rt, path) {
+        Err(_) => Err(Undone::CannotOpen(path)),
+        Ok(disk) => find(rt.alloc(), disk),
+    }
+}
+
+// The store on an open file, which may be read ahead.
+fn find<'a, D: Disk + Drop>(alloc: Global, disk: D) -> Result<Store<D>, Undone<'a>> {
+    match Store::open(alloc, disk) {
+        Err(OpenRefused { fault, disk: _ }) => Err(Undone::Refused(fault)),
+        Ok(store) => Ok(store),
+    }
+}

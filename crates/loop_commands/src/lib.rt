@@ -1,0 +1,18 @@
+//! The program's commands.
+//!
+//! `program` reads the program's words and chooses what to do, and ends with a status. `simulation` runs a script
+//! line by line on a recorder whose disk lies in memory. `files` does commands on stores in files; `even` makes the
+//! writes of an export even.
+//!
+//! What a line and the words mean is loop_script's, and proved there; the lines that are printed are tested.
+#![tactic(auto)]
+
+mod even;
+mod files;
+mod program;
+mod simulation;
+
+pub use even::EvenWriter;
+pub use files::run_on_file;
+pub use program::{run_words, words_refused};
+pub use simulation::simulate;

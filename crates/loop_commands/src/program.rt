@@ -1,0 +1,103 @@
+// The program's words.
+
+use crate::files::run_on_file;
+use crate::simulation::simulate;
+use clap::error::ErrorKind;
+use clap::{Arg, ArgAction, ArgMatches, Command};
+use loop_script::{Task, print_line, print_refusal, read_task};
+use loop_store::StoreFault;
+use std::alloc::{AllocError, Global};
+use std::convert::AsStr;
+use std::fs::File;
+use std::io;
+use std::io::{Read, Write};
+use std::rt::Files;
+
+/// The status of a run that was refused, or that couldn't be read or printed to its end.
+const FAILED: u8 = 1;
+
+/// The status of a run whose words can't be read.
+const BAD_WORDS: u8 = 2;
+
+/// The commands of the program.
+const COMMANDS: [&str; 6] = ["simulate", "format", "list", "lock", "unlock", "export"];
+
+/// Does what the words behind the program's name ask for, and answers the status with which the program ends:
+/// 0; 1 for a script that can't be read to its end, for a file that can't be had, for a refusal of a command on a
+/// file, for a failed write and for want of memory; 2 for words that can't be read. No words are the same as
+/// `simulate`.
+pub fn run_words<R: AllocGlobal + Files<File = File>, S: AsStr, I: Read + Drop, W: Write, E: Write>(
+    rt: &R,
+    words: &[S],
+    input: I,
+    out: &mut W,
+    err: &mut E,
+) -> u8 {
+    let alloc = rt.alloc();
+    match read_words(alloc, words) {
+        Ok(Task::Simulate) => simulate(alloc, input, out, err),
+        Ok(Task::OnFile(path, command)) => run_on_file(rt, path, command, out, err),
+        Err(ErrorKind::OutOfMemory) => no_memory(err),
+        Err(_) => bad_words(err),
+    }
+}
+
+/// Tells on `err` why the words couldn't be had, and answers the program's status.
+pub fn words_refused<E: Write>(error: &io::Error, err: &mut E) -> u8 {
+    if error.kind() == io::ErrorKind::OutOfMemory {
+        no_memory(err)
+    } else {
+        bad_words(err)
+    }
+}
+
+// The task that the words name, or the kind of what is wrong with them.
+fn read_words<S: AsStr>(alloc: Global, words: &[S]) -> Result<Task<'_>, ErrorKind> {
+    let Ok(program) = program(alloc) else {
+        return Err(ErrorKind::OutOfMemory);
+    };
+    match program.try_get_matches_from(words) {
+        Err(error) => Err(error.kind()),
+        Ok(matches) => task_of(&matches),
+    }
+}
+
+// The task that the words were found to name.
+fn task_of<'a>(matches: &ArgMatches<'a>) -> Result<Task<'a>, ErrorKind> {
+    match matches.subcommand() {
+        None => Ok(Task::Simulate),
+        Some((name, found)) => {
+            let words = found.get_strs("words").unwrap_or(&[]);
+            read_task(name, words).ok_or(ErrorKind::InvalidValue)
+        }
+    }
+}
+
+// The program as a parser of words: each command takes any words, which are then judged together.
+fn program<'a>(alloc: Global) -> Result<Command<'a>, AllocError> {
+    let mut program = Command::new(alloc, "loop_cli").no_binary_name(true);
+    for name in COMMANDS {
+        program = program.subcommand(command(alloc, name)?)?;
+    }
+    Ok(program)
+}
+
+// A command of the program, with any words.
+fn command<'a>(alloc: Global, name: &'a str) -> Result<Command<'a>, AllocError> {
+    let words = Arg::new(alloc, "words")
+        .num_args(0..)
+        .action(ArgAction::Append);
+    Command::new(alloc, name).arg(words)
+}
+
+fn no_memory<E: Write>(err: &mut E) -> u8 {
+    let _ = print_refusal(err, StoreFault::NoMemory);
+    FAILED
+}
+
+fn bad_words<E: Write>(err: &mut E) -> u8 {
+    match print_line(err, "bad command", &[]) {
+        Ok(()) => BAD_WORDS,
+        Err(_) => FAILED,
+    }
+}

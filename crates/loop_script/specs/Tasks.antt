@@ -1,0 +1,31 @@
+-- What the words behind the program's name mean.
+use Rattle.std.specs.Prelude.{ℕ, List, [], ◌∷◌, Option, Some, None, option_map, if◌then◌else◌, codes}
+use Rattle.std.specs.Option.{option_zip}
+use Rattle.std.specs.Str.{bytes_eq}
+use denote.Ref.{Bor}
+use Rattle.loop_script.specs.declared.task.FileCommand.{FileCommand}
+use Rattle.loop_script.specs.declared.task.FileCommand.TheVariants.{Export, Format, List as ListAll, Lock, Unlock}
+use Rattle.loop_script.specs.declared.task.Task.{Task}
+use Rattle.loop_script.specs.declared.task.Task.TheVariants.{Simulate, OnFile}
+use Rattle.loop_script.specs.Script.{format_named, geometry_of, number, rate_said, small_number}
+
+-- what a name and the words behind the path of a file ask for
+abbrev pub on_file_said : List ℕ → List (Bor (List ℕ)) → Option FileCommand
+on_file_said name [] = if bytes_eq name (codes "list") then Some ListAll else None
+on_file_said name (id ∷ []) = if bytes_eq name (codes "unlock") then option_map Unlock (small_number id.now) else None
+on_file_said name (from ∷ to ∷ []) =
+    if bytes_eq name (codes "lock") then option_map (λ span. Lock span.0 span.1)
+    (option_zip (number from.now) (number to.now)) else None
+on_file_said name (from ∷ to ∷ out ∷ []) =
+    if bytes_eq name (codes "export") then option_map (λ span. Export span.0 span.1 out)
+    (option_zip (number from.now) (number to.now)) else None
+on_file_said name (width ∷ height ∷ format ∷ rate ∷ segments ∷ slots ∷ []) =
+    if bytes_eq name (codes "format") then option_map Format
+    (geometry_of (small_number width.now) (small_number height.now) (format_named format.now)
+    (rate_said rate.now) (small_number segments.now) (small_number slots.now)) else None
+on_file_said name _ = None
+
+-- what a name and the words behind it ask for, if they can be read
+abbrev pub task_said : List ℕ → List (Bor (List ℕ)) → Option Task
+task_said name [] = if bytes_eq name (codes "simulate") then Some Simulate else None
+task_said name (path ∷ words) = option_map (OnFile path) (on_file_said name words)

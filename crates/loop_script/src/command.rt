@@ -1,0 +1,157 @@
+// The lines of a script.
+ghost use Rattle.std.specs.Prelude.{◌≡◌, ◌∷◌};
+ghost use Rattle.loop_script.specs.Script.{behind, counted_said, format_named, geometry_of, geometry_said, lock_said, named_said, rate_said, said, small_number as said_number, words};
+
+use crate::number::{number, small_number};
+use loop_record::{Geometry, PixelFormat};
+
+/// What a line of a script asks for.
+#[derive(Clone, Copy, Debug, PartialEq, Eq)]
+pub enum Command {
+    /// `format W H X N:D S F`: a fresh store. The geometry isn't checked yet.
+    Format(Geometry),
+    /// `store K`: so many frames of the pattern, each submitted and flushed.
+    Store(u64),
+    /// `submit K`: so many frames of the pattern, which then wait.
+    Submit(u64),
+    /// `flush`: the first of the frames that wait are stored.
+    Flush,
+    /// `read N`: the frame of that number.
+    Read(u64),
+    /// `lock A B`: a clip of the frames from A to B.
+    Lock(u64, u64),
+    /// `unlock ID`: the clip of that id.
+    Unlock(u32),
+    /// `list`: the next number, the held ones and the clips.
+    List,
+    /// `reopen`: the store's disk is taken out, and the store found on it again.
+    Reopen,
+}
+
+/// What a line, without its 0x0A, asks for; `None` where it can't be read.
+pub fn read_command(line: &str) -> Option<Command>
+    ensures { result ≡ said (words line.now) }
+{
+    let (name, rest) = first_word(line);
+    match rest {
+        None => named(name),
+        Some(rest) if name == "format" => Some(Command::Format(geometry(rest)?)),
+        Some(rest) => {
+            let (argument, rest) = first_word(rest);
+            match rest {
+                None => counted(name, argument),
+                Some(rest) if name == "lock" => lock(argument, rest),
+                _ => None,
+            }
+        }
+    }
+}
+
+// What a name alone asks for.
+fn named(name: &str) -> Option<Command>
+    ensures { result ≡ named_said name.now }
+{
+    match name {
+        "list" => Some(Command::List),
+        "reopen" => Some(Command::Reopen),
+        "flush" => Some(Command::Flush),
+        _ => None,
+    }
+}
+
+// What a name and a number ask for.
+fn counted(name: &str, argument: &str) -> Option<Command>
+    ensures { result ≡ counted_said name.now argument.now }
+{
+    match name {
+        "store" => Some(Command::Store(number(argument)?)),
+        "submit" => Some(Command::Submit(number(argument)?)),
+        "read" => Some(Command::Read(number(argument)?)),
+        "unlock" => Some(Command::Unlock(small_number(argument)?)),
+        _ => None,
+    }
+}
+
+// The lock of a first number and of the words behind it.
+fn lock(from: &str, text: &str) -> Option<Command>
+    ensures { result ≡ lock_said from.now (words text.now) }
+{
+    let (to, rest) = first_word(text);
+    if rest.is_some() {
+        return None;
+    }
+    Some(Command::Lock(number(from)?, number(to)?))
+}
+
+// The first word, and what stands behind the space that ends it.
+fn first_word(line: &str) -> (&str, Option<&str>)
+    ensures { words line.now ≡ result.0.now ∷ behind result.1 }
+{
+    match line.split_once(' ') {
+        Some((word, rest)) => (word, Some(rest)),
+        None => (line, None),
+    }
+}
+
+// The geometry that the words `W H X N:D S F` name.
+fn geometry(text: &str) -> Option<Geometry>
+    ensures { result ≡ geometry_said (words text.now) }
+{
+    let (width, rest) = first_word(text);
+    let (height, rest) = first_word(rest?);
+    let (format, rest) = first_word(rest?);
+    let (rate, rest) = first_word(rest?);
+    let (segments, rest) = first_word(rest?);
+    let (slots, rest) = first_word(rest?);
+    if rest.is_some() {
+        return None;
+    }
+    geometry_in(width, height, format, rate, segments, slots)
+}
+
+/// The geometry that six words name.
+pub fn geometry_in(
+    width: &str,
+    height: &str,
+    format: &str,
+    rate: &str,
+    segments: &str,
+    slots: &str,
+) -> Option<Geometry>
+    ensures { result ≡ geometry_of (said_number width.now) (said_number height.now) (format_named format.now)
+        (rate_said rate.now) (said_number segments.now) (said_number slots.now) }
+{
+    let width = small_number(width)?;
+    let height = small_number(height)?;
+    let format = pixel_format(format)?;
+    let (rate_num, rate_den) = frame_rate(rate)?;
+    Some(Geometry {
+        width,
+        height,
+        format,
+        rate_num,
+        rate_den,
+        segments: small_number(segments)?,
+        slots: small_number(slots)?,
+    })
+}
+
+// The two parts of a rate, `N:D`.
+fn frame_rate(word: &str) -> Option<(u32, u32)>
+    ensures { result ≡ rate_said word.now }
+{
+    let (num, den) = word.split_once(':')?;
+    Some((small_number(num)?, small_number(den)?))
+}
+
+fn pixel_format(word: &str) -> Option<PixelFormat>
+    ensures { result ≡ format_named word.now }
+{
+    match word {
+        "GREY" => Some(PixelFormat::Grey),
+        "YM12" => Some(PixelFormat::Ym12),
+        "YM16" => Some(PixelFormat::Ym16),
+        "YM24" => Some(PixelFormat::Ym24),
+        _ => None,
+    }
+}

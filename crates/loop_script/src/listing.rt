@@ -1,0 +1,89 @@
+// What `list` prints.
+ghost use Rattle.std.specs.Prelude.{◌≡◌, ◌⊎◌, IfErr, IfOk, map};
+ghost use Rattle.loop_clips.specs.Table.{listed};
+ghost use Rattle.loop_record.specs.Recording.{Recording};
+ghost use Rattle.loop_store.specs.Seen.{StandsFor};
+
+use crate::print::print_line;
+use crate::runs::run_length;
+use loop_desk::Outline;
+use loop_disk::Disk;
+use loop_store::{Clip, Store, StoreFault};
+use std::alloc::Allocator;
+use std::io;
+use std::io::Write;
+
+/// What is listed of a store or a desk: the next number, the held ones and the clips, both rising.
+#[derive(Drop)]
+pub struct Listing<A: Allocator> {
+    pub next: u64,
+    pub numbers: Vec<u64, A>,
+    pub clips: Vec<Clip, A>,
+}
+
+impl<A: Allocator + Copy> Listing<A> {
+    /// Looks at a store on any disk. It answers MustReopen and NoMemory.
+    pub fn of<D: Disk + Drop>(store: &Store<D, A>, alloc: A) -> Result<Self, StoreFault>
+        ensures next { IfOk result (λ listing. listing.next ≡ store.now.next) }
+        ensures numbers { (r : Recording) → StandsFor D.medium store.now r → (D.medium store.now.disk).honest
+            → IfOk result (λ listing. listing.numbers.items ≡ map (λ f. f.0) r.frames) }
+        ensures clips { IfOk result (λ listing. listing.clips.items ≡ listed 0 store.now.clips) }
+        ensures refusals { IfErr result (λ fault. (fault ≡ StoreFault.MustReopen) ⊎ (fault ≡ StoreFault.NoMemory)) }
+    {
+        Ok(Listing {
+            next: store.next(),
+            numbers: store.frames(alloc)?,
+            clips: store.clips(alloc)?,
+        })
+    }
+
+    /// What is listed of a desk's outline, which is all but how many frames wait.
+    pub fn of_outline(outline: Outline<A>) -> Self
+        ensures { result
+            ≡ record { next = outline.next; numbers = outline.frames; clips = outline.clips } }
+    {
+        let Outline {
+            next,
+            frames,
+            clips,
+            pending: _,
+        } = outline;
+        Listing {
+            next,
+            numbers: frames,
+            clips,
+        }
+    }
+
+    /// Prints the next number, each longest run of held ones, and each clip.
+    pub fn print<W: Write>(&self, out: &mut W) -> io::Result<()> {
+        print_line(out, "next", &[(" ", self.next)])?;
+        print_runs(&self.numbers, out)?;
+        print_clips(&self.clips, out)
+    }
+}
+
+// Prints each clip.
+fn print_clips<W: Write>(clips: &[Clip], out: &mut W) -> io::Result<()> {
+    for Clip { id, from, to } in clips {
+        print_line(
+            out,
+            "clip",
+            &[(" ", u64::from(*id)), (" ", *from), ("..", *to)],
+        )?;
+    }
+    Ok(())
+}
+
+// Prints each longest run of numbers that follow one another.
+fn print_runs<W: Write>(numbers: &[u64], out: &mut W) -> io::Result<()> {
+    let mut rest = numbers;
+    while !rest.is_empty() {
+        let (run, behind) = rest.split_at(run_length(rest));
+        let first = run[0];
+        let last = run[run.len() - 1];
+        print_line(out, "frames", &[(" ", first), ("..", last)])?;
+        rest = behind;
+    }
+    Ok(())
+}

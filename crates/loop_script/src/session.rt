@@ -1,0 +1,220 @@
+// A formatted store behind a desk, and the frames that a script makes for it.
+ghost use Rattle.std.specs.Prelude.{◌≡◌, ◌⊎◌, ◌↔◌, ◌∷◌, [], Err, IfErr, IfOk, OnErr, false};
+ghost use Rattle.loop_desk.specs.Desk.{clip_locked, clip_unlocked, flushed, frame_read};
+ghost use Rattle.loop_desk.specs.Seen.{DeskGoes, TellsOutline};
+ghost use Rattle.loop_record.specs.declared.damage.Damage.TheVariants.{SlotHead};
+ghost use Rattle.loop_record.specs.Geometry.{is_good};
+ghost use Rattle.loop_record.specs.Recording.{empty};
+ghost use Rattle.loop_store.specs.Faults.{is_disk};
+ghost use Rattle.loop_store.specs.Formatted.{IsFormatted};
+ghost use Rattle.loop_store.specs.Opened.{IsOpened, IsRefusedOpen};
+ghost use Rattle.loop_store.specs.Runs.{read_of};
+ghost use Rattle.loop_store.specs.Seen.{StandsFor};
+ghost use Rattle.loop_script.specs.Sessions.{IsNewDesk, RefusesFrame, accepted_after, calls_of_store, calls_of_submit, script_limits};
+
+use crate::pattern::pattern_frame;
+use loop_desk::{Desk, DeskLimits, Flushed, Outline};
+use loop_disk::{Disk, MemDisk};
+use loop_record::Geometry;
+use loop_store::{OpenRefused, ReadFrame, Store, StoreFault};
+use std::alloc::{Allocator, Global};
+use std::marker::Model;
+
+/// How much the desk of a script takes in.
+const LIMITS: DeskLimits = DeskLimits {
+    pending: 64,
+    group: 8,
+    calls: 1_000_000,
+};
+
+/// A desk over a store on a disk in memory, and a source of pattern frames for it. Contracts see the desk, and how
+/// many frames were accepted since the store was formatted.
+#[derive(Drop)]
+pub struct Session<A: Allocator + Copy = Global> {
+    desk: Desk<MemDisk<A>, A>,
+    // Frames accepted since the store was formatted. Those that were lost at a reopen count too.
+    accepted: u64,
+}
+
+impl<A: Allocator + Copy> Model for Session<A> {
+    ghost use Rattle.loop_disk.specs.declared.memory.MemDisk.{MemDisk};
+    ghost use Rattle.loop_script.specs.Sessions.{IsSession, Shown};
+
+    ghost Value = { Shown (MemDisk A) };
+
+    ghost view = { λ s. record { desk = s.desk; accepted = s.accepted } };
+
+    ghost invariant = { λ s. IsSession s.desk };
+}
+
+impl<A: Allocator + Copy> Session<A> {
+    /// Formats a fresh disk of the right size, and sets a desk before it. It answers BadGeometry or NoMemory, and
+    /// then leaves nothing behind.
+    pub fn format(alloc: A, geometry: Geometry) -> Result<Self, StoreFault>
+        ensures bad { (result ≡ Err StoreFault.BadGeometry) ↔ (is_good geometry ≡ false) }
+        ensures refusals { IfErr result (λ fault. (fault ≡ StoreFault.BadGeometry)
+            ⊎ (fault ≡ StoreFault.NoMemory)) }
+        ensures formatted { IfOk result (λ s. IsFormatted geometry s.desk.store × (s.accepted ≡ 0)) }
+        ensures stands { IfOk result (λ s. StandsFor ⟦<MemDisk<A> as Disk>⟧.medium s.desk.store empty) }
+        ensures desk { IfOk result (λ s. IsNewDesk s.desk) }
+    {
+        match geometry.check() {
+            Ok(()) => (),
+            Err(_) => return Err(StoreFault::BadGeometry),
+        }
+        let disk = MemDisk::new(alloc, geometry.disk_size())?;
+        match loop_store::format(alloc, disk, geometry) {
+            Err(OpenRefused { fault, disk: _ }) => Err(fault),
+            Ok(store) => match desk_before(alloc, store) {
+                Err(fault) => Err(fault),
+                Ok(desk) => Ok(Session { desk, accepted: 0 }),
+            },
+        }
+    }
+
+    /// Makes the next frame of the pattern, in memory of its own, and submits it; answers the number that it will
+    /// have. It answers NoMemory, PendingFull or NumbersSpent; then nothing is changed, and the frame isn't
+    /// accepted, so the next call makes it again.
+    pub fn submit_next(&mut self, alloc: A) -> Result<u64, StoreFault>
+        ensures goes { DeskGoes ⟦<MemDisk<A> as Disk>⟧.medium self.old.desk self.new.desk
+            (calls_of_submit self.old.desk.store.geometry self.old.accepted result) }
+        ensures refusals { IfErr result RefusesFrame }
+        ensures unchanged { OnErr result (self.new ≡ self.old) }
+        ensures accepted { self.new.accepted ≡ accepted_after self.old.accepted result }
+    {
+        let geometry = self.desk.geometry();
+        let frame = match pattern_frame(alloc, &geometry, self.accepted) {
+            Ok(frame) => frame,
+            Err(_) => return Err(StoreFault::NoMemory),
+        };
+        match self.desk.submit(frame) {
+            Ok(number) => {
+                self.accepted = self.accepted.saturating_add(1);
+                Ok(number)
+            }
+            Err((fault, _)) => Err(fault),
+        }
+    }
+
+    /// Stores the first of the frames that wait, as `Desk::flush`. It answers AllLocked; then nothing is changed, and
+    /// they wait on.
+    pub fn flush(&mut self) -> Result<Flushed, StoreFault>
+        ensures goes { DeskGoes ⟦<MemDisk<A> as Disk>⟧.medium self.old.desk self.new.desk
+            (flushed result ∷ []) }
+        ensures refusals { IfErr result (λ fault. fault ≡ StoreFault.AllLocked) }
+        ensures unchanged { OnErr result (self.new ≡ self.old) }
+        ensures accepted { self.new.accepted ≡ self.old.accepted }
+    {
+        self.desk.flush()
+    }
+
+    /// Submits the next frame of the pattern, and where it was accepted, flushes. It answers the refusals of the
+    /// two; after AllLocked, that of the flush, the frame waits, and the next call makes the one behind it.
+    pub fn store_next(&mut self, alloc: A) -> Result<Flushed, StoreFault>
+        ensures goes { DeskGoes ⟦<MemDisk<A> as Disk>⟧.medium self.old.desk self.new.desk
+            (calls_of_store self.old.desk self.old.accepted result) }
+        ensures refusals { IfErr result (λ fault. RefusesFrame fault ⊎ (fault ≡ StoreFault.AllLocked)) }
+        ensures unchanged { IfErr result (λ fault. RefusesFrame fault → self.new ≡ self.old) }
+        ensures accepted { self.new.accepted ≡ accepted_after self.old.accepted result }
+    {
+        match self.submit_next(alloc) {
+            Ok(_) => self.flush(),
+            Err(fault) => Err(fault),
+        }
+    }
+
+    /// Locks the frames from a number to another; answers the clip's id. It answers ClipEmpty, ClipNotHeld or
+    /// ClipTableFull, and then has changed nothing. A frame that waits isn't held yet.
+    pub fn lock(&mut self, from: u64, to: u64) -> Result<u32, StoreFault>
+        ensures goes { DeskGoes ⟦<MemDisk<A> as Disk>⟧.medium self.old.desk self.new.desk
+            (clip_locked (record { from = from; to = to }) result ∷ []) }
+        ensures fine { IfErr result (λ fault. is_disk fault ≡ false) }
+        ensures unchanged { OnErr result (self.new ≡ self.old) }
+        ensures accepted { self.new.accepted ≡ self.old.accepted }
+    {
+        self.desk.lock_clip(from, to)
+    }
+
+    /// Unlocks the clip of an id. It answers NoSuchClip, and then has changed nothing.
+    pub fn unlock(&mut self, id: u32) -> Result<(), StoreFault>
+        ensures goes { DeskGoes ⟦<MemDisk<A> as Disk>⟧.medium self.old.desk self.new.desk
+            (clip_unlocked id result ∷ []) }
+        ensures fine { IfErr result (λ fault. is_disk fault ≡ false) }
+        ensures unchanged { OnErr result (self.new ≡ self.old) }
+        ensures accepted { self.new.accepted ≡ self.old.accepted }
+    {
+        self.desk.unlock_clip(id)
+    }
+
+    /// Takes the disk out of the desk and finds the store on it again; what waited is lost, and the frames that were
+    /// accepted stay so. It answers NoMemory, and then leaves nothing behind. So does a disk that holds no store of
+    /// this geometry, which is refused as NotFormatted, Damaged or BadGeometry.
+    pub fn reopen(self, alloc: A) -> Result<Self, StoreFault>
+        ensures opened { IfOk result (λ s. IsOpened ⟦<MemDisk<A> as Disk>⟧.medium
+            (⟦<MemDisk<A> as Disk>⟧.medium self.desk.store.disk).bytes s.desk.store) }
+        ensures geometry { IfOk result (λ s. s.desk.store.geometry ≡ self.desk.store.geometry) }
+        ensures fine { IfOk result (λ s. s.desk.store.must_reopen ≡ false) }
+        ensures desk { IfOk result (λ s. IsNewDesk s.desk) }
+        ensures accepted { IfOk result (λ s. s.accepted ≡ self.accepted) }
+        ensures refused { IfErr result (λ fault. (fault ≡ StoreFault.BadGeometry)
+            ⊎ IsRefusedOpen (⟦<MemDisk<A> as Disk>⟧.medium self.desk.store.disk).bytes fault) }
+        ensures refusals { IfErr result (λ fault. is_disk fault ≡ false) }
+    {
+        let Session { desk, accepted } = self;
+        let geometry = desk.geometry();
+        match Store::open(alloc, desk.into_disk()) {
+            Err(OpenRefused { fault, disk: _ }) => Err(fault),
+            Ok(store) => {
+                // The frames that follow are of this geometry too.
+                if store.geometry() != geometry {
+                    return Err(StoreFault::BadGeometry);
+                }
+                match desk_before(alloc, store) {
+                    Err(fault) => Err(fault),
+                    Ok(desk) => Ok(Session { desk, accepted }),
+                }
+            }
+        }
+    }
+
+    /// Reads a stored frame into memory of its own. It answers NotHeld, where there is no such frame; or NoMemory;
+    /// or Damaged, which an honest disk never is.
+    pub fn read(&mut self, alloc: A, number: u64) -> Result<ReadFrame<A>, StoreFault>
+        ensures goes { DeskGoes ⟦<MemDisk<A> as Disk>⟧.medium self.old.desk self.new.desk
+            (frame_read number (read_of result) ∷ []) }
+        ensures refusals { IfErr result (λ fault. (fault ≡ StoreFault.NotHeld)
+            ⊎ ((fault ≡ StoreFault.NoMemory) ⊎ (fault ≡ StoreFault.Damaged SlotHead))) }
+        ensures accepted { self.new.accepted ≡ self.old.accepted }
+    {
+        self.desk.read_frame(alloc, number)
+    }
+
+    /// What the desk holds. It answers NoMemory.
+    pub fn outline(&self, alloc: A) -> Result<Outline<A>, StoreFault>
+        ensures outline { IfOk result (TellsOutline ⟦<MemDisk<A> as Disk>⟧.medium self.now.desk) }
+        ensures refused { IfErr result (λ fault. fault ≡ StoreFault.NoMemory) }
+    {
+        self.desk.outline(alloc)
+    }
+
+    /// The number that the next stored frame gets.
+    pub fn next(&self) -> u64
+        ensures { result ≡ self.now.desk.store.next }
+    {
+        self.desk.status().next
+    }
+}
+
+// A desk before a store, with the limits of a script. It answers NoMemory.
+fn desk_before<A: Allocator + Copy>(
+    alloc: A,
+    store: Store<MemDisk<A>, A>,
+) -> Result<Desk<MemDisk<A>, A>, StoreFault>
+    ensures made { IfOk result (λ desk. desk ≡ record { store = store; pending = []; limits = script_limits }) }
+    ensures refused { IfErr result (λ fault. fault ≡ StoreFault.NoMemory) }
+{
+    match Desk::new(alloc, store, LIMITS) {
+        Ok(desk) => Ok(desk),
+        Err(_) => Err(StoreFault::NoMemory),
+    }
+}

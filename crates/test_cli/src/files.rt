@@ -1,0 +1,429 @@
+//! Commands on stores in files.
+
+use crate::ran::{comes_to, run, run_unprinted};
+use crate::told::same;
+use loop_disk::FileDisk;
+use std::alloc::AllocGlobal;
+use std::fs;
+use std::fs::File;
+use std::process::Abort;
+use std::rt::Files;
+use std::test::Fail;
+
+// Writes bytes into an image, at a place.
+fn put(image: &mut [u8], at: usize, bytes: &[u8]) {
+    for (place, byte) in image.iter_mut().skip(at).zip(bytes) {
+        *place = *byte;
+    }
+}
+
+// Frames of 4x2 YM12 at 25 a second, 3 segments of 2: the image after the frames 0 to 6, by the layout.
+fn ring() -> [u8; 4360] {
+    let mut image = [0; 4360];
+    let numbers = [1, 4, 2];
+    put(&mut image, 0, b"\xA5LOOPREC");
+    for (at, number) in [8, 12, 16].into_iter().zip(numbers) {
+        put(&mut image, at, &[number]);
+    }
+    put(
+        &mut image,
+        20,
+        b"YM12\x19\0\0\0\x01\0\0\0\x03\0\0\0\x02\0\0\0\x0C",
+    );
+    for (segment, block, frames) in [(0, 3, 1), (1, 1, 2), (2, 2, 2)] {
+        let at = 2560 + 600 * segment;
+        put(&mut image, at, &[0xA5]);
+        put(&mut image, at + 8, &[block]);
+        for slot in 0..frames {
+            put(&mut image, at + 256 + slot, &[0xA5]);
+            let number = 2 * block + slot as u8;
+            let slot = at + 512 + 44 * slot;
+            put(&mut image, slot, &[number]);
+            put(&mut image, slot + 24, &[12]);
+        }
+    }
+    image
+}
+
+// What the words of a run print, what they tell, and the status.
+type Step = (&'static [&'static str], &'static str, &'static str, u8);
+
+// Runs words, and fails the test unless what comes of it is as wanted.
+fn does(
+    rt: &(impl Abort + AllocGlobal + Files<File = File>),
+    words: &[&str],
+    printed: &str,
+    told: &str,
+    status: u8,
+) {
+    let ran = run(rt, words, b"");
+    comes_to(rt, &ran, printed, told, status, &words);
+}
+
+// Runs each step, one after the other.
+fn each_does(rt: &(impl Abort + AllocGlobal + Files<File = File>), steps: &[Step]) {
+    for (words, printed, told, status) in steps {
+        does(rt, words, printed, told, *status);
+    }
+}
+
+// Fails the test unless a file has these bytes.
+fn has(
+    rt: &(impl Abort + AllocGlobal + Files<File = File>),
+    path: &str,
+    bytes: &[u8],
+) -> Result<(), Fail> {
+    same!(rt; fs::read(rt, path)?.as_slice(), bytes, path);
+    Ok(())
+}
+
+// Runs on one file that holds the ring, one after the other.
+static STEPS: [Step; 14] = [
+    (&["list", "ring.img"], "next 7\nframes 2..6\n", "", 0),
+    (&["lock", "ring.img", "2", "2"], "locked 0\n", "", 0),
+    (&["lock", "ring.img", "3", "6"], "locked 1\n", "", 0),
+    (
+        &["list", "ring.img"],
+        "next 7\nframes 2..6\nclip 0 2..2\nclip 1 3..6\n",
+        "",
+        0,
+    ),
+    (
+        &["lock", "ring.img", "5", "4"],
+        "",
+        "refused 9 ClipEmpty\n",
+        1,
+    ),
+    (
+        &["lock", "ring.img", "0", "0"],
+        "",
+        "refused 10 ClipNotHeld 0\n",
+        1,
+    ),
+    (
+        &["lock", "ring.img", "5", "18446744073709551615"],
+        "",
+        "refused 10 ClipNotHeld 7\n",
+        1,
+    ),
+    (
+        &["unlock", "ring.img", "64"],
+        "",
+        "refused 12 NoSuchClip\n",
+        1,
+    ),
+    (&["unlock", "ring.img", "0"], "unlocked 0\n", "", 0),
+    (
+        &["unlock", "ring.img", "0"],
+        "",
+        "refused 12 NoSuchClip\n",
+        1,
+    ),
+    (
+        &["list", "ring.img"],
+        "next 7\nframes 2..6\nclip 1 3..6\n",
+        "",
+        0,
+    ),
+    (
+        &["format", "ring.img", "4", "2", "YM12", "25:1", "1", "2"],
+        "",
+        "refused 16 BadGeometry\n",
+        1,
+    ),
+    (
+        &["format", "ring.img", "1", "1", "GREY", "1:1", "2", "1"],
+        "formatted\n",
+        "",
+        0,
+    ),
+    (&["list", "ring.img"], "next 0\n", "", 0),
+];
+
+// The clip 1 of the frames 3 to 6, and the clip 0 that was unlocked, as the layout has them.
+const CLIPS: [u8; 64] = [
+    0, 0, 0, 0, 0, 0, 0, 0, 2, 0, 0, 0, 0, 0, 0, 0, 2, 0, 0, 0, 0, 0, 0, 0, 0, 0, 0, 0, 0, 0, 0, 0,
+    0xA5, 0, 0, 0, 0, 0, 0, 0, 3, 0, 0, 0, 0, 0, 0, 0, 6, 0, 0, 0, 0, 0, 0, 0, 0, 0, 0, 0, 0, 0, 0,
+    0,
+];
+
+// Does a step on the file of a path. A refusal changes nothing. Once the clip 0 is unlocked, the file has these bytes.
+fn does_and_keeps(
+    rt: &(impl Abort + AllocGlobal + Files<File = File>),
+    path: &str,
+    step: &Step,
+    unlocked: &[u8],
+) -> Result<(), Fail> {
+    let (words, printed, told, status) = step;
+    let old = fs::read(rt, path)?;
+    does(rt, words, printed, told, *status);
+    if *status != 0 {
+        has(rt, path, &old)?;
+    }
+    if *printed == "unlocked 0\n" {
+        has(rt, path, unlocked)?;
+    }
+    Ok(())
+}
+
+#[test]
+fn a_store_in_a_file_is_listed_locked_and_unlocked_by_one_run_after_the_other(
+    rt: HostRuntime,
+) -> Result<(), Fail> {
+    let path = "ring.img";
+    let mut image = ring();
+    fs::write(&rt, path, image.as_slice())?;
+    put(&mut image, 512, &CLIPS);
+    for step in &STEPS {
+        does_and_keeps(&rt, path, step, &image)?;
+    }
+    same!(rt; fs::read(&rt, path)?.len(), 3650);
+    fs::remove_file(&rt, path)?;
+    Ok(())
+}
+
+// Words on files that can't be had.
+static NO_FILES: [Step; 10] = [
+    (&["list", "missing.img"], "", "cannot open missing.img\n", 1),
+    (
+        &["lock", "missing.img", "0", "0"],
+        "",
+        "cannot open missing.img\n",
+        1,
+    ),
+    (
+        &["unlock", "missing.img", "0"],
+        "",
+        "cannot open missing.img\n",
+        1,
+    ),
+    (
+        &[
+            "format",
+            "missing/new.img",
+            "1",
+            "1",
+            "GREY",
+            "1:1",
+            "2",
+            "1",
+        ],
+        "",
+        "cannot open missing/new.img\n",
+        1,
+    ),
+    // A geometry is judged before the file is made.
+    (
+        &["format", "missing.img", "0", "1", "GREY", "1:1", "2", "1"],
+        "",
+        "refused 16 BadGeometry\n",
+        1,
+    ),
+    (&["list", "missing.img"], "", "cannot open missing.img\n", 1),
+    (&["list", "."], "", "cannot open .\n", 1),
+    (
+        &["format", ".", "1", "1", "GREY", "1:1", "2", "1"],
+        "",
+        "cannot open .\n",
+        1,
+    ),
+    (&["list", "/dev/null"], "", "cannot open /dev/null\n", 1),
+    (&["list", ""], "", "cannot open \n", 1),
+];
+
+// Words on a file that is in use.
+static IN_USE: [Step; 4] = [
+    (&["list", "used.img"], "", "cannot open used.img\n", 1),
+    (
+        &["lock", "used.img", "2", "2"],
+        "",
+        "cannot open used.img\n",
+        1,
+    ),
+    (
+        &["unlock", "used.img", "0"],
+        "",
+        "cannot open used.img\n",
+        1,
+    ),
+    (
+        &["format", "used.img", "1", "1", "GREY", "1:1", "2", "1"],
+        "",
+        "cannot open used.img\n",
+        1,
+    ),
+];
+
+#[test]
+fn a_file_that_cannot_be_had_is_told_and_kept(rt: HostRuntime) -> Result<(), Fail> {
+    each_does(&rt, &NO_FILES);
+    let path = "used.img";
+    fs::write(&rt, path, ring().as_slice())?;
+    let disk = FileDisk::open(&rt, path)?;
+    each_does(&rt, &IN_USE);
+    drop(disk);
+    has(&rt, path, &ring())?;
+    fs::remove_file(&rt, path)?;
+    Ok(())
+}
+
+// A byte of the ring, what it is changed to, how many bytes of it are left, and the refusal.
+static SPOILT: [(usize, u8, usize, &str); 5] = [
+    (0, 0, 4360, "refused 4 NotFormatted\n"),
+    (0, 0xA5, 100, "refused 4 NotFormatted\n"),
+    (0, 0xA5, 4359, "refused 5 Damaged 1\n"),
+    (12, 5, 4360, "refused 5 Damaged 2\n"),
+    (512, 0xA5, 4360, "refused 5 Damaged 7\n"),
+];
+
+// Writes a spoilt ring into the file of a path; each command on it is refused, and leaves it as it is.
+fn is_refused(
+    rt: &(impl Abort + AllocGlobal + Files<File = File>),
+    path: &str,
+    spoilt: &(usize, u8, usize, &str),
+) -> Result<(), Fail> {
+    let (at, byte, length, told) = spoilt;
+    let mut image = ring();
+    put(&mut image, *at, &[*byte]);
+    let bytes = image.get(..*length).unwrap_or(&[]);
+    fs::write(rt, path, bytes)?;
+    does(rt, &["list", path], "", told, 1);
+    does(rt, &["lock", path, "2", "2"], "", told, 1);
+    has(rt, path, bytes)
+}
+
+#[test]
+fn a_file_without_a_sound_store_is_refused_and_kept(rt: HostRuntime) -> Result<(), Fail> {
+    let path = "spoilt.img";
+    for spoilt in &SPOILT {
+        is_refused(&rt, path, spoilt)?;
+    }
+    fs::remove_file(&rt, path)?;
+    Ok(())
+}
+
+// Words that tell or print something: the list, an unlock that is refused, and a folder.
+static TOLD: [&[&str]; 3] = [
+    &["list", "printed.img"],
+    &["unlock", "printed.img", "0"],
+    &["list", "."],
+];
+
+#[test]
+fn what_cannot_be_printed_ends_with_status_1(rt: HostRuntime) -> Result<(), Fail> {
+    fs::write(&rt, "printed.img", ring().as_slice())?;
+    for words in &TOLD {
+        same!(rt; run_unprinted(&rt, *words), 1, *words);
+    }
+    fs::remove_file(&rt, "printed.img")?;
+    Ok(())
+}
+
+// Exports of the ring into one file, each with how many bytes that has then: a header of 39, and 18 a frame.
+static EXPORTS: [(Step, usize); 8] = [
+    (
+        (
+            &["export", "frames.img", "2", "3", "frames.y4m"],
+            "exported 2\n",
+            "",
+            0,
+        ),
+        75,
+    ),
+    (
+        (
+            &[
+                "export",
+                "frames.img",
+                "0",
+                "18446744073709551615",
+                "frames.y4m",
+            ],
+            "exported 5\n",
+            "",
+            0,
+        ),
+        129,
+    ),
+    // What is refused leaves what the file had.
+    (
+        (
+            &["export", "frames.img", "7", "9", "frames.y4m"],
+            "",
+            "refused 13 NotHeld\n",
+            1,
+        ),
+        129,
+    ),
+    (
+        (
+            &["export", "missing.img", "2", "3", "frames.y4m"],
+            "",
+            "cannot open missing.img\n",
+            1,
+        ),
+        129,
+    ),
+    (
+        (
+            &["export", "frames.img", "2", "3", "frames.img"],
+            "",
+            "cannot write frames.img\n",
+            1,
+        ),
+        129,
+    ),
+    (
+        (
+            &["export", "frames.img", "2", "3", "."],
+            "",
+            "cannot write .\n",
+            1,
+        ),
+        129,
+    ),
+    (
+        (
+            &["export", "frames.img", "2", "x", "frames.y4m"],
+            "",
+            "bad command\n",
+            2,
+        ),
+        129,
+    ),
+    (
+        (
+            &["export", "frames.img", "6", "6", "frames.y4m"],
+            "exported 1\n",
+            "",
+            0,
+        ),
+        57,
+    ),
+];
+
+// Exports as a step says; then the text has so many bytes.
+fn exports(
+    rt: &(impl Abort + AllocGlobal + Files<File = File>),
+    step: &Step,
+    size: usize,
+) -> Result<(), Fail> {
+    let (words, printed, told, status) = step;
+    does(rt, words, printed, told, *status);
+    same!(rt; fs::read(rt, "frames.y4m")?.len(), size, words);
+    Ok(())
+}
+
+#[test]
+fn the_frames_of_a_store_in_a_file_are_exported(rt: HostRuntime) -> Result<(), Fail> {
+    fs::write(&rt, "frames.img", ring().as_slice())?;
+    for (step, size) in &EXPORTS {
+        exports(&rt, step, *size)?;
+    }
+    let expected = b"YUV4MPEG2 W4 H2 F25:1 Ip A0:0 C420jpeg\nFRAME\n\0\0\0\0\0\0\0\0\0\0\0\0";
+    has(&rt, "frames.y4m", expected)?;
+    has(&rt, "frames.img", &ring())?;
+    fs::remove_file(&rt, "frames.img")?;
+    fs::remove_file(&rt, "frames.y4m")?;
+    Ok(())
+}

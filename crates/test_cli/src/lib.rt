@@ -1,0 +1,31 @@
+//! Tests of what the program does, beside the scripts of its stored run (`crates/loop_cli/stdin`, `stdout`).
+//!
+//! - `told` has assertions that are cheap to prove; `ends`: inputs and outputs that fail, or that note what they are
+//!   asked for; `ran`: a run of a script or of words, and what came of it;
+//! - `scripts`: scripts that end by a line that can't be read, or begin before a store is formatted;
+//! - `waits`: what is printed before the next line is awaited, and inputs and outputs that fail;
+//! - `memory`: scripts and sessions where memory is refused;
+//! - `parts`: lines, numbers, refusals and frames of the pattern, each alone;
+//! - `words`: words that can't be read; `files`: commands on stores in files; `even`: the writes of an export.
+#![tactic(auto)]
+
+#[cfg(test)]
+mod ends;
+#[cfg(test)]
+mod even;
+#[cfg(test)]
+mod files;
+#[cfg(test)]
+mod memory;
+#[cfg(test)]
+mod parts;
+#[cfg(test)]
+mod ran;
+#[cfg(test)]
+mod scripts;
+#[cfg(test)]
+mod told;
+#[cfg(test)]
+mod waits;
+#[cfg(test)]
+mod words;

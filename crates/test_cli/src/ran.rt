@@ -1,0 +1,63 @@
+//! Runs of scripts and of words, and what came of them.
+
+use crate::ends::Broken;
+use crate::told::same;
+use loop_commands::{run_words, simulate};
+use std::alloc::{AllocGlobal, Allocator, Global};
+use std::fmt::Debug;
+use std::fs::File;
+use std::process::Abort;
+use std::rt::Files;
+use std::str;
+
+/// What a run printed, what it told on the other output, and its status.
+#[derive(Drop)]
+pub(crate) struct Ran {
+    pub(crate) out: Vec<u8>,
+    pub(crate) err: Vec<u8>,
+    pub(crate) status: u8,
+}
+
+/// Runs a script over an allocator.
+pub(crate) fn run_script<A: Allocator + Copy>(alloc: A, home: Global, script: &[u8]) -> Ran {
+    let mut out = Vec::new(home);
+    let mut err = Vec::new(home);
+    let status = simulate(alloc, script, &mut out, &mut err);
+    Ran { out, err, status }
+}
+
+/// Runs the words behind the program's name, with a script on its input.
+pub(crate) fn run(
+    rt: &(impl AllocGlobal + Files<File = File>),
+    words: &[&str],
+    script: &[u8],
+) -> Ran {
+    let mut out = Vec::new(rt.alloc());
+    let mut err = Vec::new(rt.alloc());
+    let status = run_words(rt, words, script, &mut out, &mut err);
+    Ran { out, err, status }
+}
+
+/// The status of a run of words where nothing can be printed or told.
+pub(crate) fn run_unprinted(rt: &(impl AllocGlobal + Files<File = File>), words: &[&str]) -> u8 {
+    run_words(rt, words, b"".as_slice(), &mut Broken, &mut Broken)
+}
+
+/// Bytes that were printed, as text.
+pub(crate) fn text(bytes: &[u8]) -> &str {
+    str::from_utf8(bytes).unwrap_or("what isn't UTF-8")
+}
+
+/// Fails the test unless a run came to this.
+pub(crate) fn comes_to(
+    rt: &impl Abort,
+    ran: &Ran,
+    printed: &str,
+    told: &str,
+    status: u8,
+    note: &impl Debug,
+) {
+    same!(rt; text(&ran.out), printed, note);
+    same!(rt; text(&ran.err), told, note);
+    same!(rt; ran.status, status, note);
+}
