@@ -5,6 +5,7 @@ ghost use Rattle.loop_disk.specs.declared.fault.DiskFault.TheVariants.{Read, Wri
 ghost use Rattle.loop_disk.specs.Medium.{piece};
 ghost use Rattle.loop_disk.specs.Calls.{Called, Stays, Writes, Syncs, failed_call};
 
+use crate::told::{holds, same};
 use loop_disk::{Disk, DiskFault, FuseDisk, MemDisk, OnceDisk};
 use loop_record::{Damage, FrameHead, Geometry, OPEN, PixelFormat};
 use loop_ring::{Ring, SlotFault};
@@ -82,8 +83,10 @@ fn clear<D: Disk>(ring: &Ring, disk: &mut Bare<D>, frames: u32) -> Result<(), Di
     ring.clear_stray(disk, 0, frames)
 }
 
-// The frame gates of a segment, how many of its frames are whole, how many calls are made, and the gates afterwards.
-const CLEARED: [([u8; 4], u32, u64, [u8; 4]); 6] = [
+/// The frame gates of a segment, how many of its frames are whole, how many calls are made, and the gates afterwards.
+type Cleared = ([u8; 4], u32, u64, [u8; 4]);
+
+const CLEARED: [Cleared; 6] = [
     ([0xA5, 0x07, 0xA5, 0x00], 1, 3, [0xA5, 0x07, 0x00, 0x00]),
     ([0xA5, 0x07, 0x01, 0xA5], 1, 3, [0xA5, 0x07, 0x00, 0x00]),
     ([0x07, 0xA5, 0xA5, 0xA5], 0, 3, [0x07, 0x00, 0x00, 0x00]),
@@ -92,9 +95,11 @@ const CLEARED: [([u8; 4], u32, u64, [u8; 4]); 6] = [
     ([0xA5, 0xA5, 0xA5, 0xA5], 4, 0, [0xA5, 0xA5, 0xA5, 0xA5]),
 ];
 
-// The number of the call that fails, how many bytes of it are written if it is a write, its fault, and the
-// gates that are left of 0xA5, 0x07, 0xA5, 0x01.
-const UNCLEARED: [(u64, usize, DiskFault, [u8; 4]); 4] = [
+/// The number of the call that fails, how many bytes of it are written if it is a write, its fault, and the
+/// gates that are left of 0xA5, 0x07, 0xA5, 0x01.
+type Uncleared = (u64, usize, DiskFault, [u8; 4]);
+
+const UNCLEARED: [Uncleared; 4] = [
     (0, 0, DiskFault::Read, [0xA5, 0x07, 0xA5, 0x01]),
     (1, 0, DiskFault::Write, [0xA5, 0x07, 0xA5, 0x01]),
     (1, 1, DiskFault::Write, [0xA5, 0x07, 0x00, 0x01]),
@@ -102,76 +107,60 @@ const UNCLEARED: [(u64, usize, DiskFault, [u8; 4]); 4] = [
 ];
 
 // Clears the stray gates of an image, in so many calls of its disk.
-fn clears(
-    rt: &impl Abort,
-    alloc: Global,
-    (before, frames, calls, after): ([u8; 4], u32, u64, [u8; 4]),
-) -> Result<(), Fail> {
-    let ring = ring();
+fn clears(rt: &impl Abort, alloc: Global, row: &Cleared) -> Result<(), Fail> {
+    let (before, frames, calls, after) = *row;
     let expected = image(alloc, after)?;
     let mut disk = Bare(FuseDisk::new(MemDisk::of(image(alloc, before)?), calls));
     assert!(rt; frames <= 4);
-    assert_eq!(rt; clear(&ring, &mut disk, frames), Ok(()), "{before:?}");
-    assert_eq!(rt; disk.0.left, 0, "{before:?}");
-    assert!(rt;
-        disk.0.inner.bytes().iter().eq(expected.iter()),
-        "{before:?}"
-    );
+    same!(rt; clear(&ring(), &mut disk, frames), Ok(()), before);
+    same!(rt; disk.0.left, 0, before);
+    holds!(rt; disk.0.inner.bytes() == expected.as_slice(), before);
     Ok(())
 }
 
 // Fails one call of clearing, a write torn.
-fn clears_in_part(
-    rt: &impl Abort,
-    alloc: Global,
-    (call, keep, fault, after): (u64, usize, DiskFault, [u8; 4]),
-) -> Result<(), Fail> {
-    let ring = ring();
+fn clears_in_part(rt: &impl Abort, alloc: Global, row: &Uncleared) -> Result<(), Fail> {
+    let (call, keep, fault, after) = *row;
     let expected = image(alloc, after)?;
     let before = image(alloc, [0xA5, 0x07, 0xA5, 0x01])?;
     let mut disk = Bare(OnceDisk::torn(MemDisk::of(before), call, keep));
-    assert_eq!(rt; clear(&ring, &mut disk, 1), Err(fault), "call {call}");
-    assert!(rt;
-        disk.0.inner.bytes().iter().eq(expected.iter()),
-        "call {call}"
-    );
+    same!(rt; clear(&ring(), &mut disk, 1), Err(fault), call);
+    holds!(rt; disk.0.inner.bytes() == expected.as_slice(), call);
     Ok(())
 }
 
 #[test]
 fn stray_gates_are_cleared_and_no_others(rt: HostRuntime) -> Result<(), Fail> {
-    let alloc = rt.alloc();
-    for row in CLEARED {
-        clears(&rt, alloc, row)?;
+    for row in CLEARED.as_slice() {
+        clears(&rt, rt.alloc(), row)?;
     }
-    for row in UNCLEARED {
-        clears_in_part(&rt, alloc, row)?;
+    for row in UNCLEARED.as_slice() {
+        clears_in_part(&rt, rt.alloc(), row)?;
     }
     Ok(())
 }
 
+/// How many calls pass, a change of a byte, the number that is asked for, and the answer.
+type Asked = (u64, (usize, u8), u64, Result<FrameHead, SlotFault>);
+
 // Reads slot 3 of segment 0 of an image with a change, on a disk that passes so many calls.
-fn read(
-    alloc: Global,
-    calls: u64,
-    change: (usize, u8),
-    number: u64,
-    out: &mut [u8],
-) -> Result<Result<FrameHead, SlotFault>, AllocError>
-    requires at { change.0 < 3936 }
-    requires out { length out.old ≡ 12 }
-{
-    let ring = ring();
+fn reads(rt: &impl Abort, alloc: Global, row: &Asked) -> Result<(), Fail> {
+    let (calls, (at, byte), number, expected) = *row;
     let mut image = image(alloc, [OPEN; 4])?;
-    let (at, byte) = change;
-    image[at] = byte;
+    *image.get_mut(at).ok_or("it is too short")? = byte;
+    assert!(rt; image.len() == 3936);
     let mut disk = Bare(FuseDisk::new(MemDisk::of(image), calls));
-    Ok(ring.read_slot(&mut disk, 0, 3, number, out))
+    let mut out = [0; 12];
+    let answer = ring().read_slot(&mut disk, 0, 3, number, &mut out);
+    same!(rt; answer, expected, at);
+    if expected.is_ok() {
+        same!(rt; out, [3, 4, 5, 6, 7, 8, 9, 10, 11, 12, 13, 14], at);
+    }
+    Ok(())
 }
 
 #[test]
 fn a_slot_is_read_under_its_number_alone(rt: HostRuntime) -> Result<(), Fail> {
-    let alloc = rt.alloc();
     let head = FrameHead {
         number: 3,
         sequence: 7,
@@ -180,8 +169,7 @@ fn a_slot_is_read_under_its_number_alone(rt: HostRuntime) -> Result<(), Fail> {
     };
     let damaged = Err(SlotFault::Damaged(Damage::SlotHead));
     let failed = Err(SlotFault::Disk(DiskFault::Read));
-    // How many calls pass, a change, the number that is asked for, and the answer. The slot's first byte is its
-    // number's, and the one at 3,228 its length's; a gate isn't looked at.
+    // The slot's first byte is its number's, and the one at 3,228 its length's; a gate isn't looked at.
     let rows = [
         (2, (2819, 0u8), 3u64, Ok(head)),
         (2, (3236, 3), 3, Ok(head)),
@@ -192,14 +180,8 @@ fn a_slot_is_read_under_its_number_alone(rt: HostRuntime) -> Result<(), Fail> {
         (0, (0, 0), 3, failed),
         (1, (0, 0), 3, failed),
     ];
-    for (calls, (at, byte), number, expected) in rows {
-        let mut out = [0; 12];
-        assert!(rt; at < 3936);
-        let answer = read(alloc, calls, (at, byte), number, &mut out)?;
-        assert_eq!(rt; answer, expected, "{at}");
-        if expected.is_ok() {
-            assert_eq!(rt; out, [3, 4, 5, 6, 7, 8, 9, 10, 11, 12, 13, 14]);
-        }
+    for row in rows.as_slice() {
+        reads(&rt, rt.alloc(), row)?;
     }
     Ok(())
 }

@@ -1,6 +1,8 @@
-//! Tests of the ring and of the clip table: what is read of an image, which stray gates are closed, and which
-//! block goes.
+//! Tests of the layout, of the ring and of the clip table: the bytes of each part of a disk, written and read, what is
+//! read of an image, which stray gates are closed, and which block goes. What an image reads as stands in loop_record's
+//! proofs, computed on worked images, and in test_store's tests.
 //!
+//! - `layout`: sizes, and what stands in each part of a disk;
 //! - `disk`: calls of a ring, over a disk that claims nothing of its bytes, so that a test may begin with any
 //!   image;
 //! - `memory`: the segments and the clips in memory.
@@ -9,4 +11,8 @@
 #[cfg(test)]
 mod disk;
 #[cfg(test)]
+mod layout;
+#[cfg(test)]
 mod memory;
+#[cfg(test)]
+mod told;

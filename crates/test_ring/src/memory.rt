@@ -2,6 +2,7 @@
 
 ghost use Rattle.std.specs.Prelude.{◌≡◌, ◌<◌, All, IfOk, length, vec_len};
 
+use crate::told::{holds, same};
 use loop_budget::Budget;
 use loop_clips::{CLIPS, Clip, ClipTable};
 use loop_disk::{DiskFault, FuseDisk, MemDisk};
@@ -49,19 +50,24 @@ fn clip(number: u64) -> Option<Span> {
     })
 }
 
+// Whether the index has these numbers.
+fn holds_these<A: Allocator>(rt: &impl Abort, index: &SegmentIndex<A>, rows: &[(u64, bool)]) {
+    for (number, held) in rows {
+        same!(rt; index.holds(2, *number), *held, *number);
+    }
+}
+
 // What is found in the index of a block 3 with one frame, a closed segment, and a block 2 with both frames; and
 // once block 4 is begun in the closed one.
 fn finds<A: Allocator>(rt: &impl Abort, index: &mut SegmentIndex<A>)
     requires { length index.old.heads ≡ 3 }
 {
-    assert_eq!(rt; (index.find(2).0, index.find(1).0), (Some(2), None));
-    assert_eq!(rt; index.first_closed(), Some(1));
-    for (number, held) in [(3, false), (5, true), (6, true), (7, false)] {
-        assert_eq!(rt; index.holds(2, number), held, "{number}");
-    }
+    same!(rt; (index.find(2).0, index.find(1).0), (Some(2), None));
+    same!(rt; index.first_closed(), Some(1));
+    holds_these(rt, index, &[(3, false), (5, true), (6, true), (7, false)]);
     index.set(1, open(4, 0), 0);
-    assert_eq!(rt; index.get(1), open(4, 0));
-    assert_eq!(rt; (index.first_closed(), index.held_blocks()), (None, 2));
+    same!(rt; index.get(1), open(4, 0));
+    same!(rt; (index.first_closed(), index.held_blocks()), (None, 2));
 }
 
 #[test]
@@ -69,13 +75,13 @@ fn segments_are_found_by_what_they_hold(rt: HostRuntime) -> Result<(), Fail> {
     let memory = Budget::new(rt.alloc());
     for blocks in 0..3 {
         memory.allow(blocks);
-        assert!(rt; SegmentIndex::new(&memory, 3).is_err(), "{blocks}");
+        holds!(rt; SegmentIndex::new(&memory, 3).is_err(), blocks);
     }
     memory.allow(3);
     let heads = [open(3, 1), None, open(2, 2)];
     let mut index = index(&memory, heads)?;
     memory.allow(0);
-    assert!(rt; index.heads().iter().eq(heads.iter()));
+    same!(rt; index.heads(), heads.as_slice());
     finds(&rt, &mut index);
     Ok(())
 }
@@ -101,8 +107,8 @@ fn mixed(memory: &Budget<Global>) -> Result<SegmentIndex<&Budget<Global>>, Alloc
 fn finds_soon<A: Allocator>(rt: &impl Abort, index: &SegmentIndex<A>, rows: &[(u64, Option<u32>)]) {
     for (block, expected) in rows {
         let (found, looks) = index.find(*block);
-        assert_eq!(rt; found, *expected, "{block}");
-        assert!(rt; looks <= 7, "{block}: {looks}");
+        same!(rt; found, *expected, *block);
+        holds!(rt; looks <= 7, (*block, looks));
     }
 }
 
@@ -111,7 +117,7 @@ fn a_block_is_found_by_few_looks(rt: HostRuntime) -> Result<(), Fail> {
     let memory = Budget::new(rt.alloc());
     for blocks in 1..3 {
         memory.allow(blocks);
-        assert!(rt; mixed(&memory).is_err(), "{blocks}");
+        holds!(rt; mixed(&memory).is_err(), blocks);
     }
     memory.allow(3);
     let mut index = mixed(&memory)?;
@@ -119,14 +125,24 @@ fn a_block_is_found_by_few_looks(rt: HostRuntime) -> Result<(), Fail> {
     for segment in 0..64 {
         finds_soon(&rt, &index, &[(mixed_block(segment), Some(segment))]);
     }
-    let absent = [
-        (0, None),
-        (9, None),
-        (11, None),
-        (200, None),
-        (u64::MAX, None),
-    ];
-    finds_soon(&rt, &index, &absent);
+    finds_soon(&rt, &index, &ABSENT);
+    moves(&rt, &mut index);
+    Ok(())
+}
+
+/// Blocks that none of the 64 segments has.
+const ABSENT: [(u64, Option<u32>); 5] = [
+    (0, None),
+    (9, None),
+    (11, None),
+    (200, None),
+    (u64::MAX, None),
+];
+
+// What is found of the 64 segments once some of them move.
+fn moves<A: Allocator>(rt: &impl Abort, index: &mut SegmentIndex<A>)
+    requires { length index.old.heads ≡ 64 }
+{
     // Segment 5 had block 10 + 3 * 57; 6 moves behind all blocks, and then 50 to the block of 20.
     index.set(5, None, 0);
     index.set(6, open(u64::MAX, 0), 0);
@@ -139,32 +155,34 @@ fn a_block_is_found_by_few_looks(rt: HostRuntime) -> Result<(), Fail> {
         (mixed_block(50), None),
         (mixed_block(20), Some(20)),
     ];
-    finds_soon(&rt, &index, &moved);
+    finds_soon(rt, index, &moved);
     // 5 opens again, as the first of three with that block; without it and 20 the third is found.
     index.set(5, open(mixed_block(20), 1), 0);
-    finds_soon(&rt, &index, &[(mixed_block(20), Some(5))]);
+    finds_soon(rt, index, &[(mixed_block(20), Some(5))]);
     index.set(5, None, 0);
     index.set(20, None, 0);
-    finds_soon(&rt, &index, &[(mixed_block(20), Some(50))]);
-    Ok(())
+    finds_soon(rt, index, &[(mixed_block(20), Some(50))]);
 }
 
-// The block that goes where the headers of three segments of two slots say this, and its segment.
-fn goes(
-    alloc: Global,
-    heads: [Option<SegmentHead>; 3],
-    clips: &[Option<Span>; 2],
-) -> Result<Option<(u64, u32)>, AllocError> {
-    let heads = Vec::from_slice(alloc, &heads)?;
-    let index = SegmentIndex::of(alloc, &SMALL, heads, clips)?;
+/// The headers of three segments of two slots, the clips, and the block that goes with its segment.
+type Row = (
+    [Option<SegmentHead>; 3],
+    [Option<Span>; 2],
+    Option<(u64, u32)>,
+);
+
+// The block that goes, and its segment.
+fn goes(rt: &impl Abort, alloc: Global, row: &Row) -> Result<(), AllocError> {
+    let heads = Vec::from_slice(alloc, &row.0)?;
+    let index = SegmentIndex::of(alloc, &SMALL, heads, &row.1)?;
     let block = index.victim();
     let segment = block.and_then(|block| index.find(block).0);
-    Ok(block.zip(segment))
+    same!(rt; block.zip(segment), row.2, row.0);
+    Ok(())
 }
 
 #[test]
 fn the_least_block_that_no_clip_meets_goes(rt: HostRuntime) -> Result<(), Fail> {
-    let alloc = rt.alloc();
     // Block 3 is begun and has no frame: 2 is the newest.
     let begun = [open(3, 0), open(1, 2), open(2, 2)];
     let full = [open(3, 2), open(1, 2), open(2, 2)];
@@ -178,8 +196,8 @@ fn the_least_block_that_no_clip_meets_goes(rt: HostRuntime) -> Result<(), Fail> 
         (later, [clip(2), None], Some((3, 0))),
         (later, [clip(8), None], Some((1, 1))),
     ];
-    for (heads, clips, expected) in rows {
-        assert_eq!(rt; goes(alloc, heads, &clips)?, expected, "{heads:?}");
+    for row in rows.as_slice() {
+        goes(&rt, rt.alloc(), row)?;
     }
     Ok(())
 }
@@ -198,24 +216,24 @@ fn the_victim_follows_locks_and_appends(rt: HostRuntime) -> Result<(), Fail> {
     memory.allow(3);
     let mut index = index(&memory, [open(3, 2), open(1, 2), open(4, 1)])?;
     memory.allow(0);
-    assert_eq!(rt; index.victim(), Some(1));
+    same!(rt; index.victim(), Some(1));
     index.lock_clip(&SMALL, span(2));
-    assert_eq!(rt; index.victim(), Some(3));
+    same!(rt; index.victim(), Some(3));
     // Blocks 1 and 3 are locked, and 4 is the newest.
     let clips = [clip(2), clip(6)];
     index.set(0, open(3, 2), clips_on(&SMALL, &clips, open(3, 2)));
-    assert_eq!(rt; index.victim(), None);
+    same!(rt; index.victim(), None);
     index.unlock_clip(&SMALL, span(6));
-    assert_eq!(rt; index.victim(), Some(3));
+    same!(rt; index.victim(), Some(3));
     // Block 5 is begun in the segment of 3, and grows.
     let frames = 1;
     let head = Some(SegmentHead { block: 5, frames });
     index.set(0, head, clips_on(&SMALL, &[clip(2), None], head));
-    assert_eq!(rt; (index.victim(), index.held_blocks()), (Some(4), 3));
+    same!(rt; (index.victim(), index.held_blocks()), (Some(4), 3));
     index.grow(0, 2);
-    assert_eq!(rt; (index.get(0), index.victim()), (open(5, 2), Some(4)));
+    same!(rt; (index.get(0), index.victim()), (open(5, 2), Some(4)));
     index.unlock_clip(&SMALL, span(2));
-    assert_eq!(rt; index.victim(), Some(1));
+    same!(rt; index.victim(), Some(1));
     Ok(())
 }
 
@@ -244,23 +262,50 @@ fn listed(id: u32, from: u64, to: u64) -> Clip {
     Clip { id, from, to }
 }
 
+// The clips that a table has under ids.
+fn has_clips(rt: &impl Abort, table: &ClipTable, rows: &[(u32, Option<Span>)]) {
+    for (id, expected) in rows {
+        same!(rt; table.get(*id), *expected, *id);
+    }
+}
+
+// Which blocks of two frames a table's clips meet.
+fn meets(rt: &impl Abort, table: &ClipTable, rows: &[(u64, bool)]) {
+    for (block, met) in rows {
+        same!(rt; table.meets(&SMALL, *block), *met, *block);
+    }
+}
+
+// The clips of a table are listed in one growth.
+fn lists(
+    rt: &impl Abort,
+    alloc: Global,
+    table: &ClipTable,
+    clips: &[Clip],
+) -> Result<(), AllocError> {
+    let memory = Budget::new(alloc);
+    memory.allow(0);
+    holds!(rt; table.list(&memory).is_err());
+    memory.allow(1);
+    same!(rt; table.list(&memory)?.as_slice(), clips);
+    Ok(())
+}
+
 #[test]
 fn the_open_entries_are_read_as_they_stand(rt: HostRuntime) -> Result<(), Fail> {
-    let alloc = rt.alloc();
-    let memory = Budget::new(alloc);
-    let mut disk = FuseDisk::new(MemDisk::of(image(alloc)?), 1);
+    let mut disk = FuseDisk::new(MemDisk::of(image(rt.alloc())?), 1);
     let table = ClipTable::read(&mut disk)?;
-    assert!(rt; matches!(ClipTable::read(&mut disk), Err(DiskFault::Read)));
-    for (id, expected) in [
-        (0, Some(Span { from: 2, to: 5 })),
+    holds!(rt; matches!(ClipTable::read(&mut disk), Err(DiskFault::Read)));
+    let two_to_five = Some(Span { from: 2, to: 5 });
+    let ids = [
+        (0, two_to_five),
         (1, None),
         (63, clip(u64::MAX)),
         (64, None),
-    ] {
-        assert_eq!(rt; table.get(id), expected, "{id}");
-    }
+    ];
+    has_clips(&rt, &table, &ids);
     // Frames 2 to 5 lie in blocks 1 and 2; the clip of no frame meets none.
-    for (block, met) in [
+    let blocks = [
         (0, false),
         (1, true),
         (2, true),
@@ -268,18 +313,14 @@ fn the_open_entries_are_read_as_they_stand(rt: HostRuntime) -> Result<(), Fail> 
         (127, false),
         (128, false),
         (u64::MAX / 2, true),
-    ] {
-        assert_eq!(rt; table.meets(&SMALL, block), met, "{block}");
-    }
-    memory.allow(0);
-    assert!(rt; table.list(&memory).is_err());
-    memory.allow(1);
+    ];
+    meets(&rt, &table, &blocks);
     let clips = [
         listed(0, 2, 5),
         listed(2, 256, 255),
         listed(63, u64::MAX, u64::MAX),
     ];
-    assert_eq!(rt; table.list(&memory)?.as_slice(), clips.as_slice());
+    lists(&rt, rt.alloc(), &table, &clips)?;
     Ok(())
 }
 
@@ -288,8 +329,8 @@ fn a_table_has_the_clips_that_were_read(rt: HostRuntime) -> Result<(), Fail> {
     let mut clips = [None; CLIPS];
     clips[2] = Some(Span { from: 4, to: 9 });
     let table = ClipTable::of(clips);
-    assert_eq!(rt; table.as_slice(), clips.as_slice());
-    assert!(rt; table.meets(&SMALL, 4) && !table.meets(&SMALL, 5));
-    assert!(rt; ClipTable::empty().list(rt.alloc())?.is_empty());
+    same!(rt; table.as_slice(), clips.as_slice());
+    holds!(rt; table.meets(&SMALL, 4) && !table.meets(&SMALL, 5));
+    holds!(rt; ClipTable::empty().list(rt.alloc())?.is_empty());
     Ok(())
 }

@@ -1,0 +1,252 @@
+//! Sizes, and what stands in each part of a disk.
+
+use crate::told::{holds, same};
+use loop_record::{
+    CLIP_SIZE, Damage, Found, Frame, FrameHead, Geometry, HEAD_SIZE, OPEN, PixelFormat,
+    SegmentHead, Span, TABLE_SIZE, decode_clip, decode_head, decode_header, decode_slot,
+    decode_super, encode_head, encode_slot, encode_super, is_locked, lacks_frame, may_go,
+    next_after, put_in_place, put_u32, put_u64, read_clips, repeats, u32_at, u64_at,
+};
+use std::process::Abort;
+use std::test::Fail;
+
+/// Frames of 4 by 2, three segments of two slots.
+const SMALL: Geometry = Geometry {
+    width: 4,
+    height: 2,
+    format: PixelFormat::Ym12,
+    rate_num: 25,
+    rate_den: 1,
+    segments: 3,
+    slots: 2,
+};
+
+/// Frames of one sample, two segments of one slot.
+const TINY: Geometry = Geometry {
+    width: 1,
+    height: 1,
+    format: PixelFormat::Grey,
+    rate_num: 1,
+    rate_den: 1,
+    segments: 2,
+    slots: 1,
+};
+
+#[test]
+fn sizes_and_places(rt: HostRuntime) {
+    assert!(rt; SMALL.check().is_ok() && TINY.check().is_ok());
+    same!(rt; SMALL.frame_bytes(), 12);
+    same!(rt; SMALL.segment_at(0), 2_560);
+    same!(rt; SMALL.segment_at(2), 3_760);
+    same!(rt; SMALL.gate_at(1, 1), 3_417);
+    same!(rt; SMALL.slot_at(1, 1), 3_716);
+    same!(rt; SMALL.disk_size(), 4_360);
+    same!(rt; TINY.disk_size(), 3_650);
+    same!(rt; PixelFormat::Ym12.planes(), 3);
+    same!(rt; PixelFormat::Ym12.plane_bytes(5, 3, 1), 6);
+    same!(rt; Damage::BlockTooHigh.number(), 6);
+    let wide = Geometry {
+        segments: 65,
+        ..SMALL
+    };
+    holds!(rt; wide.check().is_err());
+}
+
+/// The front of the superblock of `SMALL`: its gate and name, version 1, 4 by 2, YM12, 25 over 1, three
+/// segments of two slots, 12 bytes.
+const FRONT: [u8; 44] = [
+    0xA5, 0x4C, 0x4F, 0x4F, 0x50, 0x52, 0x45, 0x43, 1, 0, 0, 0, 4, 0, 0, 0, 2, 0, 0, 0, 0x59, 0x4D,
+    0x31, 0x32, 25, 0, 0, 0, 1, 0, 0, 0, 3, 0, 0, 0, 2, 0, 0, 0, 12, 0, 0, 0,
+];
+
+/// The slot of frame 3 of a pattern: its number, sequence, flags, time, length, a zero, and 12 bytes.
+const SLOT: [u8; 44] = [
+    3, 0, 0, 0, 0, 0, 0, 0, 3, 0, 0, 0, 0, 0x20, 0, 0, 0xC0, 0xD4, 1, 0, 0, 0, 0, 0, 12, 0, 0, 0,
+    0, 0, 0, 0, 3, 4, 5, 6, 7, 8, 9, 10, 11, 12, 13, 14,
+];
+
+// The superblock of `SMALL` has these bytes in front, and is read as it.
+fn superblock(rt: &impl Abort, front: &[u8]) {
+    assert!(rt; SMALL.check().is_ok());
+    let mut superblock = [0x5Au8; 512];
+    encode_super(&SMALL, &mut superblock);
+    let (head, rest) = superblock.split_at(44);
+    same!(rt; head, front);
+    holds!(rt; rest.iter().all(|byte| *byte == 0));
+    same!(rt; decode_super(&superblock), Ok(SMALL));
+}
+
+// Frame 3 of a pattern has this slot, and its head.
+fn slot(rt: &impl Abort, frame: &Frame, bytes: &[u8]) {
+    assert!(rt; frame.bytes.len() == 12);
+    let mut slot = [0x5Au8; 44];
+    encode_slot(3, frame, &mut slot);
+    same!(rt; slot.as_slice(), bytes);
+    let mut head = [0x5Au8; HEAD_SIZE];
+    encode_head(3, frame, &mut head);
+    same!(rt; Some(head.as_slice()), bytes.get(..HEAD_SIZE));
+    holds!(rt; decode_slot(&slot, 3).is_ok());
+    same!(rt; decode_slot(&slot, 2), Err(Damage::SlotHead));
+}
+
+#[test]
+fn a_superblock_and_a_slot_have_these_bytes(rt: HostRuntime) -> Result<(), Fail> {
+    superblock(&rt, &FRONT);
+    let frame = Frame {
+        sequence: 3,
+        flags: 0x2000,
+        timestamp: 120_000,
+        bytes: vec![in rt.alloc(); 3, 4, 5, 6, 7, 8, 9, 10, 11, 12, 13, 14]?,
+    };
+    slot(&rt, &frame, &SLOT);
+    Ok(())
+}
+
+// A segment's header with this block is read so.
+fn header(
+    rt: &impl Abort,
+    bytes: &mut [u8],
+    block: u64,
+    want: Result<Option<SegmentHead>, Damage>,
+) {
+    assert!(rt; SMALL.check().is_ok() && bytes.len() == 512);
+    put_u64(bytes, 8, block);
+    same!(rt; decode_header(&SMALL, bytes), want, block);
+}
+
+// The entry of a clip from this number on is read so.
+fn entry(rt: &impl Abort, bytes: &mut [u8], from: u64, want: Result<Option<Span>, Damage>) {
+    assert!(rt; bytes.len() == 32);
+    put_u64(bytes, 8, from);
+    put_u32(bytes, 16, 3);
+    same!(rt; decode_clip(bytes), want, from);
+    same!(rt; (u64_at(bytes, 8), u32_at(bytes, 16)), (from, 3));
+}
+
+#[test]
+fn a_header_and_a_clip_entry_are_decoded(rt: HostRuntime) {
+    let mut bytes = [0u8; 512];
+    header(&rt, &mut bytes, 0, Ok(None));
+    bytes[0] = OPEN;
+    bytes[256] = OPEN;
+    let head = SegmentHead {
+        block: 7,
+        frames: 1,
+    };
+    header(&rt, &mut bytes, 7, Ok(Some(head)));
+    header(&rt, &mut bytes, 1 << 61, Err(Damage::BlockTooHigh));
+
+    let mut bytes = [0u8; 32];
+    entry(&rt, &mut bytes, 2, Ok(None));
+    bytes[0] = OPEN;
+    entry(&rt, &mut bytes, 2, Ok(Some(Span { from: 2, to: 3 })));
+    entry(&rt, &mut bytes, 4, Err(Damage::ClipRange));
+}
+
+// A segment of a block with so many frames.
+fn found(segment: u32, block: u64, frames: u32) -> Found {
+    Found {
+        segment,
+        block,
+        frames,
+    }
+}
+
+// These are the segments, in this order.
+fn stand(rt: &impl Abort, open: &[Found], segments: &[u32]) {
+    for (place, segment) in segments.iter().enumerate() {
+        same!(rt; open.get(place).map(|found| found.segment), Some(*segment), place);
+    }
+}
+
+#[test]
+fn found_segments_stand_in_the_order_of_their_blocks(rt: HostRuntime) -> Result<(), Fail> {
+    let mut open = Vec::new(rt.alloc());
+    put_in_place(&mut open, found(0, 5, 2))?;
+    put_in_place(&mut open, found(1, 3, 2))?;
+    holds!(rt; !repeats(&open) && !lacks_frame(&SMALL, &open));
+    // The newest may lack a frame, and no other.
+    put_in_place(&mut open, found(2, 5, 1))?;
+    stand(&rt, &open, &[1, 2, 0]);
+    holds!(rt; repeats(&open) && lacks_frame(&SMALL, &open));
+    Ok(())
+}
+
+// A table whose last clip goes from 7 to this number is read so.
+fn clips(rt: &impl Abort, open: &[Found], to: u64, want: Result<Option<Span>, Damage>) {
+    assert!(rt; SMALL.check().is_ok());
+    let mut table = [0u8; TABLE_SIZE];
+    table[63 * CLIP_SIZE] = OPEN;
+    put_u64(&mut table, 63 * CLIP_SIZE + 8, 7);
+    put_u64(&mut table, 63 * CLIP_SIZE + 16, to);
+    let mut clips = [None; 64];
+    clips[63] = want.ok().flatten();
+    same!(rt; read_clips(&SMALL, &table, open), want.map(|_| clips), to);
+}
+
+#[test]
+fn the_next_number_and_the_clips_are_found(rt: HostRuntime) {
+    assert!(rt; SMALL.check().is_ok());
+    // Frames 6, 7 and 8.
+    let open = [
+        Found {
+            segment: 1,
+            block: 3,
+            frames: 2,
+        },
+        Found {
+            segment: 0,
+            block: 4,
+            frames: 1,
+        },
+    ];
+    same!(rt; next_after(&SMALL, &[]), 0);
+    same!(rt; next_after(&SMALL, &open), 9);
+    clips(&rt, &open, 8, Ok(Some(Span { from: 7, to: 8 })));
+    clips(&rt, &open, 9, Err(Damage::ClipRange));
+}
+
+// Of each block whether a clip locks it, and whether it may go where 5 is the newest.
+fn locks(rt: &impl Abort, clips: &[Option<Span>], rows: &[(u64, bool)]) {
+    assert!(rt; SMALL.check().is_ok());
+    for (block, locked) in rows {
+        same!(rt; is_locked(&SMALL, *block, clips), *locked, *block);
+        same!(rt; may_go(&SMALL, clips, 5, *block), !*locked && *block != 5, *block);
+    }
+}
+
+#[test]
+fn a_locked_block_and_the_newest_stay(rt: HostRuntime) {
+    // The clip has the second frame of block 2 and the first of block 3.
+    let clips = [None, Some(Span { from: 5, to: 6 })];
+    locks(
+        &rt,
+        &clips,
+        &[(1, false), (2, true), (3, true), (4, false), (5, false)],
+    );
+}
+
+// The head of a slot, asked for by a number and a size.
+fn head(rt: &impl Abort, head: &[u8], asked: (u64, u32), want: Result<FrameHead, Damage>) {
+    assert!(rt; head.len() == HEAD_SIZE);
+    same!(rt; decode_head(head, asked.0, asked.1), want, asked);
+}
+
+#[test]
+fn a_slots_head_names_its_number_and_size(rt: HostRuntime) {
+    let mut bytes = [0u8; HEAD_SIZE];
+    put_u64(&mut bytes, 0, 7);
+    put_u32(&mut bytes, 8, 6);
+    put_u32(&mut bytes, 12, 0x2000);
+    put_u64(&mut bytes, 16, 240_000);
+    put_u32(&mut bytes, 24, 12);
+    let said = FrameHead {
+        number: 7,
+        sequence: 6,
+        flags: 0x2000,
+        timestamp: 240_000,
+    };
+    head(&rt, &bytes, (7, 12), Ok(said));
+    head(&rt, &bytes, (8, 12), Err(Damage::SlotHead));
+    head(&rt, &bytes, (7, 13), Err(Damage::SlotHead));
+}
