@@ -8,3 +8,5 @@ mod common;
 mod sources;
 #[cfg(test)]
 mod ticks;
+#[cfg(test)]
+mod told;

@@ -1,5 +1,6 @@
 //! What a source answers by itself, and what becomes of it where memory is refused.
 
+use crate::told::{holds, same};
 use loop_budget::Budget;
 use loop_capture::{Device, FrameSource, Next, Pattern, Y4mSource};
 use loop_y4m::Y4mReader;
@@ -13,15 +14,13 @@ fn the_pattern_tells_its_frames_and_rises_modulo_256(rt: HostRuntime) -> Result<
     let mut source = Pattern::new();
     let mut out = [0; 3];
     for n in 0..300_u32 {
-        assert_eq!(rt; source.next(&mut out), Next::More);
-        assert_eq!(rt;
-            out,
-            [
-                (n % 256) as u8,
-                ((n + 1) % 256) as u8,
-                ((n + 2) % 256) as u8
-            ]
-        );
+        same!(rt; source.next(&mut out), Next::More, n);
+        let want = [
+            (n % 256) as u8,
+            ((n + 1) % 256) as u8,
+            ((n + 2) % 256) as u8,
+        ];
+        same!(rt; out, want, n);
     }
     Ok(())
 }
@@ -33,11 +32,12 @@ fn another_length_is_bad_once_and_then_the_end(rt: HostRuntime) -> Result<(), Fa
     };
     let mut source = Y4mSource::new(reader);
     let mut out = [0; 2];
-    assert_eq!(rt; source.next(&mut out[..1]), Next::More);
-    assert_eq!(rt; out, [7, 0]);
-    assert_eq!(rt; source.next(&mut out), Next::Bad);
-    assert_eq!(rt; source.next(&mut out[..1]), Next::End);
-    assert_eq!(rt; source.next(&mut out), Next::End);
+    same!(rt; source.next(&mut out[..1]), Next::More);
+    same!(rt; out, [7, 0]);
+    same!(rt; source.next(&mut out), Next::Bad);
+    let mut one = [0];
+    same!(rt; source.next(&mut one), Next::End);
+    same!(rt; source.next(&mut out), Next::End);
     Ok(())
 }
 
@@ -53,8 +53,8 @@ fn a_device_without_memory_hands_its_source_back(rt: HostRuntime) -> Result<(), 
     };
     let mut source = refused.source;
     source.next(&mut out);
-    assert_eq!(rt; out, [1]);
+    same!(rt; out, [1]);
     budget.allow(1);
-    assert!(rt; Device::new(&budget, source, 16).is_ok());
+    holds!(rt; Device::new(&budget, source, 16).is_ok());
     Ok(())
 }

@@ -1,14 +1,21 @@
 //! What a tick does to a queue, and which sequence a frame has.
 
-use crate::common::{Listed, one, round};
+ghost use Rattle.std.specs.Prelude.{◌≡◌};
+ghost use Rattle.std.specs.Arc.{arc_value};
+ghost use Rattle.loop_pages.specs.Place.{IsIdle};
+
+use self::Step::{Starts, Stops, Takes, Ticks};
+use crate::common::{Frame, Listed, one, round};
+use crate::told::{holds, same};
 use loop_capture::{Device, FrameSource, Next, Pattern, Tick, Y4mSource};
-use loop_pages::PageLedger;
+use loop_pages::{PageLedger, PageSeat};
 use loop_plane::{Memory, MmapPlane};
 use loop_record::PixelFormat;
 use loop_vb2::{PlaneSet, Planes, Queue};
 use loop_y4m::Y4mReader;
-use std::alloc::Global;
+use std::alloc::{AllocError, Global};
 use std::process::Abort;
+use std::sync::Arc;
 use std::test::Fail;
 
 /// Two frames of 4 by 2 but for the last byte of the second: byte i of frame n is n + i.
@@ -16,20 +23,97 @@ const CUT: &[u8; 74] = b"YUV4MPEG2 W4 H2 F25:1 Ip A0:0 C420jpeg\nFRAME\n\
     \x00\x01\x02\x03\x04\x05\x06\x07\x08\x09\x0A\x0BFRAME\n\
     \x01\x02\x03\x04\x05\x06\x07\x08\x09\x0A\x0B";
 
-// A queue with one buffer of a Grey frame of one pixel.
-fn one_pixel(rt: &impl Abort, alloc: Global) -> Result<Queue<MmapPlane>, Fail> {
-    let (ledger, seat) = PageLedger::new(alloc, 1)?;
-    let Ok(hold) = PageLedger::claim(alloc, &ledger, seat, 1) else {
+/// What a device and its queue are made to do, with the answer.
+#[derive(Clone, Copy)]
+enum Step {
+    /// A tick at this time.
+    Ticks(u64, Tick),
+    /// A frame is dequeued, and its buffer queued again.
+    Takes(Option<Frame>),
+    /// The one buffer is queued, and streaming goes on.
+    Starts,
+    /// Streaming stops.
+    Stops,
+}
+
+// Does one step.
+fn does<S: FrameSource>(
+    rt: &impl Abort,
+    device: &mut Device<S>,
+    queue: &mut Queue<MmapPlane>,
+    step: &Step,
+    place: usize,
+) {
+    match step {
+        Ticks(time, want) => same!(rt; device.tick(queue, *time), *want, place),
+        Takes(want) => same!(rt; round(queue), *want, place),
+        Starts => starts(rt, queue),
+        Stops => {
+            queue.stream_off();
+        }
+    }
+}
+
+// Queues the one buffer, and starts streaming.
+fn starts(rt: &impl Abort, queue: &mut Queue<MmapPlane>) {
+    holds!(rt; queue.queue(0, Memory::Mmap, None).is_ok() && queue.stream_on().is_ok());
+}
+
+// Does a list of steps.
+fn plays<S: FrameSource>(
+    rt: &impl Abort,
+    device: &mut Device<S>,
+    queue: &mut Queue<MmapPlane>,
+    steps: &[Step],
+) {
+    for (place, step) in steps.iter().enumerate() {
+        does(rt, device, queue, step, place);
+    }
+}
+
+// A plane of one page.
+fn plane(alloc: Global, ledger: &Arc<PageLedger>, seat: PageSeat) -> Result<MmapPlane, Fail>
+    requires { IsIdle (arc_value ledger.now) seat }
+{
+    let Ok(hold) = PageLedger::claim(alloc, ledger, seat, 1) else {
         return Err("a page".into());
     };
     let Ok(plane) = MmapPlane::new(alloc, hold) else {
         return Err("memory for a plane".into());
     };
+    Ok(plane)
+}
+
+// Gives a queue the one buffer of a set of planes.
+fn requests(
+    rt: &impl Abort,
+    alloc: Global,
+    queue: &mut Queue<MmapPlane>,
+    set: PlaneSet<MmapPlane>,
+) -> Result<(), AllocError> {
     let mut supply = Vec::new(alloc);
-    supply.push(one(plane))?;
+    supply.push(set)?;
+    holds!(rt; queue.request(1, Memory::Mmap, supply).is_ok());
+    Ok(())
+}
+
+// A queue with one buffer of a Grey frame of one pixel.
+fn one_pixel(rt: &impl Abort, alloc: Global) -> Result<Queue<MmapPlane>, Fail> {
+    let (ledger, seat) = PageLedger::new(alloc, 1)?;
+    let plane = plane(alloc, &ledger, seat)?;
     let mut queue: Queue<MmapPlane> = Queue::new(alloc, PixelFormat::Grey, 1, 1, 1);
-    assert!(rt; queue.request(1, Memory::Mmap, supply).is_ok());
+    requests(rt, alloc, &mut queue, one(plane))?;
     Ok(queue)
+}
+
+// What a device of two bytes answers where frames have one.
+fn is_too_wide(
+    rt: &impl Abort,
+    wide: &mut Device<Pattern>,
+    queue: &mut Queue<MmapPlane>,
+    time: u64,
+) {
+    same!(rt; wide.tick(queue, time), Tick::WrongSize, time);
 }
 
 #[test]
@@ -43,24 +127,30 @@ fn frames_are_numbered_from_the_start_on_and_those_without_a_buffer_are_missed(
         Device::new(alloc, source, 1),
         Device::new(alloc, Pattern::new(), 2),
     ) else {
-        panic!(rt; "memory for a frame")
+        return Err("memory for a frame".into());
     };
 
-    assert_eq!(rt; wide.tick(&mut queue, 1), Tick::WrongSize);
-    assert_eq!(rt; device.tick(&mut queue, 2), Tick::Idle);
-    assert!(rt; queue.queue(0, Memory::Mmap, None).is_ok() && queue.stream_on().is_ok());
-    assert_eq!(rt; wide.tick(&mut queue, 3), Tick::WrongSize);
-    assert_eq!(rt; device.tick(&mut queue, 10), Tick::Completed(0));
-    assert_eq!(rt; device.tick(&mut queue, 20), Tick::Missed);
-    assert_eq!(rt; round(&mut queue), Some((0, 0, 10, 0x2000, 0)));
-    assert_eq!(rt; device.tick(&mut queue, 30), Tick::Completed(0));
-    assert_eq!(rt; round(&mut queue), Some((0, 2, 30, 0x2000, 2)));
-
-    queue.stream_off();
-    assert_eq!(rt; device.tick(&mut queue, 40), Tick::Idle);
-    assert!(rt; queue.queue(0, Memory::Mmap, None).is_ok() && queue.stream_on().is_ok());
-    assert_eq!(rt; device.tick(&mut queue, 50), Tick::Completed(0));
-    assert_eq!(rt; round(&mut queue), Some((0, 0, 50, 0x2000, 3)));
+    is_too_wide(&rt, &mut wide, &mut queue, 1);
+    plays(
+        &rt,
+        &mut device,
+        &mut queue,
+        &[Ticks(2, Tick::Idle), Starts],
+    );
+    is_too_wide(&rt, &mut wide, &mut queue, 3);
+    let steps = [
+        Ticks(10, Tick::Completed(0)),
+        Ticks(20, Tick::Missed),
+        Takes(Some((0, 0, 10, 0x2000, 0))),
+        Ticks(30, Tick::Completed(0)),
+        Takes(Some((0, 2, 30, 0x2000, 2))),
+        Stops,
+        Ticks(40, Tick::Idle),
+        Starts,
+        Ticks(50, Tick::Completed(0)),
+        Takes(Some((0, 0, 50, 0x2000, 3))),
+    ];
+    plays(&rt, &mut device, &mut queue, &steps);
     Ok(())
 }
 
@@ -70,18 +160,21 @@ fn a_bad_frame_takes_a_number_and_an_end_takes_none(rt: HostRuntime) -> Result<(
     let mut queue = one_pixel(&rt, alloc)?;
     let answers = [Next::Bad, Next::End, Next::More, Next::Bad, Next::More];
     let Ok(mut device) = Device::new(alloc, Listed { answers, calls: 0 }, 1) else {
-        panic!(rt; "memory for a frame")
+        return Err("memory for a frame".into());
     };
-    assert!(rt; queue.queue(0, Memory::Mmap, None).is_ok() && queue.stream_on().is_ok());
-    assert_eq!(rt; device.tick(&mut queue, 60), Tick::Failed(0));
-    assert_eq!(rt; round(&mut queue), Some((0, 0, 60, 0x2040, 0xFF)));
-    assert_eq!(rt; device.tick(&mut queue, 70), Tick::Ended);
-    assert_eq!(rt; device.tick(&mut queue, 80), Tick::Completed(0));
-    assert_eq!(rt; device.tick(&mut queue, 90), Tick::Missed);
-    assert_eq!(rt; round(&mut queue), Some((0, 1, 80, 0x2000, 2)));
-    assert_eq!(rt; device.tick(&mut queue, 100), Tick::Completed(0));
-    assert_eq!(rt; round(&mut queue), Some((0, 3, 100, 0x2000, 4)));
-    assert_eq!(rt; device.tick(&mut queue, 110), Tick::Ended);
+    let steps = [
+        Starts,
+        Ticks(60, Tick::Failed(0)),
+        Takes(Some((0, 0, 60, 0x2040, 0xFF))),
+        Ticks(70, Tick::Ended),
+        Ticks(80, Tick::Completed(0)),
+        Ticks(90, Tick::Missed),
+        Takes(Some((0, 1, 80, 0x2000, 2))),
+        Ticks(100, Tick::Completed(0)),
+        Takes(Some((0, 3, 100, 0x2000, 4))),
+        Ticks(110, Tick::Ended),
+    ];
+    plays(&rt, &mut device, &mut queue, &steps);
     Ok(())
 }
 
@@ -90,57 +183,54 @@ fn three_planes(rt: &impl Abort, alloc: Global) -> Result<Queue<MmapPlane>, Fail
     let (ledger, seat) = PageLedger::new(alloc, 3)?;
     let (first, rest) = ledger.split(seat);
     let (second, third) = ledger.split(rest);
-    let (Ok(y), Ok(cb), Ok(cr)) = (
-        PageLedger::claim(alloc, &ledger, first, 1),
-        PageLedger::claim(alloc, &ledger, second, 1),
-        PageLedger::claim(alloc, &ledger, third, 1),
-    ) else {
-        return Err("three pages".into());
-    };
-    let (Ok(y), Ok(cb), Ok(cr)) = (
-        MmapPlane::new(alloc, y),
-        MmapPlane::new(alloc, cb),
-        MmapPlane::new(alloc, cr),
-    ) else {
-        return Err("memory for planes".into());
-    };
-    let mut supply = Vec::new(alloc);
-    supply.push(PlaneSet {
+    let set = PlaneSet {
         count: 3,
         planes: Planes {
-            y: Some(y),
-            cb: Some(cb),
-            cr: Some(cr),
+            y: Some(plane(alloc, &ledger, first)?),
+            cb: Some(plane(alloc, &ledger, second)?),
+            cr: Some(plane(alloc, &ledger, third)?),
         },
         fds: [0; 3],
-    })?;
+    };
     let mut queue: Queue<MmapPlane> = Queue::new(alloc, PixelFormat::Ym12, 4, 2, 1);
-    assert!(rt; queue.request(1, Memory::Mmap, supply).is_ok());
+    requests(rt, alloc, &mut queue, set)?;
     Ok(queue)
+}
+
+// Dequeues the frame, of which each of these planes begins with these bytes. Its buffer is queued again.
+fn copies(rt: &impl Abort, queue: &mut Queue<MmapPlane>, planes: &[(u32, [u8; 2])]) {
+    holds!(rt; queue.dequeue().is_ok());
+    for (plane, want) in planes {
+        let mut out = [0xFF; 2];
+        holds!(rt; queue.copy_plane(0, *plane, 0, &mut out).is_ok(), *plane);
+        same!(rt; out, *want, *plane);
+    }
+    holds!(rt; queue.queue(0, Memory::Mmap, None).is_ok());
 }
 
 #[test]
 fn a_cut_frame_gives_an_error_buffer_and_then_the_end(rt: HostRuntime) -> Result<(), Fail> {
     let alloc = rt.alloc();
     let mut queue = three_planes(&rt, alloc)?;
-    assert!(rt; queue.queue(0, Memory::Mmap, None).is_ok() && queue.stream_on().is_ok());
     let Ok(reader) = Y4mReader::open(CUT.as_slice()) else {
-        panic!(rt; "a header")
+        return Err("a header".into());
     };
     let Ok(mut device) = Device::new(alloc, Y4mSource::new(reader), 12) else {
-        panic!(rt; "memory for a frame")
+        return Err("memory for a frame".into());
     };
-    assert_eq!(rt; device.tick(&mut queue, 40), Tick::Completed(0));
-    let mut planes = [[0xFF; 2]; 3];
-    assert!(rt; queue.dequeue().is_ok());
-    for (plane, out) in planes.iter_mut().enumerate() {
-        assert!(rt; queue.copy_plane(0, plane as u32, 0, out).is_ok());
-    }
-    assert_eq!(rt; planes, [[0, 1], [8, 9], [10, 11]]);
-    assert!(rt; queue.queue(0, Memory::Mmap, None).is_ok());
-    assert_eq!(rt; device.tick(&mut queue, 80), Tick::Failed(0));
-    assert_eq!(rt; round(&mut queue), Some((0, 1, 80, 0x2040, 0xFF)));
-    assert_eq!(rt; device.tick(&mut queue, 120), Tick::Ended);
-    assert_eq!(rt; device.tick(&mut queue, 160), Tick::Ended);
+    plays(
+        &rt,
+        &mut device,
+        &mut queue,
+        &[Starts, Ticks(40, Tick::Completed(0))],
+    );
+    copies(&rt, &mut queue, &[(0, [0, 1]), (1, [8, 9]), (2, [10, 11])]);
+    let steps = [
+        Ticks(80, Tick::Failed(0)),
+        Takes(Some((0, 1, 80, 0x2040, 0xFF))),
+        Ticks(120, Tick::Ended),
+        Ticks(160, Tick::Ended),
+    ];
+    plays(&rt, &mut device, &mut queue, &steps);
     Ok(())
 }
