@@ -1,0 +1,183 @@
+//! Each call of the disk fails: once, torn or not, or from a moment on.
+
+use crate::acts::{Act, does, frames_of};
+use crate::case::{Case, Moment, close};
+use crate::frames::{append_next, held, is_beginning, opened, read, refused};
+use anyhow::{Result, anyhow};
+use loop_disk::{Disk, DiskFault, FuseDisk, MemDisk, OnceDisk};
+use loop_store::{Command, Store, StoreFault};
+use std::alloc::Global;
+use std::io::Write;
+
+// The most calls of an opening and of what is done then.
+const MAX_CALLS: u64 = 1000;
+
+// How many bytes of a torn write are kept. Where nothing stands, the write isn't done.
+const KEEPS: [Option<usize>; 4] = [None, Some(0), Some(1), Some(20)];
+
+// A refusal has to be that of a store that has to be opened again.
+fn must<T: Drop>(answer: Result<T, StoreFault>) -> Result<()> {
+    match answer {
+        Err(StoreFault::MustReopen) => Ok(()),
+        _ => Err(anyhow!("it isn't refused until it is opened again")),
+    }
+}
+
+// Each call of a store that has to be opened again is refused, but for those that tell what it knows.
+fn is_stopped<D: Disk + Drop>(alloc: Global, store: &mut Store<D>, next: u64) -> Result<()> {
+    must(append_next(alloc, store, 1, 0)?)?;
+    must(read(alloc, store, 0)?)?;
+    must(store.frames(alloc))?;
+    must(store.run(alloc, &[Command::Read(0)]))?;
+    must(store.lock(0, 0))?;
+    must(store.unlock(0))?;
+    must(store.clips(alloc))?;
+    if store.next() != next || !(next == 0 || store.holds(next.wrapping_sub(1))) {
+        return Err(anyhow!("it tells other numbers than before"));
+    }
+    Ok(())
+}
+
+// What was done of a list of acts: how many of them, and why no more.
+#[derive(Clone, Copy, PartialEq, Eq)]
+struct Done {
+    count: usize,
+    refused: Option<StoreFault>,
+}
+
+// Does acts until one is refused.
+fn does_some<D: Disk + Drop>(alloc: Global, store: &mut Store<D>, acts: &[Act]) -> Result<Done> {
+    let mut count = 0usize;
+    for act in acts {
+        let next = store.next();
+        if let Err(fault) = does(alloc, store, *act, 0)? {
+            is_stopped(alloc, store, next)?;
+            return Ok(Done {
+                count,
+                refused: Some(fault),
+            });
+        }
+        count = count.wrapping_add(1);
+    }
+    Ok(Done {
+        count,
+        refused: None,
+    })
+}
+
+// Opens a disk and does acts, until a call is refused.
+fn tried<D: Disk + Drop>(alloc: Global, disk: D, acts: &[Act]) -> Result<(Done, D)> {
+    match Store::open(alloc, disk) {
+        Ok(mut store) => {
+            let done = does_some(alloc, &mut store, acts)?;
+            Ok((done, store.into_disk()))
+        }
+        Err(refused) => {
+            let done = Done {
+                count: 0,
+                refused: Some(refused.fault),
+            };
+            Ok((done, refused.disk))
+        }
+    }
+}
+
+// Whether a store may show what was shown at a moment, or at the next one where the act between them was refused, or after a
+// beginning of its steps.
+fn is_left(case: &Case, store: &Store<MemDisk>, done: &Done, found: &[u64]) -> Result<bool> {
+    let clips = store.clips(case.alloc).map_err(refused)?;
+    let is_of = |moment: &Moment| *moment.clips.as_slice() == *clips.as_slice();
+    let Some(before) = case.moments.get(done.count) else {
+        return Ok(false);
+    };
+    let next = case.moments.get(done.count.wrapping_add(1));
+    Ok(match (next, case.acts.get(done.count)) {
+        (Some(after), Some(act)) => {
+            is_beginning(found, &before.frames, &after.frames, frames_of(*act))
+                && (is_of(before) || is_of(after))
+        }
+        _ => *found == *before.frames.as_slice() && is_of(before),
+    })
+}
+
+// Opens what is left, stores a frame in a second attempt, and opens it again. What was given up doesn't come back.
+fn reopens(case: &Case, disk: MemDisk, done: &Done) -> Result<()> {
+    let alloc = case.alloc;
+    let mut store = opened(alloc, disk)?;
+    let found = held(alloc, &mut store, u64::MAX)?;
+    if !is_left(case, &store, done, &found)? {
+        return Err(anyhow!("{found:?} are held"));
+    }
+    let next = store.next();
+    append_next(alloc, &mut store, 1, 1)?.map_err(refused)?;
+    let mut store = opened(alloc, store.into_disk())?;
+    let shown = held(alloc, &mut store, next)?;
+    if shown.last().copied() == Some(next) {
+        Ok(())
+    } else {
+        Err(anyhow!("{next} isn't the last of {shown:?}"))
+    }
+}
+
+// The image when it was opened.
+fn base(case: &Case) -> Result<MemDisk> {
+    Ok(MemDisk::of(case.base.clone()?))
+}
+
+// Fails one call, a write torn after some bytes of it or left out.
+fn fails_once(case: &Case, call: u64, keep: Option<usize>) -> Result<Done> {
+    let disk = match keep {
+        Some(keep) => OnceDisk::torn(base(case)?, call, keep),
+        None => OnceDisk::new(base(case)?, call),
+    };
+    let (done, disk) = tried(case.alloc, disk, &case.acts)?;
+    reopens(case, disk.into_inner(), &done)?;
+    Ok(done)
+}
+
+// Fails the calls from one on.
+fn fails_from(case: &Case, call: u64) -> Result<Done> {
+    let disk = FuseDisk::new(base(case)?, call);
+    let (done, disk) = tried(case.alloc, disk, &case.acts)?;
+    if disk.left != 0 {
+        return Err(anyhow!("more calls were expected"));
+    }
+    reopens(case, disk.into_inner(), &done)?;
+    Ok(done)
+}
+
+// Fails a call in each way. All are refused alike.
+fn fails_at(case: &Case, call: u64) -> Result<Option<StoreFault>> {
+    let done = fails_from(case, call)?;
+    for keep in KEEPS {
+        if fails_once(case, call, keep)? != done {
+            return Err(anyhow!("failing once isn't refused as failing from then on"));
+        }
+    }
+    Ok(done.refused)
+}
+
+// The letter of a call that failed: sync, read or write.
+fn letter(fault: StoreFault) -> u8 {
+    match fault {
+        StoreFault::Disk(DiskFault::Read) => b'r',
+        StoreFault::Disk(DiskFault::Write) => b'w',
+        StoreFault::Disk(DiskFault::Sync) => b's',
+        _ => b'?',
+    }
+}
+
+/// `fails`: fails each call of the opening and of what was done since, up to one that isn't made any more. The letters of the
+/// calls that failed, and that each left a beginning.
+pub(crate) fn fails(case: &mut Case, told: &mut Vec<u8>) -> Result<()> {
+    close(case)?;
+    for call in 0..MAX_CALLS {
+        match fails_at(case, call) {
+            Err(error) => return Err(anyhow!(", and at call {call}: {error}")),
+            Ok(None) => break,
+            Ok(Some(fault)) => told.push(letter(fault))?,
+        }
+    }
+    told.write_all(b", and each leaves a beginning")?;
+    Ok(())
+}

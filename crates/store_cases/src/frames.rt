@@ -1,0 +1,200 @@
+//! Frames of a pattern, and calls of a store that see to what these ask for first.
+
+ghost use Rattle.std.specs.Prelude.{◌≡◌, All, IsTrue, length};
+
+use anyhow::{Error, Result, anyhow};
+use loop_disk::Disk;
+use loop_record::{Frame, FrameHead};
+use loop_store::{Store, StoreFault};
+use std::alloc::{AllocError, Global};
+
+/// A refusal that isn't expected.
+pub(crate) fn refused(fault: StoreFault) -> Error {
+    let name = fault.name();
+    anyhow!("refused {name}")
+}
+
+/// The frame that is stored under a number at an attempt at it, 0 being the first: byte i is the number + i,
+/// and 100 more for each later attempt.
+pub(crate) fn frame(
+    alloc: Global,
+    size: usize,
+    number: u64,
+    attempt: u64,
+) -> Result<Frame, AllocError> {
+    let n = number.wrapping_add(attempt.wrapping_mul(100)) % 256;
+    let mut bytes = vec![in alloc; 0; size]?;
+    let mut next = n as u8;
+    for byte in bytes.iter_mut() {
+        *byte = next;
+        next = next.wrapping_add(1);
+    }
+    Ok(Frame {
+        sequence: n as u32,
+        flags: 0x2000,
+        timestamp: n * 40_000,
+        bytes,
+    })
+}
+
+// So many frames from a number on, of this attempt at their numbers.
+fn group(
+    alloc: Global,
+    size: usize,
+    number: u64,
+    count: u64,
+    attempt: u64,
+) -> Result<Vec<Frame>, AllocError> {
+    let mut frames = Vec::new(alloc);
+    for i in 0..count {
+        frames.push(frame(alloc, size, number.wrapping_add(i), attempt)?)?;
+    }
+    Ok(frames)
+}
+
+// Whether each frame has so many bytes.
+fn have_size(frames: &[Frame], size: usize) -> bool
+    ensures { IsTrue result → All (λ frame. length frame.bytes.items ≡ size) frames.now }
+{
+    frames.iter().all(|frame| frame.bytes.len() == size)
+}
+
+/// The bytes of a store's frames.
+pub(crate) fn size_of_frames<D: Disk + Drop>(store: &Store<D>) -> usize {
+    let geometry = store.geometry();
+    geometry.frame_bytes() as usize
+}
+
+/// Appends so many frames, of this attempt at their numbers.
+pub(crate) fn append_next<D: Disk + Drop>(
+    alloc: Global,
+    store: &mut Store<D>,
+    count: u64,
+    attempt: u64,
+) -> Result<Result<u64, StoreFault>> {
+    let size = store.geometry().frame_bytes() as usize;
+    let frames = group(alloc, size, store.next(), count, attempt)?;
+    if frames.is_empty() || frames.len() > 8 || frames.len() > store.room() as usize {
+        return Err(anyhow!("the group doesn't fit"));
+    }
+    if !have_size(&frames, size) {
+        return Err(anyhow!("a frame of another size"));
+    }
+    Ok(store.append(&frames))
+}
+
+/// Reads the frame of a number, if it is held: its head, and its bytes.
+pub(crate) fn read<D: Disk + Drop>(
+    alloc: Global,
+    store: &mut Store<D>,
+    number: u64,
+) -> Result<Result<(FrameHead, Vec<u8>), StoreFault>, AllocError> {
+    let size = store.geometry().frame_bytes() as usize;
+    let mut out = vec![in alloc; 0; size]?;
+    Ok(match store.read(number, &mut out) {
+        Ok(head) => Ok((head, out)),
+        Err(fault) => Err(fault),
+    })
+}
+
+/// Whether a frame that was read is the one of a number, and of this attempt at it.
+pub(crate) fn is_frame(
+    alloc: Global,
+    head: &FrameHead,
+    bytes: &[u8],
+    number: u64,
+    attempt: u64,
+) -> Result<bool, AllocError> {
+    let expected = frame(alloc, bytes.len(), number, attempt)?;
+    Ok(
+        head.number == number
+            && head.sequence == expected.sequence
+            && head.flags == expected.flags
+            && head.timestamp == expected.timestamp
+            && *bytes == *expected.bytes.as_slice(),
+    )
+}
+
+/// Reads the frame of a number, which is to be of this attempt at it.
+pub(crate) fn read_whole<D: Disk + Drop>(
+    alloc: Global,
+    store: &mut Store<D>,
+    number: u64,
+    attempt: u64,
+) -> Result<Result<(), StoreFault>> {
+    match read(alloc, store, number)? {
+        Err(fault) => Ok(Err(fault)),
+        Ok((head, bytes)) => {
+            if is_frame(alloc, &head, &bytes, number, attempt)? {
+                Ok(Ok(()))
+            } else {
+                Err(anyhow!("frame {number} isn't what was stored"))
+            }
+        }
+    }
+}
+
+// The frame of a number isn't held.
+fn lacks<D: Disk + Drop>(alloc: Global, store: &mut Store<D>, number: u64) -> Result<()> {
+    if store.holds(number) {
+        return Err(anyhow!("{number} is held"));
+    }
+    match read(alloc, store, number)? {
+        Err(StoreFault::NotHeld) => Ok(()),
+        _ => Err(anyhow!("{number} is read")),
+    }
+}
+
+// Each frame is held and whole: below the number `again` it is of the first attempt, and of the second from there on.
+fn are_whole<D: Disk + Drop>(
+    alloc: Global,
+    store: &mut Store<D>,
+    numbers: &[u64],
+    again: u64,
+) -> Result<()> {
+    for number in numbers {
+        if !store.holds(*number) {
+            return Err(anyhow!("{number} is listed and not held"));
+        }
+        let attempt = u64::from(again <= *number);
+        read_whole(alloc, store, *number, attempt)?.map_err(refused)?;
+    }
+    Ok(())
+}
+
+/// The numbers of the held frames. Each is read, and is whole: below the number `again` it is of the first
+/// attempt, and of the second from there on. The next number isn't held, nor is the one before the first, and
+/// `next` is the number behind the last.
+pub(crate) fn held<D: Disk + Drop>(
+    alloc: Global,
+    store: &mut Store<D>,
+    again: u64,
+) -> Result<Vec<u64>> {
+    let numbers = store.frames(alloc).map_err(refused)?;
+    are_whole(alloc, store, &numbers, again)?;
+    let next = numbers.last().map_or(0, |last| last.wrapping_add(1));
+    if store.next() != next {
+        return Err(anyhow!("the next number isn't {next}"));
+    }
+    let before = numbers.first().map_or(next, |first| first.wrapping_sub(1));
+    lacks(alloc, store, next)?;
+    lacks(alloc, store, before)?;
+    Ok(numbers)
+}
+
+/// Whether frames are those from before an append of so many, or those after it or after a beginning of its steps.
+pub(crate) fn is_beginning(found: &[u64], before: &[u64], after: &[u64], count: u64) -> bool {
+    let most = found.len().saturating_add(count as usize);
+    *found == *before || (most >= after.len() && after.starts_with(found))
+}
+
+/// The store of a disk that has a recording.
+pub(crate) fn opened<D: Disk + Drop>(alloc: Global, disk: D) -> Result<Store<D>> {
+    match Store::open(alloc, disk) {
+        Ok(store) => Ok(store),
+        Err(refused) => {
+            let fault = refused.fault;
+            Err(anyhow!("{fault:?}"))
+        }
+    }
+}

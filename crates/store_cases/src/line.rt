@@ -1,0 +1,237 @@
+//! Lines that ask the store. Each is asked twice: of the store that is open, and of one that is opened anew for it; both
+//! answer the same and leave the same bytes.
+
+use crate::acts::{Act, does, print_answer};
+use crate::case::{self, Case, CaseStore, Moment};
+use crate::counted::Counted;
+use crate::frames::{held, opened, read, refused};
+use crate::text::{print_bytes, print_clips, print_numbers};
+use crate::words::number;
+use crate::{acts, words};
+use anyhow::{Result, anyhow};
+use loop_disk::{MemDisk, OnceDisk};
+use std::alloc::Global;
+use std::cell::Cell;
+use std::io::Write;
+use std::str::SplitWhitespace;
+
+// What a line asks.
+#[derive(Clone, Copy)]
+enum Ask {
+    Frames,
+    Clips,
+    Victim,
+    Act(Act),
+}
+
+// Opens an image on a disk of which this call fails.
+fn open_image<'a>(
+    alloc: Global,
+    calls: &'a Cell<u64>,
+    image: Vec<u8>,
+    fails: u64,
+) -> Result<CaseStore<'a>> {
+    calls.set(0);
+    let inner = OnceDisk::new(MemDisk::of(image), fails);
+    opened(alloc, Counted { inner, calls })
+}
+
+// The numbers of the held frames. To read each takes two calls of the disk, and nothing else takes one.
+fn shown(alloc: Global, calls: &Cell<u64>, store: &mut CaseStore) -> Result<Vec<u64>> {
+    calls.set(0);
+    let numbers = held(alloc, store, u64::MAX)?;
+    if calls.get() != (numbers.len() as u64).wrapping_mul(2) {
+        return Err(anyhow!("to read a frame doesn't take two calls"));
+    }
+    Ok(numbers)
+}
+
+// Prints the frames that are held.
+fn print_shown(
+    alloc: Global,
+    calls: &Cell<u64>,
+    store: &mut CaseStore,
+    told: &mut Vec<u8>,
+) -> Result<()> {
+    let numbers = shown(alloc, calls, store)?;
+    told.write_all(b"holds")?;
+    print_numbers(told, &numbers)?;
+    Ok(())
+}
+
+// Does an act. Answers how many calls of the disk it took, and whether it was done.
+fn tell_act(
+    alloc: Global,
+    calls: &Cell<u64>,
+    store: &mut CaseStore,
+    act: Act,
+    told: &mut Vec<u8>,
+) -> Result<(u64, bool)> {
+    calls.set(0);
+    let answer = does(alloc, store, act, 0)?;
+    let count = calls.get();
+    let is_done = answer.is_ok();
+    print_answer(told, act, answer)?;
+    write!(told, " in {count} calls")?;
+    if acts::frames_of(act) > 0 {
+        told.write_all(b", ")?;
+        print_shown(alloc, calls, store, told)?;
+    }
+    Ok((count, is_done))
+}
+
+// Answers what a line asks. Tells of an act how many calls it took, and whether it was done.
+fn tell(
+    alloc: Global,
+    calls: &Cell<u64>,
+    store: &mut CaseStore,
+    ask: Ask,
+    told: &mut Vec<u8>,
+) -> Result<(u64, bool)> {
+    match ask {
+        Ask::Act(act) => return tell_act(alloc, calls, store, act, told),
+        Ask::Frames => print_shown(alloc, calls, store, told)?,
+        Ask::Clips => {
+            told.write_all(b"has")?;
+            print_clips(told, &store.clips(alloc).map_err(refused)?)?;
+        }
+        Ask::Victim => {
+            calls.set(0);
+            match store.victim() {
+                Some(block) => write!(told, "block {block}")?,
+                None => told.write_all(b"none")?,
+            }
+            let count = calls.get();
+            write!(told, " in {count} calls")?;
+        }
+    }
+    Ok((0, false))
+}
+
+// Asks a store that is opened anew, which has to answer the same.
+fn ask_anew(case: &mut Case, ask: Ask, told: &[u8]) -> Result<()> {
+    let mut again = Vec::new(case.alloc);
+    let image = case.image.clone()?;
+    let mut store = open_image(case.alloc, case.calls, image, u64::MAX)?;
+    tell(case.alloc, case.calls, &mut store, ask, &mut again)?;
+    case.image = store
+        .into_disk()
+        .inner
+        .into_inner()
+        .bytes()
+        .to_vec(case.alloc)?;
+    if *again.as_slice() == *told {
+        return Ok(());
+    }
+    Err(anyhow!(", and another answer where it is opened before"))
+}
+
+// Asks the store, and another one that is opened anew.
+fn asks(case: &mut Case, ask: Ask, told: &mut Vec<u8>) -> Result<(u64, bool)> {
+    let Some(store) = &mut case.store else {
+        return Err(anyhow!("no store is open"));
+    };
+    let done = tell(case.alloc, case.calls, store, ask, told)?;
+    if !case.is_failing {
+        ask_anew(case, ask, told)?;
+    }
+    Ok(done)
+}
+
+// Remembers what is shown after so many more calls.
+fn remember(case: &mut Case, calls: u64) -> Result<()> {
+    let Some(store) = &mut case.store else {
+        return Err(anyhow!("no store is open"));
+    };
+    let last = case.moments.last().map_or(0, |moment| moment.at);
+    let frames = held(case.alloc, store, u64::MAX)?;
+    let clips = store.clips(case.alloc).map_err(refused)?;
+    case.moments.push(Moment {
+        at: last.wrapping_add(calls as usize),
+        frames,
+        clips,
+    })?;
+    Ok(())
+}
+
+/// `open`, or `open failing CALL`: opens the image, in so many calls of the disk.
+pub(crate) fn open(case: &mut Case, words: &mut SplitWhitespace, told: &mut Vec<u8>) -> Result<()> {
+    case::close(case)?;
+    let fails = match words.next() {
+        Some(_) => number(words)?,
+        None => u64::MAX,
+    };
+    case.base = case.image.clone()?;
+    let store = open_image(case.alloc, case.calls, case.image.clone()?, u64::MAX)?;
+    case.image = store
+        .into_disk()
+        .inner
+        .into_inner()
+        .bytes()
+        .to_vec(case.alloc)?;
+    let store = open_image(case.alloc, case.calls, case.base.clone()?, fails)?;
+    let count = case.calls.get();
+    case.store = Some(store);
+    case.is_failing = fails < u64::MAX;
+    case.acts = Vec::new(case.alloc);
+    case.moments = Vec::new(case.alloc);
+    if !case.is_failing {
+        remember(case, count)?;
+    }
+    write!(told, "in {count} calls")?;
+    Ok(())
+}
+
+/// `close`: takes the disk out of the store.
+pub(crate) fn close(case: &mut Case, told: &mut Vec<u8>) -> Result<()> {
+    case::close(case)?;
+    told.write_all(b"the same bytes either way")?;
+    Ok(())
+}
+
+/// `frames`: those that are held. Each is read.
+pub(crate) fn frames(case: &mut Case, told: &mut Vec<u8>) -> Result<()> {
+    asks(case, Ask::Frames, told)?;
+    Ok(())
+}
+
+/// `clips`: each with its id.
+pub(crate) fn clips(case: &mut Case, told: &mut Vec<u8>) -> Result<()> {
+    asks(case, Ask::Clips, told)?;
+    Ok(())
+}
+
+/// `victim`: the block that would go next.
+pub(crate) fn victim(case: &mut Case, told: &mut Vec<u8>) -> Result<()> {
+    asks(case, Ask::Victim, told)?;
+    Ok(())
+}
+
+/// `look NUMBER COUNT`: the number and the sequence of a frame, and its first bytes.
+pub(crate) fn look(case: &mut Case, words: &mut SplitWhitespace, told: &mut Vec<u8>) -> Result<()> {
+    let Some(store) = &mut case.store else {
+        return Err(anyhow!("no store is open"));
+    };
+    let (number, count) = (words::number(words)?, words::number(words)?);
+    let (head, bytes) = read(case.alloc, store, number)?.map_err(refused)?;
+    let (number, sequence) = (head.number, head.sequence);
+    write!(told, "frame {number} of sequence {sequence}: ")?;
+    print_bytes(told, bytes.get(..count as usize).unwrap_or(&[]))?;
+    Ok(())
+}
+
+/// An act, as `append COUNT`, `lock FROM TO`, `unlock ID` or `read NUMBER`, and how many calls of the disk it takes.
+pub(crate) fn act(
+    case: &mut Case,
+    word: &str,
+    words: &mut SplitWhitespace,
+    told: &mut Vec<u8>,
+) -> Result<()> {
+    let act = acts::read_act(word, words)?;
+    let (calls, is_done) = asks(case, Ask::Act(act), told)?;
+    if is_done && acts::writes(act) && !case.is_failing {
+        case.acts.push(act)?;
+        remember(case, calls)?;
+    }
+    Ok(())
+}

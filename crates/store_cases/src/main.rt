@@ -1,0 +1,64 @@
+//! Cases of disks and stores, a line each, read from standard input. A line that begins with `#` and an empty one are
+//! printed as they stand. Of each other line what stands up to and with `=> ` is printed, and then the answer that comes
+//! of it, whatever stood behind: so what is read and what has to be printed is one text.
+//!
+//! - `words` reads the words of a line, `text` bytes that are written as text, and prints spans of numbers;
+//! - `counted` is a disk that counts its calls; `frames` has the frames, with the calls of a store that see to what
+//!   these ask for first, and `acts` what a store is asked for;
+//! - `case` is what a line finds and leaves: an image and the store over it; `image` changes the image, `line` asks
+//!   the store;
+//! - `list` does lists of commands, `make` formats, `stops` stops at each call with each spoilt content, `fails` fails
+//!   each call in turn;
+//! - `pile` is a disk that remembers, fails and reads ahead, without a store.
+#![tactic(auto)]
+
+mod acts;
+mod case;
+mod counted;
+mod fails;
+mod frames;
+mod image;
+mod line;
+mod list;
+mod make;
+mod pile;
+mod stops;
+mod text;
+mod words;
+
+use crate::case::Case;
+use anyhow::Result;
+use std::cell::Cell;
+use std::io::{BufRead, BufWriter, Write};
+
+// Answers a line, which is printed up to its arrow.
+fn answer<W: Write>(case: &mut Case, line: &str, out: &mut W) -> Result<()> {
+    let Some((asked, _)) = line.split_once("=> ") else {
+        writeln!(out, "{line}")?;
+        return Ok(());
+    };
+    let mut told = Vec::new(case.alloc);
+    if let Err(error) = case::run(case, asked, &mut told) {
+        write!(told, "{error}")?;
+    }
+    write!(out, "{asked}=> ")?;
+    out.write_all(&told)?;
+    writeln!(out)?;
+    Ok(())
+}
+
+fn main(rt: HostRuntime) -> Result<()> {
+    let calls = Cell::new(0);
+    let mut case = Case::new(rt.alloc(), &calls);
+    let mut out = BufWriter::new(rt.alloc(), rt.stdout())?;
+    for line in rt.reader().lines(rt.alloc()) {
+        let line = line?;
+        if line.is_empty() || line.starts_with("#") {
+            writeln!(out, "{line}")?;
+        } else {
+            answer(&mut case, &line, &mut out)?;
+        }
+    }
+    out.flush()?;
+    Ok(())
+}

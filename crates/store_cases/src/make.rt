@@ -1,0 +1,155 @@
+//! Formatting, and each stop of it.
+
+ghost use Rattle.std.specs.Prelude.{IsTrue};
+ghost use Rattle.loop_record.specs.Geometry.{is_good};
+
+use crate::case::{Case, close};
+use crate::counted::Counted;
+use crate::frames::held;
+use crate::image::{fresh, put};
+use crate::stops::{SPOILS, left_at};
+use crate::words::any_geometry;
+use anyhow::{Result, anyhow};
+use loop_disk::{CrashDisk, MemDisk, Spoil};
+use loop_record::Geometry;
+use loop_store::{Store, StoreFault};
+use std::alloc::Global;
+use std::cell::Cell;
+use std::io::Write;
+use std::str::SplitWhitespace;
+
+// The fresh image of a geometry, with the slots of another image.
+fn fresh_with_slots(alloc: Global, geometry: Geometry, old: &[u8]) -> Result<Vec<u8>>
+    requires { IsTrue (is_good geometry) }
+{
+    let mut image = fresh(alloc, geometry)?;
+    let size = (geometry.frame_bytes() as usize).wrapping_add(32);
+    let count = size.wrapping_mul(geometry.slots as usize);
+    for segment in 0..geometry.segments {
+        let at = (geometry.segment_at(segment) as usize).wrapping_add(512);
+        if let Some(slots) = old.get(at..at.saturating_add(count)) {
+            put(image.as_mut_slice(), at, slots);
+        }
+    }
+    Ok(image)
+}
+
+// What a format of the image has left: the superblock and no clip, closed segments, and all slots as they were.
+fn formatted(
+    case: &mut Case,
+    store: Store<Counted<MemDisk>>,
+    geometry: Geometry,
+    told: &mut Vec<u8>,
+) -> Result<()> {
+    let (found, next, room) = (store.geometry(), store.next(), store.room());
+    let expected = fresh_with_slots(case.alloc, found, &case.image)?;
+    let disk = store.into_disk().inner;
+    if found != geometry || *disk.bytes() != *expected.as_slice() {
+        return Err(anyhow!(", and other bytes than those of a fresh recording"));
+    }
+    case.image = expected;
+    write!(told, ", next {next}, room {room}")?;
+    Ok(())
+}
+
+/// `format GEOMETRY`
+pub(crate) fn format(
+    case: &mut Case,
+    words: &mut SplitWhitespace,
+    told: &mut Vec<u8>,
+) -> Result<()> {
+    close(case)?;
+    let geometry = any_geometry(words)?;
+    let calls: &Cell<u64> = case.calls;
+    calls.set(0);
+    let inner = MemDisk::of(case.image.clone()?);
+    match loop_store::format(case.alloc, Counted { inner, calls }, geometry) {
+        Ok(store) => {
+            let count = calls.get();
+            write!(told, "in {count} calls")?;
+            formatted(case, store, geometry, told)
+        }
+        Err(refused) => {
+            let (fault, count) = (refused.fault, calls.get());
+            if *refused.disk.inner.bytes() != *case.image.as_slice() {
+                return Err(anyhow!("{fault:?}, and it isn't handed back unchanged"));
+            }
+            write!(told, "{fault:?} in {count} calls, handed back")?;
+            Ok(())
+        }
+    }
+}
+
+// What a disk shows, or nothing where it isn't formatted.
+fn shown(alloc: Global, disk: MemDisk) -> Result<Option<Vec<u64>>> {
+    match Store::open(alloc, disk) {
+        Ok(mut store) => Ok(Some(held(alloc, &mut store, u64::MAX)?)),
+        Err(refused) => match refused.fault {
+            StoreFault::NotFormatted => Ok(None),
+            fault => Err(anyhow!("{fault:?}")),
+        },
+    }
+}
+
+// Formats the image on a disk that remembers its calls.
+fn recorded(case: &Case, geometry: Geometry) -> Result<CrashDisk> {
+    let disk = CrashDisk::of(case.alloc, case.image.clone()?)?;
+    match loop_store::format(case.alloc, disk, geometry) {
+        Ok(store) => Ok(store.into_disk()),
+        Err(refused) => {
+            let fault = refused.fault;
+            Err(anyhow!("{fault:?}"))
+        }
+    }
+}
+
+// Whether a stop behind so many of all calls may leave this: what isn't formatted, or what reads as before, or the empty
+// recording. This one only once the gate of the superblock is written, and always after the last call.
+fn is_left(
+    found: &Option<Vec<u64>>,
+    before: &Option<Vec<u64>>,
+    passed: usize,
+    calls: usize,
+) -> bool {
+    match found {
+        Some(numbers) if numbers.is_empty() => calls <= passed.wrapping_add(1),
+        Some(_) => passed < calls && *found == *before,
+        None => passed < calls,
+    }
+}
+
+// Stops behind so many calls, with each spoilt content.
+fn stops_at(
+    alloc: Global,
+    disk: &CrashDisk,
+    before: &Option<Vec<u64>>,
+    passed: usize,
+) -> Result<()> {
+    for spoil in SPOILS {
+        let found = shown(alloc, left_at(disk, passed, spoil)?)?;
+        if !is_left(&found, before, passed, disk.calls()) {
+            return Err(anyhow!("after {passed} calls, {spoil:?}: {found:?}"));
+        }
+    }
+    Ok(())
+}
+
+/// `format-stops GEOMETRY`: stops a format of the image after each of its calls, with each spoilt content.
+pub(crate) fn stops(
+    case: &mut Case,
+    words: &mut SplitWhitespace,
+    told: &mut Vec<u8>,
+) -> Result<()> {
+    close(case)?;
+    let disk = recorded(case, any_geometry(words)?)?;
+    let before = shown(case.alloc, left_at(&disk, 0, Spoil::Keep)?)?;
+    for passed in 0..=disk.calls() {
+        stops_at(case.alloc, &disk, &before, passed)?;
+    }
+    let calls = disk.calls();
+    write!(
+        told,
+        "{calls} calls, and each stop leaves none, the old or the empty one"
+    )?;
+    Ok(())
+}

@@ -1,0 +1,232 @@
+//! What stops leave: each moment of what was done since the opening, with the places that were written since the last
+//! sync as bad as a crash may make them, is opened, and goes on.
+
+use crate::acts::{Act, does, frames_of};
+use crate::case::{Case, Moment};
+use crate::frames::{append_next, frame, held, is_beginning, opened, refused, size_of_frames};
+use crate::list::run;
+use crate::text::print_numbers;
+use crate::words::{number, spoil};
+use anyhow::{Result, anyhow};
+use loop_disk::{CrashDisk, MemDisk, Spoil};
+use loop_store::{Clip, Command, Store};
+use std::alloc::Global;
+use std::io::Write;
+use std::str::SplitWhitespace;
+
+/// What crashes leave. Of the mixes, the second opens the gates of the first segment, of its first frame and of the
+/// first clip, the last that of the second clip, and the others that of a later frame.
+pub(crate) const SPOILS: [Spoil; 10] = [
+    Spoil::Keep,
+    Spoil::Old,
+    Spoil::Zero,
+    Spoil::Ones,
+    Spoil::Gate,
+    Spoil::Mix(0),
+    Spoil::Mix(165),
+    Spoil::Mix(254),
+    Spoil::Mix(87),
+    Spoil::Mix(197),
+];
+
+// Those of stops behind which a second attempt is made, and of its own stops.
+const AGAIN: [Spoil; 2] = [Spoil::Gate, Spoil::Mix(254)];
+
+/// The disk after a crash behind so many calls.
+pub(crate) fn left_at(disk: &CrashDisk, calls: usize, spoil: Spoil) -> Result<MemDisk> {
+    if calls > disk.calls() {
+        return Err(anyhow!("there aren't so many calls"));
+    }
+    Ok(disk.crash(calls, spoil)?)
+}
+
+// Does the acts, one by one.
+fn does_all(alloc: Global, store: &mut Store<CrashDisk>, acts: &[Act]) -> Result<()> {
+    for act in acts {
+        does(alloc, store, *act, 0)?.map_err(refused)?;
+    }
+    Ok(())
+}
+
+// Stores as many frames by one list of commands. Behind each, one is read that isn't there yet, without a call.
+fn stores_by_list(alloc: Global, store: &mut Store<CrashDisk>, count: usize) -> Result<()> {
+    let size = size_of_frames(store);
+    let mut number = store.next();
+    let mut commands = Vec::new(alloc);
+    for _ in 0..count {
+        commands.push(Command::Store(frame(alloc, size, number, 0)?))?;
+        number = number.wrapping_add(1);
+        commands.push(Command::Read(number))?;
+    }
+    run(alloc, store, &commands)?;
+    if store.next() == number {
+        Ok(())
+    } else {
+        Err(anyhow!("not all frames are stored"))
+    }
+}
+
+// A disk that has made the calls of the opening and of the acts since.
+fn recorded(case: &Case, by_list: bool) -> Result<CrashDisk> {
+    let disk = CrashDisk::of(case.alloc, case.base.clone()?)?;
+    let mut store = opened(case.alloc, disk)?;
+    if by_list {
+        stores_by_list(case.alloc, &mut store, case.acts.len())?;
+    } else {
+        does_all(case.alloc, &mut store, &case.acts)?;
+    }
+    let disk = store.into_disk();
+    let calls = case.moments.last().map_or(0, |moment| moment.at);
+    if disk.calls() == calls {
+        Ok(disk)
+    } else {
+        Err(anyhow!("there were {calls} calls before"))
+    }
+}
+
+// How many of the moments have come after so many calls, and at least one.
+fn count_passed(moments: &[Moment], calls: usize) -> usize {
+    let mut count = 0usize;
+    for moment in moments {
+        if moment.at <= calls {
+            count = count.wrapping_add(1);
+        }
+    }
+    count.max(1)
+}
+
+// Whether these clips are just those of a moment.
+fn has_clips(moment: &Moment, clips: &[Clip]) -> bool {
+    *moment.clips.as_slice() == *clips
+}
+
+// Whether a store may show this after so many calls. Where no act is under way, that is what was shown before. Else it is
+// that with a beginning of what the act does.
+fn may_show(case: &Case, calls: usize, frames: &[u64], clips: &[Clip]) -> bool {
+    let passed = count_passed(&case.moments, calls);
+    let last = passed.wrapping_sub(1);
+    let Some(before) = case.moments.get(last) else {
+        return false;
+    };
+    match (case.moments.get(passed), case.acts.get(last)) {
+        (Some(after), Some(act)) if before.at < calls => {
+            is_beginning(frames, &before.frames, &after.frames, frames_of(*act))
+                && (has_clips(before, clips) || has_clips(after, clips))
+        }
+        _ => *frames == *before.frames.as_slice() && has_clips(before, clips),
+    }
+}
+
+// After a stop in the second attempt the frames are those from before it or after it, and what was given up isn't back.
+fn is_again(alloc: Global, left: MemDisk, found: &[u64], after: &[u64]) -> Result<()> {
+    let mut store = opened(alloc, left)?;
+    let again = after.last().copied().unwrap_or(0);
+    let shown = held(alloc, &mut store, again)?;
+    if is_beginning(&shown, found, after, 1) {
+        Ok(())
+    } else {
+        Err(anyhow!("in a second attempt {shown:?}"))
+    }
+}
+
+// Opens what a stop in the second attempt left, at its last calls.
+fn stops_again(alloc: Global, disk: &CrashDisk, found: &[u64], after: &[u64]) -> Result<()> {
+    for calls in disk.calls().saturating_sub(8)..=disk.calls() {
+        for spoil in AGAIN {
+            is_again(alloc, left_at(disk, calls, spoil)?, found, after)?;
+        }
+    }
+    Ok(())
+}
+
+// Opens what a stop left on a disk that remembers its calls, and stores a frame in a second attempt, which is
+// stopped too.
+fn tries_again(alloc: Global, left: &[u8], found: &[u64]) -> Result<()> {
+    let disk = CrashDisk::of(alloc, left.to_vec(alloc)?)?;
+    let mut store = opened(alloc, disk)?;
+    let next = store.next();
+    append_next(alloc, &mut store, 1, 1)?.map_err(refused)?;
+    let after = held(alloc, &mut store, next)?;
+    stops_again(alloc, &store.into_disk(), found, &after)
+}
+
+// Opens what a stop behind so many calls leaves.
+fn stops_at(case: &Case, disk: &CrashDisk, calls: usize, spoil: Spoil) -> Result<()> {
+    let left = left_at(disk, calls, spoil)?;
+    let image = left.bytes().to_vec(case.alloc)?;
+    let mut store = opened(case.alloc, left)?;
+    let found = held(case.alloc, &mut store, u64::MAX)?;
+    let clips = store.clips(case.alloc).map_err(refused)?;
+    if !may_show(case, calls, &found, &clips) {
+        return Err(anyhow!("{found:?} are held"));
+    }
+    if !AGAIN.contains(&spoil) {
+        return Ok(());
+    }
+    tries_again(case.alloc, &image, &found)
+}
+
+// Opens what stops behind so many calls leave.
+fn stops_behind(case: &Case, disk: &CrashDisk, calls: usize) -> Result<()> {
+    for spoil in SPOILS {
+        if let Err(error) = stops_at(case, disk, calls, spoil) {
+            return Err(anyhow!("after {calls} calls, {spoil:?}: {error}"));
+        }
+    }
+    Ok(())
+}
+
+/// `stops`, or `stops of a list`: opens what each stop of what was done since the opening may leave. It is what was
+/// shown before or after the act that is stopped, or after a beginning of its steps, and goes on. The frames can be stored by
+/// one list of commands.
+pub(crate) fn stops(
+    case: &mut Case,
+    words: &mut SplitWhitespace,
+    told: &mut Vec<u8>,
+) -> Result<()> {
+    let disk = recorded(case, words.next().is_some())?;
+    for calls in 0..=disk.calls() {
+        stops_behind(case, &disk, calls)?;
+    }
+    let calls = disk.calls();
+    write!(told, "{calls} calls, and each stop leaves a beginning")?;
+    Ok(())
+}
+
+/// `stop CALLS SPOIL ..`: the frames that are held after a stop behind so many calls, with each of these spoilt contents.
+pub(crate) fn stop(case: &mut Case, words: &mut SplitWhitespace, told: &mut Vec<u8>) -> Result<()> {
+    let disk = recorded(case, false)?;
+    let calls = number(words)?;
+    told.write_all(b"holds")?;
+    for word in words {
+        let left = left_at(&disk, calls as usize, spoil(word)?)?;
+        let mut store = opened(case.alloc, left)?;
+        print_numbers(told, &held(case.alloc, &mut store, u64::MAX)?)?;
+    }
+    Ok(())
+}
+
+// How many clips stand where a crash leaves this byte in a place.
+fn clips_with(alloc: Global, disk: &CrashDisk, calls: usize, at: usize, byte: u8) -> Result<usize> {
+    // The mix has 167 * at more, which is a multiple of 256.
+    let left = left_at(disk, calls, Spoil::Mix(byte))?;
+    if left.bytes().get(at).copied() != Some(byte) {
+        return Err(anyhow!("it isn't {byte} that is left"));
+    }
+    let store = opened(alloc, left)?;
+    Ok(store.clips(alloc).map_err(refused)?.len())
+}
+
+/// `torn CALLS AT`: a stop behind so many calls leaves any byte in this place, a multiple of 256. With which of them a clip
+/// stands.
+pub(crate) fn torn(case: &mut Case, words: &mut SplitWhitespace, told: &mut Vec<u8>) -> Result<()> {
+    let disk = recorded(case, false)?;
+    let (calls, at) = (number(words)? as usize, number(words)? as usize);
+    told.write_all(b"of 256 bytes a clip stands with")?;
+    for byte in 0..=255u8 {
+        if clips_with(case.alloc, &disk, calls, at, byte)? > 0 {
+            write!(told, " {byte:02x}")?;
+        }
+    }
+    Ok(())
+}
