@@ -1,0 +1,200 @@
+// Frames of a camera that go through a queue of two buffers of mapped memory to the store in a file.
+use crate::memory::set_of;
+use crate::words::{number, open_file, path, refused};
+use anyhow::{Error, Result, anyhow};
+use loop_desk::{Desk, DeskLimits, Hand, Lane, LaneEvent, LaneFault, LaneReply, lane_run};
+use loop_disk::FileDisk;
+use loop_ioctl::{BufferMemory, BufferType, Ioctl, QueueEvent, QueueReply};
+use loop_pages::PageLedger;
+use loop_plane::{FdTable, Memory, MmapPlane, PAGE_BYTES};
+use loop_record::{Geometry, PixelFormat};
+use loop_store::Store;
+use loop_vb2::{Errno, PlaneSet, Queue, Stamp};
+use std::alloc::{AllocError, Global};
+use std::env::Args;
+use std::fs::File;
+use std::rt::Files;
+
+/// The buffer type of the queue.
+const GREY: BufferType = BufferType::VideoCapture;
+
+/// The pages of the ledger that both buffers are claimed from.
+const PAGES: u32 = 1024;
+
+/// The most frames of a group.
+const MAX_GROUP: u32 = 8;
+
+/// A lane to a store in a file, from mapped memory.
+type FileLane = Lane<FileDisk, MmapPlane>;
+
+/// An event of such a lane.
+type Event = LaneEvent<MmapPlane>;
+
+// Mapped memory of two buffers, for frames of so many bytes.
+fn supply(alloc: Global, size: u32) -> Result<Vec<PlaneSet<MmapPlane>>> {
+    let pages = size.div_ceil(PAGE_BYTES);
+    let (ledger, seat) = PageLedger::new(alloc, PAGES)?;
+    let (first, second) = ledger.split(seat);
+    let mut supply = Vec::new(alloc);
+    supply.push(set_of(alloc, &ledger, first, pages)?)?;
+    supply.push(set_of(alloc, &ledger, second, pages)?)?;
+    Ok(supply)
+}
+
+// The ioctl QBUF of a buffer.
+fn queued(index: u32) -> Event {
+    LaneEvent::Queue(QueueEvent::Ioctl(Ioctl::QBuf {
+        buf_type: GREY,
+        index,
+        memory: BufferMemory::Mmap,
+    }))
+}
+
+// What starts a lane for frames of so many bytes: REQBUFS of two buffers, QBUF of each, STREAMON.
+fn start_events(alloc: Global, size: u32) -> Result<Vec<Event>> {
+    let mut events = Vec::new(alloc);
+    events.push(LaneEvent::Queue(QueueEvent::Ioctl(Ioctl::ReqBufs {
+        buf_type: GREY,
+        count: 2,
+        memory: Memory::Mmap,
+        supply: supply(alloc, size)?,
+    })))?;
+    events.push(queued(0))?;
+    events.push(queued(1))?;
+    events.push(LaneEvent::Queue(QueueEvent::Ioctl(Ioctl::StreamOn { buf_type: GREY })))?;
+    Ok(events)
+}
+
+// What a camera fills its buffers with, in turn: the frame of a number, whose bytes are all the same.
+fn completed(alloc: Global, size: u32, number: u32) -> Result<Event, AllocError> {
+    let byte = (number % 256) as u8;
+    Ok(LaneEvent::Queue(QueueEvent::Complete {
+        index: number % 2,
+        stamp: Stamp {
+            sequence: number,
+            timestamp: 0,
+        },
+        bytes: vec![in alloc; byte; size as usize]?,
+    }))
+}
+
+// So many frames from a number on, each taken out, submitted and its buffer queued again, and a flush.
+fn group_events(
+    alloc: Global,
+    size: u32,
+    first: u32,
+    group: u32,
+) -> Result<Vec<Event>, AllocError> {
+    let mut events = Vec::new(alloc);
+    for place in 0..group {
+        events.push(completed(alloc, size, first.wrapping_add(place))?)?;
+        events.push(LaneEvent::Dequeue)?;
+        events.push(LaneEvent::Submit)?;
+        events.push(LaneEvent::Requeue)?;
+    }
+    events.push(LaneEvent::Flush)?;
+    Ok(events)
+}
+
+// The refusal of a queue, as an error.
+fn refused_by_queue(errno: Errno) -> Error {
+    let number = errno.number;
+    anyhow!("the queue refused a call, errno {number}")
+}
+
+// The refusal of a lane, as an error.
+fn refused_by_lane(fault: LaneFault) -> Error {
+    match fault {
+        LaneFault::Store(fault) => refused(fault),
+        LaneFault::Queue(errno) => refused_by_queue(errno),
+    }
+}
+
+// Whether a queue did what it was asked for.
+fn queue_did(reply: &QueueReply<MmapPlane>) -> Result<()> {
+    match reply {
+        QueueReply::Ioctl(Ok(_)) | QueueReply::Ended(Ok(())) | QueueReply::Fatal => Ok(()),
+        QueueReply::Ioctl(Err(refused)) => Err(refused_by_queue(refused.errno)),
+        QueueReply::Ended(Err(errno)) => Err(refused_by_queue(*errno)),
+    }
+}
+
+// Whether an event of a group or of the start was done, and a flush left nothing waiting.
+fn did(reply: &LaneReply<MmapPlane>) -> Result<()> {
+    match reply {
+        LaneReply::Queue(Ok(reply)) => queue_did(reply),
+        LaneReply::Dequeue(Ok(_)) | LaneReply::Requeue(Ok(_)) => Ok(()),
+        LaneReply::Submit(Ok(_)) => Ok(()),
+        LaneReply::Flush(Ok(flushed)) if flushed.left == 0 => Ok(()),
+        LaneReply::Flush(Ok(_)) => Err(anyhow!("a flush left frames waiting")),
+        LaneReply::Queue(Err(fault)) => Err(refused_by_lane(*fault)),
+        LaneReply::Dequeue(Err(fault)) => Err(refused_by_lane(*fault)),
+        LaneReply::Requeue(Err(fault)) => Err(refused_by_lane(*fault)),
+        LaneReply::Submit(Err(fault)) => Err(refused(*fault)),
+        LaneReply::Flush(Err(fault)) => Err(refused(*fault)),
+        LaneReply::Lock(_) | LaneReply::Unlock(_) | LaneReply::Read(_) => Err(anyhow!("no event")),
+    }
+}
+
+// Does a list of events, of which none may be refused.
+fn run(alloc: Global, lane: &mut FileLane, events: Vec<Event>) -> Result<()> {
+    let replies = match lane_run(alloc, lane, events) {
+        Ok(replies) => replies,
+        Err((fault, _)) => return Err(refused(fault)),
+    };
+    for reply in &replies {
+        did(reply)?;
+    }
+    Ok(())
+}
+
+// A lane to a store, whose queue has no buffers yet.
+fn lane_to(alloc: Global, store: Store<FileDisk>, group: u32) -> Result<FileLane> {
+    if group == 0 || group > MAX_GROUP {
+        return Err(anyhow!("1 to 8 frames a group"));
+    }
+    let geometry = store.geometry();
+    let limits = DeskLimits {
+        pending: 64,
+        group,
+        calls: 1,
+    };
+    let Ok(desk) = Desk::new(alloc, store, limits) else {
+        return Err(anyhow!("no memory for a desk"));
+    };
+    Ok(Lane {
+        queue: Queue::new(alloc, PixelFormat::Grey, geometry.width, geometry.height, 1),
+        table: FdTable::new(alloc),
+        hand: Hand::Empty,
+        desk,
+    })
+}
+
+// The bytes of a frame of a store that has GREY frames.
+fn grey_bytes(geometry: &Geometry) -> Result<u32> {
+    match (geometry.check(), geometry.format) {
+        (Ok(()), PixelFormat::Grey) => Ok(geometry.frame_bytes()),
+        _ => Err(anyhow!("the store's frames aren't GREY")),
+    }
+}
+
+// Records so many groups of frames through a lane, and answers the number of the next frame.
+fn record_groups(alloc: Global, lane: &mut FileLane, group: u32, groups: u32) -> Result<u64> {
+    let size = grey_bytes(&lane.desk.geometry())?;
+    run(alloc, lane, start_events(alloc, size)?)?;
+    let mut first: u32 = 0;
+    for _ in 0..groups {
+        run(alloc, lane, group_events(alloc, size, first, group)?)?;
+        first = first.wrapping_add(group);
+    }
+    Ok(lane.desk.status().next)
+}
+
+/// Records as the next words say, and answers the number of the next frame.
+pub(crate) fn record(rt: &impl Files<File = File>, alloc: Global, words: &mut Args) -> Result<u64> {
+    let path = path(words)?;
+    let group = number(words)?;
+    let groups = number(words)?;
+    let mut lane = lane_to(alloc, open_file(rt, alloc, &path)?, group)?;
+    record_groups(alloc, &mut lane, group, groups)
+}

@@ -1,0 +1,107 @@
+// Planes beside plain copies of as many bytes.
+ghost use Rattle.std.specs.Prelude.{◌≡◌, ◌<◌, ◌≤◌, length};
+
+use crate::memory::{claimed, copy};
+use crate::words::number;
+use anyhow::Result;
+use loop_pages::PageLedger;
+use loop_plane::{DmabufPlane, MmapPlane, PAGE_BYTES, PlaneMemory, UserPlane};
+use std::alloc::{AllocError, Global};
+use std::env::Args;
+use std::io;
+use std::rt::Clock;
+use std::time::Instant;
+
+// Pages of 4,096 bytes that are copied in and out: 1 MiB.
+const PAGES: u32 = 256;
+
+// Where the window begins in its first page: it needs one page more.
+const OFFSET: u32 = 100;
+
+// Nanoseconds for two plain copies, as many rounds: into a row of bytes, and out of it.
+fn plain_nanos(
+    rt: &impl Clock,
+    row: &mut [u8],
+    source: &[u8],
+    out: &mut [u8],
+    rounds: u32,
+) -> io::Result<u128>
+    requires row { length row.old ≡ length source.now }
+    requires out { length out.old ≡ length source.now }
+{
+    let start = Instant::now(rt)?;
+    for _ in 0..rounds {
+        copy(source, row);
+        copy(row, out);
+    }
+    Ok(start.elapsed(rt)?.as_nanos())
+}
+
+// Nanoseconds for a fill of the plane and a copy out of it, as many rounds. The plane has room for the source.
+fn plane_nanos<P: PlaneMemory>(
+    rt: &impl Clock,
+    plane: &mut P,
+    source: &[u8],
+    out: &mut [u8],
+    rounds: u32,
+) -> io::Result<u128>
+    requires { length out.old ≡ length source.now }
+{
+    let start = Instant::now(rt)?;
+    for _ in 0..rounds {
+        if source.len() <= plane.length() as usize {
+            plane.fill(source);
+            plane.copy_out(0, out);
+        }
+    }
+    Ok(start.elapsed(rt)?.as_nanos())
+}
+
+// The plain copies beside the plane, in percent.
+fn report<P: PlaneMemory>(
+    rt: &(impl Clock + Print),
+    name: &str,
+    plane: &mut P,
+    row: &mut [u8],
+    source: &[u8],
+    out: &mut [u8],
+    rounds: u32,
+) -> Result<()>
+    requires row { length row.old ≡ length source.now }
+    requires out { length out.old ≡ length source.now }
+{
+    let plain = plain_nanos(rt, row, source, out, rounds)?;
+    let nanos = plane_nanos(rt, plane, source, out, rounds)?;
+    let percent = plain.saturating_mul(100) / nanos.max(1);
+    println!(rt; "{name} {percent} %")?;
+    Ok(())
+}
+
+// Measures a plane of each kind, of so many pages. Three such planes and a page more fit the ledger.
+fn measure_each(rt: &(impl Clock + Print), alloc: Global, pages: u32, rounds: u32) -> Result<()>
+    requires { (0 < pages) × (pages ≤ 300) }
+{
+    let size = pages * PAGE_BYTES;
+    let source = vec![in alloc; 7u8; size as usize]?;
+    let mut row = vec![in alloc; 0u8; size as usize]?;
+    let mut out = vec![in alloc; 0u8; size as usize]?;
+    let (ledger, seat) = PageLedger::new(alloc, 1024)?;
+    let (one, seat) = ledger.split(seat);
+    let (two, three) = ledger.split(seat);
+    let hold = claimed(alloc, &ledger, one, pages)?;
+    let mut plane = MmapPlane::new(alloc, hold).map_err(|_| AllocError)?;
+    report(rt, "mmap", &mut plane, &mut row, &source, &mut out, rounds)?;
+    let hold = claimed(alloc, &ledger, two, pages + 1)?;
+    let mut plane = UserPlane::new(alloc, hold, OFFSET, size).map_err(|_| AllocError)?;
+    report(rt, "user", &mut plane, &mut row, &source, &mut out, rounds)?;
+    let hold = claimed(alloc, &ledger, three, pages)?;
+    let mut plane = DmabufPlane::new(alloc, hold).map_err(|_| AllocError)?;
+    report(
+        rt, "dmabuf", &mut plane, &mut row, &source, &mut out, rounds,
+    )
+}
+
+/// Measures a plane of each kind, as many rounds as the next word says.
+pub(crate) fn measure(rt: &(impl Clock + Print), alloc: Global, words: &mut Args) -> Result<()> {
+    measure_each(rt, alloc, PAGES, number(words)?)
+}
