@@ -7,7 +7,7 @@
 // handed back there with the same two (`allocate` and `deallocate`, by hand in `proofs/BudgetAllocator`), and
 // how a block is counted (`take_one`). The count itself lies in a `Cell`, so that a `&` can change it, and no
 // contract can look into a cell: that `allocate` refuses where the count is 0, and what `left` and `allow` do,
-// is shown by the tests at the end of this file. Nothing but tests uses this crate.
+// is shown by tests in test_planes. Nothing but tests uses this crate.
 #![tactic(auto)]
 
 ghost use Rattle.std.specs.Prelude.{◌≡◌, ◌-◌, ◌<◌, ◌↔◌, IsTrue};
@@ -103,70 +103,5 @@ unsafe impl<A: Allocator> Allocator for Budget<A> {
     /// Gives the block back to the allocator below, and nothing to the budget.
     unsafe fn deallocate(&self, ptr: *mut u8, size: usize, align: usize) {
         unsafe { self.inner().deallocate(ptr, size, align) }
-    }
-}
-
-#[cfg(test)]
-mod tests {
-    use super::*;
-    use linked_list_allocator::LocalHeap;
-    use std::test::Fail;
-
-    #[test]
-    fn exactly_the_allowed_blocks_are_granted(rt: HostRuntime) -> Result<(), Fail> {
-        let memory = Budget::new(rt.alloc());
-        assert_eq!(rt; memory.left(), u64::MAX);
-        // Spent by the round before, the budget grants again after each `allow`.
-        for allowed in 0..4u64 {
-            memory.allow(allowed);
-            for granted in 0..allowed {
-                assert_eq!(rt; memory.left(), allowed - granted);
-                let block = Box::new(&memory, granted)?;
-                assert_eq!(rt; *block, granted);
-            }
-            // Each box has gone back by now, and the budget is spent all the same.
-            for _ in 0..2 {
-                assert_eq!(rt; memory.left(), 0, "of {allowed}");
-                assert!(rt; Box::new(&memory, 9u64).is_err(), "after {allowed}");
-            }
-        }
-        let mut last = 1;
-        assert_eq!(rt;
-            (take_one(&mut last), take_one(&mut last), last),
-            (true, false, 0)
-        );
-        Ok(())
-    }
-
-    #[test]
-    fn a_refused_vec_keeps_its_contents(rt: HostRuntime) -> Result<(), Fail> {
-        let memory = Budget::new(rt.alloc());
-        let mut numbers = Vec::with_capacity(&memory, 2)?;
-        numbers.extend_from_slice(&[10u32, 20])?;
-        memory.allow(0);
-        assert!(rt; numbers.push(30).is_err());
-        assert_eq!(rt; numbers.as_slice(), [10, 20].as_slice());
-        memory.allow(1);
-        numbers.push(30)?;
-        assert_eq!(rt; memory.left(), 0);
-        assert_eq!(rt; numbers.as_slice(), [10, 20, 30].as_slice());
-        Ok(())
-    }
-
-    #[test]
-    fn a_dropped_block_goes_back_to_the_allocator_below(rt: HostRuntime) -> Result<(), Fail> {
-        let heap = LocalHeap::new(rt.alloc(), 1024)?;
-        let memory = Budget::new(&heap);
-        // Each takes half of the heap and more, so that the next one finds room only where this one has gone back.
-        for _ in 0..3 {
-            let most = Vec::<u8, &Budget<&LocalHeap>>::with_capacity(&memory, 600)?;
-            assert!(rt; memory.inner().used() >= most.capacity());
-        }
-        assert_eq!(rt; heap.used(), 0);
-        // What the heap itself refuses is refused, and counts as a block.
-        memory.allow(2);
-        assert!(rt; Vec::<u8, &Budget<&LocalHeap>>::with_capacity(&memory, 2048).is_err());
-        assert_eq!(rt; memory.left(), 1);
-        Ok(())
     }
 }

@@ -15,8 +15,6 @@ mod law;
 mod ledger;
 mod rule;
 mod seat;
-#[cfg(test)]
-mod tests;
 
 pub use fault::PageFault;
 pub use hold::PageHold;

@@ -1,0 +1,263 @@
+//! Planes of each kind, and the table of their fds.
+
+ghost use Rattle.std.specs.Prelude.{◌≡◌, ◌≤◌, length};
+ghost use Rattle.std.specs.Arc.{arc_value};
+ghost use Rattle.loop_pages.specs.Place.{IsIdle};
+
+use crate::claimed::{claimed, refused};
+use crate::told::{holds, same};
+use loop_budget::Budget;
+use loop_pages::{PageFault, PageHold, PageLedger, PageSeat};
+use loop_plane::{
+    DmabufPlane, DmabufTable, FdFault, FdTable, Memory, MmapPlane, PlaneMemory, UserPlane,
+};
+use std::alloc::Global;
+use std::process::Abort;
+use std::sync::Arc;
+use std::test::Fail;
+
+/// A plane of any kind.
+type Plane = Box<dyn PlaneMemory + Send>;
+
+// A plane of one page, in a box.
+fn mapped(
+    rt: &impl Abort,
+    alloc: Global,
+    ledger: &Arc<PageLedger>,
+    seat: PageSeat,
+) -> Result<Plane, Fail>
+    requires { IsIdle (arc_value ledger.now) seat }
+{
+    let Ok(plane) = MmapPlane::new(alloc, claimed(rt, alloc, ledger, seat, 1)) else {
+        return Err("a plane of one page".into());
+    };
+    Ok(Box::new(alloc, plane)?)
+}
+
+// A window of 5,000 bytes over two pages, in a box.
+fn window(
+    rt: &impl Abort,
+    alloc: Global,
+    ledger: &Arc<PageLedger>,
+    seat: PageSeat,
+) -> Result<Plane, Fail>
+    requires { IsIdle (arc_value ledger.now) seat }
+{
+    let Ok(plane) = UserPlane::new(alloc, claimed(rt, alloc, ledger, seat, 2), 0, 5000) else {
+        return Err("a window of two pages".into());
+    };
+    Ok(Box::new(alloc, plane)?)
+}
+
+// A scatter list of one page, in a box.
+fn scattered(
+    rt: &impl Abort,
+    alloc: Global,
+    ledger: &Arc<PageLedger>,
+    seat: PageSeat,
+) -> Result<Plane, Fail>
+    requires { IsIdle (arc_value ledger.now) seat }
+{
+    let Ok(plane) = DmabufPlane::new(alloc, claimed(rt, alloc, ledger, seat, 1)) else {
+        return Err("a scatter list of one page".into());
+    };
+    Ok(Box::new(alloc, plane)?)
+}
+
+// Fills a plane of any kind with three bytes, and reads the last two of them.
+fn reads_back<P: PlaneMemory>(plane: &mut P) -> bool
+    requires { 3 ≤ (P.plane plane.old).length }
+{
+    plane.fill(&[1, 2, 3]);
+    let mut out = [0; 2];
+    plane.copy_out(1, &mut out);
+    plane.used() == 3 && out == [2, 3]
+}
+
+// Each of the planes has room for three bytes and reads them back.
+fn read_back(rt: &impl Abort, planes: &mut [Plane]) {
+    for plane in planes {
+        assert!(rt; plane.length() >= 3);
+        holds!(rt; reads_back(plane));
+    }
+}
+
+// A plane of each kind, over four pages.
+fn three_planes(
+    rt: &impl Abort,
+    alloc: Global,
+    ledger: &Arc<PageLedger>,
+    seat: PageSeat,
+) -> Result<Vec<Plane>, Fail>
+    requires { IsIdle (arc_value ledger.now) seat }
+{
+    let (one, seat) = ledger.split(seat);
+    let (two, three) = ledger.split(seat);
+    let mapped = mapped(rt, alloc, ledger, one)?;
+    let window = window(rt, alloc, ledger, two)?;
+    let scattered = scattered(rt, alloc, ledger, three)?;
+    Ok(vec![in alloc; mapped, window, scattered]?)
+}
+
+#[test]
+fn three_kinds_of_plane_in_one_list(rt: HostRuntime) -> Result<(), Fail> {
+    let alloc = rt.alloc();
+    let (ledger, seat) = PageLedger::new(alloc, 4)?;
+    let (last, seat) = ledger.split(seat);
+    let mut planes = three_planes(&rt, alloc, &ledger, seat)?;
+    read_back(&rt, &mut planes);
+    let last = refused(&rt, alloc, &ledger, last, 1, PageFault::NoPages);
+    drop(planes);
+    same!(rt; claimed(&rt, alloc, &ledger, last, 4).count(), 4);
+    Ok(())
+}
+
+// Fills a window over the edge of two pages, and reads back what lies there.
+fn window_reads_back(rt: &impl Abort, alloc: Global, hold: PageHold) -> Result<(), Fail>
+    requires { length hold.pages ≡ 2 }
+{
+    let Ok(mut window) = UserPlane::new(alloc, hold, 4090, 12) else {
+        return Err("a window of two pages".into());
+    };
+    window.fill(&[0, 1, 2, 3, 4, 5, 6, 7, 8, 9, 10, 11]);
+    let mut out = [0; 4];
+    window.copy_out(4, &mut out);
+    same!(rt; out, [4, 5, 6, 7]);
+    Ok(())
+}
+
+// The same of a scatter list.
+fn list_reads_back(rt: &impl Abort, alloc: Global, hold: PageHold) -> Result<(), Fail>
+    requires { length hold.pages ≡ 2 }
+{
+    let Ok(mut plane) = DmabufPlane::new(alloc, hold) else {
+        return Err("a scatter list of two pages".into());
+    };
+    let mut bytes = vec![in alloc; 7u8; 5000]?;
+    bytes[4095] = 1;
+    bytes[4096] = 2;
+    plane.fill(bytes.as_slice());
+    let mut out = [0; 4];
+    plane.copy_out(4094, &mut out);
+    same!(rt; out, [7, 1, 2, 7]);
+    Ok(())
+}
+
+#[test]
+fn a_window_and_a_scatter_list_over_a_pages_edge(rt: HostRuntime) -> Result<(), Fail> {
+    let alloc = rt.alloc();
+    let (ledger, seat) = PageLedger::new(alloc, 4)?;
+    let (one, two) = ledger.split(seat);
+    window_reads_back(&rt, alloc, claimed(&rt, alloc, &ledger, one, 2))?;
+    list_reads_back(&rt, alloc, claimed(&rt, alloc, &ledger, two, 2))
+}
+
+// Attaches the one plane of a table, brings it back and closes its fd; another plane isn't taken for it.
+fn attaches(rt: &impl Abort, table: &mut DmabufTable, fd: u32, other: Plane) -> Result<(), Fail> {
+    let Ok(plane) = table.attach(fd) else {
+        return Err("the plane".into());
+    };
+    holds!(rt; matches!(table.attach(fd), Err(FdFault::Attached)));
+    holds!(rt; matches!(table.close(fd), Err(FdFault::Attached)));
+    holds!(rt; table.detach(fd, plane).is_ok());
+    let Err((fault, other)) = table.detach(fd, other) else {
+        return Err("the plane is back".into());
+    };
+    same!(rt; (fault, other.kind()), (FdFault::NotAttached, Memory::Mmap));
+    let Ok(plane) = table.close(fd) else {
+        return Err("the plane".into());
+    };
+    same!(rt; plane.kind(), Memory::DmaBuf);
+    holds!(rt; matches!(table.attach(fd), Err(FdFault::NoSuchFd)));
+    Ok(())
+}
+
+#[test]
+fn an_fd_is_attached_brought_back_and_closed(rt: HostRuntime) -> Result<(), Fail> {
+    let alloc = rt.alloc();
+    let (ledger, seat) = PageLedger::new(alloc, 2)?;
+    let (one, two) = ledger.split(seat);
+    let plane = scattered(&rt, alloc, &ledger, one)?;
+    let other = mapped(&rt, alloc, &ledger, two)?;
+    let mut table: DmabufTable = DmabufTable::new(alloc);
+    let Ok(fd) = table.add(plane) else {
+        return Err("an fd".into());
+    };
+    attaches(&rt, &mut table, fd, other)
+}
+
+// A plane takes one block for its bytes, and hands its pages back without it.
+fn plane_grows<'a>(
+    rt: &impl Abort,
+    budget: &'a Budget,
+    hold: PageHold<&'a Budget>,
+) -> Result<(), Fail> {
+    budget.allow(0);
+    let Err(hold) = MmapPlane::new(budget, hold) else {
+        return Err("no block is left for the bytes".into());
+    };
+    budget.allow(1);
+    holds!(rt; MmapPlane::new(budget, hold).is_ok());
+    Ok(())
+}
+
+// So does a window.
+fn window_grows<'a>(
+    rt: &impl Abort,
+    budget: &'a Budget,
+    hold: PageHold<&'a Budget>,
+) -> Result<(), Fail>
+    requires { length hold.pages ≡ 2 }
+{
+    let Err(hold) = UserPlane::new(budget, hold, 4090, 12) else {
+        return Err("no block is left for the bytes".into());
+    };
+    budget.allow(1);
+    holds!(rt; UserPlane::new(budget, hold, 4090, 12).is_ok());
+    Ok(())
+}
+
+// A scatter list of two pages takes three blocks.
+fn list_grows<'a>(
+    rt: &impl Abort,
+    budget: &'a Budget,
+    mut hold: PageHold<&'a Budget>,
+) -> Result<(), Fail> {
+    for blocks in 0..3 {
+        budget.allow(blocks);
+        let Err(same) = DmabufPlane::new(budget, hold) else {
+            return Err("a list and two blocks are three".into());
+        };
+        hold = same;
+        same!(rt; hold.count(), 2, blocks);
+    }
+    budget.allow(3);
+    holds!(rt; DmabufPlane::new(budget, hold).is_ok());
+    Ok(())
+}
+
+// An fd takes one block, and its value comes back without it.
+fn fd_grows(rt: &impl Abort, budget: &Budget) -> Result<(), Fail> {
+    let mut table = FdTable::new(budget);
+    same!(rt; table.add(7), Err((FdFault::NoMemory, 7)));
+    budget.allow(1);
+    let Ok(fd) = table.add(7) else {
+        return Err("one block is enough".into());
+    };
+    same!(rt; table.close(fd), Ok(7));
+    Ok(())
+}
+
+#[test]
+fn a_refused_growth_hands_everything_back(rt: HostRuntime) -> Result<(), Fail> {
+    let budget = Budget::new(rt.alloc());
+    let (ledger, seat) = PageLedger::new(&budget, 6)?;
+    let (one, seat) = ledger.split(seat);
+    let (two, three) = ledger.split(seat);
+    plane_grows(&rt, &budget, claimed(&rt, &budget, &ledger, one, 2))?;
+    budget.allow(1);
+    window_grows(&rt, &budget, claimed(&rt, &budget, &ledger, two, 2))?;
+    budget.allow(1);
+    list_grows(&rt, &budget, claimed(&rt, &budget, &ledger, three, 2))?;
+    fd_grows(&rt, &budget)
+}
