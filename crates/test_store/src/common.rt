@@ -1,9 +1,10 @@
-//! What the tests share: geometries, frames of a pattern, images, and calls that see to their preconditions first.
+//! What the tests share: a geometry, frames of a pattern, images, and calls that see to their preconditions first.
 
 ghost use Rattle.std.specs.Prelude.{◌≡◌, All, IsTrue, length};
 
+use crate::told::{holds as so, same};
 use loop_disk::{Disk, MemDisk};
-use loop_record::{Frame, FrameHead, Geometry, OPEN, PixelFormat, encode_slot, encode_super};
+use loop_record::{Frame, FrameHead, Geometry, PixelFormat, encode_super};
 use loop_store::{Store, StoreFault};
 use std::alloc::{AllocError, Allocator, Global};
 use std::process::Abort;
@@ -20,27 +21,6 @@ pub(crate) const SMALL: Geometry = Geometry {
     segments: 3,
     slots: 2,
 };
-
-/// Two segments with one slot each, of frames of one byte. The segments begin at 2,560 and 3,105, and the disk
-/// has 3,650 bytes.
-pub(crate) const TINY: Geometry = Geometry {
-    width: 1,
-    height: 1,
-    format: PixelFormat::Grey,
-    rate_num: 1,
-    rate_den: 1,
-    segments: 2,
-    slots: 1,
-};
-
-/// Frames of one byte in so many segments, with so many slots each.
-pub(crate) fn pixels(segments: u32, slots: u32) -> Geometry {
-    Geometry {
-        segments,
-        slots,
-        ..TINY
-    }
-}
 
 /// The frame that is stored under a number at an attempt at it, 0 being the first: byte i is the number + i,
 /// and 100 more for each later attempt.
@@ -98,44 +78,6 @@ pub(crate) fn append<D: Disk + Drop, A: Allocator>(
     store.append(frames)
 }
 
-/// The bytes of a store's frames.
-pub(crate) fn size_of_frames<D: Disk + Drop, A: Allocator>(
-    rt: &impl Abort,
-    store: &Store<D, A>,
-) -> usize {
-    let geometry = store.geometry();
-    assert!(rt; geometry.check().is_ok());
-    geometry.frame_bytes() as usize
-}
-
-// So many frames from a number on, of this attempt at their numbers.
-fn group(
-    alloc: Global,
-    size: usize,
-    number: u64,
-    count: u64,
-    attempt: u64,
-) -> Result<Vec<Frame>, AllocError> {
-    let mut frames = Vec::new(alloc);
-    for i in 0..count {
-        frames.push(frame(alloc, size, number.wrapping_add(i), attempt)?)?;
-    }
-    Ok(frames)
-}
-
-/// Appends so many frames, of this attempt at their numbers.
-pub(crate) fn append_next<D: Disk + Drop>(
-    rt: &impl Abort,
-    alloc: Global,
-    store: &mut Store<D>,
-    count: u64,
-    attempt: u64,
-) -> Result<u64, StoreFault> {
-    let size = size_of_frames(rt, store);
-    let frames = group(alloc, size, store.next(), count, attempt)?;
-    append(rt, store, &frames)
-}
-
 /// Reads the frame of a number, if it is held: its head, and its bytes.
 pub(crate) fn read<D: Disk + Drop, A: Allocator>(
     rt: &impl Abort,
@@ -160,12 +102,9 @@ pub(crate) fn reads<D: Disk + Drop, A: Allocator>(
 ) -> Result<(), StoreFault> {
     let (head, bytes) = read(rt, alloc, store, number)?;
     let expected = frame(alloc, bytes.len(), number, attempt)?;
-    assert_eq!(rt; head.number, number);
-    assert_eq!(rt;
-        (head.sequence, head.flags, head.timestamp),
-        (expected.sequence, expected.flags, expected.timestamp)
-    );
-    assert_eq!(rt; bytes.as_slice(), expected.bytes.as_slice());
+    same!(rt; head.number, number);
+    same!(rt; (head.sequence, head.flags, head.timestamp), (expected.sequence, expected.flags, expected.timestamp));
+    same!(rt; bytes.as_slice(), expected.bytes.as_slice());
     Ok(())
 }
 
@@ -180,18 +119,15 @@ pub(crate) fn held<D: Disk + Drop, A: Allocator>(
 ) -> Result<Vec<u64>, StoreFault> {
     let numbers = store.frames(alloc)?;
     for number in &numbers {
-        assert!(rt; store.holds(*number));
+        so!(rt; store.holds(*number));
         reads(rt, alloc, store, *number, u64::from(again <= *number))?;
     }
     let next = numbers.last().map_or(0, |last| last.wrapping_add(1));
-    assert_eq!(rt; store.next(), next);
+    same!(rt; store.next(), next);
     let before = numbers.first().map_or(next, |first| first.wrapping_sub(1));
     for number in [next, before] {
-        assert!(rt; !store.holds(number));
-        assert_eq!(rt;
-            read(rt, alloc, store, number).err(),
-            Some(StoreFault::NotHeld)
-        );
+        so!(rt; !store.holds(number));
+        same!(rt; read(rt, alloc, store, number).err(), Some(StoreFault::NotHeld));
     }
     Ok(numbers)
 }
@@ -205,85 +141,26 @@ pub(crate) fn holds<D: Disk + Drop, A: Allocator>(
 ) -> Result<(), StoreFault> {
     let found = held(rt, alloc, store, u64::MAX)?;
     let expected = numbers(alloc, spans)?;
-    assert_eq!(rt; found.as_slice(), expected.as_slice());
+    same!(rt; found.as_slice(), expected.as_slice());
     Ok(())
 }
 
-/// Whether frames are those from before an append of so many, or those after it or after a beginning of its steps.
-pub(crate) fn is_beginning(found: &[u64], before: &[u64], after: &[u64], count: u64) -> bool {
-    let most = found.len().saturating_add(count as usize);
-    found.iter().eq(before.iter()) || (most >= after.len() && after.starts_with(found))
-}
-
-/// The store of a disk that has a recording.
-pub(crate) fn opened<D: Disk + Drop>(alloc: Global, disk: D) -> Result<Store<D>, Fail> {
-    match Store::open(alloc, disk) {
-        Ok(store) => Ok(store),
-        Err(_) => Err("the disk is opened".into()),
-    }
-}
-
-/// Puts bytes into an image from a place on.
-pub(crate) fn put(image: &mut [u8], at: usize, bytes: &[u8]) {
-    for (i, byte) in bytes.iter().enumerate() {
-        if let Some(place) = image.get_mut(at.wrapping_add(i)) {
-            *place = *byte;
-        }
-    }
-}
-
-/// The header of the segment at a place: open, of this block, with these frame gates.
-pub(crate) fn put_segment(image: &mut [u8], at: usize, block: u64, gates: &[u8]) {
-    put(image, at, &[OPEN]);
-    put(image, at.wrapping_add(8), &block.to_le_bytes());
-    put(image, at.wrapping_add(256), gates);
-}
-
-/// The open entry of a clip id.
-pub(crate) fn put_clip(image: &mut [u8], id: usize, from: u64, to: u64) {
-    let at = id.wrapping_mul(32).wrapping_add(512);
-    put(image, at, &[OPEN]);
-    put(image, at.wrapping_add(8), &from.to_le_bytes());
-    put(image, at.wrapping_add(16), &to.to_le_bytes());
-}
-
-/// A freshly formatted image.
-pub(crate) fn fresh(
-    rt: &impl Abort,
-    alloc: Global,
-    geometry: Geometry,
-) -> Result<Vec<u8>, AllocError> {
-    assert!(rt; geometry.check().is_ok());
-    let mut image = vec![in alloc; 0u8; geometry.disk_size() as usize]?;
+/// The image after appends of so many frames, one by one.
+pub(crate) fn image_of(rt: &impl Abort, alloc: Global, count: u64) -> Result<Vec<u8>, Fail> {
+    assert!(rt; SMALL.check().is_ok());
+    let mut image = vec![in alloc; 0u8; SMALL.disk_size() as usize]?;
     let mut superblock = [0; 512];
-    encode_super(&geometry, &mut superblock);
-    put(image.as_mut_slice(), 0, &superblock);
-    Ok(image)
-}
-
-/// The image after appends of groups of so many frames.
-pub(crate) fn image_of(
-    rt: &impl Abort,
-    alloc: Global,
-    geometry: Geometry,
-    counts: &[u64],
-) -> Result<Vec<u8>, Fail> {
-    let image = fresh(rt, alloc, geometry)?;
-    let mut store = opened(alloc, MemDisk::of(image))?;
-    for count in counts {
-        assert!(rt; append_next(rt, alloc, &mut store, *count, 0).is_ok());
+    encode_super(&SMALL, &mut superblock);
+    for (place, byte) in image.iter_mut().zip(superblock.iter()) {
+        *place = *byte;
+    }
+    let Ok(mut store) = Store::open(alloc, MemDisk::of(image)) else {
+        return Err("the disk is opened".into());
+    };
+    for number in 0..count {
+        let mut frames = Vec::new(alloc);
+        frames.push(frame(alloc, 12, number, 0)?)?;
+        same!(rt; append(rt, &mut store, &frames), Ok(number));
     }
     Ok(store.into_disk().bytes().to_vec(alloc)?)
-}
-
-/// An image with one open segment, of this block, whose one frame is whole.
-pub(crate) fn image_of_block(rt: &impl Abort, alloc: Global, block: u64) -> Result<Vec<u8>, Fail> {
-    let frame = frame(alloc, 1, block, 0)?;
-    assert_eq!(rt; frame.bytes.len(), 1);
-    let mut slot = [0; 33];
-    encode_slot(block, &frame, &mut slot);
-    let mut image = fresh(rt, alloc, TINY)?;
-    put_segment(image.as_mut_slice(), 2560, block, &[OPEN]);
-    put(image.as_mut_slice(), 3072, &slot);
-    Ok(image)
 }
