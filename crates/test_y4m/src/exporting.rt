@@ -202,23 +202,45 @@ fn a_writer_that_fails_has_a_beginning_of_the_text(rt: HostRuntime) -> Result<()
     Ok(())
 }
 
+/// A range, and the numbers of the frames that are exported of it.
+type Range<'a> = ((u64, u64), &'a [u64]);
+
+// The bytes of small frames of these numbers.
+fn pixels_of(alloc: Global, numbers: &[u64]) -> Result<Vec<u8>, AllocError> {
+    let mut pixels = Vec::new(alloc);
+    for number in numbers {
+        pixels.extend_from_slice(&frame(alloc, 12, *number)?.bytes)?;
+    }
+    Ok(pixels)
+}
+
 // The frames of a range that are exported have these numbers.
 fn is_exported(
     rt: &impl Abort,
     alloc: Global,
     store: &mut Store<MemDisk>,
-    range: (u64, u64),
-    numbers: &[u64],
-) -> Result<(), Fail> {
-    let mut pixels = Vec::new(alloc);
-    for number in numbers {
-        pixels.extend_from_slice(&frame(alloc, 12, *number)?.bytes)?;
-    }
-    let (answer, text) = exported(alloc, store, range.0, range.1);
-    same!(rt; answer, Ok(numbers.len() as u64), range);
+    row: &Range,
+) -> Result<(), AllocError> {
+    let (from, to) = row.0;
+    let (answer, text) = exported(alloc, store, from, to);
+    same!(rt; answer, Ok(row.1.len() as u64), from);
+    let pixels = pixels_of(alloc, row.1)?;
     let told = tell(alloc, text.as_slice())?;
-    same!(rt; told.frames.as_slice(), pixels.as_slice(), range);
-    same!(rt; told.ends, [Ok(false); 2], range);
+    same!(rt; told.frames.as_slice(), pixels.as_slice(), from);
+    same!(rt; told.ends, [Ok(false); 2], from);
+    Ok(())
+}
+
+// The frames of each range that are exported have these numbers.
+fn are_exported(
+    rt: &impl Abort,
+    alloc: Global,
+    store: &mut Store<MemDisk>,
+    rows: &[Range],
+) -> Result<(), AllocError> {
+    for row in rows {
+        is_exported(rt, alloc, store, row)?;
+    }
     Ok(())
 }
 
@@ -230,29 +252,35 @@ fn image_of(alloc: Global, store: Store<MemDisk>) -> Result<Vec<u8>, AllocError>
 // Six frames of which a clip has 0 and 1, and one more.
 fn clipped(rt: &impl Abort, alloc: Global) -> Result<Store<MemDisk>, Fail> {
     let mut image = image_of(alloc, stored(rt, alloc, SMALL, 6)?)?;
-    for (at, byte) in [(512usize, OPEN), (528, 1)] {
-        let byte_there = image.get_mut(at).ok_or("it is too short")?;
-        *byte_there = byte;
-    }
+    *image.get_mut(512).ok_or("it is too short")? = OPEN;
+    *image.get_mut(528).ok_or("it is too short")? = 1;
     let mut store = opened(alloc, MemDisk::of(image))?;
     same!(rt; append(rt, alloc, &mut store), Ok(6));
     Ok(store)
 }
 
-// The ring has taken frames 0 and 1 back, or a clip has kept them and 2 and 3 went.
-#[test]
-fn the_held_frames_of_a_range_are_exported(rt: HostRuntime) -> Result<(), Fail> {
-    let alloc = rt.alloc();
-    let mut store = stored(&rt, alloc, SMALL, 7)?;
-    is_exported(&rt, alloc, &mut store, (0, u64::MAX), &[2, 3, 4, 5, 6])?;
-    is_exported(&rt, alloc, &mut store, (0, 3), &[2, 3])?;
-
-    let mut store = clipped(&rt, alloc)?;
-    is_exported(&rt, alloc, &mut store, (0, u64::MAX), &[0, 1, 4, 5, 6])?;
-    is_exported(&rt, alloc, &mut store, (1, 4), &[1, 4])?;
+// A clip has kept frames 0 and 1, and 2 and 3 went.
+fn exports_clipped(rt: &impl Abort, alloc: Global, rows: &[Range]) -> Result<(), Fail> {
+    let mut store = clipped(rt, alloc)?;
+    are_exported(rt, alloc, &mut store, rows)?;
     let (answer, text) = exported(alloc, &mut store, 2, 3);
     same!(rt; (answer, text.len()), (Err(ExportFault::NotHeld), 0));
     Ok(())
+}
+
+// The ring has taken frames 0 and 1 back.
+fn exports_seven(rt: &impl Abort, alloc: Global, rows: &[Range]) -> Result<(), Fail> {
+    let mut store = stored(rt, alloc, SMALL, 7)?;
+    are_exported(rt, alloc, &mut store, rows)?;
+    Ok(())
+}
+
+#[test]
+fn the_held_frames_of_a_range_are_exported(rt: HostRuntime) -> Result<(), Fail> {
+    let rows: [Range; 2] = [((0, u64::MAX), &[2, 3, 4, 5, 6]), ((0, 3), &[2, 3])];
+    exports_seven(&rt, rt.alloc(), &rows)?;
+    let rows: [Range; 2] = [((0, u64::MAX), &[0, 1, 4, 5, 6]), ((1, 4), &[1, 4])];
+    exports_clipped(&rt, rt.alloc(), &rows)
 }
 
 #[test]
@@ -291,7 +319,15 @@ fn exported_once(
     Ok(Some((answer, written, again)))
 }
 
-// Fails each call of an export in turn: it answers so, and writes these bytes of the text.
+// An export whose read failed answers so, with these bytes of the text; it is read through a second time.
+fn fails(rt: &impl Abort, told: &(Answer, Vec<u8>, Answer), written: &[u8], call: u64) {
+    same!(rt; told.0, Err(ExportFault::Disk(DiskFault::Read)), call);
+    same!(rt; told.1.len(), written.len(), call);
+    holds!(rt; told.1.as_slice() == written, call);
+    same!(rt; told.2, Ok(1), call);
+}
+
+// Fails each call of an export in turn: it writes so many bytes of the text.
 fn fails_in_turn(
     rt: &impl Abort,
     alloc: Global,
@@ -301,18 +337,15 @@ fn fails_in_turn(
 ) -> Result<(), Fail> {
     let mut lengths = lengths.iter();
     for call in 0..40 {
-        let Some((answer, written, again)) = exported_once(alloc, image, call)? else {
+        let Some(told) = exported_once(alloc, image, call)? else {
             continue;
         };
         let Some(length) = lengths.next() else {
-            same!(rt; answer, Ok(1), call);
-            holds!(rt; written.as_slice() == text, call);
+            same!(rt; told.0, Ok(1), call);
+            holds!(rt; told.1.as_slice() == text, call);
             return Ok(());
         };
-        same!(rt; answer, Err(ExportFault::Disk(DiskFault::Read)), call);
-        same!(rt; written.len(), *length, call);
-        holds!(rt; Some(written.as_slice()) == text.get(..*length), call);
-        same!(rt; again, Ok(1), call);
+        fails(rt, &told, text.get(..*length).ok_or("too long")?, call);
     }
     Err("an export makes so many reads".into())
 }
@@ -341,18 +374,29 @@ fn granted<'a, D: Disk + Drop>(
     (answer, out.len())
 }
 
+/// How many growths are granted, the last number of the range, what an export answers, and how much it writes.
+type Growth = (u64, u64, (Answer, usize));
+
+// Exports where memory is refused answer so, and leave no growth.
+fn grows(rt: &impl Abort, alloc: Global, rows: &[Growth]) -> Result<(), Fail> {
+    let memory = Budget::new(alloc);
+    let mut store = stored(rt, &memory, SMALL, 3)?;
+    for (growths, to, want) in rows {
+        let told = granted(alloc, &memory, &mut store, *growths, *to);
+        same!(rt; told, *want, *growths);
+        same!(rt; memory.left(), 0, *growths);
+    }
+    Ok(())
+}
+
 #[test]
 fn an_export_takes_memory_once_before_it_writes(rt: HostRuntime) -> Result<(), Fail> {
-    let alloc = rt.alloc();
-    let memory = Budget::new(alloc);
-    let mut store = stored(&rt, &memory, SMALL, 3)?;
-    let none = granted(alloc, &memory, &mut store, 0, 2);
-    same!(rt; none, (Err(ExportFault::NoMemory), 0));
-    let one = granted(alloc, &memory, &mut store, 1, 2);
-    same!(rt; (one, memory.left()), ((Ok(1), 57), 0));
-    let none = granted(alloc, &memory, &mut store, 0, 1);
-    same!(rt; none, (Err(ExportFault::NotHeld), 0));
-    Ok(())
+    let rows = [
+        (0, 2, (Err(ExportFault::NoMemory), 0)),
+        (1, 2, (Ok(1), 57)),
+        (0, 1, (Err(ExportFault::NotHeld), 0)),
+    ];
+    grows(&rt, rt.alloc(), &rows)
 }
 
 // A store that is opened in so many calls, of which the next one then fails an append. Nothing where the disk isn't
@@ -370,20 +414,34 @@ fn broken<'a>(
     Some(store)
 }
 
+// A store that is opened in so many calls of its disk exports nothing once an append has failed. False where it isn't
+// opened.
+fn is_broken(
+    rt: &impl Abort,
+    alloc: Global,
+    memory: &Budget,
+    image: &[u8],
+    calls: u64,
+) -> Result<bool, AllocError> {
+    let Some(mut store) = broken(rt, memory, image.to_vec(alloc)?, calls) else {
+        return Ok(false);
+    };
+    for to in &[1, 2] {
+        let told = granted(alloc, memory, &mut store, 0, *to);
+        same!(rt; told, (Err(ExportFault::MustReopen), 0), *to);
+    }
+    Ok(true)
+}
+
 #[test]
 fn a_store_that_must_be_reopened_exports_nothing(rt: HostRuntime) -> Result<(), Fail> {
     let alloc = rt.alloc();
     let memory = Budget::new(alloc);
     let image = image_of(alloc, stored(&rt, alloc, SMALL, 3)?)?;
     for calls in 0..40 {
-        let Some(mut store) = broken(&rt, &memory, image.to_vec(alloc)?, calls) else {
-            continue;
-        };
-        for to in &[1, 2] {
-            let told = granted(alloc, &memory, &mut store, 0, *to);
-            same!(rt; told, (Err(ExportFault::MustReopen), 0));
+        if is_broken(&rt, alloc, &memory, &image, calls)? {
+            return Ok(());
         }
-        return Ok(());
     }
     Err("it is opened".into())
 }

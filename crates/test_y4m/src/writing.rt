@@ -29,19 +29,39 @@ fn write_two<W: Write>(out: &mut W) -> io::Result<()> {
     write_frame(second, out)
 }
 
+// How the two frames are refused.
+fn refusal<W: Write>(out: &mut W) -> Option<ErrorKind> {
+    match write_two(out) {
+        Ok(()) => None,
+        Err(error) => Some(error.kind()),
+    }
+}
+
 // Writes the two frames by one byte a call, of which the call of a number fails with a kind of error or, with none,
 // takes nothing: the refusal is this, and so many bytes are written.
 fn writes_failing(
     rt: &impl Abort,
     alloc: Global,
     fails: (usize, Option<ErrorKind>),
-    refusal: Option<ErrorKind>,
-    count: usize,
+    want: (Option<ErrorKind>, usize),
 ) {
     let mut out = Gutter::new(alloc, Some(fails));
-    let kind = write_two(&mut out).err().map(|error| error.kind());
-    same!(rt; kind, refusal, fails);
-    same!(rt; Some(out.got.as_slice()), TWO.get(..count), fails);
+    same!(rt; refusal(&mut out), want.0, fails);
+    same!(rt; Some(out.got.as_slice()), TWO.get(..want.1), fails);
+}
+
+// The call of this number fails in each of three ways.
+fn writes_failing_at(rt: &impl Abort, alloc: Global, number: usize) {
+    let broken = Some(ErrorKind::BrokenPipe);
+    let interrupted = Some(ErrorKind::Interrupted);
+    writes_failing(rt, alloc, (number, broken), (broken, number));
+    writes_failing(
+        rt,
+        alloc,
+        (number, None),
+        (Some(ErrorKind::WriteZero), number),
+    );
+    writes_failing(rt, alloc, (number, interrupted), (None, 75));
 }
 
 #[test]
@@ -51,16 +71,7 @@ fn two_frames_are_written_as_these_75_bytes(rt: HostRuntime) -> Result<(), Fail>
     write_two(&mut out)?;
     same!(rt; out.as_slice(), TWO.as_slice());
     for number in 0..75usize {
-        let broken = Some(ErrorKind::BrokenPipe);
-        writes_failing(&rt, alloc, (number, broken), broken, number);
-        writes_failing(
-            &rt,
-            alloc,
-            (number, None),
-            Some(ErrorKind::WriteZero),
-            number,
-        );
-        writes_failing(&rt, alloc, (number, Some(ErrorKind::Interrupted)), None, 75);
+        writes_failing_at(&rt, alloc, number);
     }
     // There is no call of number 75.
     for kind in &[
@@ -68,7 +79,7 @@ fn two_frames_are_written_as_these_75_bytes(rt: HostRuntime) -> Result<(), Fail>
         Some(ErrorKind::BrokenPipe),
         Some(ErrorKind::Interrupted),
     ] {
-        writes_failing(&rt, alloc, (75, *kind), None, 75);
+        writes_failing(&rt, alloc, (75, *kind), (None, 75));
     }
     Ok(())
 }
