@@ -82,6 +82,18 @@ fn have_size<A: Allocator>(frames: &[Frame<A>], size: usize) -> bool
     frames.iter().all(|frame| frame.bytes.len() == size)
 }
 
+// Appends one frame.
+fn put<D: Disk + Drop, A: Allocator>(
+    rt: &impl Abort,
+    store: &mut Store<D, A>,
+    frames: &[Frame<A>],
+) -> Result<u64, StoreFault> {
+    let size = store.geometry().frame_bytes() as usize;
+    assert!(rt; have_size(frames, size));
+    assert!(rt; frames.len() == 1 && store.room() >= 1);
+    store.append(frames)
+}
+
 // Appends the next frame.
 fn append<D: Disk + Drop, A: Allocator + Copy>(
     rt: &impl Abort,
@@ -91,9 +103,7 @@ fn append<D: Disk + Drop, A: Allocator + Copy>(
     let size = store.geometry().frame_bytes() as usize;
     let mut frames = Vec::with_capacity(alloc, 1)?;
     frames.push_reserved(frame(alloc, size, store.next())?);
-    assert!(rt; have_size(&frames, size));
-    assert!(rt; frames.len() == 1 && store.room() >= 1);
-    store.append(&frames)
+    put(rt, store, &frames)
 }
 
 // Opens a disk.
