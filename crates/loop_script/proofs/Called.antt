@@ -1,5 +1,5 @@
 -- The calls that a session makes of its desk.
-use Rattle.std.proofs.Common.{◌≡◌, ◌⊎◌, ℕ, ◌+◌, ◌-◌, ◌^◌, min, Result, Ok, Err, List, [], ◌∷◌, ◌++◌, length, inl, inr, refl, sym, ap, ◌∙◌, subst}
+use Rattle.std.proofs.Common.{◌≡◌, ℕ, ◌+◌, ◌-◌, ◌^◌, min, Result, Ok, Err, List, [], ◌∷◌, length, inl, inr, refl, sym, subst}
 use Rattle.std.specs.Prelude.{IfErr}
 use Rattle.loop_disk.specs.declared.memory.MemDisk.{MemDisk}
 use Rattle.loop_disk.specs.Behind.{moment_now}
@@ -7,7 +7,6 @@ use Rattle.loop_disk.specs.Calls.{no_failures}
 use Rattle.loop_disk.specs.History.{medium_of}
 use Rattle.loop_disk.specs.Medium.{Medium, IsSound}
 use Rattle.loop_disk.specs.Sound.{sound_of}
-use Rattle.loop_record.specs.declared.geometry.Geometry.{Geometry}
 use Rattle.loop_record.specs.Geometry.{frame_bytes}
 use Rattle.loop_record.specs.Recording.{Picture}
 use Rattle.loop_store.specs.declared.fault.StoreFault.{StoreFault}

@@ -3,7 +3,7 @@ use Rattle.loop_disk.specs.declared.memory.MemDisk.{MemDisk}
 use Rattle.loop_record.specs.declared.geometry.Geometry.{Geometry}
 use Rattle.loop_record.specs.Geometry.{frame_bytes}
 use Rattle.loop_record.specs.Recording.{picture}
-use Rattle.loop_desk.specs.Seen.{DeskGoes, SeenDesk, answer_of}
+use Rattle.loop_desk.specs.Seen.{DeskGoes, answer_of}
 use Rattle.loop_desk.proofs.Gone.{desk-none}
 use Rattle.loop_script.specs.Pattern.{pattern_picture}
 use Rattle.loop_script.specs.Sessions.{Shown, calls_of_submit}
