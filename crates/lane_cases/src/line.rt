@@ -1,0 +1,212 @@
+//! Lines: a call by its name, numbers, and words for memory.
+use loop_plane::Memory;
+use std::alloc::{AllocError, Global};
+
+/// What a line asks for.
+#[derive(Clone, Copy, PartialEq, Eq)]
+pub(crate) enum Verb {
+    /// An empty recording, three segments with two slots for frames of 12 bytes.
+    Format,
+    /// A lane over the recording: how many frames may wait.
+    Lane,
+    /// A desk over the recording: how many frames may wait, and how many a group has.
+    Desk,
+    /// A queue of GREY frames: their side, how many buffers start the device, and how many sets are at hand.
+    Queue,
+    /// One more set at hand, a window of so many bytes.
+    Window,
+    /// One more set at hand, of a mapped page.
+    Page,
+    /// One more plane that an fd names.
+    Share,
+    /// An fd is closed.
+    CloseFd,
+    /// The case ends; what its disk holds.
+    Close,
+    /// A number is put into the closed disk, 8 bytes from a place on.
+    Poke,
+    /// The closed case again, or the queue's, as one list.
+    Again,
+    /// What may be shown once the disk had so many calls.
+    Step,
+    /// The closed case again, with a stop at each moment and each spoilt content; the numbers of mixes.
+    Stops,
+    /// The closed case again, each call failing.
+    Failing,
+    ReqBufs,
+    QueryBuf,
+    QBuf,
+    PrepareBuf,
+    DqBuf,
+    StreamOn,
+    StreamOff,
+    Map,
+    Unmap,
+    /// The device has filled a buffer with the frame of a number.
+    Complete,
+    /// The device has filled a buffer with eleven bytes.
+    Short,
+    Fail,
+    Fatal,
+    Dequeue,
+    Submit,
+    /// The frame of so many bytes and a number is given to the desk itself.
+    Put,
+    Requeue,
+    Flush,
+    Lock,
+    Unlock,
+    Read,
+    Status,
+    Outline,
+    /// How many buffers a queue grants for so many.
+    Grants,
+    /// Whether the device has started since the last such question.
+    Fresh,
+}
+
+// Each call with its name, and how many numbers it needs.
+const VERBS: [Row; 39] = [
+    ("format", Verb::Format, 0),
+    ("lane", Verb::Lane, 1),
+    ("desk", Verb::Desk, 2),
+    ("queue", Verb::Queue, 3),
+    ("window", Verb::Window, 1),
+    ("page", Verb::Page, 0),
+    ("share", Verb::Share, 0),
+    ("close-fd", Verb::CloseFd, 1),
+    ("close", Verb::Close, 0),
+    ("poke", Verb::Poke, 2),
+    ("again", Verb::Again, 0),
+    ("step", Verb::Step, 1),
+    ("stops", Verb::Stops, 0),
+    ("failing", Verb::Failing, 3),
+    ("reqbufs", Verb::ReqBufs, 1),
+    ("querybuf", Verb::QueryBuf, 1),
+    ("qbuf", Verb::QBuf, 1),
+    ("prepare", Verb::PrepareBuf, 1),
+    ("dqbuf", Verb::DqBuf, 0),
+    ("streamon", Verb::StreamOn, 0),
+    ("streamoff", Verb::StreamOff, 0),
+    ("mmap", Verb::Map, 1),
+    ("munmap", Verb::Unmap, 1),
+    ("complete", Verb::Complete, 2),
+    ("short", Verb::Short, 1),
+    ("fail", Verb::Fail, 1),
+    ("fatal", Verb::Fatal, 0),
+    ("dequeue", Verb::Dequeue, 0),
+    ("submit", Verb::Submit, 0),
+    ("put", Verb::Put, 2),
+    ("requeue", Verb::Requeue, 0),
+    ("flush", Verb::Flush, 0),
+    ("lock", Verb::Lock, 2),
+    ("unlock", Verb::Unlock, 1),
+    ("read", Verb::Read, 1),
+    ("status", Verb::Status, 0),
+    ("outline", Verb::Outline, 0),
+    ("grants", Verb::Grants, 1),
+    ("fresh", Verb::Fresh, 0),
+];
+
+/// A call.
+#[derive(Drop)]
+pub(crate) struct Call {
+    pub(crate) verb: Verb,
+    pub(crate) numbers: Vec<u64>,
+    /// The memory that is named: mapped where none is.
+    pub(crate) memory: Memory,
+    /// No planes are given.
+    pub(crate) bare: bool,
+    /// The buffer type is another one than the queue's.
+    pub(crate) other: bool,
+}
+
+impl Call {
+    /// A number; 0 where there is none.
+    pub(crate) fn number(&self, place: usize) -> u64 {
+        match self.numbers.get(place) {
+            Some(number) => *number,
+            None => 0,
+        }
+    }
+
+    /// A number of 32 bits; a larger one is the greatest of them.
+    pub(crate) fn small(&self, place: usize) -> u32 {
+        match u32::try_from(self.number(place)) {
+            Ok(number) => number,
+            Err(_) => u32::MAX,
+        }
+    }
+}
+
+// A call with its name, and how many numbers it needs.
+type Row = (&'static str, Verb, usize);
+
+// Whether a row is the one of a name.
+fn is_named(row: &Row, word: &str) -> bool {
+    row.0 == word
+}
+
+// The row of a name.
+fn row_of(table: &[Row], word: &str) -> Option<Row> {
+    for row in table {
+        if is_named(row, word) {
+            return Some(*row);
+        }
+    }
+    None
+}
+
+// Takes in a word behind the name; false where it is none.
+fn takes(call: &mut Call, word: &str) -> Result<bool, AllocError> {
+    if let Ok(number) = word.parse::<u64>() {
+        call.numbers.push(number)?;
+        return Ok(true);
+    }
+    if word == "userptr" {
+        call.memory = Memory::UserPtr;
+    } else if word == "dmabuf" {
+        call.memory = Memory::DmaBuf;
+    } else if word == "bare" {
+        call.bare = true;
+    } else if word == "other" {
+        call.other = true;
+    } else {
+        return Ok(word == "mmap");
+    }
+    Ok(true)
+}
+
+// Takes in the words behind the name; false where one is none.
+fn takes_all(call: &mut Call, words: &[&str]) -> Result<bool, AllocError> {
+    for word in words {
+        if !takes(call, word)? {
+            return Ok(false);
+        }
+    }
+    Ok(true)
+}
+
+/// The call of a text; None where it can't be read.
+pub(crate) fn call_of(alloc: Global, text: &str) -> Result<Option<Call>, AllocError> {
+    let words: Vec<&str> = text.split_whitespace().collect(alloc)?;
+    let Some((name, rest)) = words.as_slice().split_first() else {
+        return Ok(None);
+    };
+    let Some((_, verb, least)) = row_of(&VERBS, name) else {
+        return Ok(None);
+    };
+    let mut call = Call {
+        verb,
+        numbers: Vec::new(alloc),
+        memory: Memory::Mmap,
+        bare: false,
+        other: false,
+    };
+    let read = takes_all(&mut call, rest)?;
+    Ok(if read && least <= call.numbers.len() {
+        Some(call)
+    } else {
+        None
+    })
+}

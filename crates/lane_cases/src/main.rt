@@ -1,0 +1,35 @@
+//! Cases of desks, lanes and queues, one call a line of standard input with what it answers.
+//!
+//! An empty line, or one that begins with `#`, is printed as it stands. Of any other, what stands up to `=>` is
+//! printed, and then this program's own answer: so its input and its output are one text, `stdout`.
+//!
+//! - `line` has the calls and how they are written;
+//! - `plane` has memory of each kind, `event` what a call sends to a lane or a queue, `told` what a reply tells;
+//! - `case` is a lane, a desk or a queue under way; `desk` makes the calls of a desk, `queue` those of a queue;
+//! - `session` keeps the list of a case: `lists` does it again as one list, `stops` over a disk of which each moment
+//!   is a stop, `failing` over one of which each call fails; `shown` tells what a disk holds.
+#![tactic(auto)]
+
+mod case;
+mod desk;
+mod event;
+mod failing;
+mod frame;
+mod line;
+mod lists;
+mod plane;
+mod queue;
+mod session;
+mod shown;
+mod stops;
+mod told;
+
+use anyhow::Result;
+use std::io::{BufWriter, Write};
+
+fn main(rt: HostRuntime) -> Result<()> {
+    let mut out = BufWriter::new(rt.alloc(), rt.stdout())?;
+    session::answers(rt.alloc(), rt.reader(), &mut out)?;
+    out.flush()?;
+    Ok(())
+}

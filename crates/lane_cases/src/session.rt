@@ -1,0 +1,273 @@
+//! What lines share: the disk, the case that is under way, and the list of the case before.
+use crate::case::{Case, Opening, begin, disk_of, opening_of};
+use crate::failing::failing;
+use crate::line::{Call, Verb, call_of};
+use crate::lists::{List, again, runs};
+use crate::queue::{self, QueueCase, QueueList};
+use crate::shown::{self, Step};
+use crate::stops::stops;
+use anyhow::{Result, anyhow};
+use loop_disk::MemDisk;
+use loop_plane::Memory;
+use loop_record::{Geometry, PixelFormat};
+use loop_store::format;
+use std::alloc::Global;
+use std::io::{BufRead, Write};
+
+/// Three segments with two slots each, of frames of 12 bytes.
+const SMALL: Geometry = Geometry {
+    width: 4,
+    height: 2,
+    format: PixelFormat::Ym12,
+    rate_num: 25,
+    rate_den: 1,
+    segments: 3,
+    slots: 2,
+};
+
+/// What lines share.
+#[derive(Drop)]
+struct Session {
+    image: Vec<u8>,
+    case: Option<Case<MemDisk>>,
+    queue: Option<(QueueCase, QueueList)>,
+    list: List,
+    steps: Vec<Step>,
+}
+
+impl Session {
+    // Nothing is under way.
+    fn new(alloc: Global) -> Session {
+        Session {
+            image: Vec::new(alloc),
+            case: None,
+            queue: None,
+            list: List {
+                opening: Opening {
+                    alone: false,
+                    memory: Memory::Mmap,
+                    pending: 1,
+                    group: 1,
+                },
+                start: Vec::new(alloc),
+                calls: Vec::new(alloc),
+                told: Vec::new(alloc),
+            },
+            steps: Vec::new(alloc),
+        }
+    }
+}
+
+// A freshly formatted image.
+fn formats(alloc: Global, session: &mut Session, out: &mut Vec<u8>) -> Result<()> {
+    match format(alloc, MemDisk::new(alloc, 4360)?, SMALL) {
+        Ok(store) => {
+            let disk = store.into_disk();
+            session.image = disk.bytes().to_vec(alloc)?;
+            out.write_all(b"formatted")?;
+            Ok(())
+        }
+        Err(_) => Err(anyhow!("the disk isn't formatted")),
+    }
+}
+
+// A lane or a desk begins over the image.
+fn begins(alloc: Global, session: &mut Session, call: &Call, out: &mut Vec<u8>) -> Result<()> {
+    let opening = opening_of(call);
+    let disk = MemDisk::of(session.image.as_slice().to_vec(alloc)?);
+    session.case = Some(begin(alloc, disk, opening)?);
+    session.queue = None;
+    session.list = List {
+        opening,
+        start: session.image.as_slice().to_vec(alloc)?,
+        calls: Vec::new(alloc),
+        told: Vec::new(alloc),
+    };
+    session.steps = Vec::new(alloc);
+    out.write_all(b"begins")?;
+    Ok(())
+}
+
+// A queue begins.
+fn begins_queue(
+    alloc: Global,
+    session: &mut Session,
+    call: &Call,
+    out: &mut Vec<u8>,
+) -> Result<()> {
+    session.queue = Some(queue::begins(alloc, call)?);
+    session.case = None;
+    out.write_all(b"begins")?;
+    Ok(())
+}
+
+// The case ends: what its disk shows.
+fn closes(alloc: Global, session: &mut Session, out: &mut Vec<u8>) -> Result<()> {
+    session.queue = None;
+    match session.case.take() {
+        Some(case) => {
+            let disk = disk_of(case);
+            session.image = disk.bytes().to_vec(alloc)?;
+            shown::of_disk(alloc, disk, out)
+        }
+        None => {
+            out.write_all(b"closed")?;
+            Ok(())
+        }
+    }
+}
+
+// Puts a number into the image.
+fn pokes(image: &mut [u8], at: u64, number: u64) -> bool {
+    let mut place = at as usize;
+    for byte in number.to_le_bytes() {
+        match image.get_mut(place) {
+            Some(old) => *old = byte,
+            None => return false,
+        }
+        place = place.saturating_add(1);
+    }
+    true
+}
+
+// Notes what may be shown once the disk had so many calls.
+fn notes(
+    alloc: Global,
+    session: &mut Session,
+    call: &Call,
+    shown: &str,
+    out: &mut Vec<u8>,
+) -> Result<()> {
+    session.steps.push(Step {
+        calls: call.number(0),
+        shown: shown.as_bytes().to_vec(alloc)?,
+    })?;
+    out.write_all(b"noted")?;
+    Ok(())
+}
+
+// A call of a lane or a desk. It comes behind the others of the list.
+fn case_calls(
+    alloc: Global,
+    case: &mut Case<MemDisk>,
+    list: &mut List,
+    call: Call,
+    out: &mut Vec<u8>,
+) -> Result<()> {
+    let mut told = Vec::new(alloc);
+    let calls = [call];
+    runs(alloc, case, &calls, &mut told)?;
+    for text in told {
+        out.write_all(&text)?;
+        list.told.push(text)?;
+    }
+    let [call] = calls;
+    list.calls.push(call)?;
+    Ok(())
+}
+
+// A call of what is under way.
+fn calls(alloc: Global, session: &mut Session, call: Call, out: &mut Vec<u8>) -> Result<()> {
+    if let Some(case) = &mut session.case {
+        return case_calls(alloc, case, &mut session.list, call, out);
+    }
+    if let Some((case, list)) = &mut session.queue {
+        return queue::calls(alloc, case, list, call, out);
+    }
+    out.write_all(b"bad line")?;
+    Ok(())
+}
+
+// Puts a number into the closed image.
+fn pokes_image(session: &mut Session, call: &Call, out: &mut Vec<u8>) -> Result<()> {
+    let within = pokes(&mut session.image, call.number(0), call.number(1));
+    out.write_all(if within { b"put" } else { b"bad line" })?;
+    Ok(())
+}
+
+// Does the list again that a queue has done, or else the one of the closed case.
+fn repeats(alloc: Global, session: &Session, out: &mut Vec<u8>) -> Result<()> {
+    match &session.queue {
+        Some((_, list)) => queue::again(alloc, list, out),
+        None => again(alloc, &session.list, &session.image, out),
+    }
+}
+
+// What a line answers.
+fn does(
+    alloc: Global,
+    session: &mut Session,
+    call: Call,
+    shown: &str,
+    out: &mut Vec<u8>,
+) -> Result<()> {
+    match call.verb {
+        Verb::Format => formats(alloc, session, out),
+        Verb::Lane | Verb::Desk => begins(alloc, session, &call, out),
+        Verb::Queue => begins_queue(alloc, session, &call, out),
+        Verb::Close => closes(alloc, session, out),
+        Verb::Poke => pokes_image(session, &call, out),
+        Verb::Again => repeats(alloc, session, out),
+        Verb::Step => notes(alloc, session, &call, shown, out),
+        Verb::Stops => stops(alloc, &session.list, &session.steps, &call, out),
+        Verb::Failing => failing(alloc, &session.list, &session.steps, &call, out),
+        _ => calls(alloc, session, call, out),
+    }
+}
+
+// What stands before the sign, or the whole line.
+fn before<'a>(line: &'a str, sign: &str) -> (&'a str, &'a str) {
+    match line.split_once(sign) {
+        Some((before, behind)) => (before, behind),
+        None => (line, ""),
+    }
+}
+
+// What a line tells: what stands before the sign.
+fn tells(alloc: Global, session: &mut Session, text: &str) -> Result<Vec<u8>> {
+    let (asked, shown) = before(text, "shows");
+    let mut told = Vec::new(alloc);
+    match call_of(alloc, asked)? {
+        Some(call) => does(alloc, session, call, shown.trim(), &mut told)?,
+        None => told.write_all(b"bad line")?,
+    }
+    Ok(told)
+}
+
+// The lines of an input.
+fn read<R: BufRead + Drop>(alloc: Global, input: R) -> Result<Vec<String>> {
+    let mut lines = Vec::new(alloc);
+    for line in input.lines(alloc) {
+        lines.push(line?)?;
+    }
+    Ok(lines)
+}
+
+// Answers a line.
+fn answer<W: Write>(alloc: Global, session: &mut Session, line: &str, out: &mut W) -> Result<()> {
+    if line.is_empty() || line.starts_with('#') {
+        out.write_all(line.as_bytes())?;
+    } else {
+        let (text, _) = before(line, "=>");
+        let told = tells(alloc, session, text)?;
+        out.write_all(text.as_bytes())?;
+        out.write_all(b"=> ")?;
+        out.write_all(&told)?;
+    }
+    out.write_all(b"\n")?;
+    Ok(())
+}
+
+/// Answers each line.
+pub(crate) fn answers<R: BufRead + Drop, W: Write>(
+    alloc: Global,
+    input: R,
+    out: &mut W,
+) -> Result<()> {
+    let lines: Vec<String> = read(alloc, input)?;
+    let mut session = Session::new(alloc);
+    for line in &lines {
+        answer(alloc, &mut session, line.as_str(), out)?;
+    }
+    Ok(())
+}

@@ -1,0 +1,97 @@
+//! What a disk shows: the frames that are held, each whole, and the clips.
+use crate::desk::clips;
+use crate::frame::is_whole;
+use crate::told;
+use anyhow::{Result, anyhow};
+use loop_disk::MemDisk;
+use loop_store::Store;
+use std::alloc::Global;
+use std::io::Write;
+
+/// What is shown once a disk had so many calls.
+#[derive(Drop)]
+pub(crate) struct Step {
+    pub(crate) calls: u64,
+    pub(crate) shown: Vec<u8>,
+}
+
+// A frame's number, and whether it is whole.
+fn frame(alloc: Global, store: &mut Store<MemDisk>, number: u64, out: &mut Vec<u8>) -> Result<()> {
+    told::named(out, "", number)?;
+    match store.read_frame(alloc, number) {
+        Ok(read) if read.head.number == number && is_whole(&read) => (),
+        Ok(_) => out.write_all(b" (another)")?,
+        Err(_) => out.write_all(b" (unread)")?,
+    }
+    Ok(())
+}
+
+// What a store shows.
+fn of_store(alloc: Global, store: &mut Store<MemDisk>, out: &mut Vec<u8>) -> Result<()> {
+    let Ok(numbers) = store.frames(alloc) else {
+        return Err(anyhow!("memory for numbers"));
+    };
+    out.write_all(b"frames")?;
+    for number in &numbers {
+        frame(alloc, store, *number, out)?;
+    }
+    let Ok(listed) = store.clips(alloc) else {
+        return Err(anyhow!("memory for clips"));
+    };
+    clips(out, &listed)?;
+    Ok(())
+}
+
+/// What a disk shows.
+pub(crate) fn of_disk(alloc: Global, disk: MemDisk, out: &mut Vec<u8>) -> Result<()> {
+    match Store::open(alloc, disk) {
+        Ok(store) => {
+            let mut store = store;
+            of_store(alloc, &mut store, out)
+        }
+        Err(refused) => {
+            told::fault(out, refused.fault)?;
+            Ok(())
+        }
+    }
+}
+
+// How many of the steps were acknowledged within so many calls.
+fn done_within(steps: &[Step], calls: u64) -> usize {
+    let mut done = 0usize;
+    for step in steps {
+        if step.calls <= calls {
+            done = done.saturating_add(1);
+        }
+    }
+    done
+}
+
+/// Whether an event ends behind so many calls.
+pub(crate) fn is_end(steps: &[Step], calls: u64) -> bool {
+    for step in steps {
+        if step.calls == calls {
+            return true;
+        }
+    }
+    false
+}
+
+/// Whether one of the steps is shown behind those that were acknowledged within so many calls: none of them, or up to
+/// those of the event that had made a further call.
+pub(crate) fn is_left(steps: &[Step], calls: u64, goes_on: bool, shown: &[u8]) -> bool {
+    let done = done_within(steps, calls);
+    let next = match steps.get(done) {
+        Some(step) => step.calls,
+        None => calls,
+    };
+    let mut place = 0usize;
+    for step in steps {
+        place = place.saturating_add(1);
+        let may = place == done || (goes_on && calls < step.calls && step.calls <= next);
+        if may && step.shown.as_slice() == shown {
+            return true;
+        }
+    }
+    false
+}
