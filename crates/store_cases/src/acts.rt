@@ -19,13 +19,34 @@ pub(crate) enum Act {
     Read(u64),
 }
 
+fn read_append(words: &mut SplitWhitespace) -> Result<Act> {
+    let count = number(words)?;
+    Ok(Act::Append(count))
+}
+
+fn read_lock(words: &mut SplitWhitespace) -> Result<Act> {
+    let from = number(words)?;
+    let to = number(words)?;
+    Ok(Act::Lock(from, to))
+}
+
+fn read_unlock(words: &mut SplitWhitespace) -> Result<Act> {
+    let id = small(words)?;
+    Ok(Act::Unlock(id))
+}
+
+fn read_read(words: &mut SplitWhitespace) -> Result<Act> {
+    let number = number(words)?;
+    Ok(Act::Read(number))
+}
+
 /// The act of a word, with the next words.
 pub(crate) fn read_act(word: &str, words: &mut SplitWhitespace) -> Result<Act> {
     match word {
-        "append" => Ok(Act::Append(number(words)?)),
-        "lock" => Ok(Act::Lock(number(words)?, number(words)?)),
-        "unlock" => Ok(Act::Unlock(small(words)?)),
-        "read" => Ok(Act::Read(number(words)?)),
+        "append" => read_append(words),
+        "lock" => read_lock(words),
+        "unlock" => read_unlock(words),
+        "read" => read_read(words),
         _ => Err(bad_line()),
     }
 }
@@ -62,17 +83,24 @@ pub(crate) fn does<D: Disk + Drop>(
     })
 }
 
+// Prints what was done.
+fn print_done(out: &mut Vec<u8>, act: Act, number: u64) -> io::Result<()> {
+    match act {
+        Act::Append(_) => write!(out, "{number}"),
+        Act::Lock(_, _) => write!(out, "clip {number}"),
+        Act::Unlock(_) => out.write_all(b"unlocked"),
+        Act::Read(_) => out.write_all(b"whole"),
+    }
+}
+
 /// Prints what came of an act.
 pub(crate) fn print_answer(
     out: &mut Vec<u8>,
     act: Act,
     answer: Result<u64, StoreFault>,
 ) -> io::Result<()> {
-    match (act, answer) {
-        (_, Err(fault)) => write!(out, "{fault:?}"),
-        (Act::Append(_), Ok(number)) => write!(out, "{number}"),
-        (Act::Lock(_, _), Ok(id)) => write!(out, "clip {id}"),
-        (Act::Unlock(_), Ok(_)) => out.write_all(b"unlocked"),
-        (Act::Read(_), Ok(_)) => out.write_all(b"whole"),
+    match answer {
+        Err(fault) => write!(out, "{fault:?}"),
+        Ok(number) => print_done(out, act, number),
     }
 }

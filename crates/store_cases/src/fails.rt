@@ -2,7 +2,7 @@
 
 use crate::acts::{Act, does, frames_of};
 use crate::case::{Case, Moment, close};
-use crate::frames::{append_next, held, is_beginning, opened, read, refused};
+use crate::frames::{append_next, held, is_beginning, opened, read, refused, unexpected};
 use anyhow::{Result, anyhow};
 use loop_disk::{Disk, DiskFault, FuseDisk, MemDisk, OnceDisk};
 use loop_store::{Command, Store, StoreFault};
@@ -23,15 +23,25 @@ fn must<T: Drop>(answer: Result<T, StoreFault>) -> Result<()> {
     }
 }
 
+// Each call that locks or lists is refused.
+fn lists_nothing<D: Disk + Drop>(alloc: Global, store: &mut Store<D>) -> Result<()> {
+    must(store.frames(alloc))?;
+    must(store.clips(alloc))?;
+    must(store.lock(0, 0))?;
+    must(store.unlock(0))
+}
+
+// A list of commands is refused.
+fn runs_nothing<D: Disk + Drop>(alloc: Global, store: &mut Store<D>) -> Result<()> {
+    must(store.run(alloc, &[Command::Read(0)]))
+}
+
 // Each call of a store that has to be opened again is refused, but for those that tell what it knows.
 fn is_stopped<D: Disk + Drop>(alloc: Global, store: &mut Store<D>, next: u64) -> Result<()> {
     must(append_next(alloc, store, 1, 0)?)?;
     must(read(alloc, store, 0)?)?;
-    must(store.frames(alloc))?;
-    must(store.run(alloc, &[Command::Read(0)]))?;
-    must(store.lock(0, 0))?;
-    must(store.unlock(0))?;
-    must(store.clips(alloc))?;
+    lists_nothing(alloc, store)?;
+    runs_nothing(alloc, store)?;
     if store.next() != next || !(next == 0 || store.holds(next.wrapping_sub(1))) {
         return Err(anyhow!("it tells other numbers than before"));
     }
@@ -82,8 +92,8 @@ fn tried<D: Disk + Drop>(alloc: Global, disk: D, acts: &[Act]) -> Result<(Done, 
     }
 }
 
-// Whether a store may show what was shown at a moment, or at the next one where the act between them was refused, or after a
-// beginning of its steps.
+// Whether a store may show what was shown at a moment, or at the next one where the act between them was refused, or
+// after a beginning of its steps.
 fn is_left(case: &Case, store: &Store<MemDisk>, done: &Done, found: &[u64]) -> Result<bool> {
     let clips = store.clips(case.alloc).map_err(refused)?;
     let is_of = |moment: &Moment| *moment.clips.as_slice() == *clips.as_slice();
@@ -100,23 +110,30 @@ fn is_left(case: &Case, store: &Store<MemDisk>, done: &Done, found: &[u64]) -> R
     })
 }
 
+// What is left shows what it may. A frame is stored then, in a second attempt, and its number is answered.
+fn goes_on(case: &Case, store: &mut Store<MemDisk>, done: &Done) -> Result<u64> {
+    let found = held(case.alloc, store, u64::MAX)?;
+    if !is_left(case, store, done, &found)? {
+        return Err(unexpected(&found));
+    }
+    append_next(case.alloc, store, 1, 1)?.map_err(refused)
+}
+
+// The last frame is the one of this number. It is of the second attempt, and those before it are of the first.
+fn ends_with(alloc: Global, store: &mut Store<MemDisk>, number: u64) -> Result<()> {
+    let shown = held(alloc, store, number)?;
+    match shown.last() {
+        Some(last) if *last == number => Ok(()),
+        _ => Err(unexpected(&shown)),
+    }
+}
+
 // Opens what is left, stores a frame in a second attempt, and opens it again. What was given up doesn't come back.
 fn reopens(case: &Case, disk: MemDisk, done: &Done) -> Result<()> {
-    let alloc = case.alloc;
-    let mut store = opened(alloc, disk)?;
-    let found = held(alloc, &mut store, u64::MAX)?;
-    if !is_left(case, &store, done, &found)? {
-        return Err(anyhow!("{found:?} are held"));
-    }
-    let next = store.next();
-    append_next(alloc, &mut store, 1, 1)?.map_err(refused)?;
-    let mut store = opened(alloc, store.into_disk())?;
-    let shown = held(alloc, &mut store, next)?;
-    if shown.last().copied() == Some(next) {
-        Ok(())
-    } else {
-        Err(anyhow!("{next} isn't the last of {shown:?}"))
-    }
+    let mut store = opened(case.alloc, disk)?;
+    let number = goes_on(case, &mut store, done)?;
+    let mut store = opened(case.alloc, store.into_disk())?;
+    ends_with(case.alloc, &mut store, number)
 }
 
 // The image when it was opened.
@@ -167,8 +184,8 @@ fn letter(fault: StoreFault) -> u8 {
     }
 }
 
-/// `fails`: fails each call of the opening and of what was done since, up to one that isn't made any more. The letters of the
-/// calls that failed, and that each left a beginning.
+/// `fails`: fails each call of the opening and of what was done since, up to one that isn't made any more. The
+/// letters of the calls that failed, and that each left a beginning.
 pub(crate) fn fails(case: &mut Case, told: &mut Vec<u8>) -> Result<()> {
     close(case)?;
     for call in 0..MAX_CALLS {

@@ -1,6 +1,7 @@
 //! Frames of a pattern, and calls of a store that see to what these ask for first.
 
 ghost use Rattle.std.specs.Prelude.{◌≡◌, All, IsTrue, length};
+ghost use Rattle.loop_record.specs.Geometry.{frame_bytes};
 
 use anyhow::{Error, Result, anyhow};
 use loop_disk::Disk;
@@ -12,6 +13,11 @@ use std::alloc::{AllocError, Global};
 pub(crate) fn refused(fault: StoreFault) -> Error {
     let name = fault.name();
     anyhow!("refused {name}")
+}
+
+/// Other frames are held than may be.
+pub(crate) fn unexpected(numbers: &[u64]) -> Error {
+    anyhow!("{numbers:?} are held")
 }
 
 /// The frame that is stored under a number at an attempt at it, 0 being the first: byte i is the number + i,
@@ -60,9 +66,29 @@ fn have_size(frames: &[Frame], size: usize) -> bool
 }
 
 /// The bytes of a store's frames.
-pub(crate) fn size_of_frames<D: Disk + Drop>(store: &Store<D>) -> usize {
+pub(crate) fn size_of_frames<D: Disk + Drop>(store: &Store<D>) -> usize
+    ensures { result ≡ frame_bytes store.now.geometry }
+{
     let geometry = store.geometry();
     geometry.frame_bytes() as usize
+}
+
+// Appends a group of frames that fit. The number of the first is the one that the store named before.
+fn append<D: Disk + Drop>(
+    store: &mut Store<D>,
+    frames: &[Frame],
+) -> Result<Result<u64, StoreFault>> {
+    if frames.is_empty() || frames.len() > 8 || frames.len() > store.room() as usize {
+        return Err(anyhow!("the group doesn't fit"));
+    }
+    if !have_size(frames, size_of_frames(store)) {
+        return Err(anyhow!("a frame of another size"));
+    }
+    let next = store.next();
+    match store.append(frames) {
+        Ok(number) if number != next => Err(anyhow!("another number than the next")),
+        answer => Ok(answer),
+    }
 }
 
 /// Appends so many frames, of this attempt at their numbers.
@@ -72,15 +98,8 @@ pub(crate) fn append_next<D: Disk + Drop>(
     count: u64,
     attempt: u64,
 ) -> Result<Result<u64, StoreFault>> {
-    let size = store.geometry().frame_bytes() as usize;
-    let frames = group(alloc, size, store.next(), count, attempt)?;
-    if frames.is_empty() || frames.len() > 8 || frames.len() > store.room() as usize {
-        return Err(anyhow!("the group doesn't fit"));
-    }
-    if !have_size(&frames, size) {
-        return Err(anyhow!("a frame of another size"));
-    }
-    Ok(store.append(&frames))
+    let frames = group(alloc, size_of_frames(store), store.next(), count, attempt)?;
+    append(store, &frames)
 }
 
 /// Reads the frame of a number, if it is held: its head, and its bytes.

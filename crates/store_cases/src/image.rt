@@ -10,7 +10,7 @@ use crate::words::{any_geometry, good, number, number_of, word};
 use anyhow::{Result, anyhow};
 use loop_disk::MemDisk;
 use loop_record::{Geometry, OPEN, encode_slot, encode_super};
-use loop_store::Store;
+use loop_store::{OpenRefused, Store};
 use std::alloc::{AllocError, Global};
 use std::io::Write;
 use std::str::SplitWhitespace;
@@ -42,6 +42,15 @@ fn print_size(case: &Case, told: &mut Vec<u8>) -> Result<()> {
     Ok(())
 }
 
+// Stores groups of so many frames on a fresh image.
+fn with_groups(alloc: Global, image: Vec<u8>, words: &mut SplitWhitespace) -> Result<Vec<u8>> {
+    let mut store = opened(alloc, MemDisk::of(image))?;
+    for word in words {
+        append_next(alloc, &mut store, number_of(word)?, 0)?.map_err(refused)?;
+    }
+    Ok(store.into_disk().bytes().to_vec(alloc)?)
+}
+
 /// `image GEOMETRY COUNT..`: a freshly formatted image, and groups of so many frames that are stored on it.
 pub(crate) fn image(
     case: &mut Case,
@@ -50,11 +59,8 @@ pub(crate) fn image(
 ) -> Result<()> {
     close(case)?;
     let geometry = good(any_geometry(words)?)?;
-    let mut store = opened(case.alloc, MemDisk::of(fresh(case.alloc, geometry)?))?;
-    for word in words {
-        append_next(case.alloc, &mut store, number_of(word)?, 0)?.map_err(refused)?;
-    }
-    case.image = store.into_disk().bytes().to_vec(case.alloc)?;
+    let image = fresh(case.alloc, geometry)?;
+    case.image = with_groups(case.alloc, image, words)?;
     print_size(case, told)
 }
 
@@ -189,8 +195,28 @@ fn changed(case: &Case, words: &mut SplitWhitespace) -> Result<Vec<u8>> {
     Ok(image)
 }
 
-/// `opens AT BYTES ..`: opens the image with these changes, which the image itself doesn't keep. It shows these frames,
-/// or it is refused, and then handed back unchanged.
+// Prints the frames that a store shows.
+fn print_held(alloc: Global, mut store: Store<MemDisk>, told: &mut Vec<u8>) -> Result<()> {
+    let numbers = held(alloc, &mut store, u64::MAX)?;
+    told.write_all(b"holds")?;
+    text::print_numbers(told, &numbers)?;
+    Ok(())
+}
+
+// Prints why an image is refused. It is handed back unchanged.
+fn print_refused(refused: OpenRefused<MemDisk>, image: &[u8], told: &mut Vec<u8>) -> Result<()> {
+    let fault = refused.fault;
+    write!(told, "{fault:?}")?;
+    if *refused.disk.bytes() == *image {
+        told.write_all(b", handed back")?;
+        Ok(())
+    } else {
+        Err(anyhow!(", and handed back with other bytes"))
+    }
+}
+
+/// `opens AT BYTES ..`: opens the image with these changes, which the image itself doesn't keep. It shows these
+/// frames, or it is refused, and then handed back unchanged.
 pub(crate) fn opens(
     case: &mut Case,
     words: &mut SplitWhitespace,
@@ -199,18 +225,7 @@ pub(crate) fn opens(
     close(case)?;
     let image = changed(case, words)?;
     match Store::open(case.alloc, MemDisk::of(image.clone()?)) {
-        Ok(mut store) => {
-            let numbers = held(case.alloc, &mut store, u64::MAX)?;
-            told.write_all(b"holds")?;
-            text::print_numbers(told, &numbers)?;
-        }
-        Err(refused) => {
-            let fault = refused.fault;
-            if *refused.disk.bytes() != *image.as_slice() {
-                return Err(anyhow!("{fault:?}, and it isn't handed back unchanged"));
-            }
-            write!(told, "{fault:?}, handed back")?;
-        }
+        Ok(store) => print_held(case.alloc, store, told),
+        Err(refused) => print_refused(refused, &image, told),
     }
-    Ok(())
 }

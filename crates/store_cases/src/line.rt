@@ -1,5 +1,5 @@
-//! Lines that ask the store. Each is asked twice: of the store that is open, and of one that is opened anew for it; both
-//! answer the same and leave the same bytes.
+//! Lines that ask the store. Each is asked twice: of the store that is open, and of one that is opened anew for it;
+//! both answer the same and leave the same bytes.
 
 use crate::acts::{Act, does, print_answer};
 use crate::case::{self, Case, CaseStore, Moment};
@@ -108,18 +108,24 @@ fn tell(
     Ok((0, false))
 }
 
+// The bytes that a store leaves.
+fn left_by(alloc: Global, store: CaseStore) -> Result<Vec<u8>> {
+    let disk = store.into_disk().inner.into_inner();
+    Ok(disk.bytes().to_vec(alloc)?)
+}
+
+// The store of the image, opened anew.
+fn open_anew<'a>(case: &Case<'a>) -> Result<CaseStore<'a>> {
+    let image = case.image.clone()?;
+    open_image(case.alloc, case.calls, image, u64::MAX)
+}
+
 // Asks a store that is opened anew, which has to answer the same.
 fn ask_anew(case: &mut Case, ask: Ask, told: &[u8]) -> Result<()> {
     let mut again = Vec::new(case.alloc);
-    let image = case.image.clone()?;
-    let mut store = open_image(case.alloc, case.calls, image, u64::MAX)?;
+    let mut store = open_anew(case)?;
     tell(case.alloc, case.calls, &mut store, ask, &mut again)?;
-    case.image = store
-        .into_disk()
-        .inner
-        .into_inner()
-        .bytes()
-        .to_vec(case.alloc)?;
+    case.image = left_by(case.alloc, store)?;
     if *again.as_slice() == *told {
         return Ok(());
     }
@@ -154,6 +160,18 @@ fn remember(case: &mut Case, calls: u64) -> Result<()> {
     Ok(())
 }
 
+// Begins a case over the image, on a disk of which this call fails. Answers in how many calls it is opened.
+fn begin(case: &mut Case, fails: u64) -> Result<u64> {
+    case.base = case.image.clone()?;
+    case.image = left_by(case.alloc, open_anew(case)?)?;
+    let store = open_image(case.alloc, case.calls, case.base.clone()?, fails)?;
+    case.store = Some(store);
+    case.is_failing = fails < u64::MAX;
+    case.acts = Vec::new(case.alloc);
+    case.moments = Vec::new(case.alloc);
+    Ok(case.calls.get())
+}
+
 /// `open`, or `open failing CALL`: opens the image, in so many calls of the disk.
 pub(crate) fn open(case: &mut Case, words: &mut SplitWhitespace, told: &mut Vec<u8>) -> Result<()> {
     case::close(case)?;
@@ -161,20 +179,7 @@ pub(crate) fn open(case: &mut Case, words: &mut SplitWhitespace, told: &mut Vec<
         Some(_) => number(words)?,
         None => u64::MAX,
     };
-    case.base = case.image.clone()?;
-    let store = open_image(case.alloc, case.calls, case.image.clone()?, u64::MAX)?;
-    case.image = store
-        .into_disk()
-        .inner
-        .into_inner()
-        .bytes()
-        .to_vec(case.alloc)?;
-    let store = open_image(case.alloc, case.calls, case.base.clone()?, fails)?;
-    let count = case.calls.get();
-    case.store = Some(store);
-    case.is_failing = fails < u64::MAX;
-    case.acts = Vec::new(case.alloc);
-    case.moments = Vec::new(case.alloc);
+    let count = begin(case, fails)?;
     if !case.is_failing {
         remember(case, count)?;
     }
@@ -182,10 +187,15 @@ pub(crate) fn open(case: &mut Case, words: &mut SplitWhitespace, told: &mut Vec<
     Ok(())
 }
 
-/// `close`: takes the disk out of the store.
+/// `close`: takes the disk out of the store, and compares it with the one of stores opened anew.
 pub(crate) fn close(case: &mut Case, told: &mut Vec<u8>) -> Result<()> {
     case::close(case)?;
-    told.write_all(b"the same bytes either way")?;
+    let answer: &[u8] = if case.is_failing {
+        b"closed"
+    } else {
+        b"the same bytes either way"
+    };
+    told.write_all(answer)?;
     Ok(())
 }
 

@@ -141,22 +141,49 @@ fn failing(case: &Case, fails: u64) -> Result<Store<OnceDisk<MemDisk>>> {
     opened(case.alloc, OnceDisk::new(disk, fails))
 }
 
-/// `list CALL ACT, ACT ..`, or with `never` for the call: the acts one by one and as one list, on a disk of which this
-/// call fails. Both answer the same and leave the same bytes.
+// Does the acts of the image one by one. Answers the commands of a list that does the same, and the disk that is
+// left.
+fn singly(
+    case: &Case,
+    fails: u64,
+    acts: &[Act],
+    told: &mut Vec<u8>,
+) -> Result<(Vec<Command>, MemDisk)> {
+    let mut store = failing(case, fails)?;
+    let commands = one_by_one(case.alloc, &mut store, acts, told)?;
+    Ok((commands, store.into_disk().into_inner()))
+}
+
+// Does a list of commands of the image. Answers the disk that is left.
+fn together(
+    case: &Case,
+    fails: u64,
+    acts: &[Act],
+    commands: &[Command],
+    told: &mut Vec<u8>,
+) -> Result<MemDisk> {
+    let mut store = failing(case, fails)?;
+    by_list(case.alloc, &mut store, acts, commands, told)?;
+    Ok(store.into_disk().into_inner())
+}
+
+// The call that fails.
+fn failing_call(word: &str) -> Result<u64> {
+    match word {
+        "never" => Ok(u64::MAX),
+        word => number_of(word),
+    }
+}
+
+/// `list CALL ACT, ACT ..`, or with `never` for the call: the acts one by one and as one list, on a disk of which
+/// this call fails. Both answer the same and leave the same bytes.
 pub(crate) fn list(case: &mut Case, words: &mut SplitWhitespace, told: &mut Vec<u8>) -> Result<()> {
     close(case)?;
-    let fails = match word(words)? {
-        "never" => u64::MAX,
-        word => number_of(word)?,
-    };
+    let fails = failing_call(word(words)?)?;
     let acts = acts(case.alloc, words)?;
-    let mut store = failing(case, fails)?;
-    let commands = one_by_one(case.alloc, &mut store, &acts, told)?;
-    let left = store.into_disk().into_inner();
-    let mut store = failing(case, fails)?;
+    let (commands, left) = singly(case, fails, &acts, told)?;
     let mut again = Vec::new(case.alloc);
-    by_list(case.alloc, &mut store, &acts, &commands, &mut again)?;
-    let disk = store.into_disk().into_inner();
+    let disk = together(case, fails, &acts, &commands, &mut again)?;
     if *told.as_slice() != *again.as_slice() || *disk.bytes() != *left.bytes() {
         return Err(anyhow!(", and not the same one by one and as a list"));
     }

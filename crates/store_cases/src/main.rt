@@ -1,14 +1,14 @@
-//! Cases of disks and stores, a line each, read from standard input. A line that begins with `#` and an empty one are
-//! printed as they stand. Of each other line what stands up to and with `=> ` is printed, and then the answer that comes
-//! of it, whatever stood behind: so what is read and what has to be printed is one text.
+//! Cases of disks and stores, a line each, read from standard input. A line that begins with `#` and an empty one
+//! are printed as they stand. Of each other line what stands up to and with `=> ` is printed, and then the answer
+//! that comes of it, whatever stood behind: so what is read and what has to be printed is one text.
 //!
 //! - `words` reads the words of a line, `text` bytes that are written as text, and prints spans of numbers;
 //! - `counted` is a disk that counts its calls; `frames` has the frames, with the calls of a store that see to what
 //!   these ask for first, and `acts` what a store is asked for;
 //! - `case` is what a line finds and leaves: an image and the store over it; `image` changes the image, `line` asks
 //!   the store;
-//! - `list` does lists of commands, `make` formats, `stops` stops at each call with each spoilt content, `fails` fails
-//!   each call in turn;
+//! - `list` does lists of commands, `make` formats, `stops` stops at each call with each spoilt content, `fails`
+//!   fails each call in turn;
 //! - `pile` is a disk that remembers, fails and reads ahead, without a store.
 #![tactic(auto)]
 

@@ -34,7 +34,15 @@ fn fresh_with_slots(alloc: Global, geometry: Geometry, old: &[u8]) -> Result<Vec
     Ok(image)
 }
 
-// What a format of the image has left: the superblock and no clip, closed segments, and all slots as they were.
+// Whether a format of the image has left the superblock and no clip, closed segments, and all slots as they were.
+fn is_fresh(case: &Case, disk: &MemDisk, geometry: Geometry) -> Result<bool>
+    requires { IsTrue (is_good geometry) }
+{
+    let expected = fresh_with_slots(case.alloc, geometry, &case.image)?;
+    Ok(*disk.bytes() == *expected.as_slice())
+}
+
+// What a format of the image has left.
 fn formatted(
     case: &mut Case,
     store: Store<Counted<MemDisk>>,
@@ -42,12 +50,11 @@ fn formatted(
     told: &mut Vec<u8>,
 ) -> Result<()> {
     let (found, next, room) = (store.geometry(), store.next(), store.room());
-    let expected = fresh_with_slots(case.alloc, found, &case.image)?;
     let disk = store.into_disk().inner;
-    if found != geometry || *disk.bytes() != *expected.as_slice() {
+    if found != geometry || !is_fresh(case, &disk, found)? {
         return Err(anyhow!(", and other bytes than those of a fresh recording"));
     }
-    case.image = expected;
+    case.image = disk.bytes().to_vec(case.alloc)?;
     write!(told, ", next {next}, room {room}")?;
     Ok(())
 }
@@ -103,8 +110,8 @@ fn recorded(case: &Case, geometry: Geometry) -> Result<CrashDisk> {
     }
 }
 
-// Whether a stop behind so many of all calls may leave this: what isn't formatted, or what reads as before, or the empty
-// recording. This one only once the gate of the superblock is written, and always after the last call.
+// Whether a stop behind so many of all calls may leave this: what isn't formatted, or what reads as before, or the
+// empty recording. This one only once the gate of the superblock is written, and always after the last call.
 fn is_left(
     found: &Option<Vec<u64>>,
     before: &Option<Vec<u64>>,

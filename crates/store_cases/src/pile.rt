@@ -1,5 +1,5 @@
-//! Disks on one another, without a store: one that reads ahead, one that counts, one that fails from a call on, one that
-//! fails a call, and one that remembers its calls.
+//! Disks on one another, without a store: one that reads ahead, one that counts, one that fails from a call on, one
+//! that fails a call, and one that remembers its calls.
 
 use crate::case::Case;
 use crate::counted::Counted;
@@ -19,8 +19,8 @@ pub(crate) type Tape = CrashDisk;
 /// The disks, from the one that is called down.
 pub(crate) type Pile<'a> = AheadDisk<Counted<'a, FuseDisk<OnceDisk<CrashDisk>>>>;
 
-// How the disks are made: the bytes of the window, from which call on all fail, and which call fails alone, where a write
-// may keep its first bytes.
+// How the disks are made: the bytes of the window, from which call on all fail, and which call fails alone, where a
+// write may keep its first bytes.
 #[derive(Clone, Copy)]
 struct Making {
     window: u64,
@@ -53,6 +53,15 @@ fn read_making(words: &mut SplitWhitespace) -> Result<Making> {
     Ok(making)
 }
 
+// A disk that fails a call, over these bytes.
+fn make_once(alloc: Global, bytes: Vec<u8>, making: Making) -> Result<OnceDisk<CrashDisk>> {
+    let tape = CrashDisk::of(alloc, bytes)?;
+    Ok(match making.keep {
+        Some(keep) => OnceDisk::torn(tape, making.once, keep),
+        None => OnceDisk::new(tape, making.once),
+    })
+}
+
 // The disks over these bytes.
 fn make_pile<'a>(
     alloc: Global,
@@ -60,12 +69,7 @@ fn make_pile<'a>(
     bytes: Vec<u8>,
     making: Making,
 ) -> Result<Pile<'a>> {
-    let tape = CrashDisk::of(alloc, bytes)?;
-    let once = match making.keep {
-        Some(keep) => OnceDisk::torn(tape, making.once, keep),
-        None => OnceDisk::new(tape, making.once),
-    };
-    let inner = FuseDisk::new(once, making.fuse);
+    let inner = FuseDisk::new(make_once(alloc, bytes, making)?, making.fuse);
     match AheadDisk::new(alloc, Counted { inner, calls }, making.window as usize) {
         Ok(pile) => Ok(pile),
         Err(_) => Err(anyhow!("no memory for the window")),
@@ -149,8 +153,8 @@ fn print_failures(told: &mut Vec<u8>, failures: &Failures) -> io::Result<()> {
     write!(told, "failed {reads} {writes} {syncs}")
 }
 
-// Takes the disks from one another, and prints how many calls would pass yet, how many failed in which kinds above, and how
-// many beneath.
+// Takes the disks from one another, and prints how many calls would pass yet, how many failed in which kinds above,
+// and how many beneath.
 fn apart(case: &mut Case, pile: Pile, told: &mut Vec<u8>) -> Result<()> {
     let fuse = pile.into_inner().inner;
     if fuse.left < 1000 {
@@ -281,15 +285,21 @@ fn calls(case: &mut Case, words: &mut SplitWhitespace, told: &mut Vec<u8>) -> Re
     Ok(())
 }
 
+// Makes the remembered calls, and prints a letter for each.
+fn play_all(case: &Case, pile: &mut Pile, told: &mut Vec<u8>) -> Result<()> {
+    let mut unsaid = Vec::new(case.alloc);
+    for call in &case.list {
+        let answer = does(case.alloc, pile, call, &mut unsaid)?;
+        told.push(letter(answer))?;
+    }
+    Ok(())
+}
+
 // `disk play BYTES MAKING`: the remembered calls over these bytes, a letter each, and what is left.
 fn play(case: &mut Case, words: &mut SplitWhitespace, told: &mut Vec<u8>) -> Result<()> {
     let bytes = text::bytes(case.alloc, word(words)?)?;
     let mut pile = make_pile(case.alloc, case.calls, bytes, read_making(words)?)?;
-    let mut unsaid = Vec::new(case.alloc);
-    for call in &case.list {
-        let answer = does(case.alloc, &mut pile, call, &mut unsaid)?;
-        told.push(letter(answer))?;
-    }
+    play_all(case, &mut pile, told)?;
     told.write_all(b", ")?;
     apart(case, pile, told)?;
     told.write_all(b": ")?;

@@ -3,7 +3,9 @@
 
 use crate::acts::{Act, does, frames_of};
 use crate::case::{Case, Moment};
-use crate::frames::{append_next, frame, held, is_beginning, opened, refused, size_of_frames};
+use crate::frames::{
+    append_next, frame, held, is_beginning, opened, refused, size_of_frames, unexpected,
+};
 use crate::list::run;
 use crate::text::print_numbers;
 use crate::words::{number, spoil};
@@ -66,15 +68,20 @@ fn stores_by_list(alloc: Global, store: &mut Store<CrashDisk>, count: usize) -> 
     }
 }
 
+// Does what was done since the opening.
+fn does_again(case: &Case, store: &mut Store<CrashDisk>, by_list: bool) -> Result<()> {
+    if by_list {
+        stores_by_list(case.alloc, store, case.acts.len())
+    } else {
+        does_all(case.alloc, store, &case.acts)
+    }
+}
+
 // A disk that has made the calls of the opening and of the acts since.
 fn recorded(case: &Case, by_list: bool) -> Result<CrashDisk> {
     let disk = CrashDisk::of(case.alloc, case.base.clone()?)?;
     let mut store = opened(case.alloc, disk)?;
-    if by_list {
-        stores_by_list(case.alloc, &mut store, case.acts.len())?;
-    } else {
-        does_all(case.alloc, &mut store, &case.acts)?;
-    }
+    does_again(case, &mut store, by_list)?;
     let disk = store.into_disk();
     let calls = case.moments.last().map_or(0, |moment| moment.at);
     if disk.calls() == calls {
@@ -100,8 +107,8 @@ fn has_clips(moment: &Moment, clips: &[Clip]) -> bool {
     *moment.clips.as_slice() == *clips
 }
 
-// Whether a store may show this after so many calls. Where no act is under way, that is what was shown before. Else it is
-// that with a beginning of what the act does.
+// Whether a store may show this after so many calls. Where no act is under way, that is what was shown before. Else
+// it is that with a beginning of what the act does.
 fn may_show(case: &Case, calls: usize, frames: &[u64], clips: &[Clip]) -> bool {
     let passed = count_passed(&case.moments, calls);
     let last = passed.wrapping_sub(1);
@@ -117,7 +124,8 @@ fn may_show(case: &Case, calls: usize, frames: &[u64], clips: &[Clip]) -> bool {
     }
 }
 
-// After a stop in the second attempt the frames are those from before it or after it, and what was given up isn't back.
+// After a stop in the second attempt the frames are those from before it or after it, and what was given up isn't
+// back.
 fn is_again(alloc: Global, left: MemDisk, found: &[u64], after: &[u64]) -> Result<()> {
     let mut store = opened(alloc, left)?;
     let again = after.last().copied().unwrap_or(0);
@@ -125,7 +133,7 @@ fn is_again(alloc: Global, left: MemDisk, found: &[u64], after: &[u64]) -> Resul
     if is_beginning(&shown, found, after, 1) {
         Ok(())
     } else {
-        Err(anyhow!("in a second attempt {shown:?}"))
+        Err(unexpected(&shown))
     }
 }
 
@@ -139,31 +147,44 @@ fn stops_again(alloc: Global, disk: &CrashDisk, found: &[u64], after: &[u64]) ->
     Ok(())
 }
 
+// Stores a frame in a second attempt, and answers which frames are held then.
+fn stores_again(alloc: Global, store: &mut Store<CrashDisk>) -> Result<Vec<u64>> {
+    let next = append_next(alloc, store, 1, 1)?.map_err(refused)?;
+    held(alloc, store, next)
+}
+
 // Opens what a stop left on a disk that remembers its calls, and stores a frame in a second attempt, which is
 // stopped too.
-fn tries_again(alloc: Global, left: &[u8], found: &[u64]) -> Result<()> {
-    let disk = CrashDisk::of(alloc, left.to_vec(alloc)?)?;
+fn tries_again(alloc: Global, left: MemDisk, found: &[u64]) -> Result<()> {
+    let disk = CrashDisk::of(alloc, left.bytes().to_vec(alloc)?)?;
     let mut store = opened(alloc, disk)?;
-    let next = store.next();
-    append_next(alloc, &mut store, 1, 1)?.map_err(refused)?;
-    let after = held(alloc, &mut store, next)?;
+    let after = stores_again(alloc, &mut store)?;
     stops_again(alloc, &store.into_disk(), found, &after)
+}
+
+// The frames of what a stop behind so many calls leaves.
+fn found_at(alloc: Global, left: MemDisk) -> Result<Vec<u64>> {
+    let mut store = opened(alloc, left)?;
+    held(alloc, &mut store, u64::MAX)
+}
+
+// The clips of what a stop behind so many calls leaves.
+fn clips_at(alloc: Global, left: MemDisk) -> Result<Vec<Clip>> {
+    let store = opened(alloc, left)?;
+    store.clips(alloc).map_err(refused)
 }
 
 // Opens what a stop behind so many calls leaves.
 fn stops_at(case: &Case, disk: &CrashDisk, calls: usize, spoil: Spoil) -> Result<()> {
-    let left = left_at(disk, calls, spoil)?;
-    let image = left.bytes().to_vec(case.alloc)?;
-    let mut store = opened(case.alloc, left)?;
-    let found = held(case.alloc, &mut store, u64::MAX)?;
-    let clips = store.clips(case.alloc).map_err(refused)?;
+    let found = found_at(case.alloc, left_at(disk, calls, spoil)?)?;
+    let clips = clips_at(case.alloc, left_at(disk, calls, spoil)?)?;
     if !may_show(case, calls, &found, &clips) {
-        return Err(anyhow!("{found:?} are held"));
+        return Err(unexpected(&found));
     }
     if !AGAIN.contains(&spoil) {
         return Ok(());
     }
-    tries_again(case.alloc, &image, &found)
+    tries_again(case.alloc, left_at(disk, calls, spoil)?, &found)
 }
 
 // Opens what stops behind so many calls leave.
@@ -177,8 +198,8 @@ fn stops_behind(case: &Case, disk: &CrashDisk, calls: usize) -> Result<()> {
 }
 
 /// `stops`, or `stops of a list`: opens what each stop of what was done since the opening may leave. It is what was
-/// shown before or after the act that is stopped, or after a beginning of its steps, and goes on. The frames can be stored by
-/// one list of commands.
+/// shown before or after the act that is stopped, or after a beginning of its steps, and goes on. The frames can be
+/// stored by one list of commands.
 pub(crate) fn stops(
     case: &mut Case,
     words: &mut SplitWhitespace,
@@ -193,15 +214,15 @@ pub(crate) fn stops(
     Ok(())
 }
 
-/// `stop CALLS SPOIL ..`: the frames that are held after a stop behind so many calls, with each of these spoilt contents.
+/// `stop CALLS SPOIL ..`: the frames that are held after a stop behind so many calls, with each of these spoilt
+/// contents.
 pub(crate) fn stop(case: &mut Case, words: &mut SplitWhitespace, told: &mut Vec<u8>) -> Result<()> {
     let disk = recorded(case, false)?;
     let calls = number(words)?;
     told.write_all(b"holds")?;
     for word in words {
         let left = left_at(&disk, calls as usize, spoil(word)?)?;
-        let mut store = opened(case.alloc, left)?;
-        print_numbers(told, &held(case.alloc, &mut store, u64::MAX)?)?;
+        print_numbers(told, &found_at(case.alloc, left)?)?;
     }
     Ok(())
 }
@@ -213,12 +234,11 @@ fn clips_with(alloc: Global, disk: &CrashDisk, calls: usize, at: usize, byte: u8
     if left.bytes().get(at).copied() != Some(byte) {
         return Err(anyhow!("it isn't {byte} that is left"));
     }
-    let store = opened(alloc, left)?;
-    Ok(store.clips(alloc).map_err(refused)?.len())
+    Ok(clips_at(alloc, left)?.len())
 }
 
-/// `torn CALLS AT`: a stop behind so many calls leaves any byte in this place, a multiple of 256. With which of them a clip
-/// stands.
+/// `torn CALLS AT`: a stop behind so many calls leaves any byte in this place, a multiple of 256. With which of them
+/// a clip stands.
 pub(crate) fn torn(case: &mut Case, words: &mut SplitWhitespace, told: &mut Vec<u8>) -> Result<()> {
     let disk = recorded(case, false)?;
     let (calls, at) = (number(words)? as usize, number(words)? as usize);

@@ -143,14 +143,21 @@ pub(crate) fn print_numbers(out: &mut Vec<u8>, numbers: &[u64]) -> io::Result<()
     print_span(out, from, to)
 }
 
+// Prints a clip.
+fn print_clip(out: &mut Vec<u8>, clip: &Clip) -> io::Result<()> {
+    let id = clip.id;
+    write!(out, " {id}:")?;
+    let (from, to) = (clip.from, clip.to);
+    write!(out, "{from}..{to}")
+}
+
 /// Prints clips, each behind a space: ` 0:2..3 1:6..6`, or ` none`.
 pub(crate) fn print_clips(out: &mut Vec<u8>, clips: &[Clip]) -> io::Result<()> {
     if clips.is_empty() {
         return out.write_all(b" none");
     }
     for clip in clips {
-        let (id, from, to) = (clip.id, clip.from, clip.to);
-        write!(out, " {id}:{from}..{to}")?;
+        print_clip(out, clip)?;
     }
     Ok(())
 }
