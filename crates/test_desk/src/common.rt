@@ -1,15 +1,15 @@
-//! What the tests share: events and replies as they stand in tables, lanes and desks over images, and what is
-//! shown of a recording.
+//! What the tests share: events and replies as they stand in tables, and lanes and desks over images.
 
 ghost use Rattle.std.specs.Prelude.{◌≡◌, length};
 
+use crate::told::same;
 use loop_desk::{Desk, DeskLimits, Hand, Lane, LaneEvent, LaneFault, LaneReply, lane_run};
 use loop_disk::{Disk, MemDisk};
-use loop_ioctl::{BufferMemory, BufferType, Ioctl, IoctlReply, PlaneFds, QueueEvent, QueueReply};
+use loop_ioctl::{BufferMemory, BufferType, Ioctl, IoctlReply, QueueEvent, QueueReply};
 use loop_pages::{PageHold, PageLedger};
 use loop_plane::{FdTable, Memory, MmapPlane, PlaneMemory};
-use loop_record::{Frame, Geometry, PixelFormat, Span};
-use loop_store::{Clip, ReadFrame, Store, StoreFault, format};
+use loop_record::{Frame, Geometry, PixelFormat};
+use loop_store::{ReadFrame, Store, StoreFault, format};
 use loop_vb2::{PlaneSet, Planes, Queue, Reason, Stamp};
 use std::alloc::{AllocError, Allocator, Global};
 use std::mem;
@@ -37,32 +37,20 @@ pub(crate) const AMPLE: DeskLimits = DeskLimits {
 /// The buffer type of the queues here.
 const YM12: BufferType = BufferType::VideoCaptureMplane;
 
-/// An event of a lane.
-#[derive(Clone, Copy, PartialEq, Eq, Debug)]
+/// An event of a lane over mapped memory.
+#[derive(Clone, Copy)]
 pub(crate) enum Call {
-    /// REQBUFS; that of mapped memory gives the sets at hand.
-    ReqBufs(u32, Memory),
-    /// QBUF: of mapped memory, of the set at hand, or of the fds 0, 1 and 2.
-    QBuf(u32, Memory),
-    /// PREPARE_BUF of mapped memory.
-    PrepareBuf(u32),
-    /// QBUF for a queue of another type.
-    OtherType(u32),
-    DqBuf,
+    /// REQBUFS; it gives the sets at hand.
+    ReqBufs(u32),
+    QBuf(u32),
     StreamOn,
-    StreamOff,
     /// The device has filled a buffer with the frame of a number.
     Complete(u32, u64),
-    /// The device has filled a buffer with eleven bytes.
-    Short(u32),
     Fail(u32),
-    Fatal,
     Dequeue,
     Submit,
     Requeue,
     Flush,
-    Lock(u64, u64),
-    Unlock(u32),
     Read(u64),
 }
 
@@ -75,7 +63,6 @@ pub(crate) enum Told {
     Number(u64),
     /// The first number that was stored, how many were, and how many still wait.
     Flushed(u64, u32, u32),
-    Id(u32),
     /// The number of a frame that is whole.
     Frame(u64),
     /// A reason of the queue and the number of its errno.
@@ -134,50 +121,36 @@ fn ioctl<P: Drop, A: Allocator + Copy>(
 ) -> Ioctl<P, A> {
     let buf_type = YM12;
     match call {
-        Call::ReqBufs(count, memory) => Ioctl::ReqBufs {
+        Call::ReqBufs(count) => Ioctl::ReqBufs {
             buf_type,
             count,
-            memory,
-            supply: if memory == Memory::Mmap {
-                mem::replace(sets, Vec::new(alloc))
-            } else {
-                Vec::new(alloc)
-            },
+            memory: Memory::Mmap,
+            supply: mem::replace(sets, Vec::new(alloc)),
         },
-        Call::QBuf(index, memory) => Ioctl::QBuf {
-            buf_type,
-            index,
-            memory: memory_of(memory, sets),
-        },
-        Call::PrepareBuf(index) => Ioctl::PrepareBuf {
+        Call::QBuf(index) => Ioctl::QBuf {
             buf_type,
             index,
             memory: BufferMemory::Mmap,
         },
-        Call::OtherType(index) => Ioctl::QBuf {
-            buf_type: BufferType::VideoCapture,
-            index,
-            memory: BufferMemory::Mmap,
-        },
-        Call::StreamOn => Ioctl::StreamOn { buf_type },
-        Call::StreamOff => Ioctl::StreamOff { buf_type },
-        _ => Ioctl::DqBuf { buf_type },
+        _ => Ioctl::StreamOn { buf_type },
     }
 }
 
-// The memory of a QBUF.
-fn memory_of<P: Drop, A: Allocator>(
-    memory: Memory,
-    sets: &mut Vec<PlaneSet<P>, A>,
-) -> BufferMemory<P> {
-    match memory {
-        Memory::Mmap => BufferMemory::Mmap,
-        Memory::UserPtr => BufferMemory::UserPtr(sets.pop()),
-        Memory::DmaBuf => BufferMemory::DmaBuf(Some(PlaneFds {
-            count: 3,
-            fds: [0, 1, 2],
-        })),
-    }
+// A buffer was filled with the frame of a number.
+fn complete<P: Drop, A: Allocator + Copy>(
+    alloc: A,
+    index: u32,
+    number: u64,
+) -> Result<QueueEvent<P, A>, AllocError> {
+    let frame = frame(alloc, 12, number)?;
+    Ok(QueueEvent::Complete {
+        index,
+        stamp: Stamp {
+            sequence: frame.sequence,
+            timestamp: frame.timestamp,
+        },
+        bytes: frame.bytes,
+    })
 }
 
 // What happens to the queue.
@@ -191,24 +164,8 @@ fn queue_event<P: Drop, A: Allocator + Copy>(
         timestamp: 40,
     };
     match call {
-        Call::Complete(index, number) => {
-            let frame = frame(alloc, 12, number)?;
-            Ok(QueueEvent::Complete {
-                index,
-                stamp: Stamp {
-                    sequence: frame.sequence,
-                    timestamp: frame.timestamp,
-                },
-                bytes: frame.bytes,
-            })
-        }
-        Call::Short(index) => Ok(QueueEvent::Complete {
-            index,
-            stamp,
-            bytes: vec![in alloc; 9; 11]?,
-        }),
+        Call::Complete(index, number) => complete(alloc, index, number),
         Call::Fail(index) => Ok(QueueEvent::Fail { index, stamp }),
-        Call::Fatal => Ok(QueueEvent::Fatal),
         _ => Ok(QueueEvent::Ioctl(ioctl(alloc, call, sets))),
     }
 }
@@ -224,8 +181,6 @@ fn event<P: Drop, A: Allocator + Copy>(
         Call::Submit => LaneEvent::Submit,
         Call::Requeue => LaneEvent::Requeue,
         Call::Flush => LaneEvent::Flush,
-        Call::Lock(from, to) => LaneEvent::Lock(Span { from, to }),
-        Call::Unlock(id) => LaneEvent::Unlock(id),
         Call::Read(number) => LaneEvent::Read(number),
         _ => LaneEvent::Queue(queue_event(alloc, call, sets)?),
     })
@@ -277,8 +232,8 @@ pub(crate) fn tell<P, A: Allocator>(reply: &LaneReply<P, A>) -> Told {
         LaneReply::Dequeue(Err(fault)) | LaneReply::Requeue(Err(fault)) => tell_fault(*fault),
         LaneReply::Submit(Ok(number)) => Told::Number(*number),
         LaneReply::Flush(Ok(done)) => Told::Flushed(done.first, done.stored, done.left),
-        LaneReply::Lock(Ok(id)) => Told::Id(*id),
-        LaneReply::Unlock(Ok(())) => Told::Done,
+        LaneReply::Lock(Ok(_)) => Told::Other,
+        LaneReply::Unlock(Ok(())) => Told::Other,
         LaneReply::Read(Ok(read)) if is_whole(read) => Told::Frame(read.head.number),
         LaneReply::Read(Ok(_)) => Told::Other,
         LaneReply::Submit(Err(fault)) => Told::Fault(*fault),
@@ -295,10 +250,11 @@ pub(crate) fn all_tell<P, A: Allocator>(
     replies: &[LaneReply<P, A>],
     lines: &[(Call, Told)],
 ) {
-    assert_eq!(rt; replies.len(), lines.len());
-    for (line, ((call, want), reply)) in lines.iter().zip(replies).enumerate() {
-        let answer = tell(reply);
-        assert!(rt; answer == *want, "line {line}: {call:?} tells {answer:?}");
+    same!(rt; replies.len(), lines.len());
+    let mut line = 0u32;
+    for ((_, want), reply) in lines.iter().zip(replies) {
+        same!(rt; tell(reply), *want, line);
+        line = line.saturating_add(1);
     }
 }
 
@@ -373,15 +329,6 @@ pub(crate) fn fresh(alloc: Global) -> Result<Vec<u8>, Fail> {
     }
 }
 
-/// Puts bytes into an image from a place on.
-pub(crate) fn put(image: &mut [u8], at: usize, bytes: &[u8]) {
-    for (i, byte) in bytes.iter().enumerate() {
-        if let Some(place) = image.get_mut(at.wrapping_add(i)) {
-            *place = *byte;
-        }
-    }
-}
-
 /// The store of a disk that has a recording.
 pub(crate) fn opened<D: Disk + Drop, A: Allocator + Copy>(
     rt: &impl Abort,
@@ -431,42 +378,4 @@ pub(crate) fn lane_over<D: Disk + Drop, P: PlaneMemory, A: Allocator + Copy>(
         hand: Hand::Empty,
         desk: desk_over(rt, alloc, disk, AMPLE),
     }
-}
-
-/// What a store shows: the frames that are held, and each clip with its id.
-pub(crate) type Shown = (&'static [(u64, u64)], &'static [(u32, u64, u64)]);
-
-// Whether just the numbers of these spans are held, and each frame is whole.
-fn are_held(
-    alloc: Global,
-    store: &mut Store<MemDisk>,
-    spans: &[(u64, u64)],
-) -> Result<bool, StoreFault> {
-    let found = store.frames(alloc)?;
-    let mut left = found.iter();
-    for (from, to) in spans {
-        for number in *from..=*to {
-            if left.next() != Some(&number) || !is_whole(&store.read_frame(alloc, number)?) {
-                return Ok(false);
-            }
-        }
-    }
-    Ok(left.next().is_none())
-}
-
-/// Whether a store shows just this.
-pub(crate) fn is_shown(
-    alloc: Global,
-    store: &mut Store<MemDisk>,
-    (spans, clips): Shown,
-) -> Result<bool, StoreFault> {
-    let listed = store.clips(alloc)?;
-    let same = |(clip, (id, from, to)): (&Clip, &(u32, u64, u64))| {
-        clip.id == *id && clip.from == *from && clip.to == *to
-    };
-    Ok(
-        listed.len() == clips.len()
-            && listed.iter().zip(clips).all(same)
-            && are_held(alloc, store, spans)?,
-    )
 }

@@ -3,24 +3,28 @@
 use crate::common::Call::*;
 use crate::common::Told::{Count, Done, Fault, Flushed, Frame, Index, Number, Refused};
 use crate::common::*;
+use crate::told::{holds, same};
 use loop_budget::Budget;
-use loop_desk::{Lane, lane_run};
+use loop_desk::{Desk, Lane, LaneEvent, lane_run};
 use loop_disk::MemDisk;
-use loop_plane::{Memory, MmapPlane};
-use loop_store::StoreFault;
-use loop_vb2::Reason;
-use std::alloc::Global;
+use loop_plane::MmapPlane;
+use loop_store::{Store, StoreFault};
+use loop_vb2::{PlaneSet, Reason};
+use std::alloc::{AllocError, Allocator, Global};
 use std::process::Abort;
 use std::test::Fail;
+
+/// Events of such a lane.
+type Events<'a> = Vec<LaneEvent<MmapPlane<&'a Budget>, &'a Budget>, &'a Budget>;
 
 /// A lane all of whose memory is granted by a budget.
 type Thrifty<'a> = Lane<MemDisk, MmapPlane<&'a Budget>, &'a Budget>;
 
 // A frame is at hand in the queue.
 const READY: [(Call, Told); 5] = [
-    (ReqBufs(2, Memory::Mmap), Count(2)),
-    (QBuf(0, Memory::Mmap), Done),
-    (QBuf(1, Memory::Mmap), Done),
+    (ReqBufs(2), Count(2)),
+    (QBuf(0), Done),
+    (QBuf(1), Done),
     (StreamOn, Done),
     (Complete(0, 0), Done),
 ];
@@ -51,111 +55,230 @@ const ALL: [(Call, Told); 5] = [
 ];
 
 // A lane in whose queue a frame is at hand.
-fn ready<'a>(rt: &impl Abort, alloc: Global, memory: &'a Budget) -> Result<Thrifty<'a>, Fail> {
+fn ready<'a>(rt: &impl Abort, image: Vec<u8>, memory: &'a Budget) -> Thrifty<'a> {
     memory.allow(u64::MAX);
-    let mut lane: Thrifty<'a> = lane_over(rt, memory, MemDisk::of(fresh(alloc)?));
-    let sets = two_sets(rt, memory)?;
+    let mut lane: Thrifty<'a> = lane_over(rt, memory, MemDisk::of(image));
+    let Ok(sets) = two_sets(rt, memory) else {
+        panic!(rt; "memory for planes")
+    };
     runs(rt, memory, &mut lane, sets, &READY);
-    Ok(lane)
+    lane
 }
 
-// Does the events of a table where so many growths are granted, all of which are needed. Where there are none, the
-// events come back, and are answered once there are enough.
+// The events of a table, in memory of a budget that grants all.
+fn granted<'a>(
+    rt: &impl Abort,
+    memory: &'a Budget,
+    sets: Vec<PlaneSet<MmapPlane<&'a Budget>>, &'a Budget>,
+    lines: &[(Call, Told)],
+) -> Events<'a> {
+    memory.allow(u64::MAX);
+    match events_of(memory, sets, lines) {
+        Ok(events) => events,
+        Err(_) => panic!(rt; "memory for events"),
+    }
+}
+
+// Where there is no memory for the replies, the events come back.
+fn come_back<'a>(
+    rt: &impl Abort,
+    memory: &'a Budget,
+    lane: &mut Thrifty<'a>,
+    events: Events<'a>,
+) -> Events<'a> {
+    memory.allow(0);
+    match lane_run(memory, lane, events) {
+        Ok(_) => panic!(rt; "replies need memory"),
+        Err((fault, events)) => {
+            same!(rt; fault, StoreFault::NoMemory);
+            events
+        }
+    }
+}
+
+// Events are answered where so many growths are granted, all of which are needed.
+fn are_answered<'a>(
+    rt: &impl Abort,
+    memory: &'a Budget,
+    lane: &mut Thrifty<'a>,
+    events: Events<'a>,
+    (allowed, lines): (u64, &[(Call, Told)]),
+) {
+    memory.allow(allowed);
+    match lane_run(memory, lane, events) {
+        Ok(replies) => all_tell(rt, &replies, lines),
+        Err(_) => panic!(rt; "there is memory for replies"),
+    }
+    same!(rt; memory.left(), 0, allowed);
+}
+
+// Does the events of a table where so many growths are granted. Where there are none, the events come back, and are
+// answered once there are enough.
 fn runs_within<'a>(
     rt: &impl Abort,
     memory: &'a Budget,
     lane: &mut Thrifty<'a>,
-    allowed: u64,
-    lines: &[(Call, Told)],
-) -> Result<(), Fail> {
-    memory.allow(u64::MAX);
-    let events = events_of(memory, Vec::new(memory), lines)?;
-    memory.allow(0);
-    let Err((fault, events)) = lane_run(memory, lane, events) else {
-        return Err("replies need memory".into());
-    };
-    assert_eq!(rt; (fault, events.len()), (StoreFault::NoMemory, lines.len()));
-    memory.allow(allowed);
-    let Ok(replies) = lane_run(memory, lane, events) else {
-        return Err("there is memory for replies".into());
-    };
-    all_tell(rt, &replies, lines);
-    assert_eq!(rt; memory.left(), 0);
-    Ok(())
+    (allowed, lines): (u64, &[(Call, Told)]),
+) {
+    let events = granted(rt, memory, Vec::new(memory), lines);
+    let events = come_back(rt, memory, lane, events);
+    same!(rt; events.len(), lines.len(), allowed);
+    are_answered(rt, memory, lane, events, (allowed, lines));
+}
+
+// Does two tables over a fresh lane.
+fn run_both(rt: &impl Abort, image: Vec<u8>, memory: &Budget, tables: [(u64, &[(Call, Told)]); 2]) {
+    let mut lane = ready(rt, image, memory);
+    let [first, second] = tables;
+    runs_within(rt, memory, &mut lane, first);
+    runs_within(rt, memory, &mut lane, second);
 }
 
 #[test]
 fn a_refused_growth_of_an_event_changes_nothing(rt: HostRuntime) -> Result<(), Fail> {
     let alloc = rt.alloc();
+    let first = fresh(alloc)?;
+    let second = fresh(alloc)?;
     let memory = Budget::new(alloc);
-    let mut lane = ready(&rt, alloc, &memory)?;
-    runs_within(&rt, &memory, &mut lane, 1, &NO_FRAME)?;
-    runs_within(&rt, &memory, &mut lane, 3, &ALL)?;
-    let mut lane = ready(&rt, alloc, &memory)?;
-    runs_within(&rt, &memory, &mut lane, 2, &NO_READ)?;
-    runs_within(&rt, &memory, &mut lane, 2, &[(Read(0), Frame(0))])
+    run_both(&rt, first, &memory, [(1, &NO_FRAME), (3, &ALL)]);
+    run_both(
+        &rt,
+        second,
+        &memory,
+        [(2, &NO_READ), (2, &[(Read(0), Frame(0))])],
+    );
+    Ok(())
 }
 
-// The growth behind that of the replies is the one of the queue.
-const BUFFERS: [(u64, [(Call, Told); 1]); 2] = [
-    (
-        1,
-        [(ReqBufs(2, Memory::Mmap), Refused(Reason::NoMemory, 12))],
-    ),
-    (2, [(ReqBufs(2, Memory::Mmap), Count(2))]),
-];
+// A request for two buffers, and what it answers within so many growths: the one behind that of the replies is the
+// queue's.
+fn requests<'a>(
+    rt: &impl Abort,
+    memory: &'a Budget,
+    lane: &mut Thrifty<'a>,
+    (allowed, want): (u64, Told),
+) {
+    memory.allow(u64::MAX);
+    let Ok(sets) = two_sets(rt, memory) else {
+        panic!(rt; "memory for planes")
+    };
+    let lines = [(ReqBufs(2), want)];
+    let events = granted(rt, memory, sets, &lines);
+    are_answered(rt, memory, lane, events, (allowed, &lines));
+}
 
 #[test]
 fn a_request_for_buffers_without_memory_is_refused(rt: HostRuntime) -> Result<(), Fail> {
-    let alloc = rt.alloc();
-    let memory = Budget::new(alloc);
+    let image = fresh(rt.alloc())?;
+    let memory = Budget::new(rt.alloc());
     memory.allow(u64::MAX);
-    let mut lane: Thrifty = lane_over(&rt, &memory, MemDisk::of(fresh(alloc)?));
-    for (allowed, lines) in &BUFFERS {
-        memory.allow(u64::MAX);
-        let sets = two_sets(&rt, &memory)?;
-        let events = events_of(&memory, sets, lines)?;
-        memory.allow(*allowed);
-        let Ok(replies) = lane_run(&memory, &mut lane, events) else {
-            return Err("there is memory for replies".into());
-        };
-        all_tell(&rt, &replies, lines);
-        assert_eq!(rt; memory.left(), 0);
-    }
+    let mut lane: Thrifty = lane_over(&rt, &memory, MemDisk::of(image));
+    requests(&rt, &memory, &mut lane, (1, Refused(Reason::NoMemory, 12)));
+    requests(&rt, &memory, &mut lane, (2, Count(2)));
     Ok(())
+}
+
+// A desk, where there is memory for it.
+fn with_desk<A: Allocator + Copy>(
+    rt: &impl Abort,
+    alloc: A,
+    store: Store<MemDisk, A>,
+) -> Option<Desk<MemDisk, A>> {
+    desk_of(rt, alloc, store, AMPLE).ok()
+}
+
+// The store, which comes back where there is no memory for a desk.
+fn without_desk<A: Allocator + Copy>(
+    rt: &impl Abort,
+    alloc: A,
+    store: Store<MemDisk, A>,
+) -> Option<Store<MemDisk, A>> {
+    desk_of(rt, alloc, store, AMPLE).err()
+}
+
+// The desk takes a frame in.
+fn submits<A: Allocator + Copy>(alloc: A, desk: &mut Desk<MemDisk, A>) -> Result<bool, AllocError> {
+    let given = frame(alloc, 12, 0)?;
+    Ok(matches!(desk.submit(given), Ok(0)))
+}
+
+// How many frames a flush stores.
+fn stored<A: Allocator + Copy>(desk: &mut Desk<MemDisk, A>) -> Option<u32> {
+    match desk.flush() {
+        Ok(done) => Some(done.stored),
+        Err(_) => None,
+    }
+}
+
+// Frame 0 is locked.
+fn is_locked<A: Allocator + Copy>(desk: &mut Desk<MemDisk, A>) -> bool {
+    desk.lock_clip(0, 0).is_ok()
+}
+
+// Why what the desk holds isn't told.
+fn outline_fault<A: Allocator + Copy>(alloc: A, desk: &Desk<MemDisk, A>) -> Option<StoreFault> {
+    desk.outline(alloc).err()
+}
+
+// Frame 0 is read, and whole.
+fn reads<A: Allocator + Copy>(alloc: A, desk: &mut Desk<MemDisk, A>) -> Result<bool, StoreFault> {
+    match desk.read_frame(alloc, 0) {
+        Ok(read) => Ok(is_whole(&read)),
+        Err(fault) => Err(fault),
+    }
+}
+
+// A frame is stored and locked.
+fn holds_one<A: Allocator + Copy>(rt: &impl Abort, alloc: A, desk: &mut Desk<MemDisk, A>) {
+    same!(rt; submits(alloc, desk).ok(), Some(true));
+    same!(rt; stored(desk), Some(1));
+    holds!(rt; is_locked(desk));
+    same!(rt; desk.status().held, 1);
+}
+
+// What a desk holds needs three growths.
+fn outlines_within<'a>(rt: &impl Abort, memory: &'a Budget, desk: &Desk<MemDisk, &'a Budget>) {
+    for allowed in 0..3 {
+        memory.allow(allowed);
+        let fault = outline_fault(memory, desk);
+        same!(rt; fault, Some(StoreFault::NoMemory), allowed);
+        same!(rt; memory.left(), 0, allowed);
+    }
+    memory.allow(3);
+    same!(rt; outline_fault(memory, desk), None);
+}
+
+// A desk takes its memory first: one growth.
+fn desk_within<'a>(
+    rt: &impl Abort,
+    memory: &'a Budget,
+    store: Store<MemDisk, &'a Budget>,
+) -> Desk<MemDisk, &'a Budget> {
+    memory.allow(0);
+    let Some(store) = without_desk(rt, memory, store) else {
+        panic!(rt; "a desk needs memory")
+    };
+    same!(rt; store.geometry(), SMALL);
+    memory.allow(1);
+    match with_desk(rt, memory, store) {
+        Some(desk) => desk,
+        None => panic!(rt; "one growth is enough"),
+    }
 }
 
 #[test]
 fn a_desk_takes_its_memory_first(rt: HostRuntime) -> Result<(), Fail> {
-    let alloc = rt.alloc();
-    let memory = Budget::new(alloc);
-    let store = opened(&rt, &memory, MemDisk::of(fresh(alloc)?));
+    let image = fresh(rt.alloc())?;
+    let memory = Budget::new(rt.alloc());
+    let store = opened(&rt, &memory, MemDisk::of(image));
+    let mut desk = desk_within(&rt, &memory, store);
+    same!(rt; memory.left(), 0);
+    memory.allow(1);
+    holds_one(&rt, &memory, &mut desk);
+    outlines_within(&rt, &memory, &desk);
     memory.allow(0);
-    let Err(store) = desk_of(&rt, &memory, store, AMPLE) else {
-        return Err("a desk needs memory".into());
-    };
-    assert_eq!(rt; store.geometry(), SMALL);
+    same!(rt; reads(&memory, &mut desk), Err(StoreFault::NoMemory));
     memory.allow(1);
-    let Ok(mut desk) = desk_of(&rt, &memory, store, AMPLE) else {
-        return Err("one growth is enough".into());
-    };
-    assert_eq!(rt; memory.left(), 0);
-    memory.allow(1);
-    let given = frame(&memory, 12, 0)?;
-    assert!(rt; matches!(desk.submit(given), Ok(0)));
-    assert!(rt; desk.flush().is_ok_and(|done| done.stored == 1));
-    assert!(rt; desk.lock_clip(0, 0).is_ok() && desk.status().held == 1);
-    for allowed in 0..3 {
-        memory.allow(allowed);
-        assert_eq!(rt; desk.outline(&memory).err(), Some(StoreFault::NoMemory));
-        assert_eq!(rt; memory.left(), 0);
-    }
-    memory.allow(3);
-    assert!(rt; desk.outline(&memory).is_ok());
-    memory.allow(0);
-    let refused = desk.read_frame(&memory, 0).err();
-    assert_eq!(rt; refused, Some(StoreFault::NoMemory));
-    memory.allow(1);
-    assert!(rt; is_whole(&desk.read_frame(&memory, 0)?));
+    same!(rt; reads(&memory, &mut desk), Ok(true));
     Ok(())
 }

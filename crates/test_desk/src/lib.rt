@@ -1,20 +1,17 @@
-//! Tests of the desk and of the lane: the worked rows, and what their contracts leave open.
+//! Tests of the desk and of the lane that need an allocator which refuses, or the text of what was recorded. Lists of
+//! events with what they answer, the desk's own calls, stops and failing disks stand in `lane_cases`.
 //!
-//! - `common`: events and replies as they stand in tables, lanes and desks over images, and what is shown of a
-//!   recording;
-//! - `desks`: the desk's own calls;
+//! - `common`: events and replies as they stand in tables, and lanes and desks over images;
 //! - `growths`: each growth is refused in turn;
-//! - `lanes`: lists of events over each kind of memory;
-//! - `stops`: one list of events, of which each moment is a stop, and each call of the disk fails.
+//! - `text`: what a lane recorded becomes a text;
+//! - `told`: assertions that are cheap to prove.
 #![tactic(auto)]
 
 #[cfg(test)]
 mod common;
 #[cfg(test)]
-mod desks;
-#[cfg(test)]
 mod growths;
 #[cfg(test)]
-mod lanes;
+mod text;
 #[cfg(test)]
-mod stops;
+mod told;

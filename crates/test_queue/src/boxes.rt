@@ -35,6 +35,8 @@ pub fn read_back(queue: &mut Queue, index: u32, stamp: Stamp, bytes: &[u8], out:
 #[cfg(test)]
 use crate::common::{one, page};
 #[cfg(test)]
+use crate::told::holds;
+#[cfg(test)]
 use loop_pages::PageLedger;
 #[cfg(test)]
 use loop_plane::{Memory, MmapPlane};
@@ -60,11 +62,11 @@ fn a_frame_passes_through_a_queue_of_boxes(rt: HostRuntime) -> Result<(), Fail> 
         timestamp: 40,
     };
     let mut out = [0; 64];
-    assert!(rt; queue.request(1, Memory::Mmap, supply).is_ok());
-    assert!(rt; !read_back(&mut queue, 0, stamp, &[7; 64], &mut out));
-    assert!(rt; queue.queue(0, Memory::Mmap, None).is_ok());
-    assert!(rt; queue.stream_on().is_ok());
-    assert!(rt; read_back(&mut queue, 0, stamp, &[7; 64], &mut out));
-    assert!(rt; out == [7; 64]);
+    holds!(rt; queue.request(1, Memory::Mmap, supply).is_ok());
+    holds!(rt; !read_back(&mut queue, 0, stamp, &[7; 64], &mut out));
+    holds!(rt; queue.queue(0, Memory::Mmap, None).is_ok());
+    holds!(rt; queue.stream_on().is_ok());
+    holds!(rt; read_back(&mut queue, 0, stamp, &[7; 64], &mut out));
+    holds!(rt; out == [7; 64]);
     Ok(())
 }

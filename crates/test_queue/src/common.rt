@@ -4,9 +4,10 @@ ghost use Rattle.std.specs.Prelude.{◌≡◌, ◌≤◌, length};
 ghost use Rattle.std.specs.Arc.{arc_value};
 ghost use Rattle.loop_pages.specs.Place.{IsIdle};
 
+use crate::told::same;
 use bitflags::Flags;
 use loop_pages::{PageHold, PageLedger, PageSeat};
-use loop_plane::{Memory, MmapPlane, PlaneMemory, UserPlane};
+use loop_plane::{Memory, MmapPlane, PlaneMemory};
 use loop_record::PixelFormat;
 use loop_vb2::{Errno, PlaneSet, Planes, Queue, Reason, Stamp};
 use std::alloc::{Allocator, Global};
@@ -66,28 +67,8 @@ pub(crate) fn supplied<A: Allocator + Copy>(
     next
 }
 
-/// A set of one window of so many bytes, from the first byte of a page on, and the seat for the next.
-pub(crate) fn window<A: Allocator + Copy>(
-    rt: &impl Abort,
-    alloc: A,
-    ledger: &Arc<PageLedger<A>, A>,
-    seat: PageSeat,
-    size: u32,
-) -> (PlaneSet<UserPlane<A>>, PageSeat)
-    requires seat { IsIdle (arc_value ledger.now) seat }
-    requires some { 1 ≤ size }
-    requires most { size ≤ 4096 }
-    ensures { IsIdle (arc_value ledger.now) result.1 }
-{
-    let (hold, next) = page(rt, alloc, ledger, seat);
-    match UserPlane::new(alloc, hold, 0, size) {
-        Ok(plane) => (one(plane), next),
-        Err(_) => panic!(rt; "memory for a window"),
-    }
-}
-
 /// A call of a queue whose frames have one byte.
-#[derive(Clone, Copy, PartialEq, Eq, Debug)]
+#[derive(Clone, Copy)]
 pub(crate) enum Call {
     Grants(u32),
     Queue(u32),
@@ -168,7 +149,7 @@ impl<A: Allocator + Copy> Small<MmapPlane<A>, A> {
         let Ok(granted) = queue.request(count, Memory::Mmap, supply) else {
             panic!(rt; "{count} buffers")
         };
-        assert_eq!(rt; granted.count, count);
+        same!(rt; granted.count, count);
         Small { queue }
     }
 }
@@ -259,6 +240,6 @@ pub(crate) fn runs<P: PlaneMemory, A: Allocator + Copy>(
 ) {
     for (line, (call, said)) in table.iter().enumerate() {
         let answer = small.call(*call);
-        assert!(rt; answer == *said, "line {line}: {call:?} answers {answer:?}");
+        same!(rt; answer, *said, line);
     }
 }

@@ -1,9 +1,11 @@
-//! Tests of the buffer queue over real planes: what its contracts leave open, and what its rules answer, call by call.
+//! Tests of the buffer queue and its ioctls over real planes: what needs an allocator, boxes, or pages that are
+//! counted. Calls with what they answer stand in `lane_cases`.
 //!
 //! - `common`: planes over claimed pages, and a queue of frames of one byte whose calls stand in tables;
 //! - `rounds`: buffers go round, with ample memory and with each growth refused;
-//! - `refusals`: what is handed back, and in which order the checks come;
-//! - `boxes`: a frame on its way through a queue of boxes, with a contract as a crate above the queue writes it.
+//! - `refusals`: what a refused request hands back, and which pages are free again; `supplies`: the same by ioctls;
+//! - `boxes`: a frame on its way through a queue of boxes, with a contract as a crate above the queue writes it;
+//! - `told`: assertions that are cheap to prove.
 #![tactic(auto)]
 
 pub mod boxes;
@@ -13,3 +15,7 @@ mod common;
 mod refusals;
 #[cfg(test)]
 mod rounds;
+#[cfg(test)]
+mod supplies;
+#[cfg(test)]
+mod told;
