@@ -14,11 +14,11 @@ use std::alloc::{AllocError, Allocator, Global};
 use std::process::Abort;
 use std::test::Fail;
 
-/// Events of such a lane.
-type Events<'a> = Vec<LaneEvent<MmapPlane<&'a Budget>, &'a Budget>, &'a Budget>;
-
 /// A lane all of whose memory is granted by a budget.
 type Thrifty<'a> = Lane<MemDisk, MmapPlane<&'a Budget>, &'a Budget>;
+
+/// Events of such a lane.
+type Events<'a> = Vec<LaneEvent<MmapPlane<&'a Budget>, &'a Budget>, &'a Budget>;
 
 // A frame is at hand in the queue.
 const READY: [(Call, Told); 5] = [

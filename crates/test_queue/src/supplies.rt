@@ -1,7 +1,5 @@
 //! The pages of a queue's buffers, by ioctls.
 
-ghost use Rattle.std.specs.Prelude.{◌≡◌};
-
 use crate::common::supplied;
 use crate::told::{holds, same};
 use loop_ioctl::{BufferMemory, BufferType, Ioctl, IoctlReply, apply};
