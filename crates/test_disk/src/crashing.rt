@@ -1,27 +1,10 @@
-// The disk that gives back what a crash leaves.
+// The disk that remembers its calls, where memory is refused.
+use crate::calls::{read_at, write_at};
+use crate::told::{holds, same};
 use loop_budget::Budget;
-use loop_disk::{CrashDisk, Disk, DiskFault, FuseDisk, MemDisk, OnceDisk, Spoil};
+use loop_disk::{CrashDisk, Disk, DiskFault, MemDisk, Spoil};
 use std::alloc::{AllocError, Allocator};
 use std::test::Fail;
-
-// A write, if it is within the disk.
-fn put<D: Disk>(disk: &mut D, at: u64, bytes: &[u8]) -> Result<(), DiskFault> {
-    let size = disk.size();
-    let count = bytes.len() as u64;
-    if count > size || at > size - count {
-        return Err(DiskFault::Read);
-    }
-    disk.write_at(at, bytes)
-}
-
-// A read of one byte, if it is within the disk.
-fn look<D: Disk>(disk: &mut D, at: u64) -> Result<(), DiskFault> {
-    if at >= disk.size() {
-        return Err(DiskFault::Write);
-    }
-    let mut seen = [0];
-    disk.read(at, &mut seen)
-}
 
 // The disk after a crash, if so many calls were made.
 fn crashed<A: Allocator + Copy>(
@@ -35,147 +18,31 @@ fn crashed<A: Allocator + Copy>(
     disk.crash(calls, spoil)
 }
 
-// On "abcdefghijk": "NEWS" at 2, a read, "!" at 9, a sync, and "z" at 0.
-fn five_calls<A: Allocator + Copy>(alloc: A) -> Result<CrashDisk<A>, AllocError> {
-    let mut disk = CrashDisk::of(alloc, Vec::from_slice(alloc, b"abcdefghijk")?)?;
-    let _answers = [
-        put(&mut disk, 2, b"NEWS"),
-        look(&mut disk, 3),
-        put(&mut disk, 9, b"!"),
-        disk.sync(),
-        put(&mut disk, 0, b"z"),
-    ];
-    Ok(disk)
-}
-
-const SPOILS: [Spoil; 6] = [
-    Spoil::Keep,
-    Spoil::Old,
-    Spoil::Zero,
-    Spoil::Ones,
-    Spoil::Gate,
-    Spoil::Mix(3),
-];
-
-// After so many calls, with each of the spoils. In the mix, place i holds (167 * i + 3) mod 256.
-const IMAGES: [[&[u8; 11]; 6]; 6] = [
-    [b"abcdefghijk"; 6],
-    [
-        b"abNEWSghijk",
-        b"abcdefghijk",
-        b"ab\0\0\0\0ghijk",
-        b"ab\xFF\xFF\xFF\xFFghijk",
-        b"ab\xA5\xA5\xA5\xA5ghijk",
-        b"ab\x51\xF8\x9F\x46ghijk",
-    ],
-    [
-        b"abNEWSghijk",
-        b"abcdefghijk",
-        b"ab\0\0\0\0ghijk",
-        b"ab\xFF\xFF\xFF\xFFghijk",
-        b"ab\xA5\xA5\xA5\xA5ghijk",
-        b"ab\x51\xF8\x9F\x46ghijk",
-    ],
-    [
-        b"abNEWSghi!k",
-        b"abcdefghijk",
-        b"ab\0\0\0\0ghi\0k",
-        b"ab\xFF\xFF\xFF\xFFghi\xFFk",
-        b"ab\xA5\xA5\xA5\xA5ghi\xA5k",
-        b"ab\x51\xF8\x9F\x46ghi\xE2k",
-    ],
-    [b"abNEWSghi!k"; 6],
-    [
-        b"zbNEWSghi!k",
-        b"abNEWSghi!k",
-        b"\0bNEWSghi!k",
-        b"\xFFbNEWSghi!k",
-        b"\xA5bNEWSghi!k",
-        b"\x03bNEWSghi!k",
-    ],
-];
-
-#[test]
-fn a_crash_spoils_what_was_written_since_the_sync(rt: HostRuntime) -> Result<(), Fail> {
-    let disk = five_calls(rt.alloc())?;
-    assert_eq!(rt; disk.calls(), 5);
-    assert_eq!(rt; disk.bytes(), b"zbNEWSghi!k".as_slice());
-    for (calls, images) in IMAGES.into_iter().enumerate() {
-        for (spoil, want) in SPOILS.into_iter().zip(images) {
-            let left = crashed(&disk, calls, spoil)?;
-            assert_eq!(rt; left.bytes(), want.as_slice(), "{spoil:?} after {calls}");
-        }
-    }
-    Ok(())
-}
-
 // With four calls remembered, the list of calls needs a new block for the next.
 #[test]
 fn a_call_that_finds_no_room_fails_and_changes_nothing(rt: HostRuntime) -> Result<(), Fail> {
     let memory = Budget::new(rt.alloc());
     let mut disk = CrashDisk::new(&memory, 16)?;
     for at in 0..4u64 {
-        assert_eq!(rt; put(&mut disk, at, &[9]), Ok(()));
+        same!(rt; write_at(&mut disk, at, &[9]), Ok(()));
     }
     memory.allow(0);
-    assert_eq!(rt; look(&mut disk, 0), Err(DiskFault::Read));
-    assert_eq!(rt; put(&mut disk, 8, &[7]), Err(DiskFault::Write));
-    assert_eq!(rt; disk.sync(), Err(DiskFault::Sync));
+    same!(rt; read_at(&mut disk, 0, &mut [0]), Err(DiskFault::Read));
+    same!(rt; write_at(&mut disk, 8, &[7]), Err(DiskFault::Write));
+    same!(rt; disk.sync(), Err(DiskFault::Sync));
     memory.allow(1);
-    assert_eq!(rt; put(&mut disk, 8, &[7]), Err(DiskFault::Write));
-    assert_eq!(rt; disk.calls(), 4);
-    assert_eq!(rt; disk.bytes().get(8), Some(&0));
+    same!(rt; write_at(&mut disk, 8, &[7]), Err(DiskFault::Write));
+    same!(rt; disk.calls(), 4);
+    same!(rt; disk.bytes().get(8), Some(&0));
     for allowed in 0..=2u64 {
         memory.allow(allowed);
         let left = crashed(&disk, 4, Spoil::Keep);
-        assert_eq!(rt; left.is_ok(), allowed == 2);
+        same!(rt; left.is_ok(), allowed == 2);
     }
     memory.allow(2);
-    assert_eq!(rt; put(&mut disk, 8, &[7]), Ok(()));
-    assert_eq!(rt; memory.left(), 0);
+    same!(rt; write_at(&mut disk, 8, &[7]), Ok(()));
+    same!(rt; memory.left(), 0);
     memory.allow(1);
-    assert!(rt; CrashDisk::new(&memory, 1).is_err());
-    Ok(())
-}
-
-// Two writes and a read pass, and no sync comes with them; the fourth call fails.
-fn four_calls<D: Disk>(disk: &mut D) -> [Result<(), DiskFault>; 4] {
-    [
-        put(disk, 1, &[1]),
-        look(disk, 1),
-        put(disk, 2, &[2]),
-        disk.sync(),
-    ]
-}
-
-#[test]
-fn a_call_that_passes_is_one_call_beneath(rt: HostRuntime) -> Result<(), Fail> {
-    let mut fuse = FuseDisk::new(CrashDisk::new(rt.alloc(), 4)?, 3);
-    let mut once = OnceDisk::new(CrashDisk::new(rt.alloc(), 4)?, 3);
-    let want = [Ok(()), Ok(()), Ok(()), Err(DiskFault::Sync)];
-    assert_eq!(rt; four_calls(&mut fuse), want);
-    assert_eq!(rt; four_calls(&mut once), want);
-    for disk in [fuse.into_inner(), once.into_inner()] {
-        assert_eq!(rt; disk.calls(), 3);
-        let left = crashed(&disk, 3, Spoil::Ones)?;
-        assert_eq!(rt; left.bytes(), [0, 0xFF, 0xFF, 0].as_slice());
-    }
-    Ok(())
-}
-
-#[test]
-fn a_torn_write_leaves_its_whole_range_loose(rt: HostRuntime) -> Result<(), Fail> {
-    for keep in [0, 1, 4, 9usize] {
-        let mut torn = OnceDisk::torn(five_calls(rt.alloc())?, 1, keep);
-        assert_eq!(rt; torn.sync(), Ok(()));
-        assert_eq!(rt; put(&mut torn, 3, b"tear"), Err(DiskFault::Write));
-        let disk = torn.into_inner();
-        let left = crashed(&disk, disk.calls(), Spoil::Ones)?;
-        assert_eq!(rt;
-            left.bytes(),
-            b"zbN\xFF\xFF\xFF\xFFhi!k".as_slice(),
-            "keep {keep}"
-        );
-    }
+    holds!(rt; CrashDisk::new(&memory, 1).is_err());
     Ok(())
 }

@@ -1,4 +1,6 @@
 // The disk over a file.
+use crate::calls::{read_at, write_at};
+use crate::told::{holds, same};
 use loop_disk::{Disk, DiskFault, FileDisk, FileFault};
 use std::cell::Cell;
 use std::fs::{File, Metadata, OpenFile, OpenOptions, Permissions};
@@ -11,72 +13,57 @@ use std::{fs, io};
 fn a_file_is_written_and_read_back(rt: HostRuntime) -> Result<(), Fail> {
     let path = "written.img";
     let mut disk = FileDisk::create(&rt, path, 4096)?;
-    assert_eq!(rt; disk.size(), 4096);
+    same!(rt; disk.size(), 4096);
     let mut last = [1; 2];
-    assert_eq!(rt; disk.read(4094, &mut last), Ok(()));
-    assert_eq!(rt; last, [0, 0]);
-    assert_eq!(rt; disk.write_at(100, b"footage"), Ok(()));
-    assert_eq!(rt; disk.write_at(4095, b"z"), Ok(()));
-    assert_eq!(rt; disk.sync(), Ok(()));
+    same!(rt; read_at(&mut disk, 4094, &mut last), Ok(()));
+    same!(rt; last, [0, 0]);
+    same!(rt; write_at(&mut disk, 100, b"footage"), Ok(()));
+    same!(rt; write_at(&mut disk, 4095, b"z"), Ok(()));
+    same!(rt; disk.sync(), Ok(()));
     // It is in use, also for one who would make it anew, and keeps its bytes.
-    assert_eq!(rt; FileDisk::open(&rt, path).err(), Some(FileFault::Busy));
-    assert_eq!(rt; FileDisk::create(&rt, path, 1).err(), Some(FileFault::Busy));
+    same!(rt; FileDisk::open(&rt, path).err(), Some(FileFault::Busy));
+    same!(rt; FileDisk::create(&rt, path, 1).err(), Some(FileFault::Busy));
     drop(disk);
 
     let mut disk = FileDisk::open(&rt, path)?;
-    assert_eq!(rt; disk.size(), 4096);
+    same!(rt; disk.size(), 4096);
     let mut seen = [0; 7];
-    assert_eq!(rt; disk.read(100, &mut seen), Ok(()));
-    assert_eq!(rt; seen, *b"footage");
-    assert_eq!(rt; disk.read(4094, &mut last), Ok(()));
-    assert_eq!(rt; last, *b"\0z");
+    same!(rt; read_at(&mut disk, 100, &mut seen), Ok(()));
+    same!(rt; seen, *b"footage");
+    same!(rt; read_at(&mut disk, 4094, &mut last), Ok(()));
+    same!(rt; last, *b"\0z");
     // A file that was cut short under the disk: a read fails, and is counted as a read's failure.
     OpenOptions::new().write(true).open(&rt, path)?.set_len(50)?;
-    assert_eq!(rt; disk.read(4094, &mut last), Err(DiskFault::Read));
+    same!(rt; read_at(&mut disk, 4094, &mut last), Err(DiskFault::Read));
     drop(disk);
 
     // No file has that size: the file is as it was.
-    assert_eq!(rt;
-        FileDisk::create(&rt, path, u64::MAX).err(),
-        Some(FileFault::Failed)
-    );
-    assert_eq!(rt; FileDisk::open(&rt, path)?.size(), 50);
+    same!(rt; FileDisk::create(&rt, path, u64::MAX).err(), Some(FileFault::Failed));
+    same!(rt; FileDisk::open(&rt, path)?.size(), 50);
     let mut disk = FileDisk::create(&rt, path, 200)?;
     let mut zeros = [1; 200];
-    assert_eq!(rt; disk.read(0, &mut zeros), Ok(()));
-    assert!(rt; zeros.iter().all(|byte| *byte == 0));
+    same!(rt; read_at(&mut disk, 0, &mut zeros), Ok(()));
+    holds!(rt; zeros.iter().all(|byte| *byte == 0));
     fs::remove_file(&rt, path)?;
     Ok(())
 }
 
 #[test]
 fn what_is_no_file_of_ours_is_refused_by_name(rt: HostRuntime) -> Result<(), Fail> {
-    assert_eq!(rt;
-        FileDisk::open(&rt, "missing.img").err(),
-        Some(FileFault::Missing)
-    );
-    assert_eq!(rt;
-        FileDisk::create(&rt, "missing/new.img", 1).err(),
-        Some(FileFault::Missing)
-    );
-    assert_eq!(rt; FileDisk::open(&rt, ".").err(), Some(FileFault::Folder));
-    assert_eq!(rt;
-        FileDisk::create(&rt, ".", 1).err(),
-        Some(FileFault::Folder)
-    );
-    assert_eq!(rt;
-        FileDisk::open(&rt, "/dev/null").err(),
-        Some(FileFault::NotRegular)
-    );
+    same!(rt; FileDisk::open(&rt, "missing.img").err(), Some(FileFault::Missing));
+    same!(rt; FileDisk::create(&rt, "missing/new.img", 1).err(), Some(FileFault::Missing));
+    same!(rt; FileDisk::open(&rt, ".").err(), Some(FileFault::Folder));
+    same!(rt; FileDisk::create(&rt, ".", 1).err(), Some(FileFault::Folder));
+    same!(rt; FileDisk::open(&rt, "/dev/null").err(), Some(FileFault::NotRegular));
     let path = "denied.img";
     drop(FileDisk::create(&rt, path, 1)?);
     fs::set_permissions(&rt, path, Permissions::from_mode(0o400))?;
     // The gate runs tests without a superuser's rights; a superuser may open it.
     if let Err(fault) = FileDisk::open(&rt, path) {
-        assert_eq!(rt; fault, FileFault::Denied);
+        same!(rt; fault, FileFault::Denied);
     }
     let denied = io::Error::from(ErrorKind::PermissionDenied);
-    assert_eq!(rt; FileFault::from(denied), FileFault::Denied);
+    same!(rt; FileFault::from(denied), FileFault::Denied);
     fs::remove_file(&rt, path)?;
     Ok(())
 }
@@ -139,11 +126,11 @@ fn short_counts_and_interruptions_are_gone_on_from(rt: HostRuntime) -> Result<()
     let file = OpenOptions::new().read(true).write(true).open(&rt, path)?;
     let turn = Cell::new(0);
     let mut disk = FileDisk::over(Halting { file, turn })?;
-    assert_eq!(rt; disk.size(), 20);
-    assert_eq!(rt; disk.write_at(2, b"one whole write"), Ok(()));
+    same!(rt; disk.size(), 20);
+    same!(rt; write_at(&mut disk, 2, b"one whole write"), Ok(()));
     let mut seen = [0; 17];
-    assert_eq!(rt; disk.read(2, &mut seen), Ok(()));
-    assert_eq!(rt; seen, *b"one whole write\0\0");
+    same!(rt; read_at(&mut disk, 2, &mut seen), Ok(()));
+    same!(rt; seen, *b"one whole write\0\0");
     fs::remove_file(&rt, path)?;
     Ok(())
 }
@@ -221,14 +208,14 @@ fn a_sync_is_one_of_the_file(rt: HostRuntime) -> Result<(), Fail> {
         file,
         syncs: &syncs,
     })?;
-    assert_eq!(rt; disk.size(), 8);
-    assert_eq!(rt; disk.write_at(1, b"ab"), Ok(()));
-    assert_eq!(rt; syncs.data.get(), 0);
-    assert_eq!(rt; disk.sync(), Ok(()));
-    assert_eq!(rt; syncs.data.get(), 1);
+    same!(rt; disk.size(), 8);
+    same!(rt; write_at(&mut disk, 1, b"ab"), Ok(()));
+    same!(rt; syncs.data.get(), 0);
+    same!(rt; disk.sync(), Ok(()));
+    same!(rt; syncs.data.get(), 1);
     syncs.fails.set(true);
-    assert_eq!(rt; disk.sync(), Err(DiskFault::Sync));
-    assert_eq!(rt; syncs.data.get(), 2);
+    same!(rt; disk.sync(), Err(DiskFault::Sync));
+    same!(rt; syncs.data.get(), 2);
     fs::remove_file(&rt, path)?;
     Ok(())
 }
@@ -249,19 +236,19 @@ fn a_fresh_file_and_its_folder_are_synced_before_the_answer(rt: HostRuntime) -> 
         let file = old_file(&rt, "fresh.img", &of_file)?;
         let folder = old_file(&rt, "folder.img", &of_folder)?;
         let made = FileDisk::fresh_over(file, &folder, 8);
-        assert_eq!(rt; of_file.all.get(), 1);
-        assert_eq!(rt; of_folder.all.get(), if file_fails { 0 } else { 1 });
+        same!(rt; of_file.all.get(), 1);
+        same!(rt; of_folder.all.get(), if file_fails { 0 } else { 1 });
         match made {
             Ok(mut disk) => {
                 let mut bytes = [1; 8];
-                assert_eq!(rt; disk.size(), 8);
-                assert_eq!(rt; disk.read(0, &mut bytes), Ok(()));
-                assert_eq!(rt; bytes, [0; 8]);
-                assert!(rt; !file_fails && !folder_fails);
+                same!(rt; disk.size(), 8);
+                same!(rt; read_at(&mut disk, 0, &mut bytes), Ok(()));
+                same!(rt; bytes, [0; 8]);
+                holds!(rt; !file_fails && !folder_fails);
             }
             Err(fault) => {
-                assert_eq!(rt; fault, FileFault::Failed);
-                assert!(rt; file_fails || folder_fails);
+                same!(rt; fault, FileFault::Failed);
+                holds!(rt; file_fails || folder_fails);
             }
         }
     }
@@ -346,13 +333,9 @@ fn a_fresh_file_has_its_room_or_is_refused(rt: HostRuntime) -> Result<(), Fail> 
         let file = OpenOptions::new().read(true).write(true).open(&rt, path)?;
         let (room, writes) = (&room, &writes);
         let made = FileDisk::fresh_over(Filling { file, room, writes }, &folder, *size);
-        assert_eq!(rt; made.err(), *refusal, "{old:?} {size} {allowed}");
-        assert_eq!(rt; writes.get(), *tried, "{old:?} {size} {allowed}");
-        assert_eq!(rt;
-            fs::read(&rt, path)?.as_slice(),
-            *left,
-            "{old:?} {size} {allowed}"
-        );
+        same!(rt; made.err(), *refusal, (old, size, allowed));
+        same!(rt; writes.get(), *tried, (old, size, allowed));
+        same!(rt; fs::read(&rt, path)?.as_slice(), *left, (old, size, allowed));
     }
     // A megabyte at a time.
     room.set(3 << 20);
@@ -360,11 +343,11 @@ fn a_fresh_file_has_its_room_or_is_refused(rt: HostRuntime) -> Result<(), Fail> 
     let file = OpenOptions::new().read(true).write(true).open(&rt, path)?;
     let (room, writes) = (&room, &writes);
     let disk = FileDisk::fresh_over(Filling { file, room, writes }, &folder, 2_500_000)?;
-    assert_eq!(rt; disk.size(), 2_500_000);
-    assert_eq!(rt; writes.get(), 3);
+    same!(rt; disk.size(), 2_500_000);
+    same!(rt; writes.get(), 3);
     fs::remove_file(&rt, path)?;
     for kind in [ErrorKind::StorageFull, ErrorKind::QuotaExceeded] {
-        assert_eq!(rt; FileFault::from(io::Error::from(kind)), FileFault::NoRoom);
+        same!(rt; FileFault::from(io::Error::from(kind)), FileFault::NoRoom);
     }
     Ok(())
 }

@@ -1,15 +1,20 @@
-//! Tests of the disks, in a crate of their own, since a library's own tests would prove it once more.
-//! `memory` has the memory disk and the stores over it, `crashing` the disk that remembers its calls,
-//! `failing` the disks that fail on purpose, `files` the disk over a file, `ahead` the disk that reads ahead.
+//! Tests of the disks that need Rust, in a crate of their own, since a library's own tests would prove it once more.
+//! What the other disks do stands as cases in `store_cases`.
+//!
+//! - `memory` has the memory disk and the stores over it, `files` the disk over a file;
+//! - `crashing` and `ahead` refuse memory to the disk that remembers its calls and to the one that reads ahead;
+//! - `calls` has reads and writes that see to the size of a disk first, `told` assertions that are cheap to prove.
 #![tactic(auto)]
 
 #[cfg(test)]
 mod ahead;
 #[cfg(test)]
-mod crashing;
+mod calls;
 #[cfg(test)]
-mod failing;
+mod crashing;
 #[cfg(test)]
 mod files;
 #[cfg(test)]
 mod memory;
+#[cfg(test)]
+mod told;

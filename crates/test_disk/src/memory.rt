@@ -4,6 +4,8 @@ ghost use Rattle.loop_disk.specs.Medium.{IsSettled, LeavesOnly, written};
 ghost use Rattle.loop_disk.specs.Calls.{Called, failed_call};
 ghost use Rattle.test_disk.specs.InTurn.{TornOfThree};
 
+use crate::calls::{read_at, write_at};
+use crate::told::{holds, same};
 use loop_budget::Budget;
 use loop_disk::{Disk, DiskFault, FuseDisk, MemDisk, store, store_in_turn};
 use std::test::Fail;
@@ -28,11 +30,11 @@ fn store_three<D: Disk>(disk: &mut D, at: u64, x: u8, y: u8, z: u8) -> Result<()
 #[test]
 fn three_bytes_are_stored_in_turn(rt: HostRuntime) -> Result<(), Fail> {
     let mut disk = MemDisk::new(rt.alloc(), 5)?;
-    assert_eq!(rt; store_three(&mut disk, 2, 7, 8, 9), Ok(()));
-    assert_eq!(rt; disk.bytes(), [0, 0, 7, 8, 9].as_slice());
+    same!(rt; store_three(&mut disk, 2, 7, 8, 9), Ok(()));
+    same!(rt; disk.bytes(), [0, 0, 7, 8, 9].as_slice());
     let mut fuse = FuseDisk::new(disk, 4);
-    assert_eq!(rt; store_three(&mut fuse, 0, 1, 2, 3), Err(DiskFault::Write));
-    assert_eq!(rt; fuse.into_inner().bytes(), [1, 2, 7, 8, 9].as_slice());
+    same!(rt; store_three(&mut fuse, 0, 1, 2, 3), Err(DiskFault::Write));
+    same!(rt; fuse.into_inner().bytes(), [1, 2, 7, 8, 9].as_slice());
     Ok(())
 }
 
@@ -41,25 +43,25 @@ fn a_memory_disk_keeps_what_is_written_and_takes_no_memory(rt: HostRuntime) -> R
     let memory = Budget::new(rt.alloc());
     memory.allow(1);
     let mut disk = MemDisk::new(&memory, 6)?;
-    assert_eq!(rt; memory.left(), 0);
-    assert_eq!(rt; disk.size(), 6);
+    same!(rt; memory.left(), 0);
+    same!(rt; disk.size(), 6);
     for attempt in 0..100u8 {
-        assert_eq!(rt; disk.size(), 6);
-        assert_eq!(rt; disk.write_at(1, &[attempt, 98, 99]), Ok(()));
-        assert_eq!(rt; disk.sync(), Ok(()));
+        same!(rt; disk.size(), 6);
+        same!(rt; write_at(&mut disk, 1, &[attempt, 98, 99]), Ok(()));
+        same!(rt; disk.sync(), Ok(()));
     }
-    assert_eq!(rt; disk.size(), 6);
-    assert_eq!(rt; disk.write_at(5, b"z"), Ok(()));
-    assert_eq!(rt; disk.bytes(), b"\0cbc\0z".as_slice());
+    same!(rt; disk.size(), 6);
+    same!(rt; write_at(&mut disk, 5, b"z"), Ok(()));
+    same!(rt; disk.bytes(), b"\0cbc\0z".as_slice());
     let mut last = [0];
-    assert_eq!(rt; disk.read(5, &mut last), Ok(()));
-    assert_eq!(rt; last, *b"z");
+    same!(rt; read_at(&mut disk, 5, &mut last), Ok(()));
+    same!(rt; last, *b"z");
 
     let mut image = MemDisk::of(b"image".to_vec(rt.alloc())?);
     let mut seen = [0; 3];
-    assert_eq!(rt; image.read(1, &mut seen), Ok(()));
-    assert_eq!(rt; seen, *b"mag");
-    assert!(rt; MemDisk::new(&memory, 1).is_err());
-    assert!(rt; MemDisk::new(rt.alloc(), u64::MAX).is_err());
+    same!(rt; read_at(&mut image, 1, &mut seen), Ok(()));
+    same!(rt; seen, *b"mag");
+    holds!(rt; MemDisk::new(&memory, 1).is_err());
+    holds!(rt; MemDisk::new(rt.alloc(), u64::MAX).is_err());
     Ok(())
 }
