@@ -3,7 +3,7 @@ use crate::memory::set_of;
 use crate::words::{number, open_file, path, refused};
 use anyhow::{Error, Result, anyhow};
 use loop_desk::{Desk, DeskLimits, Hand, Lane, LaneEvent, LaneFault, LaneReply, lane_run};
-use loop_disk::FileDisk;
+use loop_file::FileDisk;
 use loop_ioctl::{BufferMemory, BufferType, Ioctl, QueueEvent, QueueReply};
 use loop_pages::PageLedger;
 use loop_plane::{FdTable, Memory, MmapPlane, PAGE_BYTES};

@@ -1,6 +1,6 @@
 // The words behind the first one, and the store in a file.
 use anyhow::{Context, Error, Result, anyhow};
-use loop_disk::FileDisk;
+use loop_file::FileDisk;
 use loop_store::{OpenRefused, Store, StoreFault};
 use std::alloc::Global;
 use std::env::Args;

@@ -1,1 +1,2 @@
 mod Active
+pub mod Crossing

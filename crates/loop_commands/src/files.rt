@@ -2,7 +2,8 @@
 
 use crate::even::EvenWriter;
 use loop_ahead::AheadDisk;
-use loop_disk::{Disk, FileDisk};
+use loop_disk::Disk;
+use loop_file::FileDisk;
 use loop_record::Geometry;
 use loop_script::{FileCommand, Listing, print_line, print_parts, print_refusal};
 use loop_store::{OpenRefused, Store, StoreFault};

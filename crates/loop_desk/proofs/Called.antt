@@ -15,8 +15,9 @@ use Rattle.loop_store.specs.Goes.{Goes}
 use Rattle.loop_store.specs.Seen.{Seen}
 use Rattle.loop_store.proofs.Gone.{goes-none}
 use Rattle.loop_desk.specs.declared.limits.Flushed.{Flushed}
-use Rattle.loop_desk.specs.Desk.{DeskCall, IsFlush, IsDeskTold, Rules, Waiting, append_of, appended_as, clip_locked, clip_unlocked, flushed, flushed_of, frame_read, group_of, pending_after, store_calls, submit_answer, submitted}
-use Rattle.loop_desk.specs.Seen.{DeskGoes, SeenDesk, rules_of, waiting_of}
+use Rattle.loop_desk.specs.Desk.{DeskCall, DeskState, IsCounted, IsFlush, IsDeskTold, Rules, Waiting, append_of, appended_as, clip_locked, clip_unlocked, flushed, flushed_of, frame_read, group_of, pending_after, status_told, store_calls, submit_answer, submitted}
+use Rattle.loop_desk.specs.declared.limits.Status.{Status}
+use Rattle.loop_desk.specs.Seen.{DeskGoes, SeenDesk, StandsAt, TellsStatus, rules_of, waiting_of}
 
 -- the desk with this store and these frames
 abbrev pub with_store : {D : Type 0} → SeenDesk D → Seen D → List Picture → SeenDesk D
@@ -25,30 +26,37 @@ with_store d store pending = record { store = store; pending = pending; limits =
 module _ {D : Type 0} (medium : D → Medium) (d : SeenDesk D) where
   -- a call that makes these calls of the store, and is told so
   pub called : (new : Seen D) (pending : List Picture) (c : DeskCall) (calls : List Call) → Goes medium d.store new calls → store_calls (rules_of d) (waiting_of d) c ≡ calls → IsDeskTold (rules_of d) (waiting_of d) c → pending ≡ pending_after d.pending c
+      → ((s : DeskState) → StandsAt medium d s → (medium d.store.disk).honest → IsCounted s c)
       → DeskGoes medium d (with_store d new pending) (c ∷ [])
-  called new pending c calls goes are told waits = record {
+  called new pending c calls goes are told waits held = record {
     store = subst (λ (l : List Call). Goes medium d.store new l) (sym (append-nil (store_calls (rules_of d) (waiting_of d) c) ∙ are)) goes;
     told = (told, tt);
     pending = waits;
     limits = refl;
+    counted = λ s stands now. (held s stands now, tt);
   }
 
   -- ---- a submit
 
   pub goes-submit : (pending : List Picture) (p : Picture) (n : ℕ) (result : Result ℕ StoreFault) → ((medium d.store.disk).honest → IsSound (medium d.store.disk)) → result ≡ submit_answer (rules_of d) (waiting_of d) n → pending ≡ pending_after d.pending (submitted p n result)
       → DeskGoes medium d (with_store d d.store pending) (submitted p n result ∷ [])
-  goes-submit pending p n result sound answer waits = called d.store pending (submitted p n result) [] (goes-none medium d.store sound) refl answer waits
+  goes-submit pending p n result sound answer waits = called d.store pending (submitted p n result) [] (goes-none medium d.store sound) refl answer waits (λ s stands now. tt)
 
   -- ---- calls of the store alone
 
   pub goes-locked : (new : Seen D) (span : Span) (result : Result ℕ StoreFault) → Goes medium d.store new (locked span result ∷ []) → DeskGoes medium d (with_store d new d.pending) (clip_locked span result ∷ [])
-  goes-locked new span result goes = called new d.pending (clip_locked span result) (locked span result ∷ []) goes refl tt refl
+  goes-locked new span result goes = called new d.pending (clip_locked span result) (locked span result ∷ []) goes refl tt refl (λ s stands now. tt)
 
   pub goes-unlocked : (new : Seen D) (id : ℕ) (result : Result (Unit {0}) StoreFault) → Goes medium d.store new (unlocked id result ∷ []) → DeskGoes medium d (with_store d new d.pending) (clip_unlocked id result ∷ [])
-  goes-unlocked new id result goes = called new d.pending (clip_unlocked id result) (unlocked id result ∷ []) goes refl tt refl
+  goes-unlocked new id result goes = called new d.pending (clip_unlocked id result) (unlocked id result ∷ []) goes refl tt refl (λ s stands now. tt)
 
   pub goes-read : (new : Seen D) (number : ℕ) (result : Result (FrameHead × List ℕ) StoreFault) → Goes medium d.store new (was_read number result ∷ []) → DeskGoes medium d (with_store d new d.pending) (frame_read number result ∷ [])
-  goes-read new number result goes = called new d.pending (frame_read number result) (was_read number result ∷ []) goes refl tt refl
+  goes-read new number result goes = called new d.pending (frame_read number result) (was_read number result ∷ []) goes refl tt refl (λ s stands now. tt)
+
+  -- ---- a status
+
+  pub goes-status : (status : Status) → ((medium d.store.disk).honest → IsSound (medium d.store.disk)) → TellsStatus medium d status → DeskGoes medium d d (status_told status ∷ [])
+  goes-status status sound tells = called d.store d.pending (status_told status) [] (goes-none medium d.store sound) refl (tells.next, (tells.pending, tells.must_reopen)) refl (λ s stands now. tells.held s.store.recording stands.store.recording now)
 
   -- ---- a flush where nothing waits
 
@@ -60,7 +68,7 @@ module _ {D : Type 0} (medium : D → Medium) (d : SeenDesk D) where
   pub flush-must : d.pending ≡ [] → d.store.must_reopen ≡ true → ((medium d.store.disk).honest → IsSound (medium d.store.disk)) → DeskGoes medium d d (flushed (Err MustReopen) ∷ [])
   flush-must none must sound =
       called d.store d.pending (flushed (Err MustReopen)) [] (goes-none medium d.store sound) (ap (λ (l : List Picture). append_of l (Err MustReopen)) (none-waits none))
-      (subst (λ (l : List Picture). IsFlush (waiting_of d) l (Err MustReopen)) (sym (none-waits none)) (refl, must)) refl
+      (subst (λ (l : List Picture). IsFlush (waiting_of d) l (Err MustReopen)) (sym (none-waits none)) (refl, must)) refl (λ s stands now. tt)
 
   pub flush-none : (number : ℕ) → number ≡ d.store.next → d.pending ≡ [] → d.store.must_reopen ≡ false → ((medium d.store.disk).honest → IsSound (medium d.store.disk))
       → DeskGoes medium d d (flushed (Ok (record { first = number; stored = 0; left = 0 })) ∷ [])
@@ -68,7 +76,7 @@ module _ {D : Type 0} (medium : D → Medium) (d : SeenDesk D) where
       let f : Flushed = record { first = number; stored = 0; left = 0 } in
       let left : 0 ≡ length d.pending - 0 = omega (arith, ap length none) in
       called d.store d.pending (flushed (Ok f)) [] (goes-none medium d.store sound) (ap (λ (l : List Picture). append_of l (Ok f)) (none-waits none))
-      (subst (λ (l : List Picture). IsFlush (waiting_of d) l (Ok f)) (sym (none-waits none)) (fine, λ i. record { first = is i; stored = 0; left = left i })) refl
+      (subst (λ (l : List Picture). IsFlush (waiting_of d) l (Ok f)) (sym (none-waits none)) (fine, λ i. record { first = is i; stored = 0; left = left i })) refl (λ s stands now. tt)
 
   -- ---- a flush of a group
 
@@ -102,7 +110,7 @@ module _ {D : Type 0} (medium : D → Medium) (d : SeenDesk D) where
       → DeskGoes medium d (with_store d new d.pending) (flushed (Err fault) ∷ [])
   flush-refused new most count fault group goes =
       called new d.pending (flushed (Err fault)) (appended (take count d.pending) (Err fault) ∷ []) goes (flush-calls most count (Err fault) group)
-      (told-err (group_of (rules_of d) (waiting_of d)) fault (omega (arith, ap length (group-is most count group), group-size most count group, group.some))) refl
+      (told-err (group_of (rules_of d) (waiting_of d)) fault (omega (arith, ap length (group-is most count group), group-size most count group, group.some))) refl (λ s stands now. tt)
 
   pub flush-stored : (new : Seen D) (most count first waiting : ℕ) → IsGroup most count → waiting ≡ length d.pending → Goes medium d.store new (appended (take count d.pending) (Ok first) ∷ [])
       → DeskGoes medium d (with_store d new (drop count d.pending)) (flushed (Ok (record { first = first; stored = count; left = waiting - count })) ∷ [])
@@ -111,7 +119,7 @@ module _ {D : Type 0} (medium : D → Medium) (d : SeenDesk D) where
       let allowed = goes.allowed.0 in
       let size : count ≡ length (group_of (rules_of d) (waiting_of d)) = sym (ap length (group-is most count group) ∙ group-size most count group) in
       let is : f ≡ flushed_of (waiting_of d) (length (group_of (rules_of d) (waiting_of d))) = λ i. record { first = allowed.1.1 i; stored = size i; left = waits i - size i } in
-      called new (drop count d.pending) (flushed (Ok f)) (appended (take count d.pending) (Ok first) ∷ []) goes (flush-calls most count (Ok f) group) (allowed.0, is) refl
+      called new (drop count d.pending) (flushed (Ok f)) (appended (take count d.pending) (Ok first) ∷ []) goes (flush-calls most count (Ok f) group) (allowed.0, is) refl (λ s stands now. tt)
 
 -- ---- the answer to a submit, case by case
 

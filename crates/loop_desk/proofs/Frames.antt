@@ -11,7 +11,7 @@ use Rattle.loop_store.specs.declared.fault.StoreFault.{StoreFault}
 use Rattle.loop_store.specs.Calls.{AreAnswered, IsAnswered, StoreState, after, after_calls, made, made_in}
 use Rattle.loop_store.specs.Steps.{steps_or_none}
 use Rattle.loop_desk.specs.declared.limits.Flushed.{Flushed}
-use Rattle.loop_desk.specs.Desk.{AreTold, DeskCall, IsFlush, IsDeskTold, Rules, Waiting, accepted, accepted_in, append_of, clip_locked, clip_unlocked, flushed, frame_read, frames_stored, group_of, pending_after, store_calls, store_calls_in, stored_by, submitted, waiting_after, waiting_after_calls}
+use Rattle.loop_desk.specs.Desk.{AreTold, DeskCall, IsFlush, IsDeskTold, Rules, Waiting, accepted, accepted_in, append_of, clip_locked, clip_unlocked, flushed, frame_read, frames_stored, group_of, pending_after, status_told, store_calls, store_calls_in, stored_by, submitted, waiting_after, waiting_after_calls}
 
 pub each-parts : {S X : Type 0} (next : S → X → S) (P : S → X → Type 0) (s : S) (xs ys : List X) → EachIn next P s (xs ++ ys) → EachIn next P s xs × EachIn next P (after_all next s xs) ys
 each-parts next P s [] ys both = (tt, both)
@@ -65,6 +65,7 @@ call-frames k w s (clip_locked span (Err fault)) told said = append-nil w.pendin
 call-frames k w s (clip_unlocked id (Ok x)) told said = append-nil w.pending
 call-frames k w s (clip_unlocked id (Err fault)) told said = append-nil w.pending
 call-frames k w s (frame_read number result) told said = append-nil w.pending
+call-frames k w s (status_told status) told said = append-nil w.pending
 
 -- what waited, and then what was accepted, is what was stored, and then what waits
 pub none-lost : (k : Rules) (w : Waiting) (s : StoreState) (calls : List DeskCall) → AreTold k w calls → AreAnswered k.geometry s (store_calls_in k w calls) → w.pending ++ accepted_in calls ≡ frames_stored (made_in k.geometry s (store_calls_in k w calls)) ++ (waiting_after_calls k w calls).pending

@@ -1,13 +1,14 @@
 -- Calls of a desk, one after the other.
 use Rattle.std.proofs.Common.{◌≡◌, List, [], ◌∷◌, ◌++◌, refl, sym, ap, ◌∙◌, subst}
 use Rattle.loop_disk.specs.Medium.{Medium, IsSound}
-use Rattle.loop_record.specs.Turns.{after_all}
+use Rattle.loop_record.specs.Turns.{EachIn, after_all}
 use Rattle.loop_record.proofs.Turned.{after-behind, each-behind, told-behind}
 use Rattle.loop_store.specs.Calls.{Call, progress_after}
 use Rattle.loop_store.specs.Goes.{Goes}
 use Rattle.loop_store.proofs.Gone.{goes-joined, goes-none}
-use Rattle.loop_desk.specs.Desk.{AreTold, DeskCall, IsDeskTold, Rules, Waiting, store_calls, store_calls_in, waiting_after, waiting_after_calls}
+use Rattle.loop_desk.specs.Desk.{AreTold, DeskCall, IsCounted, IsDeskTold, Rules, Waiting, desk_after, desk_after_calls, store_calls, store_calls_in, waiting_after, waiting_after_calls}
 use Rattle.loop_desk.specs.Seen.{DeskGoes, SeenDesk, rules_of, waiting_of}
+use Rattle.loop_desk.proofs.Modelling.{answers-are}
 
 -- the store is as far as its calls bring it
 pub progress-behind : (k : Rules) (w : Waiting) (calls : List DeskCall) → (waiting_after_calls k w calls).store ≡ after_all progress_after w.store (store_calls_in k w calls)
@@ -26,7 +27,7 @@ module _ {D : Type 0} (medium : D → Medium) where
 
   -- no call
   pub desk-none : (desk : SeenDesk D) → ((medium desk.store.disk).honest → IsSound (medium desk.store.disk)) → DeskGoes medium desk desk []
-  desk-none desk sound = record { store = goes-none medium desk.store sound; told = tt; pending = refl; limits = refl }
+  desk-none desk sound = record { store = goes-none medium desk.store sound; told = tt; pending = refl; limits = refl; counted = λ s stands now. tt }
 
   -- calls, and calls behind them
   pub desk-joined : (old mid new : SeenDesk D) (xs ys : List DeskCall) → DeskGoes medium old mid xs → DeskGoes medium mid new ys → DeskGoes medium old new (xs ++ ys)
@@ -35,6 +36,11 @@ module _ {D : Type 0} (medium : D → Medium) where
     told = each-behind (waiting_after k) (IsDeskTold k) w xs ys first.told (subst (λ (x : Rules × Waiting). AreTold x.0 x.1 ys) same second.told);
     pending = subst (λ (x : Rules × Waiting). new.pending ≡ (waiting_after_calls x.0 x.1 ys).pending) same second.pending ∙ ap (λ (x : Waiting). x.pending) (sym (after-behind (waiting_after k) w xs ys));
     limits = second.limits ∙ first.limits;
+    counted = λ s stands now.
+        let t = desk_after_calls k s xs in
+        let there = (answers-are medium old mid xs s first stands now).1 in
+        each-behind (desk_after k) IsCounted s xs ys (first.counted s stands now)
+        (subst (λ (x : Rules). EachIn (desk_after x) IsCounted t ys) (rules-now old mid xs first) (second.counted t there (first.store.called.honest.0 now)));
   }
     where
       k : Rules

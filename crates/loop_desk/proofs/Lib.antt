@@ -11,3 +11,6 @@ pub mod Order
 pub mod Ran
 pub mod Told
 pub mod Completed
+pub mod Blind
+pub mod Failing
+pub mod Crossing

@@ -4,14 +4,14 @@ use Rattle.std.specs.Prelude.{◌==◌, ◌||◌}
 use Rattle.loop_disk.specs.Medium.{Medium}
 use Rattle.loop_record.specs.declared.geometry.Geometry.{Geometry}
 use Rattle.loop_record.specs.Recording.{Picture, Recording, Ring, after, last_number, needs_recycling, plain, recycle, recycling_first, ring_of, steps, stores_after, victim}
-use Rattle.loop_record.specs.Turns.{after_all}
+use Rattle.loop_record.specs.Turns.{EachIn, after_all}
 use Rattle.loop_record.proofs.Steps.{plain-stores}
 use Rattle.loop_record.proofs.Turned.{after-behind}
 use Rattle.loop_store.specs.Calls.{AreAnswered, Call, IsAnswered, Progress, StoreState, after_calls, appended, has_failed, locked, progress_after, unlocked, was_read, was_read_part}
 use Rattle.loop_store.specs.Calls as calls
 use Rattle.loop_store.specs.Goes.{Stands}
 use Rattle.loop_store.specs.Steps.{steps_or_none}
-use Rattle.loop_desk.specs.Desk.{AreDeskAnswers, AreTold, DeskCall, DeskState, Rules, Waiting, desk_after, desk_after_calls, pending_after, store_calls, store_calls_in, waiting_after, waiting_after_calls, waiting_at}
+use Rattle.loop_desk.specs.Desk.{AreDeskAnswers, AreTold, DeskCall, DeskState, IsCounted, Rules, Waiting, desk_after, desk_after_calls, pending_after, store_calls, store_calls_in, waiting_after, waiting_after_calls, waiting_at}
 use Rattle.loop_desk.specs.Seen.{DeskGoes, SeenDesk, StandsAt, rules_of, waiting_of}
 use Rattle.loop_desk.proofs.Frames.{each-parts}
 
@@ -61,9 +61,9 @@ record AreModelled (k : Rules) (s : DeskState) (list : List DeskCall) : Type 0 w
   store : (desk_after_calls k s list).store ≡ after_calls k.geometry s.store (store_calls_in k (waiting_at s) list)
   pending : (desk_after_calls k s list).pending ≡ (waiting_after_calls k (waiting_at s) list).pending
 
-modelled : (k : Rules) (s : DeskState) (list : List DeskCall) → AreTold k (waiting_at s) list → AreAnswered k.geometry s.store (store_calls_in k (waiting_at s) list) → AreModelled k s list
-modelled k s [] told said = record { answers = tt; store = refl; pending = refl }
-modelled k s (c ∷ list) told said =
+modelled : (k : Rules) (s : DeskState) (list : List DeskCall) → AreTold k (waiting_at s) list → AreAnswered k.geometry s.store (store_calls_in k (waiting_at s) list) → EachIn (desk_after k) IsCounted s list → AreModelled k s list
+modelled k s [] told said held = record { answers = tt; store = refl; pending = refl }
+modelled k s (c ∷ list) told said held =
     let g = k.geometry in
     let w = waiting_at s in
     let here = store_calls k w c in
@@ -72,9 +72,9 @@ modelled k s (c ∷ list) told said =
     let parts = each-parts (calls.after g) (IsAnswered g) s.store here there said in
     let t = desk_after k s c in
     let same : waiting_at t ≡ v = waiting-after k s c parts.0 in
-    let rest = modelled k t list (subst (λ (x : Waiting). AreTold k x list) (sym same) told.1) (subst (λ (x : Waiting). AreAnswered g t.store (store_calls_in k x list)) (sym same) parts.1) in
+    let rest = modelled k t list (subst (λ (x : Waiting). AreTold k x list) (sym same) told.1) (subst (λ (x : Waiting). AreAnswered g t.store (store_calls_in k x list)) (sym same) parts.1) held.1 in
     record {
-      answers = ((told.0, parts.0), rest.answers);
+      answers = ((told.0, (held.0, parts.0)), rest.answers);
       store = rest.store ∙ ap (λ (x : Waiting). after_calls g t.store (store_calls_in k x list)) same ∙ sym (after-behind (calls.after g) s.store here there);
       pending = rest.pending ∙ ap (λ (x : Waiting). (waiting_after_calls k x list).pending) same;
     }
@@ -94,7 +94,7 @@ answers-are medium old new list s goes stands now =
     let same = shown medium old s stands now in
     let told = subst (λ (x : Waiting). AreTold k x list) same goes.told in
     let said = subst (λ (x : Waiting). AreAnswered k.geometry s.store (store_calls_in k x list)) same (goes.store.answers s.store stands.store now) in
-    let model = modelled k s list told said in
+    let model = modelled k s list told said (goes.counted s stands now) in
     let there = subst (λ (x : Waiting). StandsOn (store_calls_in k x list)) same (goes.store.stands s.store stands.store now) in (
       model.answers,
       record {

@@ -1,7 +1,8 @@
 -- The desk: frames that wait before a store, and what each call makes of them. What a call makes of the store is
 -- said by the store's own calls.
-use Rattle.std.specs.Prelude.{◌≡◌, ℕ, ◌+◌, ◌-◌, ◌%◌, ◌==◌, not, min, true, false, if◌then◌else◌, Result, Ok, Err, List, [], ◌∷◌, ◌++◌, length, take, drop}
+use Rattle.std.specs.Prelude.{◌≡◌, ℕ, ◌+◌, ◌-◌, ◌%◌, ◌==◌, not, min, true, false, if◌then◌else◌, Option, None, Result, Ok, Err, List, [], ◌∷◌, ◌++◌, length, take, drop}
 use Rattle.std.specs.List.{flat_map}
+use Rattle.loop_disk.specs.declared.fault.DiskFault.{DiskFault}
 use Rattle.loop_record.specs.declared.clip.Span.{Span}
 use Rattle.loop_record.specs.declared.frame.FrameHead.{FrameHead}
 use Rattle.loop_record.specs.declared.geometry.Geometry.{Geometry}
@@ -9,10 +10,12 @@ use Rattle.loop_record.specs.Geometry.{frame_bytes}
 use Rattle.loop_record.specs.Recording.{Picture, Step, last_number, lock, recycle, ring_of, store, unlock}
 use Rattle.loop_record.specs.Turns.{after_all, told_in, EachIn}
 use Rattle.loop_store.specs.Calls.{AreAnswered, Call, Progress, StoreState, after_calls, appended, locked, progress_after, unlocked, was_read}
+use Rattle.loop_store.specs.Faults.{failed_in}
 use Rattle.loop_store.specs.declared.fault.StoreFault.{StoreFault}
 use Rattle.loop_store.specs.declared.fault.StoreFault.TheVariants.{MustReopen, NumbersSpent, PendingFull, WrongSize}
 use Rattle.loop_desk.specs.declared.limits.DeskLimits.{DeskLimits}
 use Rattle.loop_desk.specs.declared.limits.Flushed.{Flushed}
+use Rattle.loop_desk.specs.declared.limits.Status.{Status}
 
 -- what doesn't change: the geometry, and the limits
 pub record Rules : Type 0 where
@@ -27,6 +30,7 @@ pub data DeskCall : Type 0 where
   clip_locked : Span → Result ℕ StoreFault → DeskCall
   clip_unlocked : ℕ → Result (Unit {0}) StoreFault → DeskCall
   frame_read : ℕ → Result (FrameHead × List ℕ) StoreFault → DeskCall
+  status_told : Status → DeskCall
 
 -- what decides on a call, whatever is recorded: how far the store is, and what waits
 pub record Waiting : Type 0 where
@@ -68,6 +72,16 @@ store_calls k w (flushed result) = append_of (group_of k w) result
 store_calls k w (clip_locked span result) = locked span result ∷ []
 store_calls k w (clip_unlocked id result) = unlocked id result ∷ []
 store_calls k w (frame_read number result) = was_read number result ∷ []
+store_calls k w (status_told status) = []
+
+-- the call of the disk that failed, if the answer says that one did
+abbrev pub desk_failed_for : DeskCall → Option DiskFault
+desk_failed_for (submitted p size result) = failed_in result
+desk_failed_for (flushed result) = failed_in result
+desk_failed_for (clip_locked span result) = failed_in result
+desk_failed_for (clip_unlocked id result) = failed_in result
+desk_failed_for (frame_read number result) = failed_in result
+desk_failed_for (status_told status) = None
 
 -- ---- what waits after a call
 
@@ -105,10 +119,16 @@ IsFlush w group (Ok f) = (w.store.must_reopen ≡ false) × (f ≡ flushed_of w 
 IsFlush w [] (Err fault) = (fault ≡ MustReopen) × (w.store.must_reopen ≡ true)
 IsFlush w (p ∷ ps) (Err fault) = Unit {0}
 
+-- a status tells how far the store is, and how many frames wait
+abbrev pub IsStatus : Waiting → Status → Type 0
+IsStatus w status =
+    (status.next ≡ w.store.next) × ((status.pending ≡ length w.pending) × (status.must_reopen ≡ w.store.must_reopen))
+
 -- the desk's own part of an answer; all else is the answer of the store's call
 abbrev pub IsDeskTold : Rules → Waiting → DeskCall → Type 0
 IsDeskTold k w (submitted p size result) = result ≡ submit_answer k w size
 IsDeskTold k w (flushed result) = IsFlush w (group_of k w) result
+IsDeskTold k w (status_told status) = IsStatus w status
 IsDeskTold k w _ = Unit {0}
 
 -- ---- the model: a desk's state, what a call makes of it, and whether it was answered so
@@ -119,9 +139,15 @@ desk_after k s call = record {
   pending = pending_after s.pending call;
 }
 
+-- a status tells how many frames are held, too
+abbrev pub IsCounted : DeskState → DeskCall → Type 0
+IsCounted s (status_told status) = status.held ≡ length s.store.recording.frames
+IsCounted s _ = Unit {0}
+
 abbrev pub IsDeskAnswer : Rules → DeskState → DeskCall → Type 0
 IsDeskAnswer k s call =
-    IsDeskTold k (waiting_at s) call × AreAnswered k.geometry s.store (store_calls k (waiting_at s) call)
+    IsDeskTold k (waiting_at s) call
+    × (IsCounted s call × AreAnswered k.geometry s.store (store_calls k (waiting_at s) call))
 
 -- ---- lists of calls
 

@@ -1,4 +1,5 @@
 pub mod Desk
+pub mod Bare
 pub mod Seen
 pub mod Footage
 pub mod Front

@@ -6,6 +6,7 @@ use Rattle.loop_disk.specs.Medium.{Medium}
 use Rattle.loop_record.specs.declared.frame.Frame.{Frame}
 use Rattle.loop_record.specs.Geometry.{frame_bytes}
 use Rattle.loop_record.specs.Recording.{Picture, Recording, last_number, ring_of}
+use Rattle.loop_record.specs.Turns.{EachIn}
 use Rattle.loop_store.specs.declared.fault.StoreFault.{StoreFault}
 use Rattle.loop_store.specs.declared.fault.StoreFault.TheVariants.{MustReopen, NoMemory}
 use Rattle.loop_store.specs.Goes.{Goes, Stands, progress_of}
@@ -13,7 +14,7 @@ use Rattle.loop_store.specs.Seen.{Seen, StandsFor}
 use Rattle.loop_desk.specs.declared.limits.DeskLimits.{DeskLimits}
 use Rattle.loop_desk.specs.declared.limits.Outline.{Outline}
 use Rattle.loop_desk.specs.declared.limits.Status.{Status}
-use Rattle.loop_desk.specs.Desk.{AreTold, DeskCall, DeskState, Rules, Waiting, store_calls_in, waiting_after_calls}
+use Rattle.loop_desk.specs.Desk.{AreTold, DeskCall, DeskState, IsCounted, Rules, Waiting, desk_after, store_calls_in, waiting_after_calls}
 
 -- the store, the frames that wait, and the limits
 pub record SeenDesk (D : Type 0) : Type 0 where
@@ -39,6 +40,12 @@ pub record StandsAt {D : Type 0} (medium : D → Medium) (d : SeenDesk D) (s : D
   pub store : Stands medium d.store s.store
   pub pending : d.pending ≡ s.pending
 
+-- The desk can be written, and where its disk is honest its store stands for a recording.
+pub record Opens {D : Type 0} (medium : D → Medium) (d : SeenDesk D) : Type 0 where
+  pub recording : (medium d.store.disk).honest → Recording
+  pub stands : (now : (medium d.store.disk).honest) → StandsFor medium d.store (recording now)
+  pub writable : d.store.must_reopen ≡ false
+
 -- What calls, one after the other, make of a desk, whatever its disk. All that they leave on the disk, and what they
 -- are answered of it, is said by the store's calls.
 pub record DeskGoes {D : Type 0} (medium : D → Medium) (old new : SeenDesk D) (calls : List DeskCall) : Type 0 where
@@ -48,6 +55,9 @@ pub record DeskGoes {D : Type 0} (medium : D → Medium) (old new : SeenDesk D) 
   pub told : AreTold (rules_of old) (waiting_of old) calls
   pub pending : new.pending ≡ (waiting_after_calls (rules_of old) (waiting_of old) calls).pending
   pub limits : new.limits ≡ old.limits
+  -- and from each state that the desk stood for, each status tells how many frames are held
+  pub counted : (s : DeskState) → StandsAt medium old s → (medium old.store.disk).honest
+      → EachIn (desk_after (rules_of old)) IsCounted s calls
 
 -- ---- what a desk tells without a call of the disk
 

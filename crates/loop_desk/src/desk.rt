@@ -1,11 +1,11 @@
 //! A desk: frames that wait, before a store.
 
-ghost use Rattle.std.specs.Prelude.{◌≡◌, ◌≢◌, ◌≤◌, ◌+◌, ◌∷◌, [], Err, IfErr, IfOk, length};
+ghost use Rattle.std.specs.Prelude.{◌≡◌, ◌≢◌, ◌≤◌, ◌+◌, ◌∷◌, [], Err, IfErr, IfOk, false, length};
 ghost use Rattle.loop_record.specs.Geometry.{frame_bytes};
 ghost use Rattle.loop_record.specs.Plain.{pictures};
 ghost use Rattle.loop_record.specs.Recording.{last_number, picture, ring_of};
 ghost use Rattle.loop_desk.specs.Desk.{clip_locked, clip_unlocked, flushed, frame_read, submit_answer, submitted};
-ghost use Rattle.loop_desk.specs.Seen.{DeskGoes, IsDesk, OutlineRefuses, SeenDesk, TellsOutline, TellsStatus, answer_of, rules_of, waiting_of};
+ghost use Rattle.loop_desk.specs.Seen.{DeskGoes, IsDesk, Opens, OutlineRefuses, SeenDesk, TellsOutline, TellsStatus, answer_of, rules_of, waiting_of};
 ghost use Rattle.loop_store.specs.Runs.{read_of};
 ghost use Rattle.loop_store.specs.Seen.{Refused};
 
@@ -14,6 +14,7 @@ use crate::{DeskLimits, Flushed, Outline, Status};
 use circular_buffer::HeapCircularBuffer;
 use loop_disk::Disk;
 use loop_record::{Frame, Geometry};
+use loop_store::laws::a_store_is_opened;
 use loop_store::{ReadFrame, Store, StoreFault};
 use std::alloc::{Allocator, Global};
 use std::marker::Model;
@@ -53,11 +54,26 @@ impl<D: Disk + Drop, A: Allocator> Desk<D, A> {
         }
     }
 
+    /// Where the desk needn't be reopened and its disk is honest, its store stands for a recording. The function does
+    /// nothing: its contract is the law.
+    pub fn opens(&self)
+        ensures { self.now.store.must_reopen ≡ false → Opens D.medium self.now }
+    {
+        a_store_is_opened(&self.store);
+    }
+
     /// The geometry of the store.
     pub fn geometry(&self) -> Geometry
         ensures { result ≡ self.now.store.geometry }
     {
         self.store.geometry()
+    }
+
+    /// How much the desk takes in.
+    pub fn limits(&self) -> DeskLimits
+        ensures { result ≡ self.now.limits }
+    {
+        self.limits
     }
 
     /// The number that a frame will have, or why it isn't taken in.

@@ -18,9 +18,11 @@ use std::marker::Model;
 /// A call that a crash disk has made. `B` is what was written.
 #[derive(Drop)]
 pub enum DeviceCall<B> {
+    /// Bytes were read.
     Read,
     /// These bytes were written from this place on.
     Write(u64, B),
+    /// What was written before is on the disk.
     Sync,
 }
 
@@ -31,6 +33,7 @@ pub enum Spoil {
     Keep,
     /// The bytes at the last sync, or those at the start if there was none.
     Old,
+    /// 0x00.
     Zero,
     /// 0xFF.
     Ones,

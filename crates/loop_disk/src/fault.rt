@@ -6,10 +6,13 @@ use thiserror::Error;
 /// The call of a disk that failed.
 #[derive(Clone, Copy, Debug, PartialEq, Eq, Error)]
 pub enum DiskFault {
+    /// Nothing is known of the buffer's bytes.
     #[error("a read failed")]
     Read,
+    /// Any beginning of the bytes may be on the disk, and any part of them after a crash.
     #[error("a write failed")]
     Write,
+    /// What was written since the last sync may be lost by a crash, as before.
     #[error("a sync failed")]
     Sync,
 }
@@ -17,8 +20,11 @@ pub enum DiskFault {
 /// How many calls of each kind have failed; each count stops at 2^64 - 1.
 #[derive(Clone, Copy, Debug, PartialEq, Eq)]
 pub struct Failures {
+    /// Reads that failed.
     pub reads: u64,
+    /// Writes that failed.
     pub writes: u64,
+    /// Syncs that failed.
     pub syncs: u64,
 }
 

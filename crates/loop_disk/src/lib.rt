@@ -6,15 +6,13 @@
 //! everything above is made of: a write and then a sync, and two of these in turn. `memory` is a disk in
 //! memory, honest, whose crashes are as bad as the model allows: `past` keeps its calls as ghost data. `crash`
 //! is a disk in memory that keeps them for tests, and gives back the image that a crash leaves at a call of
-//! choice. `fuse` and `once` fail calls on purpose, over another disk; `file` is a disk over a file, of which
-//! no contract says what it holds. `specs/` has the definitions, `proofs/` the lemmas for callers: `Moments`
+//! choice. `fuse` and `once` fail calls on purpose, over another disk. `specs/` has the definitions, `proofs/` the lemmas for callers: `Moments`
 //! joins runs of calls, `Images` has parts of images.
 #![tactic(auto)]
 
 mod crash;
 mod disk;
 mod fault;
-mod file;
 mod fuse;
 mod memory;
 mod once;
@@ -24,7 +22,6 @@ mod steps;
 pub use crash::{CrashDisk, DeviceCall, Spoil};
 pub use disk::Disk;
 pub use fault::{DiskFault, Failures};
-pub use file::{FileDisk, FileFault};
 pub use fuse::FuseDisk;
 pub use memory::MemDisk;
 pub use once::OnceDisk;

@@ -48,12 +48,12 @@ filled_fds shape bytes (Some set) fd =
     (slot_fds fd f1 set.planes.cb b1 (in_place f0 (slot_filled set.planes.y b0)) (in_place f0 set.planes.y) (last_fds fd f0 set.planes.y b0))
     ∙ sym (ap (times fd) (last_none (values_in set))))
 
-completed_linked : (index : ℕ) (stamp : Stamp) (bytes : List ℕ) (s : QueueState) (out : List (ℕ × Plane)) (n : Names Plane) → IsLinked s.body out n → IsLinked (completed index stamp bytes s).body out n
+pub completed_linked : (index : ℕ) (stamp : Stamp) (bytes : List ℕ) (s : QueueState) (out : List (ℕ × Plane)) (n : Names Plane) → IsLinked s.body out n → IsLinked (completed index stamp bytes s).body out n
 completed_linked index stamp bytes s out n linked =
     still_linked s.body (completed index stamp bytes s).body out n refl
     (λ (fd : ℕ). kept_changed (completed_with s.body.shape stamp bytes) index s.body.buffers fd (λ b d. filled_fds s.body.shape bytes b.planes d)) linked
 
-failed_linked : (index : ℕ) (stamp : Stamp) (s : QueueState) (out : List (ℕ × Plane)) (n : Names Plane) → IsLinked s.body out n → IsLinked (failed index stamp s).body out n
+pub failed_linked : (index : ℕ) (stamp : Stamp) (s : QueueState) (out : List (ℕ × Plane)) (n : Names Plane) → IsLinked s.body out n → IsLinked (failed index stamp s).body out n
 failed_linked index stamp s out n linked = still_linked s.body (failed index stamp s).body out n refl (λ (fd : ℕ). kept_changed (failed_with stamp) index s.body.buffers fd (λ b d. refl)) linked
 
 module _ {P : Type 0} (m : P → Plane) where

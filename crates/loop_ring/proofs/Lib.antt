@@ -13,3 +13,4 @@ pub mod Clearing
 pub mod Indexed
 pub mod Oldest
 pub mod Counted
+pub mod Crossing

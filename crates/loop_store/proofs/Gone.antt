@@ -18,7 +18,7 @@ use Rattle.loop_store.proofs.Modelled.{fine-all, idle-all, recording-after}
 
 -- ---- the disk
 
-with_each-behind : (xs ys : List (Option DiskFault)) (before : Failures) → with_each (xs ++ ys) before ≡ with_each ys (with_each xs before)
+pub with_each-behind : (xs ys : List (Option DiskFault)) (before : Failures) → with_each (xs ++ ys) before ≡ with_each ys (with_each xs before)
 with_each-behind [] ys before = refl
 with_each-behind (x ∷ xs) ys before = with_each-behind xs ys (with_failed x before)
 

@@ -27,3 +27,4 @@ pub mod Locked
 pub mod Reading
 pub mod Crashed
 pub mod Noted
+pub mod Crossing

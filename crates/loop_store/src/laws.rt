@@ -1,8 +1,10 @@
-//! What calls of a store leave, one after the other. The function does nothing: its contract is the law.
+//! What holds of any store, and what calls leave, one after the other. The functions do nothing: their contracts are the
+//! laws.
 
-ghost use Rattle.std.specs.Prelude.{◌++◌, List};
+ghost use Rattle.std.specs.Prelude.{◌≡◌, ◌++◌, List, false};
 ghost use Rattle.loop_store.specs.Calls.{Call};
 ghost use Rattle.loop_store.specs.Goes.{Goes};
+ghost use Rattle.loop_store.specs.Opened.{IsOpened};
 
 use crate::Store;
 use loop_disk::Disk;
@@ -19,3 +21,12 @@ pub fn calls_join<D: Disk + Drop, A: Allocator>(
         → Goes D.medium between.now after.now second
         → Goes D.medium before.now after.now (first ++ second) }
 {}
+
+/// A store that needn't be reopened stands, where its disk is honest, for the recording that the disk holds, as if it
+/// had been opened on these bytes.
+pub fn a_store_is_opened<D: Disk + Drop, A: Allocator>(store: &Store<D, A>)
+    ensures { store.now.must_reopen ≡ false → (D.medium store.now.disk).honest
+        → IsOpened D.medium (D.medium store.now.disk).bytes store.now }
+{
+    let _index = &store.index;
+}

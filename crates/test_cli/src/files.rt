@@ -2,7 +2,7 @@
 
 use crate::ran::{comes_to, run, run_unprinted};
 use crate::told::same;
-use loop_disk::FileDisk;
+use loop_file::FileDisk;
 use std::alloc::AllocGlobal;
 use std::fs;
 use std::fs::File;

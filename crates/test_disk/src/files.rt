@@ -1,7 +1,8 @@
 // The disk over a file.
 use crate::calls::{read_at, write_at};
 use crate::told::{holds, same};
-use loop_disk::{Disk, DiskFault, FileDisk, FileFault};
+use loop_disk::{Disk, DiskFault};
+use loop_file::{FileDisk, FileFault};
 use std::cell::Cell;
 use std::fs::{File, Metadata, OpenFile, OpenOptions, Permissions};
 use std::io::ErrorKind;

@@ -2,8 +2,9 @@
 ghost use Rattle.std.specs.Prelude.{◌≡◌, IfOk, IfErr};
 ghost use Rattle.loop_disk.specs.Calls.{failed_call, no_failures, with_failed};
 ghost use Rattle.loop_disk.specs.History.{unknown};
+ghost use Rattle.loop_file.specs.Outcomes.{failing_as};
 
-use crate::{Disk, DiskFault, Failures};
+use loop_disk::{Disk, DiskFault, Failures};
 use std::fs::{File, OpenFile, OpenOptions, TryLockError};
 use std::io::ErrorKind;
 use std::os::unix::fs::FileExt;
@@ -210,18 +211,15 @@ impl<F: OpenFile + FileExt + Drop> FileDisk<F> {
         }
     }
 
-    // Counts a call that failed.
-    fn count(&mut self, outcome: io::Result<()>, fault: DiskFault) -> Result<(), DiskFault>
-        ensures answer { IfErr result (λ e. e ≡ fault) }
+    // The answer of a call of the disk, which is counted if the file's call failed.
+    fn answer(&mut self, outcome: io::Result<()>, fault: DiskFault) -> Result<(), DiskFault>
+        ensures answer { result ≡ failing_as fault outcome }
         ensures counted { self.new.failures ≡ with_failed (failed_call result) self.old.failures }
         ensures size { self.new.size ≡ self.old.size }
     {
         match outcome {
             Ok(()) => Ok(()),
-            Err(_) => {
-                self.failures.count(fault);
-                Err(fault)
-            }
+            Err(_) => self.failures.note(Err(fault)),
         }
     }
 }
@@ -239,16 +237,16 @@ impl<F: OpenFile + FileExt + Drop> Disk for FileDisk<F> {
 
     fn read(&mut self, at: u64, buf: &mut [u8]) -> Result<(), DiskFault> {
         let outcome = self.file.read_exact_at(buf, at);
-        self.count(outcome, DiskFault::Read)
+        self.answer(outcome, DiskFault::Read)
     }
 
     fn write_at(&mut self, at: u64, bytes: &[u8]) -> Result<(), DiskFault> {
         let outcome = self.file.write_all_at(bytes, at);
-        self.count(outcome, DiskFault::Write)
+        self.answer(outcome, DiskFault::Write)
     }
 
     fn sync(&mut self) -> Result<(), DiskFault> {
         let outcome = self.file.sync_data();
-        self.count(outcome, DiskFault::Sync)
+        self.answer(outcome, DiskFault::Sync)
     }
 }

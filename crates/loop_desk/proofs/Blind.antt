@@ -1,0 +1,278 @@
+-- Nothing in the model of a desk looks at pixels.
+use Rattle.std.proofs.Common.{◌≡◌, ◌≢◌, ◌⊎◌, inl, inr, ℕ, ◌+◌, ◌-◌, ◌%◌, ◌<◌, ◌≤◌, Bool, true, false, not, min, if◌then◌else◌, is_some, IsTrue, Option, Some, None, Result, Ok, Err, List, [], ◌∷◌, length, take, map, refl, sym, ap, ◌∙◌, subst}
+use Rattle.std.proofs.lemmas.List.{drop-map, length-map, map-append, take-map}
+use Rattle.std.specs.Prelude.{◌==◌, ◌&&◌, ◌||◌, nat_le, nat_lt}
+use Rattle.std.specs.List.{filter, find, list_all, range_with_len}
+use Rattle.std.specs.Option.{option_map}
+use Rattle.loop_record.specs.declared.clip.Span.{Span}
+use Rattle.loop_record.specs.declared.frame.FrameHead.{FrameHead}
+use Rattle.loop_record.specs.declared.geometry.Geometry.{Geometry}
+use Rattle.loop_record.specs.Geometry.{frame_bytes}
+use Rattle.loop_record.specs.Recording.{Picture, Recording, Ring, Step, after as stepped, block, blocks_of, clip_of, frame_under, free_id, holds, holds_all, is_locked, last_number, lock, needs_recycling, plain, recycle, recycling_first, ring_of, steps, store, stores_after, unlock, victim, with_block}
+use Rattle.loop_store.specs.declared.fault.StoreFault.{StoreFault}
+use Rattle.loop_store.specs.Calls.{AreAnswered, CanLock, Call, IsAnswered, IsFirstMissing, RefusesAppend, RefusesLock, RefusesRead, RefusesSpan, RefusesUnlock, StoreState, after as stored, after_calls, appended, asked, has_failed, locked, made, unlocked, was_read, was_read_part}
+use Rattle.loop_store.specs.Faults.{is_disk}
+use Rattle.loop_store.specs.Steps.{if_answered, steps_or_none}
+use Rattle.loop_desk.specs.declared.limits.Flushed.{Flushed}
+use Rattle.loop_desk.specs.Bare.{IsBlind, bare, bare_call, bare_frame, bare_read, bare_recording, bare_state, bare_store}
+use Rattle.loop_desk.specs.Desk.{AreDeskAnswers, DeskCall, DeskState, IsCounted, IsDeskAnswer, IsDeskTold, IsFlush, Rules, Waiting, append_of, clip_locked, clip_unlocked, desk_after, desk_after_calls, flushed, frame_read, group_of, pending_after, status_told, store_calls, submitted, waiting_at}
+
+abbrev bare_step : Step → Step
+bare_step (store p) = store (bare p)
+bare_step (recycle b) = recycle b
+bare_step (lock span) = lock span
+bare_step (unlock id) = unlock id
+
+abbrev bare_part : Result (List ℕ) StoreFault → Result (List ℕ) StoreFault
+bare_part (Ok bytes) = Ok []
+bare_part (Err fault) = Err fault
+
+-- a call of the store
+abbrev bare_stored : Call → Call
+bare_stored (appended group result) = appended (map bare group) result
+bare_stored (locked span result) = locked span result
+bare_stored (unlocked id result) = unlocked id result
+bare_stored (was_read number result) = was_read number (bare_read result)
+bare_stored (was_read_part number at result) = was_read_part number at (bare_part result)
+
+-- ---- the recording
+
+blocks-bare : (ring : Ring) (fs : List (ℕ × Picture)) → blocks_of ring (map bare_frame fs) ≡ blocks_of ring fs
+blocks-bare ring [] = refl
+blocks-bare ring (f ∷ fs) = ap (with_block (block ring f.0)) (blocks-bare ring fs)
+
+under-bare : (fs : List (ℕ × Picture)) (number : ℕ) → frame_under (map bare_frame fs) number ≡ option_map bare (frame_under fs number)
+under-bare [] number = refl
+under-bare (f ∷ fs) number = go (f.0 == number) (under-bare fs number)
+  where
+    go : (b : Bool) → frame_under (map bare_frame fs) number ≡ option_map bare (frame_under fs number) → (if b then Some (bare f.1) else frame_under (map bare_frame fs) number) ≡ option_map bare (if b then Some f.1 else frame_under fs number)
+    go true rest = refl
+    go false rest = rest
+
+some-under : (o : Option Picture) → is_some (option_map bare o) ≡ is_some o
+some-under None = refl
+some-under (Some p) = refl
+
+holds-bare : (r : Recording) (number : ℕ) → holds (bare_recording r) number ≡ holds r number
+holds-bare r number = ap is_some (under-bare r.frames number) ∙ some-under (frame_under r.frames number)
+
+holds-all-bare : (r : Recording) (span : Span) → holds_all (bare_recording r) span ≡ holds_all r span
+holds-all-bare r span = each (range_with_len span.from (span.to + 1 - span.from))
+  where
+    each : (ns : List ℕ) → list_all (holds (bare_recording r)) ns ≡ list_all (holds r) ns
+    each [] = refl
+    each (n ∷ ns) = λ i. holds-bare r n i && each ns i
+
+filter-bare : (q : ℕ → Bool) (fs : List (ℕ × Picture)) → filter (λ f. q f.0) (map bare_frame fs) ≡ map bare_frame (filter (λ f. q f.0) fs)
+filter-bare q [] = refl
+filter-bare q (f ∷ fs) = go (q f.0) (filter-bare q fs)
+  where
+    go : (b : Bool) → filter (λ x. q x.0) (map bare_frame fs) ≡ map bare_frame (filter (λ x. q x.0) fs) → (if b then bare_frame f ∷ filter (λ x. q x.0) (map bare_frame fs) else filter (λ x. q x.0) (map bare_frame fs)) ≡ map bare_frame (if b then f ∷ filter (λ x. q x.0) fs else filter (λ x. q x.0) fs)
+    go true rest = ap (λ l. bare_frame f ∷ l) rest
+    go false rest = rest
+
+step-bare : (ring : Ring) (r : Recording) (step : Step) → stepped ring (bare_recording r) (bare_step step) ≡ bare_recording (stepped ring r step)
+step-bare ring r (store p) = ap (λ (fs : List (ℕ × Picture)). record r { next = r.next + 1; frames = fs }) (sym (map-append bare_frame r.frames ((r.next, p) ∷ [])))
+step-bare ring r (recycle b) = ap (λ (fs : List (ℕ × Picture)). record r { frames = fs }) (filter-bare (λ n. not (block ring n == b)) r.frames)
+step-bare ring r (lock span) = refl
+step-bare ring r (unlock id) = refl
+
+plain-bare : (ring : Ring) (r : Recording) (list : List Step) → plain ring (bare_recording r) (map bare_step list) ≡ bare_recording (plain ring r list)
+plain-bare ring r [] = refl
+plain-bare ring r (step ∷ list) = ap (λ (x : Recording). plain ring x (map bare_step list)) (step-bare ring r step) ∙ plain-bare ring (stepped ring r step) list
+
+-- ---- the steps of a group
+
+stores-bare : (ps : List Picture) → map store (map bare ps) ≡ map bare_step (map store ps)
+stores-bare [] = refl
+stores-bare (p ∷ ps) = ap (λ l. store (bare p) ∷ l) (stores-bare ps)
+
+steps-bare : (ring : Ring) (r : Recording) (ps : List Picture) → steps ring (bare_recording r) (map bare ps) ≡ option_map (map bare_step) (steps ring r ps)
+steps-bare ring r ps =
+    let same = blocks-bare ring r.frames in
+    (λ i. if r.next == last_number ring then None else stores_after (recycling_first ((r.next % ring.slots == 0) && (length (same i) == ring.segments)) (find (λ b. not (is_locked ring r b)) (take (length (same i) - 1) (same i)))) (map bare ps))
+    ∙ go (r.next == last_number ring) (needs_recycling ring r) (victim ring r)
+  where
+    go : (b n : Bool) (v : Option ℕ) → (if b then None else stores_after (recycling_first n v) (map bare ps)) ≡ option_map (map bare_step) (if b then None else stores_after (recycling_first n v) ps)
+    go true n v = refl
+    go false false v = ap Some (stores-bare ps)
+    go false true None = refl
+    go false true (Some b) = ap (λ l. Some (recycle b ∷ l)) (stores-bare ps)
+
+or-none-bare : (o : Option (List Step)) → steps_or_none (option_map (map bare_step) o) ≡ map bare_step (steps_or_none o)
+or-none-bare None = refl
+or-none-bare (Some l) = refl
+
+asked-bare : (g : Geometry) (r : Recording) (ps : List Picture) → asked g (bare_recording r) (map bare ps) ≡ map bare_step (asked g r ps)
+asked-bare g r ps = ap steps_or_none (steps-bare (ring_of g) r ps) ∙ or-none-bare (steps (ring_of g) r ps)
+
+none-bare : (o : Option (List Step)) → option_map (map bare_step) o ≡ None → o ≡ None
+none-bare None e = refl
+none-bare (Some l) e = absurd cc
+
+some-bare : (ring : Ring) (r : Recording) (ps : List Picture) → steps ring r ps ≢ None → steps ring (bare_recording r) (map bare ps) ≢ None
+some-bare ring r ps some none = some (none-bare (steps ring r ps) (sym (steps-bare ring r ps) ∙ none))
+
+-- ---- the answers of the store
+
+missing-bare : (r : Recording) (span : Span) (n : ℕ) → IsFirstMissing r span n → IsFirstMissing (bare_recording r) span n
+missing-bare r span n first = record {
+  from = first.from;
+  to = first.to;
+  missing = holds-bare r n ∙ first.missing;
+  held = λ m from below. holds-bare r m ∙ first.held m from below;
+}
+
+can-bare : (g : Geometry) (r : Recording) (span : Span) → CanLock g r span → CanLock g (bare_recording r) span
+can-bare g r span can = subst (λ (b : Bool). IsTrue (nat_le span.from span.to && b && nat_lt (free_id r) 64)) (sym (holds-all-bare r span)) can
+
+span-bare : (r : Recording) (span : Span) (fault : StoreFault) → RefusesSpan r span fault → RefusesSpan (bare_recording r) span fault
+span-bare r span fault (inl x) = inl x
+span-bare r span fault (inr (inl x)) = inr (inl (x.0, (x.1.0, missing-bare r span x.0 x.1.1)))
+span-bare r span fault (inr (inr x)) = inr (inr (x.0, (x.1.0, (holds-all-bare r span ∙ x.1.1.0, x.1.1.1))))
+
+append-bare : (g : Geometry) (s : StoreState) (ps : List Picture) (fault : StoreFault) → RefusesAppend g s ps fault → RefusesAppend g (bare_store s) (map bare ps) fault
+append-bare g s ps fault (inl x) = inl x
+append-bare g s ps fault (inr (inl x)) = inr (inl x)
+append-bare g s ps fault (inr (inr (inl x))) = inr (inr (inl (x.0, (x.1.0, (x.1.1.0, steps-bare (ring_of g) s.recording ps ∙ ap (option_map (map bare_step)) x.1.1.1)))))
+append-bare g s ps fault (inr (inr (inr x))) = inr (inr (inr (x.0, (x.1.0, some-bare (ring_of g) s.recording ps x.1.1))))
+
+lock-bare : (g : Geometry) (s : StoreState) (span : Span) (fault : StoreFault) → RefusesLock g s span fault → RefusesLock g (bare_store s) span fault
+lock-bare g s span fault (inl x) = inl x
+lock-bare g s span fault (inr (inl x)) = inr (inl (x.0, span-bare s.recording span fault x.1))
+lock-bare g s span fault (inr (inr x)) = inr (inr (x.0, (x.1.0, can-bare g s.recording span x.1.1)))
+
+read-refused : (s : StoreState) (number : ℕ) (fault : StoreFault) → RefusesRead s number fault → RefusesRead (bare_store s) number fault
+read-refused s number fault (inl x) = inl x
+read-refused s number fault (inr (inl x)) = inr (inl (x.0, (x.1.0, holds-bare s.recording number ∙ x.1.1)))
+read-refused s number fault (inr (inr x)) = inr (inr (x.0, (x.1.0, holds-bare s.recording number ∙ x.1.1)))
+
+stored-answer : (g : Geometry) (s : StoreState) (c : Call) → IsAnswered g s c → IsAnswered g (bare_store s) (bare_stored c)
+stored-answer g s (appended ps (Ok number)) said = (said.0, (some-bare (ring_of g) s.recording ps said.1.0, said.1.1))
+stored-answer g s (appended ps (Err fault)) said = append-bare g s ps fault said
+stored-answer g s (locked span (Ok id)) said = (said.0, (can-bare g s.recording span said.1.0, said.1.1))
+stored-answer g s (locked span (Err fault)) said = lock-bare g s span fault said
+stored-answer g s (unlocked id (Ok x)) said = said
+stored-answer g s (unlocked id (Err fault)) said = said
+stored-answer g s (was_read number (Ok x)) said = (said.0, record { picture = bare said.1.picture; there = under-bare s.recording.frames number ∙ ap (option_map bare) said.1.there; head_is = said.1.head_is; bytes_are = refl })
+stored-answer g s (was_read number (Err fault)) said = read-refused s number fault said
+stored-answer g s (was_read_part number at (Ok bytes)) said = (said.0, record { picture = bare said.1.picture; there = under-bare s.recording.frames number ∙ ap (option_map bare) said.1.there; bytes_are = refl })
+stored-answer g s (was_read_part number at (Err fault)) (inl x) = inl x
+stored-answer g s (was_read_part number at (Err fault)) (inr (inl x)) = inr (inl (x.0, (x.1.0, holds-bare s.recording number ∙ x.1.1)))
+stored-answer g s (was_read_part number at (Err fault)) (inr (inr x)) = inr (inr (x.0, (x.1.0, holds-bare s.recording number ∙ x.1.1)))
+
+-- ---- the state of the store after a call
+
+answered-bare : {T : Type 0} (result : Result T StoreFault) (l : List Step) → if_answered result (map bare_step l) ≡ map bare_step (if_answered result l)
+answered-bare (Ok x) l = refl
+answered-bare (Err fault) l = refl
+
+made-bare : (g : Geometry) (s : StoreState) (c : Call) → made g (bare_store s) (bare_stored c) ≡ map bare_step (made g s c)
+made-bare g s (appended ps result) = ap (if_answered result) (asked-bare g s.recording ps) ∙ answered-bare result (asked g s.recording ps)
+made-bare g s (locked span (Ok id)) = refl
+made-bare g s (locked span (Err fault)) = refl
+made-bare g s (unlocked id (Ok x)) = refl
+made-bare g s (unlocked id (Err fault)) = refl
+made-bare g s (was_read number result) = refl
+made-bare g s (was_read_part number at result) = refl
+
+failed-bare : (c : Call) → has_failed (bare_stored c) ≡ has_failed c
+failed-bare (appended ps result) = refl
+failed-bare (locked span result) = refl
+failed-bare (unlocked id result) = refl
+failed-bare (was_read number result) = refl
+failed-bare (was_read_part number at result) = refl
+
+stored-bare : (g : Geometry) (s : StoreState) (c : Call) → stored g (bare_store s) (bare_stored c) ≡ bare_store (stored g s c)
+stored-bare g s c =
+    let ring = ring_of g in
+    let recording = ap (plain ring (bare_recording s.recording)) (made-bare g s c) ∙ plain-bare ring s.recording (made g s c) in
+    let failed = failed-bare c in
+    λ i. record { recording = recording i; must_reopen = s.must_reopen || failed i }
+
+-- calls of the store
+record IsStoreBlind (g : Geometry) (s : StoreState) (calls : List Call) : Type 0 where
+  answers : AreAnswered g s calls → AreAnswered g (bare_store s) (map bare_stored calls)
+  state : after_calls g (bare_store s) (map bare_stored calls) ≡ bare_store (after_calls g s calls)
+
+store-blind : (g : Geometry) (s : StoreState) (calls : List Call) → IsStoreBlind g s calls
+store-blind g s [] = record { answers = λ said. tt; state = refl }
+store-blind g s (c ∷ calls) =
+    let rest = store-blind g (stored g s c) calls in
+    let one = stored-bare g s c in
+    record {
+      answers = λ said. (stored-answer g s c said.0, subst (λ (x : StoreState). AreAnswered g x (map bare_stored calls)) (sym one) (rest.answers said.1));
+      state = ap (λ (x : StoreState). after_calls g x (map bare_stored calls)) one ∙ rest.state;
+    }
+
+-- ---- the desk
+
+group-bare : (k : Rules) (s : DeskState) → group_of k (waiting_at (bare_state s)) ≡ map bare (group_of k (waiting_at s))
+group-bare k s = take-map bare (min k.limits.group (k.geometry.slots - s.store.recording.next % k.geometry.slots)) s.pending
+
+append-of-bare : (group : List Picture) (result : Result Flushed StoreFault) → append_of (map bare group) result ≡ map bare_stored (append_of group result)
+append-of-bare [] result = refl
+append-of-bare (p ∷ ps) result = refl
+
+calls-bare : (k : Rules) (s : DeskState) (c : DeskCall) → store_calls k (waiting_at (bare_state s)) (bare_call c) ≡ map bare_stored (store_calls k (waiting_at s) c)
+calls-bare k s (submitted p size result) = refl
+calls-bare k s (flushed result) = ap (λ (l : List Picture). append_of l result) (group-bare k s) ∙ append-of-bare (group_of k (waiting_at s)) result
+calls-bare k s (clip_locked span result) = refl
+calls-bare k s (clip_unlocked id result) = refl
+calls-bare k s (frame_read number result) = refl
+calls-bare k s (status_told status) = refl
+
+flush-bare : (s : DeskState) (group : List Picture) (result : Result Flushed StoreFault) → IsFlush (waiting_at s) group result → IsFlush (waiting_at (bare_state s)) (map bare group) result
+flush-bare s group (Ok f) said =
+    let count = length-map s.pending bare in
+    let size = length-map group bare in
+    (said.0, said.1 ∙ (λ i. record { first = s.store.recording.next; stored = sym size i; left = sym count i - sym size i }))
+flush-bare s [] (Err fault) said = said
+flush-bare s (p ∷ ps) (Err fault) said = tt
+
+call-bare : (k : Rules) (s : DeskState) (c : DeskCall) → IsDeskAnswer k s c → IsDeskAnswer k (bare_state s) (bare_call c)
+call-bare k s c said = (told c said.0, (counted c said.1.0, subst (λ (l : List Call). AreAnswered k.geometry (bare_store s.store) l) (sym (calls-bare k s c)) ((store-blind k.geometry s.store (store_calls k (waiting_at s) c)).answers said.1.1)))
+  where
+    told : (d : DeskCall) → IsDeskTold k (waiting_at s) d → IsDeskTold k (waiting_at (bare_state s)) (bare_call d)
+    told (submitted p size result) is =
+        let count = length-map s.pending bare in
+        is ∙ (λ i. if s.store.must_reopen then Err StoreFault.MustReopen else if not (size == frame_bytes k.geometry) then Err StoreFault.WrongSize else if sym count i == k.limits.pending then Err StoreFault.PendingFull else if (s.store.recording.next + sym count i) == last_number (ring_of k.geometry) then Err StoreFault.NumbersSpent else Ok (s.store.recording.next + sym count i))
+    told (flushed result) is = subst (λ (l : List Picture). IsFlush (waiting_at (bare_state s)) l result) (sym (group-bare k s)) (flush-bare s (group_of k (waiting_at s)) result is)
+    told (clip_locked span result) is = tt
+    told (clip_unlocked id result) is = tt
+    told (frame_read number result) is = tt
+    told (status_told status) is = (is.0, (is.1.0 ∙ sym (length-map s.pending bare), is.1.1))
+
+    counted : (d : DeskCall) → IsCounted s d → IsCounted (bare_state s) (bare_call d)
+    counted (submitted p size result) is = tt
+    counted (flushed result) is = tt
+    counted (clip_locked span result) is = tt
+    counted (clip_unlocked id result) is = tt
+    counted (frame_read number result) is = tt
+    counted (status_told status) is = is ∙ sym (length-map s.store.recording.frames bare_frame)
+
+pending-bare : (waiting : List Picture) (c : DeskCall) → pending_after (map bare waiting) (bare_call c) ≡ map bare (pending_after waiting c)
+pending-bare waiting (submitted p size (Ok number)) = sym (map-append bare waiting (p ∷ []))
+pending-bare waiting (submitted p size (Err fault)) = refl
+pending-bare waiting (flushed (Ok f)) = drop-map bare f.stored waiting
+pending-bare waiting (flushed (Err fault)) = refl
+pending-bare waiting (clip_locked span result) = refl
+pending-bare waiting (clip_unlocked id result) = refl
+pending-bare waiting (frame_read number result) = refl
+pending-bare waiting (status_told status) = refl
+
+after-bare : (k : Rules) (s : DeskState) (c : DeskCall) → desk_after k (bare_state s) (bare_call c) ≡ bare_state (desk_after k s c)
+after-bare k s c =
+    let store = ap (λ (l : List Call). after_calls k.geometry (bare_store s.store) l) (calls-bare k s c) ∙ (store-blind k.geometry s.store (store_calls k (waiting_at s) c)).state in
+    let waiting = pending-bare s.pending c in
+    λ i. record { store = store i; pending = waiting i }
+
+pub blind : (k : Rules) (s : DeskState) (calls : List DeskCall) → IsBlind k s calls
+blind k s [] = record { answers = λ said. tt; state = refl }
+blind k s (c ∷ calls) =
+    let rest = blind k (desk_after k s c) calls in
+    let one = after-bare k s c in
+    record {
+      answers = λ said. (call-bare k s c said.0, subst (λ (x : DeskState). AreDeskAnswers k x (map bare_call calls)) (sym one) (rest.answers said.1));
+      state = ap (λ (x : DeskState). desk_after_calls k x (map bare_call calls)) one ∙ rest.state;
+    }
