@@ -79,11 +79,12 @@ static uint32_t take_group(const struct store *s, struct frame *group) {
     return count;
 }
 
-/* The head and the pixels of the newest frame. */
+/* The head of the newest frame, and then its pixels. */
 static void read_newest(const struct store *s, uint8_t *slot) {
     uint64_t newest = s->next - 1;
     uint64_t at = 2560 + newest / s->slots % s->segments * s->segment + 512 + newest % s->slots * (32 + (uint64_t)s->size);
-    read_at(s, at, slot, 32 + (size_t)s->size);
+    read_at(s, at, slot, 32);
+    read_at(s, at + 32, slot + 32, s->size);
 }
 
 int main(int argc, char **argv) {
