@@ -111,11 +111,7 @@ fn buffer(
 }
 
 // The set of one plane, or of three.
-fn set_of(
-    y: MmapPlane,
-    cb: Option<MmapPlane>,
-    cr: Option<MmapPlane>,
-) -> PlaneSet<MmapPlane> {
+fn set_of(y: MmapPlane, cb: Option<MmapPlane>, cr: Option<MmapPlane>) -> PlaneSet<MmapPlane> {
     PlaneSet {
         count: if cb.is_some() { 3 } else { 1 },
         planes: Planes { y: Some(y), cb, cr },

@@ -80,14 +80,7 @@ pub(crate) fn run_record<
     R: AllocGlobal + Files<File = File> + Threads + Wait + Sync,
     W: Write,
     E: Write,
->(
-    rt: &R,
-    frames: u32,
-    source: &str,
-    paths: Paths<'_>,
-    out: &mut W,
-    err: &mut E,
-) -> u8 {
+>(rt: &R, frames: u32, source: &str, paths: Paths<'_>, out: &mut W, err: &mut E) -> u8 {
     match perform(rt, frames, source, paths.words(), out) {
         Ok(()) => 0,
         Err(undone) => tell(undone, err),
