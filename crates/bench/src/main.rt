@@ -1,7 +1,7 @@
 //! What is measured: planes and the buffer queue beside plain copies, a store in memory or in a file, and a lane to a
-//! store in a file. `bench/run` and `bench/files` time it beside plain programs in C, and `tools/kill_check` kills it, and
-//! `tools/power_check` takes its power away.
-//! Of a store and a lane it prints only what was done. Its first word is one of these:
+//! store in a file. `bench/run` and `bench/files` time it beside plain programs in C; `tools/kill_check` kills it, and
+//! `tools/power_check` takes its power away. Of a store and a lane it prints only what was done. Its first word is one
+//! of these:
 //!
 //!     planes ROUNDS
 //!

@@ -303,8 +303,8 @@ fn write_text<'a, R: AllocGlobal, D: Disk + Drop, T: Write + Drop>(
     }
 }
 
-// Opens what a text goes to. Nothing of it is changed. A file that has a lock is a store that is in use, the one that is
-// exported perhaps.
+// Opens what a text goes to. Nothing of it is changed. A file that has a lock is a store that is in use, the one that
+// is exported perhaps.
 fn target_of<'a, R: Files<File = File>>(rt: &R, target: &'a str) -> Result<Target, Undone<'a>> {
     if is_own_output(rt, target) {
         return own_output(rt, target);

@@ -17,8 +17,8 @@ use std::{fs, io};
 /// The most links, one behind the other, that are followed from a path to a file.
 const MAX_LINKS: u32 = 40;
 
-/// Where the file of a path stands, or is to stand: what a link at the path's end names, and not the link. Its folder is
-/// held open.
+/// Where the file of a path stands, or is to stand: what a link at the path's end names, and not the link. Its folder
+/// is held open.
 #[derive(Drop)]
 pub struct FilePlace {
     path: PathBuf,
@@ -51,9 +51,9 @@ impl FilePlace {
     /// its bytes has its place there: later writes find room on a full file system too. That takes as long as to write
     /// so many bytes, and as much room as the larger of both.
     ///
-    /// A refused new file is gone. Of an old one that is in use, can't have that size or has no room to grow to it, each
-    /// byte and the length are kept; one that can't be written over is left with a zero as its first byte. What a stop
-    /// leaves is what was there, or begins with a zero.
+    /// A refused new file is gone. Of an old one that is in use, can't have that size or has no room to grow to it,
+    /// each byte and the length are kept; one that can't be written over is left with a zero as its first byte. What a
+    /// stop leaves is what was there, or begins with a zero.
     pub fn create<R: Files<File = File>>(
         &mut self,
         rt: &R,

@@ -12,9 +12,10 @@ fn makes(file: &Medium, folder: &Medium, size: u64) -> Option<FileFault> {
     FileDisk::fresh_over(Faulty { medium: file }, &Faulty { medium: folder }, size).err()
 }
 
-// An old file, the size that it is to have, the calls of the file before its old bytes are written over, and all of them.
-// At first its length is asked for; its first byte is read, and unless that is zero it is written and synced. Where it
-// grows it gets its new length, is written and synced. Then come a new length where it shrinks, a write and a sync.
+// An old file, the size that it is to have, the calls of the file before its old bytes are written over, and all of
+// them. At first its length is asked for; its first byte is read, and unless that is zero it is written and synced.
+// Where it grows it gets its new length, is written and synced. Then come a new length where it shrinks, a write and
+// a sync.
 static MADE: [(&[u8], u64, u32, u32); 7] = [
     (b"old", 3, 4, 6),
     (b"old", 8, 7, 9),
@@ -38,8 +39,8 @@ fn is_made(rt: &impl Abort, (old, size, _, calls): &(&[u8], u64, u32, u32)) {
     same!(*rt; file.synced.get(), made, (old, size));
 }
 
-// A call of the file fails, and as many behind it as are to: the refusal is told, and a stop at each moment leaves the old
-// bytes or a zero in front. Where one fails before the old bytes are written over, they and the length stand.
+// A call of the file fails, and as many behind it as are to: the refusal is told, and a stop at each moment leaves
+// the old bytes or a zero in front. Where one fails before the old bytes are written over, they and the length stand.
 fn is_refused(
     rt: &impl Abort,
     (old, size, kept, calls): &(&[u8], u64, u32, u32),

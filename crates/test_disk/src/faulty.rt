@@ -82,8 +82,8 @@ impl Medium {
         Ok(())
     }
 
-    // Notes what the file has now, and whether a stop may leave it. A stop leaves any mixture of what is on the disk and
-    // what is in the file: so both begin with a zero, or they are the old ones but for a first byte.
+    // Notes what the file has now, and whether a stop may leave it. A stop leaves any mixture of what is on the disk
+    // and what is in the file: so both begin with a zero, or they are the old ones but for a first byte.
     fn note(&self, now: Image) {
         self.now.set(now);
         let synced = self.synced.get();

@@ -259,8 +259,8 @@ impl FileExt for Filling<'_> {
     }
 }
 
-// The bytes of an old file, the size that it is to have, below which place no room is taken, and the room that there is;
-// then the refusal, the writes that were tried, and the bytes that it has afterwards.
+// The bytes of an old file, the size that it is to have, below which place no room is taken, and the room that there
+// is; then the refusal, the writes that were tried, and the bytes that it has afterwards.
 type Filled = (
     &'static [u8],
     u64,

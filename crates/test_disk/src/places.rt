@@ -125,9 +125,9 @@ fn makes(
     FileDisk::create(&(troubled, rt.alloc()), path, 64).err()
 }
 
-// Whether there was a file, the trouble and the call of the system at which it comes; the refusal, and the file that there
-// is afterwards. The path is looked at, its folder is opened, it is opened, made if it isn't there, and looked at again
-// once the lock is had.
+// Whether there was a file, the trouble and the call of the system at which it comes; the refusal, and the file that
+// there is afterwards. The path is looked at, its folder is opened, it is opened, made if it isn't there, and looked
+// at again once the lock is had.
 type Row = (
     Option<&'static [u8]>,
     (Trouble, u32),
