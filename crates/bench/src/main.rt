@@ -1,6 +1,7 @@
 //! What is measured: planes and the buffer queue beside plain copies, a store in memory or in a file, and a lane to a
-//! store in a file. `bench/run` and `bench/files` time it beside plain programs in C, and `tools/kill_check` kills it.
-//! Of a store and a lane it prints only what was done. Its first word is one of these:
+//! store in a file. `bench/run` and `bench/files` time it beside plain programs in C; `tools/kill_check` kills it, and
+//! `tools/power_check` takes its power away. Of a store and a lane it prints only what was done. Its first word is one
+//! of these:
 //!
 //!     planes ROUNDS
 //!
@@ -32,10 +33,10 @@
 //!
 //! opens the store in a file and lists its frames and clips, as many times;
 //!
-//!     record PATH FRAMES
+//!     record PATH FRAMES RUN
 //!
 //! opens the store in a file once, appends so many frames one by one, and prints the number behind each once it is
-//! stored;
+//! stored; each byte of frame N is (N % 251 + RUN % 251 * 7) % 251;
 //!
 //!     lane PATH GROUP GROUPS
 //!

@@ -34,8 +34,13 @@ fn geometry(words: &mut Args) -> Result<Geometry>
     }
 }
 
-// A group of so many frames, whose bytes are zero.
-fn group_of(alloc: Global, geometry: &Geometry, count: u32) -> Result<Vec<Frame>, AllocError>
+// A group of so many frames, each byte of which is this one.
+fn group_of(
+    alloc: Global,
+    geometry: &Geometry,
+    count: u32,
+    byte: u8,
+) -> Result<Vec<Frame>, AllocError>
     requires { IsTrue (is_good geometry.now) }
     ensures { IfOk result (λ group. All (λ frame. length frame.bytes.items ≡ frame_bytes geometry.now) group.items) }
 {
@@ -45,7 +50,7 @@ fn group_of(alloc: Global, geometry: &Geometry, count: u32) -> Result<Vec<Frame>
             sequence: 0,
             flags: 0x2000,
             timestamp: 0,
-            bytes: vec![in alloc; 0; geometry.frame_bytes() as usize]?,
+            bytes: vec![in alloc; byte; geometry.frame_bytes() as usize]?,
         })?;
     }
     Ok(group)
@@ -80,7 +85,7 @@ fn append_round(alloc: Global, geometry: Geometry, group: &[Frame], groups: u32)
 /// Appends as the next words say, and answers how many frames.
 pub(crate) fn append(alloc: Global, words: &mut Args) -> Result<u64> {
     let geometry = geometry(words)?;
-    let group = group_of(alloc, &geometry, number(words)?)?;
+    let group = group_of(alloc, &geometry, number(words)?, 0)?;
     let groups = number(words)?;
     let rounds = number(words)?;
     for _ in 0..rounds {
@@ -107,7 +112,7 @@ fn append_to<D: Disk + Drop>(
     count: u32,
     groups: u32,
 ) -> Result<u64> {
-    let group = group_of(alloc, &store.geometry(), count)?;
+    let group = group_of(alloc, &store.geometry(), count, 0)?;
     append_groups(store, &group, groups)?;
     Ok(store.next())
 }
@@ -165,14 +170,21 @@ pub(crate) fn list(rt: &impl Files<File = File>, alloc: Global, words: &mut Args
     Ok(count)
 }
 
+// The byte of which a run's frame of that number is made, so that no other run's and none near it is the same.
+fn footage(number: u64, run: u32) -> u8 {
+    ((number % 251 + u64::from(run % 251) * 7) % 251) as u8
+}
+
 // Appends a frame so many times, and prints the number behind it each time.
 fn record_frames<D: Disk + Drop>(
     rt: &HostRuntime,
     store: &mut Store<D>,
     frames: u32,
+    run: u32,
 ) -> Result<()> {
-    let frame = group_of(rt.alloc(), &store.geometry(), 1)?;
     for _ in 0..frames {
+        let byte = footage(store.next(), run);
+        let frame = group_of(rt.alloc(), &store.geometry(), 1, byte)?;
         append_groups(store, &frame, 1)?;
         let next = store.next();
         println!(rt; "next {next}")?;
@@ -184,6 +196,7 @@ fn record_frames<D: Disk + Drop>(
 pub(crate) fn record(rt: &HostRuntime, words: &mut Args) -> Result<()> {
     let path = path(words)?;
     let frames = number(words)?;
+    let run = number(words)?;
     let mut store = open_file(rt, rt.alloc(), &path)?;
-    record_frames(rt, &mut store, frames)
+    record_frames(rt, &mut store, frames, run)
 }

@@ -1,8 +1,8 @@
 //! The program: it runs scripts on a recorder whose disk lies in memory, and does commands on stores in files.
 //! docs/script.md has the language of the scripts.
 //!
-//! It hands its words, its input and its outputs to loop_commands, and ends with the status that this answers. The
-//! scripts of its stored run (`stdin`) follow one another, each from its `format` on.
+//! It hands its words, its input and its outputs to loop_commands, and ends with the status that this answers. Its
+//! stored run (`stdin`) is the script of the first look.
 #![tactic(auto)]
 
 use loop_commands::{run_words, words_refused};

@@ -3,22 +3,37 @@
 use crate::even::EvenWriter;
 use loop_ahead::AheadDisk;
 use loop_disk::Disk;
-use loop_file::FileDisk;
+use loop_file::{FileDisk, FileFault, FilePlace};
 use loop_record::Geometry;
 use loop_script::{FileCommand, Listing, print_line, print_parts, print_refusal};
 use loop_store::{OpenRefused, Store, StoreFault};
 use loop_y4m::export;
 use std::alloc::{AllocGlobal, Global};
 use std::fs::{File, OpenFile, OpenOptions};
-use std::io;
 use std::io::{BufWriter, Error, Write};
+use std::os::unix::fs::MetadataExt;
 use std::rt::Files;
+use std::{fs, io};
 
 /// How many bytes of a text are gathered before they are written to its file.
 const TEXT_AT_ONCE: usize = 262_144;
 
 /// How many bytes of a store are fetched at once where an export reads on.
 const READ_AHEAD: usize = 65_536;
+
+/// The program's own output as a path.
+const OWN_OUTPUT: &str = "/dev/stdout";
+
+/// Where the text of an export goes.
+#[derive(Drop)]
+enum Target {
+    /// Through the program's own output, in front of what is printed. Where that is a file, its lock is held.
+    Own(Option<File>),
+    /// Into a file, whose lock is held.
+    File(File),
+    /// Into a pipe or a device.
+    Stream(File),
+}
 
 /// Why a command wasn't done, or not to its end.
 #[derive(Drop)]
@@ -162,12 +177,12 @@ fn print_export<'a, R: AllocGlobal + Files<File = File>, W: Write>(
     target: &'a str,
     out: &mut W,
 ) -> Result<(), Undone<'a>> {
-    let count = export_into(rt, path, numbers, target)?;
+    let count = export_into(rt, path, numbers, target, out)?;
     print_line(out, "exported", &[(" ", count)])?;
     Ok(())
 }
 
-// Makes the file anew, with a store in it. A bad geometry is refused before the file is touched.
+// Makes the file anew, with a store in it. A bad geometry is refused before the file is looked for.
 fn format<'a, R: AllocGlobal + Files<File = File>>(
     rt: &R,
     path: &'a str,
@@ -177,33 +192,73 @@ fn format<'a, R: AllocGlobal + Files<File = File>>(
         Ok(()) => (),
         Err(_) => return Err(Undone::Refused(StoreFault::BadGeometry)),
     }
-    match FileDisk::create(rt, path, geometry.disk_size()) {
-        Err(_) => Err(Undone::CannotOpen(path)),
+    match FilePlace::of(rt, path) {
+        Err(fault) => Err(cannot_make(path, fault)),
+        Ok(place) => format_at(rt, path, place, geometry),
+    }
+}
+
+// Makes the file of a place anew, with a store in it. Where the store is refused, the file is given up.
+fn format_at<'a, R: AllocGlobal + Files<File = File>>(
+    rt: &R,
+    path: &'a str,
+    mut place: FilePlace,
+    geometry: Geometry,
+) -> Result<(), Undone<'a>> {
+    match place.create(rt, geometry.disk_size()) {
+        Err(fault) => Err(cannot_make(path, fault)),
         Ok(disk) => match loop_store::format(rt.alloc(), disk, geometry) {
-            Err(OpenRefused { fault, disk: _ }) => Err(Undone::Refused(fault)),
+            Err(OpenRefused { fault, disk }) => {
+                place.give_up(rt, disk);
+                Err(Undone::Refused(fault))
+            }
             Ok(_) => Ok(()),
         },
     }
 }
 
-// Writes the held frames from a number to another into the file or pipe of a path. Both files are opened before
-// the store is looked for. What the file had is gone only once a frame to write is found.
-fn export_into<'a, R: AllocGlobal + Files<File = File>>(
+// Why the file of a path can't be made.
+fn cannot_make(path: &str, fault: FileFault) -> Undone<'_> {
+    match fault {
+        FileFault::NoMemory => Undone::Refused(StoreFault::NoMemory),
+        _ => Undone::CannotOpen(path),
+    }
+}
+
+// Writes the held frames from a number to another to where a path leads. Both files are opened before the store is
+// looked for. What the file had is gone only once a frame to write is found.
+fn export_into<'a, R: AllocGlobal + Files<File = File>, W: Write>(
     rt: &R,
     path: &'a str,
     numbers: (u64, u64),
     target: &'a str,
+    out: &mut W,
 ) -> Result<u64, Undone<'a>> {
     let Ok(disk) = FileDisk::open(rt, path) else {
         return Err(Undone::CannotOpen(path));
     };
-    let (file, is_file) = target_of(rt, target)?;
+    let opened = target_of(rt, target)?;
     let mut store = find_ahead(rt.alloc(), disk)?;
     look_for(&store, numbers)?;
-    if is_file && empty(&file).is_err() {
-        return Err(Undone::CannotWrite(target));
+    write_into(rt, &mut store, numbers, (opened, target), out)
+}
+
+// Writes the held frames from a number to another into what was opened for them, whose path may be told.
+fn write_into<'a, R: AllocGlobal, D: Disk + Drop, W: Write>(
+    rt: &R,
+    store: &mut Store<D>,
+    numbers: (u64, u64),
+    (opened, target): (Target, &'a str),
+    out: &mut W,
+) -> Result<u64, Undone<'a>> {
+    match opened {
+        Target::Own(_lock) => write_text(rt, store, numbers, &mut *out, target),
+        Target::Stream(stream) => write_text(rt, store, numbers, stream, target),
+        Target::File(file) => match empty(&file) {
+            Ok(()) => write_text(rt, store, numbers, file, target),
+            Err(_) => Err(Undone::CannotWrite(target)),
+        },
     }
-    write_text(rt, &mut store, numbers, file, target)
 }
 
 // The store on an open file, which is read ahead.
@@ -225,15 +280,15 @@ fn look_for<'a, D: Disk + Drop>(
     }
 }
 
-// Writes the held frames from a number to another into an open file or pipe, whose path may be told.
-fn write_text<'a, R: AllocGlobal, D: Disk + Drop>(
+// Writes the held frames from a number to another through a writer, whose path may be told.
+fn write_text<'a, R: AllocGlobal, D: Disk + Drop, T: Write + Drop>(
     rt: &R,
     store: &mut Store<D>,
     (from, to): (u64, u64),
-    file: File,
+    out: T,
     target: &'a str,
 ) -> Result<u64, Undone<'a>> {
-    let Ok(gathered) = BufWriter::with_capacity(rt.alloc(), TEXT_AT_ONCE, file) else {
+    let Ok(gathered) = BufWriter::with_capacity(rt.alloc(), TEXT_AT_ONCE, out) else {
         return Err(Undone::Refused(StoreFault::NoMemory));
     };
     let mut text = EvenWriter::new(gathered, TEXT_AT_ONCE);
@@ -248,23 +303,50 @@ fn write_text<'a, R: AllocGlobal, D: Disk + Drop>(
     }
 }
 
-// Opens a file or a pipe for the text, and tells whether it is a file. Nothing of it is changed. A file that has a
-// lock is a store that is in use, the one that is exported perhaps.
-fn target_of<'a, R: Files<File = File>>(
-    rt: &R,
-    target: &'a str,
-) -> Result<(File, bool), Undone<'a>> {
+// Opens what a text goes to. Nothing of it is changed. A file that has a lock is a store that is in use, the one that
+// is exported perhaps.
+fn target_of<'a, R: Files<File = File>>(rt: &R, target: &'a str) -> Result<Target, Undone<'a>> {
+    if is_own_output(rt, target) {
+        return own_output(rt, target);
+    }
     let Ok(file) = OpenOptions::new().write(true).create(true).open(rt, target) else {
         return Err(Undone::CannotWrite(target));
     };
-    let is_file = match file.metadata() {
-        Ok(data) => data.is_file(),
-        Err(_) => return Err(Undone::CannotWrite(target)),
-    };
-    if is_file && file.try_lock().is_err() {
-        return Err(Undone::CannotWrite(target));
+    match file.metadata() {
+        Err(_) => Err(Undone::CannotWrite(target)),
+        Ok(data) if !data.is_file() => Ok(Target::Stream(file)),
+        Ok(_) => match file.try_lock() {
+            Ok(()) => Ok(Target::File(file)),
+            Err(_) => Err(Undone::CannotWrite(target)),
+        },
     }
-    Ok((file, is_file))
+}
+
+// Whether a path leads to the program's own output: to the same file, pipe or terminal, by whatever name.
+fn is_own_output<R: Files<File = File>>(rt: &R, target: &str) -> bool {
+    if target == OWN_OUTPUT {
+        return true;
+    }
+    match (fs::metadata(rt, target), fs::metadata(rt, OWN_OUTPUT)) {
+        (Ok(there), Ok(own)) => there.dev() == own.dev() && there.ino() == own.ino(),
+        _ => false,
+    }
+}
+
+// The program's own output, whatever that is. Where it is a file its lock is taken as of any other: it may be the store
+// that is exported. One that can't be opened anew is written all the same.
+fn own_output<'a, R: Files<File = File>>(rt: &R, target: &'a str) -> Result<Target, Undone<'a>> {
+    match fs::metadata(rt, target) {
+        Ok(data) if data.is_file() => (),
+        _ => return Ok(Target::Own(None)),
+    }
+    let Ok(file) = OpenOptions::new().write(true).open(rt, target) else {
+        return Ok(Target::Own(None));
+    };
+    match file.try_lock() {
+        Ok(()) => Ok(Target::Own(Some(file))),
+        Err(_) => Err(Undone::CannotWrite(target)),
+    }
 }
 
 // Takes from a file what it has. One that has nothing is left alone, since some file systems write a file that was

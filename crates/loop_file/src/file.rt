@@ -4,57 +4,16 @@ ghost use Rattle.loop_disk.specs.Calls.{failed_call, no_failures, with_failed};
 ghost use Rattle.loop_disk.specs.History.{unknown};
 ghost use Rattle.loop_file.specs.Outcomes.{failing_as};
 
+use crate::fault::FileFault;
+use crate::fresh::make_fresh;
+use crate::place::{FilePlace, take};
 use loop_disk::{Disk, DiskFault, Failures};
-use std::fs::{File, OpenFile, OpenOptions, TryLockError};
+use std::alloc::AllocGlobal;
+use std::fs::{File, OpenFile, OpenOptions};
+use std::io;
 use std::io::ErrorKind;
 use std::os::unix::fs::FileExt;
-use std::path::Path;
 use std::rt::Files;
-use std::{fs, io};
-use thiserror::Error;
-
-/// Why a file can't be had as a disk.
-#[derive(Clone, Copy, Debug, PartialEq, Eq, Error)]
-pub enum FileFault {
-    /// Another program, or another part of this one, holds the file's lock.
-    #[error("the file is in use")]
-    Busy,
-    /// The path names a folder.
-    #[error("this is a folder")]
-    Folder,
-    /// There is no such file, or no such folder for it.
-    #[error("there is no such file")]
-    Missing,
-    /// The file's or the folder's rights don't allow it.
-    #[error("the rights for the file are missing")]
-    Denied,
-    /// The path names a device or a pipe.
-    #[error("this is not a regular file")]
-    NotRegular,
-    /// The file system is full, or the owner's share of it is.
-    #[error("there is no room for the file")]
-    NoRoom,
-    /// The system refused for another cause: a size that no file may have, for one.
-    #[error("the file can't be opened")]
-    Failed,
-}
-
-impl From<io::Error> for FileFault {
-    fn from(error: io::Error) -> FileFault {
-        match error.kind() {
-            ErrorKind::NotFound => FileFault::Missing,
-            ErrorKind::PermissionDenied | ErrorKind::ReadOnlyFilesystem => FileFault::Denied,
-            ErrorKind::IsADirectory => FileFault::Folder,
-            ErrorKind::StorageFull | ErrorKind::QuotaExceeded => FileFault::NoRoom,
-            _ => FileFault::Failed,
-        }
-    }
-}
-
-// How much of a fresh file is written at a time.
-const PIECE: usize = 1 << 20;
-
-static ZEROS: [u8; PIECE] = [0; PIECE];
 
 /// A disk over a file: as many bytes as the file had when it was opened.
 ///
@@ -68,32 +27,17 @@ pub struct FileDisk<F = File> {
 }
 
 impl FileDisk {
-    /// Makes the file anew, with so many bytes of zero, or makes an old one so. At Ok its name is on the disk,
-    /// and each of its bytes has its place there: later writes find room on a full file system too. That takes
-    /// as long as to write so many bytes. A file that another program holds keeps its bytes, and so does an
-    /// old one that can't have that size or has no room to grow to it. Where nothing is kept, a file without
-    /// room is removed.
-    pub fn create<R: Files<File = File>>(rt: &R, path: &str, size: u64) -> Result<Self, FileFault>
+    /// Makes the file anew, with so many bytes of zero, or makes an old one so, as `FilePlace::create` does.
+    pub fn create<R: AllocGlobal + Files<File = File>>(
+        rt: &R,
+        path: &str,
+        size: u64,
+    ) -> Result<Self, FileFault>
         ensures size { IfOk result (λ disk. (⟦<FileDisk<File> as Disk>⟧.medium disk).size ≡ size) }
         ensures counted { IfOk result (λ disk. (⟦<FileDisk<File> as Disk>⟧.medium disk).failures ≡ no_failures) }
     {
-        let file = OpenOptions::new()
-            .read(true)
-            .write(true)
-            .create(true)
-            .open(rt, path)?;
-        take(&file)?;
-        let folder = File::open(rt, folder_of(path))?;
-        match make_fresh(&file, &folder, size) {
-            Ok(()) => Ok(FileDisk::of_size(file, size)),
-            Err(fault) => {
-                // The lock is still held, so this is nobody else's file.
-                if fault == FileFault::NoRoom && file.metadata()?.len() == 0 {
-                    fs::remove_file(rt, path)?;
-                }
-                Err(fault)
-            }
-        }
+        let mut place = FilePlace::of(rt, path)?;
+        place.create(rt, size)
     }
 
     /// Opens a file that is there, for reading and writing. Its length is the disk's size.
@@ -104,79 +48,11 @@ impl FileDisk {
         take(&file)?;
         Ok(FileDisk::over(file)?)
     }
-}
 
-// Takes the lock of a regular file, and never waits for it.
-fn take(file: &File) -> Result<(), FileFault> {
-    let data = file.metadata()?;
-    if data.is_dir() {
-        return Err(FileFault::Folder);
+    // The file, with its lock.
+    pub(crate) fn into_file(self) -> File {
+        self.file
     }
-    if !data.is_file() {
-        return Err(FileFault::NotRegular);
-    }
-    match file.try_lock() {
-        Ok(()) => Ok(()),
-        Err(TryLockError::WouldBlock) => Err(FileFault::Busy),
-        Err(TryLockError::Error(error)) => Err(FileFault::from(error)),
-    }
-}
-
-// The folder in which a path's file stands.
-fn folder_of(path: &str) -> Path<'_> {
-    match Path::new(path).parent() {
-        Some(folder) if !folder.as_os_str().is_empty() => folder,
-        _ => Path::new("."),
-    }
-}
-
-// Gives a file so many bytes of zero, and syncs it and its folder.
-fn make_fresh<F: OpenFile + FileExt, G: OpenFile>(
-    file: &F,
-    folder: &G,
-    size: u64,
-) -> Result<(), FileFault> {
-    let kept = file.metadata()?.len();
-    // What is new is written first: where it has no room, the old bytes are still there.
-    if let Err(error) = grow(file, kept, size) {
-        file.set_len(kept)?;
-        return Err(FileFault::from(error));
-    }
-    if let Err(error) = clear(file, kept.min(size)) {
-        file.set_len(0)?;
-        return Err(FileFault::from(error));
-    }
-    folder.sync_all()?;
-    Ok(())
-}
-
-// Gives a file that size, and writes what is new.
-fn grow<F: OpenFile + FileExt>(file: &F, kept: u64, size: u64) -> io::Result<()> {
-    file.set_len(size)?;
-    write_zeros(file, kept, size)
-}
-
-// Writes over a file's first bytes, and syncs it.
-fn clear<F: OpenFile + FileExt>(file: &F, kept: u64) -> io::Result<()> {
-    write_zeros(file, 0, kept)?;
-    file.sync_all()
-}
-
-// A piece of zeros.
-fn zeros() -> &'static [u8; PIECE] {
-    &ZEROS
-}
-
-// Writes zeros from one place of a file up to another, so that the file system has to find room for them.
-fn write_zeros<F: FileExt>(file: &F, from: u64, to: u64) -> io::Result<()> {
-    let zeros = zeros();
-    let mut at = from;
-    while at < to {
-        let count = (to - at).min(PIECE as u64);
-        file.write_all_at(&zeros[..count as usize], at)?;
-        at += count;
-    }
-    Ok(())
 }
 
 impl<F: OpenFile + FileExt + Drop> FileDisk<F> {
@@ -189,8 +65,8 @@ impl<F: OpenFile + FileExt + Drop> FileDisk<F> {
     }
 
     /// Makes an open file, which nobody else may use, a disk of so many bytes of zero, each written, and syncs
-    /// the file and then the folder in which it stands. It takes no lock. A file that can't have that size or
-    /// has no room to grow to it keeps its bytes; one whose old bytes can't be written over loses them all.
+    /// the folder in which it stands, and then the file. It takes no lock. A file that can't have that size or
+    /// has no room to grow to it keeps its bytes; one that can't be written over begins with a zero.
     pub fn fresh_over<G: OpenFile>(file: F, folder: &G, size: u64) -> Result<Self, FileFault>
         ensures size { IfOk result (λ disk. (⟦<FileDisk<F> as Disk>⟧.medium disk).size ≡ size) }
         ensures counted { IfOk result
@@ -201,7 +77,7 @@ impl<F: OpenFile + FileExt + Drop> FileDisk<F> {
     }
 
     // A disk of that size, of which no call has failed.
-    fn of_size(file: F, size: u64) -> Self
+    pub(crate) fn of_size(file: F, size: u64) -> Self
         ensures { (result.size ≡ size) × (result.failures ≡ no_failures) }
     {
         FileDisk {
@@ -246,7 +122,18 @@ impl<F: OpenFile + FileExt + Drop> Disk for FileDisk<F> {
     }
 
     fn sync(&mut self) -> Result<(), DiskFault> {
-        let outcome = self.file.sync_data();
+        let outcome = sync_through(&self.file);
         self.answer(outcome, DiskFault::Sync)
     }
+}
+
+// Syncs a file's bytes, and tries again where a signal interrupts it.
+fn sync_through<F: OpenFile>(file: &F) -> io::Result<()> {
+    for _ in 0..u64::MAX {
+        match file.sync_data() {
+            Err(error) if error.kind() == ErrorKind::Interrupted => (),
+            outcome => return outcome,
+        }
+    }
+    Err(io::Error::from(ErrorKind::TimedOut))
 }

@@ -18,6 +18,44 @@ impl Write for Broken {
     }
 }
 
+/// A writer that takes nothing, and says so without an error.
+#[derive(Drop)]
+pub(crate) struct Idle;
+
+impl Write for Idle {
+    fn write(&mut self, _buf: &[u8]) -> io::Result<usize> {
+        Ok(0)
+    }
+
+    fn flush(&mut self) -> io::Result<()> {
+        Ok(())
+    }
+}
+
+/// A script that comes byte by byte, each behind an interruption.
+#[derive(Drop)]
+pub(crate) struct Halting<'a> {
+    pub(crate) script: &'a [u8],
+    pub(crate) is_ready: bool,
+}
+
+impl Read for Halting<'_> {
+    fn read(&mut self, buf: &mut [u8]) -> io::Result<usize> {
+        self.is_ready = !self.is_ready;
+        if !self.is_ready {
+            return Err(Error::from(ErrorKind::Interrupted));
+        }
+        match (self.script.split_first(), buf.first_mut()) {
+            (Some((byte, left)), Some(place)) => {
+                *place = *byte;
+                self.script = left;
+                Ok(1)
+            }
+            _ => Ok(0),
+        }
+    }
+}
+
 /// So many lines `list`, and then a read that fails, if it is to.
 #[derive(Drop)]
 pub(crate) struct Lists {

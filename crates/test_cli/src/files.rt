@@ -20,7 +20,21 @@ fn put(image: &mut [u8], at: usize, bytes: &[u8]) {
 }
 
 // Frames of 4x2 YM12 at 25 a second, 3 segments of 2: the image after the frames 0 to 6, by the layout.
+<<<<<<< HEAD
 pub(crate) fn ring() -> [u8; 4360] {
+=======
+fn ring() -> [u8; 4360] {
+    image_of(&[(0, 3, 1), (1, 1, 2), (2, 2, 2)])
+}
+
+// The same after the frames 0 to 8, where a clip kept the frames 2 and 3 up to then: 2, 3, 6, 7 and 8 are held.
+fn ring_with_gap() -> [u8; 4360] {
+    image_of(&[(0, 3, 2), (1, 1, 2), (2, 4, 1)])
+}
+
+// The image whose segments hold these blocks, each so many frames.
+fn image_of(segments: &[(usize, u8, usize)]) -> [u8; 4360] {
+>>>>>>> hostile
     let mut image = [0; 4360];
     let numbers = [1, 4, 2];
     put(&mut image, 0, b"\xA5LOOPREC");
@@ -32,19 +46,24 @@ pub(crate) fn ring() -> [u8; 4360] {
         20,
         b"YM12\x19\0\0\0\x01\0\0\0\x03\0\0\0\x02\0\0\0\x0C",
     );
-    for (segment, block, frames) in [(0, 3, 1), (1, 1, 2), (2, 2, 2)] {
-        let at = 2560 + 600 * segment;
-        put(&mut image, at, &[0xA5]);
-        put(&mut image, at + 8, &[block]);
-        for slot in 0..frames {
-            put(&mut image, at + 256 + slot, &[0xA5]);
-            let number = 2 * block + slot as u8;
-            let slot = at + 512 + 44 * slot;
-            put(&mut image, slot, &[number]);
-            put(&mut image, slot + 24, &[12]);
-        }
+    for (segment, block, frames) in segments {
+        put_segment(&mut image, *segment, *block, *frames);
     }
     image
+}
+
+// Writes a segment into an image: its header, and the heads of so many frames.
+fn put_segment(image: &mut [u8], segment: usize, block: u8, frames: usize) {
+    let at = segment.min(2) * 600 + 2560;
+    put(image, at, &[0xA5]);
+    put(image, at + 8, &[block]);
+    for slot in 0..frames.min(2) {
+        put(image, at + 256 + slot, &[0xA5]);
+        let number = block.wrapping_mul(2).wrapping_add(slot as u8);
+        let slot = at + 512 + 44 * slot;
+        put(image, slot, &[number]);
+        put(image, slot + 24, &[12]);
+    }
 }
 
 // What the words of a run print, what they tell, and the status.
@@ -188,7 +207,7 @@ fn a_store_in_a_file_is_listed_locked_and_unlocked_by_one_run_after_the_other(
 }
 
 // Words on files that can't be had.
-static NO_FILES: [Step; 10] = [
+static NO_FILES: [Step; 11] = [
     (&["list", "missing.img"], "", "cannot open missing.img\n", 1),
     (
         &["lock", "missing.img", "0", "0"],
@@ -233,6 +252,12 @@ static NO_FILES: [Step; 10] = [
         1,
     ),
     (&["list", "/dev/null"], "", "cannot open /dev/null\n", 1),
+    (
+        &["format", "/dev/null", "1", "1", "GREY", "1:1", "2", "1"],
+        "",
+        "cannot open /dev/null\n",
+        1,
+    ),
     (&["list", ""], "", "cannot open \n", 1),
 ];
 
@@ -307,9 +332,10 @@ fn a_file_without_a_sound_store_is_refused_and_kept(rt: HostRuntime) -> Result<(
     Ok(())
 }
 
-// Words that tell or print something: the list, an unlock that is refused, and a folder.
-static TOLD: [&[&str]; 3] = [
+// Words that tell or print something: the list, a text, an unlock that is refused, and a folder.
+static TOLD: [&[&str]; 4] = [
     &["list", "printed.img"],
+    &["export", "printed.img", "2", "3", "/dev/stdout"],
     &["unlock", "printed.img", "0"],
     &["list", "."],
 ];
@@ -325,7 +351,7 @@ fn what_cannot_be_printed_ends_with_status_1(rt: HostRuntime) -> Result<(), Fail
 }
 
 // Exports of the ring into one file, each with how many bytes that has then: a header of 39, and 18 a frame.
-static EXPORTS: [(Step, usize); 8] = [
+static EXPORTS: [(Step, usize); 14] = [
     (
         (
             &["export", "frames.img", "2", "3", "frames.y4m"],
@@ -354,6 +380,54 @@ static EXPORTS: [(Step, usize); 8] = [
     (
         (
             &["export", "frames.img", "7", "9", "frames.y4m"],
+            "",
+            "refused 13 NotHeld\n",
+            1,
+        ),
+        129,
+    ),
+    (
+        (
+            &["export", "frames.img", "0", "1", "frames.y4m"],
+            "",
+            "refused 13 NotHeld\n",
+            1,
+        ),
+        129,
+    ),
+    // So does a range between held frames, where others are held on both its sides.
+    (
+        (
+            &["export", "gap.img", "4", "5", "frames.y4m"],
+            "",
+            "refused 13 NotHeld\n",
+            1,
+        ),
+        129,
+    ),
+    // A device that takes nothing: what is gathered can't be written at the end.
+    (
+        (
+            &["export", "frames.img", "2", "3", "/dev/full"],
+            "",
+            "cannot write /dev/full\n",
+            1,
+        ),
+        129,
+    ),
+    // The program's own output has the text, and the line behind it.
+    (
+        (
+            &["export", "frames.img", "6", "6", "/dev/stdout"],
+            "YUV4MPEG2 W4 H2 F25:1 Ip A0:0 C420jpeg\nFRAME\n\0\0\0\0\0\0\0\0\0\0\0\0exported 1\n",
+            "",
+            0,
+        ),
+        129,
+    ),
+    (
+        (
+            &["export", "frames.img", "0", "1", "/dev/stdout"],
             "",
             "refused 13 NotHeld\n",
             1,
@@ -398,6 +472,15 @@ static EXPORTS: [(Step, usize); 8] = [
     ),
     (
         (
+            &["export", "gap.img", "3", "6", "frames.y4m"],
+            "exported 2\n",
+            "",
+            0,
+        ),
+        75,
+    ),
+    (
+        (
             &["export", "frames.img", "6", "6", "frames.y4m"],
             "exported 1\n",
             "",
@@ -422,13 +505,15 @@ fn exports(
 #[test]
 fn the_frames_of_a_store_in_a_file_are_exported(rt: HostRuntime) -> Result<(), Fail> {
     fs::write(&rt, "frames.img", ring().as_slice())?;
+    fs::write(&rt, "gap.img", ring_with_gap().as_slice())?;
     for (step, size) in &EXPORTS {
         exports(&rt, step, *size)?;
     }
     let expected = b"YUV4MPEG2 W4 H2 F25:1 Ip A0:0 C420jpeg\nFRAME\n\0\0\0\0\0\0\0\0\0\0\0\0";
     has(&rt, "frames.y4m", expected)?;
     has(&rt, "frames.img", &ring())?;
-    fs::remove_file(&rt, "frames.img")?;
-    fs::remove_file(&rt, "frames.y4m")?;
+    for path in ["frames.img", "gap.img", "frames.y4m"] {
+        fs::remove_file(&rt, path)?;
+    }
     Ok(())
 }

@@ -1,8 +1,9 @@
-//! Tests of what the program does, beside the scripts of its stored run (`crates/loop_cli/stdin`, `stdout`).
+//! Tests of what the program does, beside its stored run (`crates/loop_cli/stdin`, `stdout`), which is the first look.
 //!
 //! - `told` has assertions that are cheap to prove; `ends`: inputs and outputs that fail, or that note what they are
 //!   asked for; `ran`: a run of a script or of words, and what came of it;
-//! - `scripts`: scripts that end by a line that can't be read, or begin before a store is formatted;
+//! - `scripts`: scripts that end by a line that can't be read, or begin before a store is formatted; and those of
+//!   `whole`, a ring's, a desk's and a clip table's;
 //! - `waits`: what is printed before the next line is awaited, and inputs and outputs that fail;
 //! - `memory`: scripts and sessions where memory is refused;
 //! - `parts`: lines, numbers, refusals and frames of the pattern, each alone;
@@ -30,5 +31,7 @@ mod scripts;
 mod told;
 #[cfg(test)]
 mod waits;
+#[cfg(test)]
+mod whole;
 #[cfg(test)]
 mod words;

@@ -1,12 +1,13 @@
 //! Scripts that begin before a store is formatted, that end in another way than by a 0x0A, or that can't be read to
-//! their end. What else a script does, the program's stored run shows.
+//! their end, and those of `whole`.
 
 use crate::ran::{comes_to, run_script};
+use crate::whole::WHOLE;
 use std::alloc::Global;
 use std::process::Abort;
 
-// A script, what it prints, what it tells on the other output, and the status.
-type Row = (&'static [u8], &'static str, &'static str, u8);
+/// A script, what it prints, what it tells on the other output, and the status.
+pub(crate) type Row = (&'static [u8], &'static str, &'static str, u8);
 
 static RUNS: [Row; 9] = [
     (b"", "", "", 0),
@@ -131,6 +132,7 @@ fn each_is_bad(rt: &impl Abort, alloc: Global, lines: &[&[u8]]) {
 #[test]
 fn scripts_print_what_their_lines_did(rt: HostRuntime) {
     each_comes_to(&rt, rt.alloc(), &RUNS);
+    each_comes_to(&rt, rt.alloc(), &WHOLE);
 }
 
 #[test]

@@ -1,6 +1,6 @@
 //! What is printed before the next line is awaited, and inputs and outputs that fail.
 
-use crate::ends::{Broken, Lists, Parts, Screen};
+use crate::ends::{Broken, Halting, Idle, Lists, Parts, Screen};
 use crate::ran::text;
 use crate::told::same;
 use loop_commands::simulate;
@@ -64,6 +64,20 @@ fn outputs_that_fail_end_the_run(rt: HostRuntime) {
     let mut err: Vec<u8> = Vec::new(alloc);
     same!(rt; simulate(alloc, b"list\n".as_slice(), &mut Broken, &mut err), 1);
     same!(rt; err.len(), 0);
+    same!(rt; simulate(alloc, b"list\n".as_slice(), &mut Idle, &mut err), 1);
+    same!(rt; err.len(), 0);
     let mut out: Vec<u8> = Vec::new(alloc);
     same!(rt; simulate(alloc, b"list \n".as_slice(), &mut out, &mut Broken), 1);
+}
+
+#[test]
+fn an_input_that_is_interrupted_is_read_on(rt: HostRuntime) {
+    let alloc = rt.alloc();
+    let input = Halting {
+        script: b"list\nlist\n",
+        is_ready: true,
+    };
+    let mut out: Vec<u8> = Vec::new(alloc);
+    same!(rt; simulate(alloc, input, &mut out, &mut Broken), 0);
+    same!(rt; text(&out), "refused 4 NotFormatted\nrefused 4 NotFormatted\n");
 }

@@ -63,8 +63,6 @@ fn what_is_no_file_of_ours_is_refused_by_name(rt: HostRuntime) -> Result<(), Fai
     if let Err(fault) = FileDisk::open(&rt, path) {
         same!(rt; fault, FileFault::Denied);
     }
-    let denied = io::Error::from(ErrorKind::PermissionDenied);
-    same!(rt; FileFault::from(denied), FileFault::Denied);
     fs::remove_file(&rt, path)?;
     Ok(())
 }
@@ -136,25 +134,16 @@ fn short_counts_and_interruptions_are_gone_on_from(rt: HostRuntime) -> Result<()
     Ok(())
 }
 
-// The syncs of a file: how many of its bytes alone, how many of all that it is, and whether they fail.
+// The syncs of a file's bytes.
 #[derive(Drop)]
 struct Syncs {
     data: Cell<u32>,
-    all: Cell<u32>,
     fails: Cell<bool>,
 }
 
 impl Syncs {
-    fn none() -> Syncs {
-        Syncs {
-            data: Cell::new(0),
-            all: Cell::new(0),
-            fails: Cell::new(false),
-        }
-    }
-
-    fn count(&self, syncs: &Cell<u32>) -> io::Result<()> {
-        syncs.set(syncs.get().wrapping_add(1));
+    fn count(&self) -> io::Result<()> {
+        self.data.set(self.data.get().wrapping_add(1));
         if self.fails.get() {
             return Err(io::Error::from(ErrorKind::Other));
         }
@@ -179,12 +168,11 @@ impl<'a> OpenFile for Counting<'a> {
     }
 
     fn sync_all(&self) -> io::Result<()> {
-        self.syncs.count(&self.syncs.all)?;
         self.file.sync_all()
     }
 
     fn sync_data(&self) -> io::Result<()> {
-        self.syncs.count(&self.syncs.data)?;
+        self.syncs.count()?;
         self.file.sync_data()
     }
 }
@@ -204,7 +192,10 @@ fn a_sync_is_one_of_the_file(rt: HostRuntime) -> Result<(), Fail> {
     let path = "counting.img";
     drop(FileDisk::create(&rt, path, 8)?);
     let file = OpenOptions::new().read(true).write(true).open(&rt, path)?;
-    let syncs = Syncs::none();
+    let syncs = Syncs {
+        data: Cell::new(0),
+        fails: Cell::new(false),
+    };
     let mut disk = FileDisk::over(Counting {
         file,
         syncs: &syncs,
@@ -221,47 +212,11 @@ fn a_sync_is_one_of_the_file(rt: HostRuntime) -> Result<(), Fail> {
     Ok(())
 }
 
-// A file of three bytes that counts its syncs.
-fn old_file<'a>(rt: &HostRuntime, path: &str, syncs: &'a Syncs) -> Result<Counting<'a>, Fail> {
-    fs::write(rt, path, b"old")?;
-    let file = OpenOptions::new().read(true).write(true).open(rt, path)?;
-    Ok(Counting { file, syncs })
-}
-
-#[test]
-fn a_fresh_file_and_its_folder_are_synced_before_the_answer(rt: HostRuntime) -> Result<(), Fail> {
-    for (file_fails, folder_fails) in [(false, false), (false, true), (true, false)] {
-        let (of_file, of_folder) = (Syncs::none(), Syncs::none());
-        of_file.fails.set(file_fails);
-        of_folder.fails.set(folder_fails);
-        let file = old_file(&rt, "fresh.img", &of_file)?;
-        let folder = old_file(&rt, "folder.img", &of_folder)?;
-        let made = FileDisk::fresh_over(file, &folder, 8);
-        same!(rt; of_file.all.get(), 1);
-        same!(rt; of_folder.all.get(), if file_fails { 0 } else { 1 });
-        match made {
-            Ok(mut disk) => {
-                let mut bytes = [1; 8];
-                same!(rt; disk.size(), 8);
-                same!(rt; read_at(&mut disk, 0, &mut bytes), Ok(()));
-                same!(rt; bytes, [0; 8]);
-                holds!(rt; !file_fails && !folder_fails);
-            }
-            Err(fault) => {
-                same!(rt; fault, FileFault::Failed);
-                holds!(rt; file_fails || folder_fails);
-            }
-        }
-    }
-    fs::remove_file(&rt, "fresh.img")?;
-    fs::remove_file(&rt, "folder.img")?;
-    Ok(())
-}
-
-// A file with room for so many more bytes, whose writes are counted.
+// A file with room for so many more bytes, whose writes are counted. A write below a place takes no room.
 #[derive(Drop)]
 struct Filling<'a> {
     file: File,
+    below: u64,
     room: &'a Cell<usize>,
     writes: &'a Cell<u32>,
 }
@@ -291,6 +246,9 @@ impl FileExt for Filling<'_> {
 
     fn write_at(&self, buf: &[u8], offset: u64) -> io::Result<usize> {
         self.writes.set(self.writes.get().wrapping_add(1));
+        if offset < self.below {
+            return self.file.write_at(buf, offset);
+        }
         let room = self.room.get();
         if room == 0 {
             return Err(io::Error::from(ErrorKind::StorageFull));
@@ -301,10 +259,11 @@ impl FileExt for Filling<'_> {
     }
 }
 
-// The bytes of an old file, the size that it is to have and the room that there is; then the refusal, the writes that
-// were tried, and the bytes that it has afterwards.
+// The bytes of an old file, the size that it is to have, below which place no room is taken, and the room that there
+// is; then the refusal, the writes that were tried, and the bytes that it has afterwards.
 type Filled = (
     &'static [u8],
+    u64,
     u64,
     usize,
     Option<FileFault>,
@@ -313,13 +272,22 @@ type Filled = (
 );
 
 static FILLED: [Filled; 6] = [
-    (b"", 4, 4, None, 1, b"\0\0\0\0"),
-    (b"", 4, 3, Some(FileFault::NoRoom), 2, b""),
-    (b"old", 8, 8, None, 2, b"\0\0\0\0\0\0\0\0"),
-    (b"footage", 3, 3, None, 1, b"\0\0\0"),
-    // What is new has no room, so the old bytes are kept; they have none themselves, so they are lost.
-    (b"old", 8, 4, Some(FileFault::NoRoom), 2, b"old"),
-    (b"old", 8, 6, Some(FileFault::NoRoom), 3, b""),
+    (b"", 4, 0, 4, None, 1, b"\0\0\0\0"),
+    (b"", 4, 0, 3, Some(FileFault::NoRoom), 2, b""),
+    (b"old", 8, 3, 5, None, 3, b"\0\0\0\0\0\0\0\0"),
+    (b"footage", 3, 7, 0, None, 2, b"\0\0\0"),
+    // What is new has no room, so the old bytes are given back.
+    (b"old", 8, 3, 4, Some(FileFault::NoRoom), 4, b"old"),
+    // The old bytes can't be written over: the first one is zero.
+    (
+        b"old",
+        8,
+        0,
+        6,
+        Some(FileFault::NoRoom),
+        3,
+        b"\0ld\0\0\0\0\0",
+    ),
 ];
 
 #[test]
@@ -327,28 +295,56 @@ fn a_fresh_file_has_its_room_or_is_refused(rt: HostRuntime) -> Result<(), Fail> 
     let path = "filling.img";
     let folder = File::open(&rt, ".")?;
     let (room, writes) = (Cell::new(0), Cell::new(0));
-    for (old, size, allowed, refusal, tried, left) in &FILLED {
+    for (old, size, below, allowed, refusal, tried, left) in &FILLED {
         fs::write(&rt, path, *old)?;
         room.set(*allowed);
         writes.set(0);
         let file = OpenOptions::new().read(true).write(true).open(&rt, path)?;
-        let (room, writes) = (&room, &writes);
-        let made = FileDisk::fresh_over(Filling { file, room, writes }, &folder, *size);
+        let filling = Filling {
+            file,
+            below: *below,
+            room: &room,
+            writes: &writes,
+        };
+        let made = FileDisk::fresh_over(filling, &folder, *size);
         same!(rt; made.err(), *refusal, (old, size, allowed));
         same!(rt; writes.get(), *tried, (old, size, allowed));
         same!(rt; fs::read(&rt, path)?.as_slice(), *left, (old, size, allowed));
     }
-    // A megabyte at a time.
-    room.set(3 << 20);
-    writes.set(0);
+    Ok(fs::remove_file(&rt, path)?)
+}
+
+#[test]
+fn a_fresh_file_is_written_a_megabyte_at_a_time(rt: HostRuntime) -> Result<(), Fail> {
+    let path = "large.img";
+    let folder = File::open(&rt, ".")?;
+    let (room, writes) = (Cell::new(3 << 20), Cell::new(0));
+    fs::write(&rt, path, b"")?;
     let file = OpenOptions::new().read(true).write(true).open(&rt, path)?;
-    let (room, writes) = (&room, &writes);
-    let disk = FileDisk::fresh_over(Filling { file, room, writes }, &folder, 2_500_000)?;
+    let filling = Filling {
+        file,
+        below: 0,
+        room: &room,
+        writes: &writes,
+    };
+    let disk = FileDisk::fresh_over(filling, &folder, 2_500_000)?;
     same!(rt; disk.size(), 2_500_000);
     same!(rt; writes.get(), 3);
-    fs::remove_file(&rt, path)?;
-    for kind in [ErrorKind::StorageFull, ErrorKind::QuotaExceeded] {
-        same!(rt; FileFault::from(io::Error::from(kind)), FileFault::NoRoom);
+    Ok(fs::remove_file(&rt, path)?)
+}
+
+// What the system says, and the fault that it is.
+static NAMED: [(ErrorKind, FileFault); 5] = [
+    (ErrorKind::StorageFull, FileFault::NoRoom),
+    (ErrorKind::QuotaExceeded, FileFault::NoRoom),
+    (ErrorKind::PermissionDenied, FileFault::Denied),
+    (ErrorKind::ReadOnlyFilesystem, FileFault::Denied),
+    (ErrorKind::OutOfMemory, FileFault::NoMemory),
+];
+
+#[test]
+fn what_the_system_says_is_told_by_name(rt: HostRuntime) {
+    for (kind, fault) in &NAMED {
+        same!(rt; FileFault::from(io::Error::from(*kind)), *fault);
     }
-    Ok(())
 }

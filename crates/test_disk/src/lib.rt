@@ -2,6 +2,8 @@
 //! What the other disks do stands as cases in `store_cases`.
 //!
 //! - `memory` has the memory disk and the stores over it, `files` the disk over a file;
+//! - `faults` has files whose calls fail, over the bytes in memory of `faulty`; `places` where a file is made and how
+//!   it is refused, over a system whose calls fail;
 //! - `crashing` and `ahead` refuse memory to the disk that remembers its calls and to the one that reads ahead;
 //! - `calls` has reads and writes that see to the size of a disk first, `told` assertions that are cheap to prove.
 #![tactic(auto)]
@@ -13,8 +15,14 @@ mod calls;
 #[cfg(test)]
 mod crashing;
 #[cfg(test)]
+mod faults;
+#[cfg(test)]
+mod faulty;
+#[cfg(test)]
 mod files;
 #[cfg(test)]
 mod memory;
+#[cfg(test)]
+mod places;
 #[cfg(test)]
 mod told;

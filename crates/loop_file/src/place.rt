@@ -1,0 +1,173 @@
+// Where a file stands, and how it is made anew there.
+ghost use Rattle.std.specs.Prelude.{◌≡◌, IfOk};
+ghost use Rattle.loop_disk.specs.Calls.{no_failures};
+
+use crate::fault::FileFault;
+use crate::file::FileDisk;
+use crate::fresh::{close, make_fresh};
+use loop_disk::Disk;
+use std::alloc::AllocGlobal;
+use std::fs::{File, OpenOptions, TryLockError};
+use std::io::ErrorKind;
+use std::os::unix::fs::MetadataExt;
+use std::path::{Path, PathBuf};
+use std::rt::Files;
+use std::{fs, io};
+
+/// The most links, one behind the other, that are followed from a path to a file.
+const MAX_LINKS: u32 = 40;
+
+/// Where the file of a path stands, or is to stand: what a link at the path's end names, and not the link. Its folder
+/// is held open.
+#[derive(Drop)]
+pub struct FilePlace {
+    path: PathBuf,
+    folder: File,
+    // Whether the file was made by `create`.
+    is_new: bool,
+}
+
+impl FilePlace {
+    /// Looks for the place of a path's file, and changes nothing. It takes memory for the names of what links name.
+    pub fn of<R: AllocGlobal + Files<File = File>>(rt: &R, path: &str) -> Result<Self, FileFault> {
+        let mut path = PathBuf::from_str(rt.alloc(), path)?;
+        for _ in 0..MAX_LINKS {
+            match target_of(rt, path.as_path())? {
+                Some(target) => path = target,
+                None => {
+                    let folder = File::open(rt, folder_of(path.as_path()))?;
+                    return Ok(FilePlace {
+                        path,
+                        folder,
+                        is_new: false,
+                    });
+                }
+            }
+        }
+        Err(FileFault::Failed)
+    }
+
+    /// Makes the file, or makes an old one anew, with so many bytes of zero. At Ok its name is on the disk, and each of
+    /// its bytes has its place there: later writes find room on a full file system too. That takes as long as to write
+    /// so many bytes, and as much room as the larger of both.
+    ///
+    /// A refused new file is gone. Of an old one that is in use, can't have that size or has no room to grow to it,
+    /// each byte and the length are kept; one that can't be written over is left with a zero as its first byte. What a
+    /// stop leaves is what was there, or begins with a zero.
+    pub fn create<R: Files<File = File>>(
+        &mut self,
+        rt: &R,
+        size: u64,
+    ) -> Result<FileDisk, FileFault>
+        ensures size { IfOk result (λ disk. (⟦<FileDisk<File> as Disk>⟧.medium disk).size ≡ size) }
+        ensures counted { IfOk result (λ disk. (⟦<FileDisk<File> as Disk>⟧.medium disk).failures ≡ no_failures) }
+    {
+        let (file, is_new) = open_or_make(rt, self.path.as_path())?;
+        self.is_new = is_new;
+        match self.make(rt, &file, size) {
+            Ok(()) => Ok(FileDisk::of_size(file, size)),
+            Err(fault) => {
+                // Whoever has the lock of a file that was made just now goes on with it.
+                if fault != FileFault::Busy {
+                    self.remove(rt, &file);
+                }
+                Err(fault)
+            }
+        }
+    }
+
+    /// Gives up what `create` made, for who has no use of the disk: a new file is removed, and an old one, whose bytes
+    /// are gone, is left with a zero as its first byte. What fails of that is left as it is.
+    pub fn give_up<R: Files<File = File>>(self, rt: &R, disk: FileDisk) {
+        let file = disk.into_file();
+        if self.is_new {
+            self.remove(rt, &file);
+        } else {
+            let _ = close(&file);
+        }
+    }
+
+    // Takes the lock of an open file, and gives it so many bytes of zero. Two programs may make one path at a time, and
+    // the one that is refused removes its file: so the path has to name this file once the lock is had.
+    fn make<R: Files<File = File>>(&self, rt: &R, file: &File, size: u64) -> Result<(), FileFault> {
+        take(file)?;
+        if !names(rt, self.path.as_path(), file)? {
+            return Err(FileFault::Busy);
+        }
+        make_fresh(file, &self.folder, size)
+    }
+
+    // Removes a file that is new, unless the path names another one by now. The refusal that led to it is told, and not
+    // what fails here.
+    fn remove<R: Files<File = File>>(&self, rt: &R, file: &File) {
+        let path = self.path.as_path();
+        if self.is_new && names(rt, path, file).unwrap_or(true) {
+            let _ = fs::remove_file(rt, path);
+            let _ = self.folder.sync_all();
+        }
+    }
+}
+
+/// Takes the lock of a regular file, and never waits for it.
+pub(crate) fn take(file: &File) -> Result<(), FileFault> {
+    let data = file.metadata()?;
+    if data.is_dir() {
+        return Err(FileFault::Folder);
+    }
+    if !data.is_file() {
+        return Err(FileFault::NotRegular);
+    }
+    match file.try_lock() {
+        Ok(()) => Ok(()),
+        Err(TryLockError::WouldBlock) => Err(FileFault::Busy),
+        Err(TryLockError::Error(error)) => Err(FileFault::from(error)),
+    }
+}
+
+// Opens a file that is there, or makes one; tells whether it was made.
+fn open_or_make<R: Files<File = File>>(rt: &R, path: Path<'_>) -> Result<(File, bool), FileFault> {
+    let mut options = OpenOptions::new();
+    options.read(true).write(true);
+    match options.open(rt, path) {
+        Ok(file) => Ok((file, false)),
+        Err(error) if error.kind() == ErrorKind::NotFound => {
+            options.create_new(true);
+            Ok((options.open(rt, path)?, true))
+        }
+        Err(error) => Err(FileFault::from(error)),
+    }
+}
+
+// What a link names, seen from where it stands; nothing where the path names no link, or nothing at all.
+fn target_of<R: AllocGlobal + Files<File = File>>(
+    rt: &R,
+    path: Path<'_>,
+) -> Result<Option<PathBuf>, FileFault> {
+    match fs::symlink_metadata(rt, path) {
+        Ok(data) if data.is_symlink() => {
+            let target = fs::read_link(rt, path)?;
+            Ok(Some(folder_of(path).join(rt.alloc(), target.as_path())?))
+        }
+        Ok(_) => Ok(None),
+        Err(error) if error.kind() == ErrorKind::NotFound => Ok(None),
+        Err(error) => Err(FileFault::from(error)),
+    }
+}
+
+// The folder in which a path's file stands.
+fn folder_of(path: Path<'_>) -> Path<'_> {
+    match path.parent() {
+        Some(folder) if !folder.as_os_str().is_empty() => folder,
+        _ => Path::new("."),
+    }
+}
+
+// Whether a path names this open file.
+fn names<R: Files<File = File>>(rt: &R, path: Path<'_>, file: &File) -> io::Result<bool> {
+    let here = file.metadata()?;
+    match fs::metadata(rt, path) {
+        Ok(there) => Ok(there.dev() == here.dev() && there.ino() == here.ino()),
+        Err(error) if error.kind() == ErrorKind::NotFound => Ok(false),
+        Err(error) => Err(error),
+    }
+}

@@ -1,0 +1,167 @@
+// A file of a few bytes in memory, whose calls can fail, and which sees what a stop would leave of it.
+use std::cell::Cell;
+use std::fs::{Metadata, OpenFile};
+use std::io;
+use std::io::ErrorKind;
+use std::os::unix::fs::FileExt;
+
+/// The most bytes of such a file.
+pub(crate) const MOST: usize = 16;
+
+/// The bytes of a file; behind its length stand zeros.
+#[derive(Clone, Copy, PartialEq, Eq, Debug)]
+pub(crate) struct Image {
+    pub(crate) bytes: [u8; MOST],
+    pub(crate) length: usize,
+}
+
+impl Image {
+    /// A file of these bytes.
+    pub(crate) fn of(text: &[u8]) -> Image {
+        let mut bytes = [0; MOST];
+        for (place, byte) in bytes.iter_mut().zip(text) {
+            *place = *byte;
+        }
+        Image {
+            bytes,
+            length: text.len(),
+        }
+    }
+
+    /// Whether it begins with a zero, or has nothing.
+    pub(crate) fn is_closed(&self) -> bool {
+        self.bytes[0] == 0
+    }
+
+    // The same, begun with a zero.
+    fn closed(&self) -> Image {
+        let mut closed = *self;
+        closed.bytes[0] = 0;
+        closed
+    }
+}
+
+/// What is in a file, what is on its disk, and which of its calls fails.
+#[derive(Drop)]
+pub(crate) struct Medium {
+    old: Image,
+    pub(crate) now: Cell<Image>,
+    pub(crate) synced: Cell<Image>,
+    pub(crate) calls: Cell<u32>,
+    /// The first call that fails, counted from 0, how many do from there on, and how.
+    pub(crate) fails: Cell<(u32, u32, ErrorKind)>,
+    /// The most bytes that a call moves.
+    pub(crate) at_once: Cell<usize>,
+    /// Whether at each moment a stop left the old bytes, or some that begin with a zero.
+    pub(crate) is_safe: Cell<bool>,
+}
+
+impl Medium {
+    /// A file of these bytes, no call of which fails.
+    pub(crate) fn of(text: &[u8]) -> Medium {
+        let old = Image::of(text);
+        Medium {
+            old,
+            now: Cell::new(old),
+            synced: Cell::new(old),
+            calls: Cell::new(0),
+            fails: Cell::new((0, 0, ErrorKind::Other)),
+            at_once: Cell::new(MOST),
+            is_safe: Cell::new(true),
+        }
+    }
+
+    // Counts a call, which fails if it is to.
+    fn call(&self) -> io::Result<()> {
+        let call = self.calls.get();
+        self.calls.set(call.saturating_add(1));
+        let (first, count, kind) = self.fails.get();
+        if call >= first && call - first < count {
+            return Err(io::Error::from(kind));
+        }
+        Ok(())
+    }
+
+    // Notes what the file has now, and whether a stop may leave it. A stop leaves any mixture of what is on the disk
+    // and what is in the file: so both begin with a zero, or they are the old ones but for a first byte.
+    fn note(&self, now: Image) {
+        self.now.set(now);
+        let synced = self.synced.get();
+        let are_closed = now.is_closed() && synced.is_closed();
+        let are_old = now.closed() == self.old.closed() && synced.closed() == self.old.closed();
+        self.is_safe
+            .set(self.is_safe.get() && (are_closed || are_old));
+    }
+
+    // All that was written is on the disk.
+    fn sync(&self) -> io::Result<()> {
+        self.call()?;
+        self.synced.set(self.now.get());
+        self.note(self.now.get());
+        Ok(())
+    }
+}
+
+/// An open file over such bytes.
+#[derive(Drop)]
+pub(crate) struct Faulty<'a> {
+    pub(crate) medium: &'a Medium,
+}
+
+impl OpenFile for Faulty<'_> {
+    fn metadata(&self) -> io::Result<Metadata> {
+        self.medium.call()?;
+        Ok(Metadata::of_file(self.medium.now.get().length as u64))
+    }
+
+    fn set_len(&self, size: u64) -> io::Result<()> {
+        self.medium.call()?;
+        let Ok(length) = usize::try_from(size) else {
+            return Err(io::Error::from(ErrorKind::InvalidInput));
+        };
+        let mut image = self.medium.now.get();
+        for place in image.bytes.iter_mut().skip(length) {
+            *place = 0;
+        }
+        image.length = length;
+        self.medium.note(image);
+        Ok(())
+    }
+
+    fn sync_all(&self) -> io::Result<()> {
+        self.medium.sync()
+    }
+
+    fn sync_data(&self) -> io::Result<()> {
+        self.medium.sync()
+    }
+}
+
+impl FileExt for Faulty<'_> {
+    fn read_at(&self, buf: &mut [u8], offset: u64) -> io::Result<usize> {
+        self.medium.call()?;
+        let image = self.medium.now.get();
+        let at = usize::try_from(offset).unwrap_or(MOST);
+        let count = buf
+            .len()
+            .min(self.medium.at_once.get())
+            .min(image.length.saturating_sub(at));
+        for (byte, place) in buf[..count].iter_mut().zip(image.bytes.iter().skip(at)) {
+            *byte = *place;
+        }
+        Ok(count)
+    }
+
+    fn write_at(&self, buf: &[u8], offset: u64) -> io::Result<usize> {
+        self.medium.call()?;
+        let mut image = self.medium.now.get();
+        let at = usize::try_from(offset).unwrap_or(MOST);
+        let count = buf.len().min(self.medium.at_once.get());
+        for (place, byte) in image.bytes.iter_mut().skip(at).zip(&buf[..count]) {
+            *place = *byte;
+        }
+        image.length = image.length.max(at.saturating_add(count));
+        self.medium.note(image);
+        Ok(count)
+    }
+}

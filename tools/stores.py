@@ -1,0 +1,207 @@
+"""What kill_check, power_check and format_check share: the programs, the preloaded library and its log, what a loss of power may leave of a
+file, and the plain recorder that says what may stand in it."""
+import os
+import random
+import struct
+import subprocess
+import sys
+
+import recovery
+
+TOOLS = os.path.dirname(os.path.abspath(__file__))
+CRATES = os.path.join(TOOLS, "..", "crates")
+ALL = str(2 ** 64 - 1)
+MODES = ("no_sync", "late_sync", "gate_first")
+SECTOR = 512
+
+
+class Violation(Exception):
+    """Something that no kill, loss of power or refusal may leave."""
+
+
+def built(name):
+    """A program's path. One that is named by the variable NAME_PROGRAM is taken as it is; else it is built, and proved where something changed."""
+    given = os.environ.get(f"{name.upper()}_PROGRAM")
+    if given:
+        return given
+    crate = os.path.join(CRATES, name)
+    if subprocess.run(["rt", "run", "--jobs", "1"], cwd=crate, stdin=subprocess.DEVNULL, capture_output=True).returncode != 0:
+        sys.exit(f"rt run made no {name}")
+    return os.path.join(crate, "out", name)
+
+
+def library(folder):
+    """The preloaded library, built into a folder."""
+    path = os.path.join(folder, "preload.so")
+    subprocess.run(["cc", "-shared", "-fPIC", "-O2", "-o", path, os.path.join(TOOLS, "preload.c")], check=True)
+    return path
+
+
+def under(preload, path, log=None, mode=None, fail=None):
+    """The environment of a program with the library before it."""
+    env = dict(os.environ, LD_PRELOAD=preload, LOOP_FILE=path)
+    env.update({name: value for name, value in (("LOOP_LOG", log), ("LOOP_MODE", mode), ("LOOP_FAIL", fail)) if value})
+    return env
+
+
+def log_of(path):
+    """The records of a log, as far as they are whole: (kind, place or length, bytes)."""
+    if not os.path.exists(path):
+        return []
+    with open(path, "rb") as file:
+        data = file.read()
+    records, at = [], 0
+    while at + 17 <= len(data):
+        kind = chr(data[at])
+        place, count = struct.unpack_from("<QQ", data, at + 1)
+        size = count if kind in "WA" else 0
+        if at + 17 + size > len(data):
+            break
+        records.append((kind, place, data[at + 17: at + 17 + size]))
+        at += 17 + size
+    return records
+
+
+def write_to(image, at, data):
+    """Writes bytes into an image, which grows where it has to."""
+    if len(image) < at + len(data):
+        image.extend(bytes(at + len(data) - len(image)))
+    image[at: at + len(data)] = data
+
+
+def set_length(image, length):
+    """Cuts an image, or lets it grow."""
+    del image[length:]
+    image.extend(bytes(length - len(image)))
+
+
+def change(image, record):
+    """Makes a change that stands in a log."""
+    kind, place, data = record
+    if kind == "W":
+        write_to(image, place, data)
+    elif kind == "T":
+        set_length(image, place)
+
+
+def torn(image, record, choose):
+    """Makes what a loss of power leaves of a change: of each sector of a write what was chosen for it, new, old or zero."""
+    kind, place, data = record
+    if kind == "T":
+        if choose() != "old":
+            set_length(image, place)
+        return
+    at = 0
+    while at < len(data):
+        part = data[at: at + SECTOR - (place + at) % SECTOR]
+        what = choose()
+        if what != "old":
+            write_to(image, place + at, part if what == "new" else bytes(len(part)))
+        at += len(part)
+
+
+def after_power_loss(base, records, choose):
+    """A file after the loss of power behind these records: what was synced, and of all else what was chosen."""
+    image, pending = bytearray(base), []
+    for record in records:
+        if record[0] == "S":
+            for it in pending:
+                change(image, it)
+            pending = []
+        elif record[0] in "WT":
+            pending.append(record)
+    for it in pending:
+        torn(image, it, choose)
+    return bytes(image)
+
+
+def at_random():
+    """What is left of a sector."""
+    return random.choice(("new", "old", "zero"))
+
+
+def footage(number, run):
+    """The byte of which `bench record` makes a frame."""
+    return (number % 251 + run % 251 * 7) % 251
+
+
+class Plain:
+    """The plain recorder: the frames by their numbers, each as its byte, the clips, and the next number."""
+
+    def __init__(self, geometry, frames=None, clips=None, following=0):
+        self.geometry, self.frames, self.clips, self.next = geometry, dict(frames or {}), list(clips or []), following
+
+    def copy(self):
+        return Plain(self.geometry, self.frames, self.clips, self.next)
+
+    def victim(self):
+        """The block that has to go before the next frame is stored, if one has to."""
+        slots = self.geometry.slots
+        blocks = sorted({number // slots for number in self.frames})
+        if self.next % slots or len(blocks) < self.geometry.segments:
+            return None
+        free = [block for block in blocks[:-1] if not any(first // slots <= block <= last // slots for _, first, last in self.clips)]
+        return free[0] if free else None
+
+    def store(self, byte):
+        """The states that the store of one more frame goes through."""
+        states, gone = [], self.victim()
+        if gone is not None:
+            self.frames = {number: it for number, it in self.frames.items() if number // self.geometry.slots != gone}
+            states.append(self.copy())
+        self.frames[self.next] = byte
+        self.next += 1
+        return states + [self.copy()]
+
+    def lock(self, first, last):
+        """The state behind a lock."""
+        taken = {index for index, _, _ in self.clips}
+        self.clips = sorted(self.clips + [(min(set(range(64)) - taken), first, last)])
+        return [self.copy()]
+
+    def unlock(self, index):
+        """The state behind an unlock."""
+        self.clips = [clip for clip in self.clips if clip[0] != index]
+        return [self.copy()]
+
+    def reads_as(self):
+        """What an image of this state reads as."""
+        frames = {number: bytes([byte]) * self.geometry.size for number, byte in self.frames.items()}
+        return recovery.Recording(self.geometry, self.next, frames, self.clips)
+
+
+def list_of(program, path):
+    """What `list` answers for a file."""
+    done = subprocess.run([program, "list", path], capture_output=True, text=True)
+    return done.returncode, done.stdout, done.stderr
+
+
+def reads_the_same(program, path, image):
+    """Writes an image into a file; `list` and `export` answer what the rules say, and a refused file keeps its bytes. Answers what it reads as."""
+    with open(path, "wb") as file:
+        file.write(image)
+    found = recovery.read(image)
+    wanted = recovery.answer(found)
+    answered = list_of(program, path)
+    if answered != wanted:
+        raise Violation(f"list answers {answered}, and by the rules {wanted}")
+    if isinstance(found, recovery.Refused):
+        with open(path, "rb") as file:
+            if file.read() != image:
+                raise Violation("a refused file was changed")
+    elif found.frames:
+        text = path + ".y4m"
+        done = subprocess.run([program, "export", path, "0", ALL, text], capture_output=True, text=True)
+        with open(text, "rb") as file:
+            exported = file.read()
+        if (done.returncode, done.stdout) != (0, f"exported {len(found.frames)}\n") or exported != recovery.text_of(found, 0, 2 ** 64 - 1):
+            raise Violation(f"export answers {done.returncode} {done.stdout!r} {done.stderr!r}, or another text than the frames that are held")
+    return found
+
+
+def is_one_of(found, readings):
+    """Sees that what an image reads as is one of these, pixels and all."""
+    if found not in readings:
+        shown = found.text if isinstance(found, recovery.Refused) else recovery.listed(found).replace("\n", ", ")
+        wanted = " or ".join(recovery.listed(reading).replace("\n", ", ") for reading in readings)
+        raise Violation(f"a file reads as {shown}; what may stand there is {wanted}(with the pixels of each number and run)")
