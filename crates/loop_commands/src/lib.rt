@@ -2,14 +2,17 @@
 //!
 //! `program` reads the program's words and chooses what to do, and ends with a status. `simulation` runs a script
 //! line by line on a recorder whose disk lies in memory. `files` does commands on stores in files; `even` makes the
-//! writes of an export even.
+//! writes of an export even. `record` records from a source into stores in files; `cameras` sets up a camera before
+//! each, with its queue and memory for the buffers.
 //!
 //! What a line and the words mean is loop_script's, and proved there; the lines that are printed are tested.
 #![tactic(auto)]
 
+mod cameras;
 mod even;
 mod files;
 mod program;
+mod record;
 mod simulation;
 
 pub use even::EvenWriter;

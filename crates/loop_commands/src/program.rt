@@ -1,6 +1,7 @@
 // The program's words.
 
 use crate::files::run_on_file;
+use crate::record::run_record;
 use crate::simulation::simulate;
 use clap::error::ErrorKind;
 use clap::{Arg, ArgAction, ArgMatches, Command};
@@ -12,6 +13,8 @@ use std::fs::File;
 use std::io;
 use std::io::{Read, Write};
 use std::rt::Files;
+use std::sync::Wait;
+use std::thread::Threads;
 
 /// The status of a run that was refused, or that couldn't be read or printed to its end.
 const FAILED: u8 = 1;
@@ -20,25 +23,59 @@ const FAILED: u8 = 1;
 const BAD_WORDS: u8 = 2;
 
 /// The commands of the program.
-const COMMANDS: [&str; 6] = ["simulate", "format", "list", "lock", "unlock", "export"];
+const COMMANDS: [&str; 7] = [
+    "simulate", "format", "record", "list", "lock", "unlock", "export",
+];
 
 /// Does what the words behind the program's name ask for, and answers the status with which the program ends:
 /// 0; 1 for a script that can't be read to its end, for a file that can't be had, for a refusal of a command on a
 /// file, for a failed write and for want of memory; 2 for words that can't be read. No words are the same as
 /// `simulate`.
-pub fn run_words<R: AllocGlobal + Files<File = File>, S: AsStr, I: Read + Drop, W: Write, E: Write>(
+pub fn run_words<
+    R: AllocGlobal + Files<File = File> + Threads + Wait + Sync,
+    S: AsStr,
+    I: Read + Drop,
+    W: Write,
+    E: Write,
+>(
     rt: &R,
     words: &[S],
     input: I,
     out: &mut W,
     err: &mut E,
 ) -> u8 {
-    let alloc = rt.alloc();
-    match read_words(alloc, words) {
-        Ok(Task::Simulate) => simulate(alloc, input, out, err),
-        Ok(Task::OnFile(path, command)) => run_on_file(rt, path, command, out, err),
-        Err(ErrorKind::OutOfMemory) => no_memory(err),
-        Err(_) => bad_words(err),
+    let Ok(program) = program(rt.alloc()) else {
+        return no_memory(err);
+    };
+    match program.try_get_matches_from(words) {
+        Err(error) => match error.kind() {
+            ErrorKind::OutOfMemory => no_memory(err),
+            _ => bad_words(err),
+        },
+        Ok(matches) => match task_of(&matches) {
+            None => bad_words(err),
+            Some(task) => perform(rt, task, input, out, err),
+        },
+    }
+}
+
+// Does a task, and answers the program's status.
+fn perform<
+    R: AllocGlobal + Files<File = File> + Threads + Wait + Sync,
+    I: Read + Drop,
+    W: Write,
+    E: Write,
+>(
+    rt: &R,
+    task: Task<'_>,
+    input: I,
+    out: &mut W,
+    err: &mut E,
+) -> u8 {
+    match task {
+        Task::Simulate => simulate(rt.alloc(), input, out, err),
+        Task::Record(frames, source, paths) => run_record(rt, frames, source, paths, out, err),
+        Task::OnFile(path, command) => run_on_file(rt, path, command, out, err),
     }
 }
 
@@ -51,25 +88,11 @@ pub fn words_refused<E: Write>(error: &io::Error, err: &mut E) -> u8 {
     }
 }
 
-// The task that the words name, or the kind of what is wrong with them.
-fn read_words<S: AsStr>(alloc: Global, words: &[S]) -> Result<Task<'_>, ErrorKind> {
-    let Ok(program) = program(alloc) else {
-        return Err(ErrorKind::OutOfMemory);
-    };
-    match program.try_get_matches_from(words) {
-        Err(error) => Err(error.kind()),
-        Ok(matches) => task_of(&matches),
-    }
-}
-
-// The task that the words were found to name.
-fn task_of<'a>(matches: &ArgMatches<'a>) -> Result<Task<'a>, ErrorKind> {
+// The task that the words were found to name, if they name one.
+fn task_of<'a>(matches: &'a ArgMatches<'_>) -> Option<Task<'a>> {
     match matches.subcommand() {
-        None => Ok(Task::Simulate),
-        Some((name, found)) => {
-            let words = found.get_strs("words").unwrap_or(&[]);
-            read_task(name, words).ok_or(ErrorKind::InvalidValue)
-        }
+        None => Some(Task::Simulate),
+        Some((name, found)) => read_task(name, found.get_strs("words").unwrap_or(&[])),
     }
 }
 

@@ -28,6 +28,7 @@ module _ {D A B : Type 0} (medium : D → Medium) (one : Outline A) (other : Out
       record {
         opening = faithful.opening;
         kept = record { opens = kept.opens; outlined = tells-same faithful.opening kept.outlined; calls = kept.calls; noted = kept.noted; goes = kept.goes };
+        survive = faithful.survive;
         legal = faithful.legal;
       }
 

@@ -6,7 +6,7 @@ use denote.Ref.{Bor}
 use Rattle.loop_script.specs.declared.task.FileCommand.{FileCommand}
 use Rattle.loop_script.specs.declared.task.FileCommand.TheVariants.{Export, Format, List as ListAll, Lock, Unlock}
 use Rattle.loop_script.specs.declared.task.Task.{Task}
-use Rattle.loop_script.specs.declared.task.Task.TheVariants.{Simulate, OnFile}
+use Rattle.loop_script.specs.declared.task.Task.TheVariants.{OnFile, Record, Simulate}
 use Rattle.loop_script.specs.Script.{format_named, geometry_of, number, rate_said, small_number}
 
 -- what a name and the words behind the path of a file ask for
@@ -25,7 +25,18 @@ on_file_said name (width ∷ height ∷ format ∷ rate ∷ segments ∷ slots �
     (rate_said rate.now) (small_number segments.now) (small_number slots.now)) else None
 on_file_said name _ = None
 
+-- what a name other than `record` and the words behind it ask for
+abbrev pub other_said : List ℕ → List (Bor (List ℕ)) → Option Task
+other_said name [] = if bytes_eq name (codes "simulate") then Some Simulate else None
+other_said name (path ∷ words) = option_map (OnFile path) (on_file_said name words)
+
+-- what the words behind `record` ask for: a count, a source, and one path or more
+abbrev pub recording_said : List (Bor (List ℕ)) → Option Task
+recording_said (count ∷ source ∷ path ∷ paths) =
+    option_map (λ frames. Record frames source (path ∷ paths)) (small_number count.now)
+recording_said _ = None
+
 -- what a name and the words behind it ask for, if they can be read
 abbrev pub task_said : List ℕ → List (Bor (List ℕ)) → Option Task
-task_said name [] = if bytes_eq name (codes "simulate") then Some Simulate else None
-task_said name (path ∷ words) = option_map (OnFile path) (on_file_said name words)
+task_said name words =
+    if bytes_eq name (codes "record") then recording_said words else other_said name words

@@ -31,5 +31,5 @@ pub use pattern::{
 pub use print::{print_line, print_parts};
 pub use refusal::{RefusalWords, print_refusal};
 pub use runs::run_length;
-pub use session::Session;
-pub use task::{FileCommand, Task, read_task};
+pub use session::{LIMITS, Session};
+pub use task::{FileCommand, Paths, Task, read_task};

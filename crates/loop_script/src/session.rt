@@ -20,8 +20,8 @@ use loop_store::{OpenRefused, ReadFrame, Store, StoreFault};
 use std::alloc::{Allocator, Global};
 use std::marker::Model;
 
-/// How much the desk of a script takes in.
-const LIMITS: DeskLimits = DeskLimits {
+/// How much the desk of a script takes in, and that of a camera that is recorded.
+pub const LIMITS: DeskLimits = DeskLimits {
     pending: 64,
     group: 8,
     calls: 1_000_000,

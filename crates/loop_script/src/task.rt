@@ -1,18 +1,45 @@
 // The words behind the program's name.
 ghost use Rattle.std.specs.Prelude.{◌≡◌, ◌∷◌, []};
-ghost use Rattle.loop_script.specs.Tasks.{on_file_said, task_said};
+ghost use Rattle.loop_script.specs.Tasks.{on_file_said, recording_said, task_said};
 
 use crate::command::geometry_in;
 use crate::number::{number, small_number};
 use loop_record::Geometry;
+use std::marker::Model;
 
 /// What the words ask for.
-#[derive(Clone, Copy, Debug, PartialEq, Eq)]
+#[derive(Drop)]
 pub enum Task<'a> {
     /// `simulate`: a script from the input.
     Simulate,
+    /// `record N SOURCE PATH..`: so many frame periods, from the source of this name, into the stores in these files.
+    Record(u32, &'a str, Paths<'a>),
     /// A command on the store in the file of this path.
     OnFile(&'a str, FileCommand<'a>),
+}
+
+/// Paths, one or more, in the order of the words. Contracts see the words.
+#[derive(Drop)]
+pub struct Paths<'a> {
+    words: &'a [&'a str],
+}
+
+impl<'a> Model for Paths<'a> {
+    ghost use Rattle.std.specs.Prelude.{ℕ, List};
+    ghost use denote.Ref.{Bor};
+
+    ghost Value = { List (Bor (List ℕ)) };
+
+    ghost view = { λ paths. paths.words.now };
+}
+
+impl<'a> Paths<'a> {
+    /// The paths, in their order.
+    pub fn words(&self) -> &'a [&'a str]
+        ensures { result.now ≡ self.now }
+    {
+        self.words
+    }
 }
 
 /// What is done on a store in a file.
@@ -31,13 +58,31 @@ pub enum FileCommand<'a> {
 }
 
 /// What a name and the words behind it ask for; `None` where they can't be read.
-pub fn read_task<'a>(name: &str, words: &[&'a str]) -> Option<Task<'a>>
+pub fn read_task<'a>(name: &str, words: &'a [&'a str]) -> Option<Task<'a>>
     ensures { result ≡ task_said name.now words.now }
 {
+    if name == "record" {
+        return read_recording(words);
+    }
     match words {
         [] if name == "simulate" => Some(Task::Simulate),
         [] => None,
         [path, words @ ..] => Some(Task::OnFile(path, read_file_command(name, words)?)),
+    }
+}
+
+// What the words behind `record` ask for: how many frame periods, a source, and one path or more.
+fn read_recording<'a>(words: &'a [&'a str]) -> Option<Task<'a>>
+    ensures { result ≡ recording_said words.now }
+{
+    match words {
+        [] => None,
+        [_] => None,
+        [_, _] => None,
+        [count, source, words @ ..] => {
+            let paths = Paths { words };
+            Some(Task::Record(small_number(count)?, source, paths))
+        }
     }
 }
 

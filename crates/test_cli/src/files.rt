@@ -8,7 +8,9 @@ use std::fs;
 use std::fs::File;
 use std::process::Abort;
 use std::rt::Files;
+use std::sync::Wait;
 use std::test::Fail;
+use std::thread::Threads;
 
 // Writes bytes into an image, at a place.
 fn put(image: &mut [u8], at: usize, bytes: &[u8]) {
@@ -18,7 +20,7 @@ fn put(image: &mut [u8], at: usize, bytes: &[u8]) {
 }
 
 // Frames of 4x2 YM12 at 25 a second, 3 segments of 2: the image after the frames 0 to 6, by the layout.
-fn ring() -> [u8; 4360] {
+pub(crate) fn ring() -> [u8; 4360] {
     let mut image = [0; 4360];
     let numbers = [1, 4, 2];
     put(&mut image, 0, b"\xA5LOOPREC");
@@ -46,11 +48,11 @@ fn ring() -> [u8; 4360] {
 }
 
 // What the words of a run print, what they tell, and the status.
-type Step = (&'static [&'static str], &'static str, &'static str, u8);
+pub(crate) type Step = (&'static [&'static str], &'static str, &'static str, u8);
 
 // Runs words, and fails the test unless what comes of it is as wanted.
 fn does(
-    rt: &(impl Abort + AllocGlobal + Files<File = File>),
+    rt: &(impl Abort + AllocGlobal + Files<File = File> + Threads + Wait + Sync),
     words: &[&str],
     printed: &str,
     told: &str,
@@ -61,15 +63,18 @@ fn does(
 }
 
 // Runs each step, one after the other.
-fn each_does(rt: &(impl Abort + AllocGlobal + Files<File = File>), steps: &[Step]) {
+pub(crate) fn each_does(
+    rt: &(impl Abort + AllocGlobal + Files<File = File> + Threads + Wait + Sync),
+    steps: &[Step],
+) {
     for (words, printed, told, status) in steps {
         does(rt, words, printed, told, *status);
     }
 }
 
 // Fails the test unless a file has these bytes.
-fn has(
-    rt: &(impl Abort + AllocGlobal + Files<File = File>),
+pub(crate) fn has(
+    rt: &(impl Abort + AllocGlobal + Files<File = File> + Threads + Wait + Sync),
     path: &str,
     bytes: &[u8],
 ) -> Result<(), Fail> {
@@ -149,7 +154,7 @@ const CLIPS: [u8; 64] = [
 
 // Does a step on the file of a path. A refusal changes nothing. Once the clip 0 is unlocked, the file has these bytes.
 fn does_and_keeps(
-    rt: &(impl Abort + AllocGlobal + Files<File = File>),
+    rt: &(impl Abort + AllocGlobal + Files<File = File> + Threads + Wait + Sync),
     path: &str,
     step: &Step,
     unlocked: &[u8],
@@ -278,7 +283,7 @@ static SPOILT: [(usize, u8, usize, &str); 5] = [
 
 // Writes a spoilt ring into the file of a path; each command on it is refused, and leaves it as it is.
 fn is_refused(
-    rt: &(impl Abort + AllocGlobal + Files<File = File>),
+    rt: &(impl Abort + AllocGlobal + Files<File = File> + Threads + Wait + Sync),
     path: &str,
     spoilt: &(usize, u8, usize, &str),
 ) -> Result<(), Fail> {
@@ -404,7 +409,7 @@ static EXPORTS: [(Step, usize); 8] = [
 
 // Exports as a step says; then the text has so many bytes.
 fn exports(
-    rt: &(impl Abort + AllocGlobal + Files<File = File>),
+    rt: &(impl Abort + AllocGlobal + Files<File = File> + Threads + Wait + Sync),
     step: &Step,
     size: usize,
 ) -> Result<(), Fail> {

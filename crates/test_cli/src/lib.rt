@@ -6,7 +6,8 @@
 //! - `waits`: what is printed before the next line is awaited, and inputs and outputs that fail;
 //! - `memory`: scripts and sessions where memory is refused;
 //! - `parts`: lines, numbers, refusals and frames of the pattern, each alone;
-//! - `words`: words that can't be read; `files`: commands on stores in files; `even`: the writes of an export.
+//! - `words`: words that can't be read; `files`: commands on stores in files; `recordings`: recordings into them;
+//!   `even`: the writes of an export.
 #![tactic(auto)]
 
 #[cfg(test)]
@@ -21,6 +22,8 @@ mod memory;
 mod parts;
 #[cfg(test)]
 mod ran;
+#[cfg(test)]
+mod recordings;
 #[cfg(test)]
 mod scripts;
 #[cfg(test)]

@@ -9,6 +9,8 @@ use std::fs::File;
 use std::process::Abort;
 use std::rt::Files;
 use std::str;
+use std::sync::Wait;
+use std::thread::Threads;
 
 /// What a run printed, what it told on the other output, and its status.
 #[derive(Drop)]
@@ -28,7 +30,7 @@ pub(crate) fn run_script<A: Allocator + Copy>(alloc: A, home: Global, script: &[
 
 /// Runs the words behind the program's name, with a script on its input.
 pub(crate) fn run(
-    rt: &(impl AllocGlobal + Files<File = File>),
+    rt: &(impl AllocGlobal + Files<File = File> + Threads + Wait + Sync),
     words: &[&str],
     script: &[u8],
 ) -> Ran {
@@ -39,7 +41,10 @@ pub(crate) fn run(
 }
 
 /// The status of a run of words where nothing can be printed or told.
-pub(crate) fn run_unprinted(rt: &(impl AllocGlobal + Files<File = File>), words: &[&str]) -> u8 {
+pub(crate) fn run_unprinted(
+    rt: &(impl AllocGlobal + Files<File = File> + Threads + Wait + Sync),
+    words: &[&str],
+) -> u8 {
     run_words(rt, words, b"".as_slice(), &mut Broken, &mut Broken)
 }
 

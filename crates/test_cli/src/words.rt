@@ -8,9 +8,11 @@ use std::fs::File;
 use std::io::{Error, ErrorKind};
 use std::process::Abort;
 use std::rt::Files;
+use std::sync::Wait;
+use std::thread::Threads;
 
 // Words, what they tell beside the script's output, and the status.
-static WORDS: [(&[&str], &str, u8); 22] = [
+static WORDS: [(&[&str], &str, u8); 28] = [
     (&[], "", 0),
     (&["simulate"], "", 0),
     (&["help"], "bad command\n", 2),
@@ -29,6 +31,16 @@ static WORDS: [(&[&str], &str, u8); 22] = [
     (&["lock", "words.img", "1 2"], "bad command\n", 2),
     (&["lock", "words.img", "-1", "2"], "bad command\n", 2),
     (&["lock", "words.img", "1", "2", "3"], "bad command\n", 2),
+    (&["record"], "bad command\n", 2),
+    (&["record", "1"], "bad command\n", 2),
+    (&["record", "1", "-"], "bad command\n", 2),
+    (&["record", "x", "-", "words.img"], "bad command\n", 2),
+    (&["record", "-1", "-", "words.img"], "bad command\n", 2),
+    (
+        &["record", "4294967296", "-", "words.img"],
+        "bad command\n",
+        2,
+    ),
     (&["unlock", "words.img", "4294967296"], "bad command\n", 2),
     (
         &["unlock", "words.img", "000000000000000000001"],
@@ -49,7 +61,7 @@ static WORDS: [(&[&str], &str, u8); 22] = [
 
 // Runs the words of each row, with a script that prints a line, and then where nothing can be printed.
 fn each_comes_to(
-    rt: &(impl Abort + AllocGlobal + Files<File = File>),
+    rt: &(impl Abort + AllocGlobal + Files<File = File> + Threads + Wait + Sync),
     rows: &[(&[&str], &str, u8)],
 ) {
     for (words, told, status) in rows {

@@ -1,0 +1,267 @@
+// Recordings into stores in files.
+ghost use Rattle.std.specs.Prelude.{◌≡◌, ⊤, All, IfOk, false, length, vec_len};
+
+use crate::cameras::{Unrecorded, record_stores};
+use loop_capture::{Device, FrameSource, Next, Pattern, Y4mSource};
+use loop_disk::Disk;
+use loop_file::FileDisk;
+use loop_plane::{MmapPlane, PlaneMemory};
+use loop_recorder::Ended;
+use loop_script::{Paths, print_line, print_parts, print_refusal};
+use loop_store::{OpenRefused, Store, StoreFault};
+use loop_y4m::Y4mReader;
+use std::alloc::{AllocError, AllocGlobal, Global};
+use std::fs::File;
+use std::io;
+use std::io::{BufReader, BufWriter, Error, Write};
+use std::rt::Files;
+use std::sync::Wait;
+use std::thread::Threads;
+
+/// The source that is a pattern, and no file.
+const PATTERN: &str = "-";
+
+/// How many bytes of a source are fetched at once: as many as a pipe holds.
+const SOURCE_AT_ONCE: usize = 65_536;
+
+/// Why nothing was recorded, or what was recorded not printed.
+#[derive(Drop)]
+enum Undone<'a> {
+    /// The file or pipe of this path can't be opened, or what it begins with isn't the header of a source.
+    CannotOpen(&'a str),
+    /// The buffers of a camera of the store in this file need more pages than there are.
+    CannotRecord(&'a str),
+    /// A store can't be opened, or memory was refused.
+    Refused(StoreFault),
+    /// So many passes of so many came back.
+    PassesMissing(u32, u32),
+    /// The history of this camera isn't that of what its callers were answered.
+    TieBroken(u32),
+    /// What was recorded couldn't be printed.
+    Write(Error),
+}
+
+impl From<AllocError> for Undone<'_> {
+    fn from(_: AllocError) -> Self {
+        Undone::Refused(StoreFault::NoMemory)
+    }
+}
+
+impl From<Error> for Undone<'_> {
+    fn from(error: Error) -> Self {
+        Undone::Write(error)
+    }
+}
+
+/// Where a camera's frames come from.
+#[derive(Drop)]
+enum Source {
+    /// The pattern.
+    Pattern(Pattern),
+    /// A file or pipe.
+    Footage(Y4mSource<BufReader<File>>),
+}
+
+impl FrameSource for Source {
+    ghost next_gives = { λ source answer bytes after. ⊤ };
+
+    fn next(&mut self, out: &mut [u8]) -> Next {
+        match self {
+            Source::Pattern(pattern) => pattern.next(out),
+            Source::Footage(footage) => footage.next(out),
+        }
+    }
+}
+
+/// Records so many frame periods from a source into the stores in the files of these paths, prints each camera's next
+/// number, and answers the program's status: 0; 1 where a file can't be had, a store can't be opened or a camera can't
+/// be set up, which `err` then names, and where `out` or `err` fails. What a store refuses meanwhile leaves it at 0.
+pub(crate) fn run_record<
+    R: AllocGlobal + Files<File = File> + Threads + Wait + Sync,
+    W: Write,
+    E: Write,
+>(
+    rt: &R,
+    frames: u32,
+    source: &str,
+    paths: Paths<'_>,
+    out: &mut W,
+    err: &mut E,
+) -> u8 {
+    match perform(rt, frames, source, paths.words(), out) {
+        Ok(()) => 0,
+        Err(undone) => tell(undone, err),
+    }
+}
+
+// Says why nothing was recorded, and answers the program's status.
+fn tell<E: Write>(undone: Undone<'_>, err: &mut E) -> u8 {
+    // The status is the same where this can't be said.
+    let _ = match undone {
+        Undone::CannotOpen(path) => print_path(err, "cannot open ", path),
+        Undone::CannotRecord(path) => print_path(err, "cannot record ", path),
+        Undone::Refused(fault) => print_refusal(err, fault),
+        Undone::PassesMissing(given, made) => print_line(
+            err,
+            "refused 17 PassesMissing",
+            &[(" ", u64::from(given)), (" ", u64::from(made))],
+        ),
+        Undone::TieBroken(camera) => {
+            print_line(err, "refused 23 TieBroken", &[(" ", u64::from(camera))])
+        }
+        Undone::Write(_) => Ok(()),
+    };
+    1
+}
+
+// Prints what can't be done with a path.
+fn print_path<E: Write>(err: &mut E, what: &str, path: &str) -> io::Result<()> {
+    print_parts(err, what, &[])?;
+    print_line(err, path, &[])
+}
+
+// Opens each file in the order of the words, records, and prints what came of it. Memory to print comes first.
+fn perform<'a, R: AllocGlobal + Files<File = File> + Threads + Wait + Sync, W: Write>(
+    rt: &R,
+    frames: u32,
+    source: &'a str,
+    paths: &[&'a str],
+    out: &mut W,
+) -> Result<(), Undone<'a>> {
+    let Ok(mut out) = BufWriter::new(rt.alloc(), &mut *out) else {
+        return Err(Undone::Refused(StoreFault::NoMemory));
+    };
+    let sources = open_sources(rt, source, paths.len())?;
+    let disks = open_disks(rt, paths)?;
+    let stores = find_stores(rt.alloc(), disks)?;
+    let ended = match record_from(rt, sources, stores, frames) {
+        Ok(ended) => ended,
+        Err(unrecorded) => return Err(blame(unrecorded, paths)),
+    };
+    print_next(&ended, &mut out)?;
+    out.flush()?;
+    Ok(())
+}
+
+// Why nothing was recorded, with the path of the camera that is to blame.
+fn blame<'a>(unrecorded: Unrecorded, paths: &[&'a str]) -> Undone<'a> {
+    match unrecorded {
+        Unrecorded::TooLarge(camera) => match paths.get(camera as usize) {
+            Some(path) => Undone::CannotRecord(path),
+            None => Undone::Refused(StoreFault::NoMemory),
+        },
+        Unrecorded::NoMemory => Undone::Refused(StoreFault::NoMemory),
+        Unrecorded::PassesMissing(given, made) => Undone::PassesMissing(given, made),
+        Unrecorded::TieBroken(camera) => Undone::TieBroken(camera),
+    }
+}
+
+// Opens a source for each of so many cameras.
+fn open_sources<'a, R: AllocGlobal + Files<File = File>>(
+    rt: &R,
+    source: &'a str,
+    count: usize,
+) -> Result<Vec<Source>, Undone<'a>>
+    ensures { IfOk result (λ sources. vec_len sources ≡ count) }
+{
+    let mut sources = Vec::with_capacity(rt.alloc(), count)?;
+    for _ in 0..count {
+        sources.push_reserved(open_source(rt, source)?);
+    }
+    Ok(sources)
+}
+
+// Opens a source and reads its header.
+fn open_source<'a, R: AllocGlobal + Files<File = File>>(
+    rt: &R,
+    source: &'a str,
+) -> Result<Source, Undone<'a>> {
+    if source == PATTERN {
+        return Ok(Source::Pattern(Pattern::new()));
+    }
+    let Ok(file) = File::open(rt, source) else {
+        return Err(Undone::CannotOpen(source));
+    };
+    let Ok(input) = BufReader::with_capacity(rt.alloc(), SOURCE_AT_ONCE, file) else {
+        return Err(Undone::Refused(StoreFault::NoMemory));
+    };
+    match Y4mReader::open(input) {
+        Ok(reader) => Ok(Source::Footage(Y4mSource::new(reader))),
+        Err(_) => Err(Undone::CannotOpen(source)),
+    }
+}
+
+// Opens the files, in their order.
+fn open_disks<'a, R: AllocGlobal + Files<File = File>>(
+    rt: &R,
+    paths: &[&'a str],
+) -> Result<Vec<FileDisk>, Undone<'a>>
+    ensures { IfOk result (λ disks. vec_len disks ≡ length paths.now) }
+{
+    let mut disks = Vec::with_capacity(rt.alloc(), paths.len())?;
+    for path in paths {
+        match FileDisk::open(rt, path) {
+            Err(_) => return Err(Undone::CannotOpen(path)),
+            Ok(disk) => disks.push_reserved(disk),
+        }
+    }
+    Ok(disks)
+}
+
+// The store on each disk.
+fn find_stores<'a, D: Disk + Drop>(
+    alloc: Global,
+    disks: Vec<D>,
+) -> Result<Vec<Store<D>>, Undone<'a>>
+    ensures count { IfOk result (λ stores. vec_len stores ≡ vec_len disks) }
+    ensures writable { IfOk result (λ stores. All (λ store. store.must_reopen ≡ false) stores.items) }
+{
+    let mut stores = Vec::with_capacity(alloc, disks.len())?;
+    for disk in disks {
+        match Store::open(alloc, disk) {
+            Err(OpenRefused { fault, disk: _ }) => return Err(Undone::Refused(fault)),
+            Ok(store) => stores.push_reserved(store),
+        }
+    }
+    Ok(stores)
+}
+
+// Records from each source into the store at its place.
+fn record_from<R: AllocGlobal + Threads + Wait + Sync, D: Disk + Drop + Send + Sync>(
+    rt: &R,
+    sources: Vec<Source>,
+    stores: Vec<Store<D>>,
+    frames: u32,
+) -> Result<Ended<D, MmapPlane>, Unrecorded>
+    requires sources { vec_len sources ≡ vec_len stores }
+    requires writable { All (λ store. store.must_reopen ≡ false) stores.items }
+{
+    let alloc = rt.alloc();
+    let mut devices: Vec<Device> = Vec::with_capacity(alloc, sources.len())?;
+    for source in sources {
+        let size = stores[devices.len()].geometry().frame_bytes();
+        let Ok(source) = Box::new(alloc, source) else {
+            return Err(Unrecorded::NoMemory);
+        };
+        let source: Box<dyn FrameSource + Send> = source;
+        match Device::new(alloc, source, size) {
+            Ok(device) => devices.push_reserved(device),
+            Err(_) => return Err(Unrecorded::NoMemory),
+        }
+    }
+    record_stores(rt, alloc, stores, &mut devices, frames)
+}
+
+// Prints the number of each camera's next frame.
+fn print_next<D: Disk + Drop, P: PlaneMemory, W: Write>(
+    ended: &Ended<D, P>,
+    out: &mut W,
+) -> io::Result<()> {
+    let mut camera = 0u64;
+    for recorded in &ended.cameras {
+        let next = recorded.desk.status().next;
+        print_line(out, "camera", &[(" ", camera), (" next ", next)])?;
+        camera = camera.saturating_add(1);
+    }
+    Ok(())
+}
