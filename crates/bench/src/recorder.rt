@@ -1,5 +1,5 @@
 // A recorder's cameras, each fed by a thread of its own, beside one camera that is fed alone.
-ghost use Rattle.std.specs.Prelude.{◌≡◌, ◌≤◌, ◌<◌, ◌^◌, All, IfOk, length, vec_len};
+ghost use Rattle.std.specs.Prelude.{◌≡◌, ◌≤◌, ◌<◌, All, IfOk, false, length, vec_len};
 ghost use Rattle.loop_recorder.specs.Opened.{IsReady};
 
 use crate::store::geometry;
@@ -10,7 +10,7 @@ use loop_desk::{Desk, DeskLimits};
 use loop_disk::{Disk, MemDisk};
 use loop_file::FileDisk;
 use loop_plane::{FdTable, MmapPlane, PlaneMemory};
-use loop_record::{Frame, Geometry};
+use loop_record::{Frame, Geometry, PixelFormat};
 use loop_recorder::{Camera, NewRefused, Pace, Pass, Recorder, Step};
 use loop_store::{OpenRefused, Store, format};
 use loop_vb2::Queue;
@@ -22,9 +22,6 @@ use std::sync::Wait;
 use std::thread;
 use std::thread::Threads;
 use std::time::Instant;
-
-/// A camera of a recorder. Its queue has no buffers.
-type Fed<D> = Camera<D, MmapPlane>;
 
 // What each camera stores: so many groups of so many frames of so many bytes.
 #[derive(Clone, Copy)]
@@ -127,49 +124,56 @@ fn feed_all<R: Threads + Wait + Sync, D: Disk + Drop + Send + Sync, P: PlaneMemo
     )
 }
 
-// A camera to a store, which can be written.
-fn camera_of<D: Disk + Drop>(alloc: Global, store: Store<D>, group: u32) -> Result<Fed<D>>
-    ensures { IfOk result (IsReady MmapPlane.plane) }
+// A desk of a store that can be written, for groups of so many frames.
+fn desk_of<D: Disk + Drop>(alloc: Global, store: Store<D>, group: u32) -> Result<Desk<D>>
+    ensures { IfOk result (λ desk. desk.store.must_reopen ≡ false) }
 {
     if store.must_reopen() || group == 0 || group > 8 {
         return Err(anyhow!("1 to 8 frames a group"));
     }
-    let geometry = store.geometry();
     let limits = DeskLimits {
         pending: group,
         group,
         calls: 1_000_000,
     };
-    let Ok(desk) = Desk::new(alloc, store, limits) else {
-        return Err(anyhow!("no memory for a desk"));
-    };
-    new_fronts_stand::<MmapPlane, Global>();
-    let queue = Queue::new(alloc, geometry.format, geometry.width, geometry.height, 1);
-    Ok((desk, queue, FdTable::new(alloc)))
+    match Desk::new(alloc, store, limits) {
+        Ok(desk) => Ok(desk),
+        Err(_) => Err(anyhow!("no memory for a desk")),
+    }
+}
+
+// A camera with this desk, and a queue of small frames without buffers.
+fn camera_of<D: Disk + Drop, P: PlaneMemory>(alloc: Global, desk: Desk<D>) -> Camera<D, P>
+    requires { desk.store.must_reopen ≡ false }
+    ensures { IsReady P.plane result }
+{
+    new_fronts_stand::<P, Global>();
+    let queue = Queue::new(alloc, PixelFormat::Grey, 1, 1, 1);
+    (desk, queue, FdTable::new(alloc))
 }
 
 // Cameras to these stores.
-fn cameras_of<D: Disk + Drop>(
+fn cameras_of<D: Disk + Drop, P: PlaneMemory>(
     alloc: Global,
     stores: Vec<Store<D>>,
     group: u32,
-) -> Result<Vec<Fed<D>>>
-    ensures { IfOk result (λ cameras. All (IsReady MmapPlane.plane) cameras.items) }
+) -> Result<Vec<Camera<D, P>>>
+    ensures { IfOk result (λ cameras. All (IsReady P.plane) cameras.items) }
 {
     let mut cameras = Vec::new(alloc);
     for store in stores {
-        cameras.push(camera_of(alloc, store, group)?)?;
+        cameras.push(camera_of(alloc, desk_of(alloc, store, group)?))?;
     }
     Ok(cameras)
 }
 
 // A recorder of these cameras, with a pass for each.
-fn recorder_of<D: Disk + Drop>(
+fn recorder_of<D: Disk + Drop, P: PlaneMemory>(
     alloc: Global,
-    cameras: Vec<Fed<D>>,
+    cameras: Vec<Camera<D, P>>,
     count: u32,
-) -> Result<(Recorder<D, MmapPlane>, Vec<Pass>)>
-    requires ready { All (IsReady MmapPlane.plane) cameras.items }
+) -> Result<(Recorder<D, P>, Vec<Pass>)>
+    requires ready { All (IsReady P.plane) cameras.items }
     requires count { vec_len cameras ≡ count }
     ensures { IfOk result (λ made. length made.0.outlines ≡ count) }
 {
@@ -186,7 +190,7 @@ fn rate<R: Threads + Wait + Sync + Clock, D: Disk + Drop + Send + Sync>(
     stores: Vec<Store<D>>,
     work: Work,
 ) -> Result<u64> {
-    let cameras = cameras_of(alloc, stores, work.group)?;
+    let cameras: Vec<Camera<D, MmapPlane>> = cameras_of(alloc, stores, work.group)?;
     let count = u32::try_from(cameras.len())?;
     let (recorder, passes) = recorder_of(alloc, cameras, count)?;
     let start = Instant::now(rt)?;

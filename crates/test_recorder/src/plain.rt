@@ -126,9 +126,12 @@ impl Plain {
             Ok(clips) if clips.as_slice() == self.clips.as_slice() => (),
             _ => return false,
         }
-        self.frames
-            .iter()
-            .all(|head| has_frame(alloc, store, *head))
+        for head in &self.frames {
+            if !has_frame(alloc, store, *head) {
+                return false;
+            }
+        }
+        true
     }
 }
 
