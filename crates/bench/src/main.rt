@@ -74,17 +74,19 @@ fn main(rt: HostRuntime) -> Result<()> {
     let _program = words.next();
     match words.next() {
         None => Ok(()),
-        Some(word) => measure(&rt, word.as_str(), &mut words),
+        Some(word) => match word.as_str() {
+            "recorder" => recorder::measure(&rt, rt.alloc(), &mut words),
+            "recorder-files" => recorder::measure_files(&rt, rt.alloc(), &mut words),
+            alone => measure(&rt, alone, &mut words),
+        },
     }
 }
 
-// Measures what a word names, as the words behind it say.
+// Measures what a word names that needs no threads, as the words behind it say.
 fn measure(rt: &HostRuntime, word: &str, words: &mut Args) -> Result<()> {
     match word {
         "planes" => planes::measure(rt, rt.alloc(), words),
         "queue" => queue::measure(rt, rt.alloc(), words),
-        "recorder" => recorder::measure(rt, rt.alloc(), words),
-        "recorder-files" => recorder::measure_files(rt, rt.alloc(), words),
         "append" => told(rt, "appended", store::append(rt.alloc(), words)),
         "open" => told(rt, "opened, next", store::open(rt, rt.alloc(), words)),
         "append-file" => told(

@@ -22,7 +22,7 @@ use std::thread::Threads;
 const TURNS: u32 = 1250;
 
 /// One of so many moments of a crash is looked at.
-const STRIDE: usize = 11;
+const STRIDE: usize = 23;
 
 /// What no answer is looked at in.
 const UNHEARD: StoreFault = StoreFault::NoMemory;
