@@ -1,5 +1,5 @@
 // Cameras: each with a queue of its own, and memory for the queue's buffers from a ledger of its own.
-ghost use Rattle.std.specs.Prelude.{◌≡◌, ◌<◌, ◌≤◌, ◌^◌, ◌+◌, All, IfOk, IfSome, false, length, vec_len};
+ghost use Rattle.std.specs.Prelude.{◌≡◌, ◌<◌, ◌≤◌, ◌^◌, ◌+◌, All, IfOk, IfSome, length, vec_len};
 ghost use Rattle.std.specs.Arc.{arc_value};
 ghost use Rattle.loop_pages.specs.Place.{IsIdle};
 ghost use Rattle.loop_recorder.specs.Opened.{IsReady};
@@ -13,7 +13,7 @@ use loop_pages::{MOST_PAGES, PageFault, PageLedger, PageSeat};
 use loop_plane::{FdTable, Memory, MmapPlane, PAGE_BYTES, PlaneMemory};
 use loop_recorder::{Camera, EndRefused, Ended, Pace, Recorder, Step, record};
 use loop_script::LIMITS;
-use loop_store::Store;
+use loop_store::{Store, StoreFault};
 use loop_vb2::{PlaneSet, Planes, Queue, Shape};
 use std::alloc::{AllocError, Global};
 use std::sync::{Arc, Wait};
@@ -36,17 +36,20 @@ type Supply = Vec<PlaneSet<MmapPlane>>;
 pub enum Unrecorded {
     /// The buffers of the camera of this number need more pages than a ledger has.
     TooLarge(u32),
-    /// Memory was refused, or a thread.
-    NoMemory,
+    /// A store that must be reopened; or memory was refused, or a thread.
+    Refused(StoreFault),
     /// So many passes of so many came back.
     PassesMissing(u32, u32),
     /// The history of the camera of this number isn't that of the receipts.
     TieBroken(u32),
 }
 
+/// Want of memory, or of threads.
+const NO_MEMORY: Unrecorded = Unrecorded::Refused(StoreFault::NoMemory);
+
 impl From<AllocError> for Unrecorded {
     fn from(_: AllocError) -> Self {
-        Unrecorded::NoMemory
+        NO_MEMORY
     }
 }
 
@@ -55,7 +58,7 @@ impl<D: Disk + Drop, P: PlaneMemory> From<EndRefused<D, P>> for Unrecorded {
         match refused {
             EndRefused::PassesMissing(given, made, _, _) => Unrecorded::PassesMissing(given, made),
             EndRefused::TieBroken(camera, _) => Unrecorded::TieBroken(camera),
-            EndRefused::NoMemory(_, _) => Unrecorded::NoMemory,
+            EndRefused::NoMemory(_, _) => NO_MEMORY,
         }
     }
 }
@@ -108,11 +111,7 @@ fn buffer(
 }
 
 // The set of one plane, or of three.
-fn set_of(
-    y: MmapPlane,
-    cb: Option<MmapPlane>,
-    cr: Option<MmapPlane>,
-) -> PlaneSet<MmapPlane> {
+fn set_of(y: MmapPlane, cb: Option<MmapPlane>, cr: Option<MmapPlane>) -> PlaneSet<MmapPlane> {
     PlaneSet {
         count: if cb.is_some() { 3 } else { 1 },
         planes: Planes { y: Some(y), cb, cr },
@@ -139,12 +138,14 @@ fn camera_before<D: Disk + Drop>(
     alloc: Global,
     store: Store<D>,
 ) -> Result<Camera<D, MmapPlane>, Unrecorded>
-    requires { store.must_reopen ≡ false }
     ensures { IfOk result (IsReady ⟦<MmapPlane as PlaneMemory>⟧.plane) }
 {
+    if store.must_reopen() {
+        return Err(Unrecorded::Refused(StoreFault::MustReopen));
+    }
     let geometry = store.geometry();
     let Ok(desk) = Desk::new(alloc, store, LIMITS) else {
-        return Err(Unrecorded::NoMemory);
+        return Err(NO_MEMORY);
     };
     let queue = Queue::new(
         alloc,
@@ -177,7 +178,7 @@ fn start_of<D: Disk + Drop>(
             supply,
         }),
         Err(PageFault::BadCount | PageFault::NoPages) => Err(Unrecorded::TooLarge(number)),
-        Err(PageFault::NoMemory) => Err(Unrecorded::NoMemory),
+        Err(PageFault::NoMemory) => Err(NO_MEMORY),
     }
 }
 
@@ -187,7 +188,6 @@ fn cameras_before<D: Disk + Drop>(
     stores: Vec<Store<D>>,
 ) -> Result<(Vec<Camera<D, MmapPlane>>, Vec<Start>), Unrecorded>
     requires few { vec_len stores < 2 ^ 31 }
-    requires writable { All (λ store. store.must_reopen ≡ false) stores.items }
     ensures ready { IfOk result (λ made. All (IsReady ⟦<MmapPlane as PlaneMemory>⟧.plane) made.0.items) }
     ensures cameras { IfOk result (λ made. vec_len made.0 ≡ vec_len stores) }
     ensures starts { IfOk result (λ made. vec_len made.1 ≡ vec_len stores) }
@@ -214,7 +214,7 @@ fn ask<R: Wait, D: Disk + Drop>(
 {
     match recorder.ioctl(rt, camera, call) {
         Ok(_) => Ok(()),
-        Err(_) => Err(Unrecorded::NoMemory),
+        Err(_) => Err(NO_MEMORY),
     }
 }
 
@@ -287,15 +287,14 @@ pub(crate) fn record_stores<R: Threads + Wait + Sync, D: Disk + Drop + Send + Sy
     frames: u32,
 ) -> Result<Ended<D, MmapPlane>, Unrecorded>
     requires devices { length devices.old ≡ vec_len stores }
-    requires writable { All (λ store. store.must_reopen ≡ false) stores.items }
 {
     let Some(passes) = passes_for(stores.len()) else {
-        return Err(Unrecorded::NoMemory);
+        return Err(NO_MEMORY);
     };
     let (cameras, starts) = cameras_before(alloc, stores)?;
     let (recorder, passes) = match Recorder::new(alloc, cameras, passes) {
         Ok(made) => made,
-        Err(_) => return Err(Unrecorded::NoMemory),
+        Err(_) => return Err(NO_MEMORY),
     };
     start_all(rt, &recorder, starts)?;
     match record(rt, alloc, recorder, passes, devices, frames, &Unwatched) {

@@ -37,13 +37,7 @@ pub fn run_words<
     I: Read + Drop,
     W: Write,
     E: Write,
->(
-    rt: &R,
-    words: &[S],
-    input: I,
-    out: &mut W,
-    err: &mut E,
-) -> u8 {
+>(rt: &R, words: &[S], input: I, out: &mut W, err: &mut E) -> u8 {
     let Ok(program) = program(rt.alloc()) else {
         return no_memory(err);
     };
@@ -65,13 +59,7 @@ fn perform<
     I: Read + Drop,
     W: Write,
     E: Write,
->(
-    rt: &R,
-    task: Task<'_>,
-    input: I,
-    out: &mut W,
-    err: &mut E,
-) -> u8 {
+>(rt: &R, task: Task<'_>, input: I, out: &mut W, err: &mut E) -> u8 {
     match task {
         Task::Simulate => simulate(rt.alloc(), input, out, err),
         Task::Record(frames, source, paths) => run_record(rt, frames, source, paths, out, err),

@@ -1,5 +1,5 @@
 // Recordings into stores in files.
-ghost use Rattle.std.specs.Prelude.{◌≡◌, ⊤, All, IfOk, false, length, vec_len};
+ghost use Rattle.std.specs.Prelude.{◌≡◌, ⊤, IfOk, length, vec_len};
 
 use crate::cameras::{Unrecorded, record_stores};
 use loop_capture::{Device, FrameSource, Next, Pattern, Y4mSource};
@@ -80,14 +80,7 @@ pub(crate) fn run_record<
     R: AllocGlobal + Files<File = File> + Threads + Wait + Sync,
     W: Write,
     E: Write,
->(
-    rt: &R,
-    frames: u32,
-    source: &str,
-    paths: Paths<'_>,
-    out: &mut W,
-    err: &mut E,
-) -> u8 {
+>(rt: &R, frames: u32, source: &str, paths: Paths<'_>, out: &mut W, err: &mut E) -> u8 {
     match perform(rt, frames, source, paths.words(), out) {
         Ok(()) => 0,
         Err(undone) => tell(undone, err),
@@ -150,7 +143,7 @@ fn blame<'a>(unrecorded: Unrecorded, paths: &[&'a str]) -> Undone<'a> {
             Some(path) => Undone::CannotRecord(path),
             None => Undone::Refused(StoreFault::NoMemory),
         },
-        Unrecorded::NoMemory => Undone::Refused(StoreFault::NoMemory),
+        Unrecorded::Refused(fault) => Undone::Refused(fault),
         Unrecorded::PassesMissing(given, made) => Undone::PassesMissing(given, made),
         Unrecorded::TieBroken(camera) => Undone::TieBroken(camera),
     }
@@ -213,8 +206,7 @@ fn find_stores<'a, D: Disk + Drop>(
     alloc: Global,
     disks: Vec<D>,
 ) -> Result<Vec<Store<D>>, Undone<'a>>
-    ensures count { IfOk result (λ stores. vec_len stores ≡ vec_len disks) }
-    ensures writable { IfOk result (λ stores. All (λ store. store.must_reopen ≡ false) stores.items) }
+    ensures { IfOk result (λ stores. vec_len stores ≡ vec_len disks) }
 {
     let mut stores = Vec::with_capacity(alloc, disks.len())?;
     for disk in disks {
@@ -233,20 +225,19 @@ fn record_from<R: AllocGlobal + Threads + Wait + Sync, D: Disk + Drop + Send + S
     stores: Vec<Store<D>>,
     frames: u32,
 ) -> Result<Ended<D, MmapPlane>, Unrecorded>
-    requires sources { vec_len sources ≡ vec_len stores }
-    requires writable { All (λ store. store.must_reopen ≡ false) stores.items }
+    requires { vec_len sources ≡ vec_len stores }
 {
     let alloc = rt.alloc();
     let mut devices: Vec<Device> = Vec::with_capacity(alloc, sources.len())?;
     for source in sources {
         let size = stores[devices.len()].geometry().frame_bytes();
         let Ok(source) = Box::new(alloc, source) else {
-            return Err(Unrecorded::NoMemory);
+            return Err(AllocError.into());
         };
         let source: Box<dyn FrameSource + Send> = source;
         match Device::new(alloc, source, size) {
             Ok(device) => devices.push_reserved(device),
-            Err(_) => return Err(Unrecorded::NoMemory),
+            Err(_) => return Err(AllocError.into()),
         }
     }
     record_stores(rt, alloc, stores, &mut devices, frames)

@@ -1,0 +1,10 @@
+use Rattle.std.proofs.Common.{◌≡◌, ◌+◌, ◌≤◌, vec_len}
+use Rattle.std.specs.Vec.{vec_capacity}
+use Rattle.std.specs.Vec.Iter.{into_iter_len}
+use Rattle.loop_commands.proofs.record.find_stores.Given as goal
+
+abbrev pub invariant-loop-disk : goal.invariant-loop-disk
+invariant-loop-disk g l = record {
+  count : vec_len l.stores + into_iter_len l.disk-iterator ≡ vec_len l.fn.disks;
+  room : vec_len l.fn.disks ≤ vec_capacity l.stores;
+}
