@@ -15,8 +15,8 @@ use std::rt::Files;
 /// The most frames of a group.
 const MAX_GROUP: usize = 8;
 
-// The geometry that the next words name, of one frame a second.
-fn geometry(words: &mut Args) -> Result<Geometry>
+/// The geometry that the next words name, of one frame a second.
+pub(crate) fn geometry(words: &mut Args) -> Result<Geometry>
     ensures { IfOk result (λ geometry. IsTrue (is_good geometry)) }
 {
     let geometry = Geometry {
