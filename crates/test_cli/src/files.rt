@@ -20,10 +20,7 @@ fn put(image: &mut [u8], at: usize, bytes: &[u8]) {
 }
 
 // Frames of 4x2 YM12 at 25 a second, 3 segments of 2: the image after the frames 0 to 6, by the layout.
-<<<<<<< HEAD
 pub(crate) fn ring() -> [u8; 4360] {
-=======
-fn ring() -> [u8; 4360] {
     image_of(&[(0, 3, 1), (1, 1, 2), (2, 2, 2)])
 }
 
@@ -34,7 +31,6 @@ fn ring_with_gap() -> [u8; 4360] {
 
 // The image whose segments hold these blocks, each so many frames.
 fn image_of(segments: &[(usize, u8, usize)]) -> [u8; 4360] {
->>>>>>> hostile
     let mut image = [0; 4360];
     let numbers = [1, 4, 2];
     put(&mut image, 0, b"\xA5LOOPREC");
