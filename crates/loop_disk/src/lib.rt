@@ -6,8 +6,9 @@
 //! everything above is made of: a write and then a sync, and two of these in turn. `memory` is a disk in
 //! memory, honest, whose crashes are as bad as the model allows: `past` keeps its calls as ghost data. `crash`
 //! is a disk in memory that keeps them for tests, and gives back the image that a crash leaves at a call of
-//! choice. `fuse` and `once` fail calls on purpose, over another disk. `specs/` has the definitions, `proofs/` the lemmas for callers: `Moments`
-//! joins runs of calls, `Images` has parts of images.
+//! choice. `fuse` and `once` fail calls on purpose, over another disk. `specs/` has the definitions, `proofs/` the
+//! lemmas for callers: `Moments` joins runs of calls, `Images` has parts of images. A disk over a file is a crate of
+//! its own (loop_file).
 #![tactic(auto)]
 
 mod crash;

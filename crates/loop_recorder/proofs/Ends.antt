@@ -11,7 +11,7 @@ use Rattle.loop_recorder.specs.declared.entry.Entry.{Entry}
 use Rattle.loop_recorder.specs.declared.entry.Pass.{Pass}
 use Rattle.loop_recorder.specs.Endings.{EndsTied, IsFaithfulCamera, SameOutline}
 use Rattle.loop_recorder.specs.Ends.{EndsAt}
-use Rattle.loop_recorder.specs.Sessions.{IsFaithful, IsKept}
+use Rattle.loop_recorder.specs.Sessions.{IsFaithful, HasGoneOn}
 
 module _ {D A B : Type 0} (medium : D → Medium) (one : Outline A) (other : Outline B) (same : SameOutline one other) where
   tells-same : (d : SeenDesk D) → TellsOutline medium d one → TellsOutline medium d other

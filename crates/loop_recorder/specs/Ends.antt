@@ -16,7 +16,8 @@ pub record IsEndOf {D A : Type 0} (medium : D → Medium) (camera : ℕ) (e : En
   pub tied : IsTied camera e.history.items passes
 
 -- so it is of the camera of that number
-abbrev pub EndsAt : {D A : Type 0} → (D → Medium) → List (Outline A) → List (EndedCamera D A) → List (Pass A) → ℕ → Type 0
+abbrev pub EndsAt : {D A : Type 0} → (D → Medium) → List (Outline A) → List (EndedCamera D A) → List (Pass A) → ℕ
+    → Type 0
 EndsAt {D} {A} medium outlines cameras passes k =
     (e : EndedCamera D A) (o : Outline A) → slice_get cameras k ≡ Some e → slice_get outlines k ≡ Some o
     → IsEndOf medium k e o passes
