@@ -3,7 +3,8 @@
 ghost use Rattle.std.specs.Prelude.{◌++◌, List};
 ghost use Rattle.loop_store.specs.Calls.{StoreState};
 ghost use Rattle.loop_store.specs.Goes.{Stands};
-ghost use Rattle.loop_desk.specs.Desk.{AreDeskAnswers, DeskCall, DeskState, desk_after_calls};
+ghost use Rattle.loop_desk.specs.Bare.{IsBlind};
+ghost use Rattle.loop_desk.specs.Desk.{AreDeskAnswers, DeskCall, DeskState, Rules, desk_after_calls};
 ghost use Rattle.loop_desk.specs.Footage.{KeepsFootage};
 ghost use Rattle.loop_desk.specs.declared.event.LaneEvent.{LaneEvent};
 ghost use Rattle.loop_desk.specs.declared.event.LaneReply.{LaneReply};
@@ -64,4 +65,10 @@ pub fn calls_are_the_models<D: Disk + Drop, A: Allocator>(before: &Desk<D, A>, a
         → StandsAt D.medium before.now s → (D.medium before.now.store.disk).honest
         → AreDeskAnswers (rules_of before.now) s calls
         × StandsAt D.medium after.now (desk_after_calls (rules_of before.now) s calls) }
+{}
+
+/// Nothing that a desk answers, and no state that it comes to, depends on pixels: calls that were answered as the model
+/// has it are so without pixels too. So one model serves a desk and a history of its calls that holds none.
+pub fn model_is_blind()
+    ensures { (k : Rules) (s : DeskState) (calls : List DeskCall) → IsBlind k s calls }
 {}
