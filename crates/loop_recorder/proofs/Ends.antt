@@ -1,8 +1,7 @@
 -- The end of a camera, told of the outline that was kept beside its lock.
-use Rattle.std.proofs.Common.{◌≡◌, ℕ, List, All, Some, length, map, sym, subst, ◌∙◌}
+use Rattle.std.proofs.Common.{ℕ, List, All, sym, subst, ◌∙◌}
 use Rattle.std.proofs.lemmas.List.Elements.{All-get_or}
 use Rattle.std.proofs.lemmas.Option.{get_or_from_slice_get, slice_get_within}
-use Rattle.std.specs.Prelude.{get_or, slice_get}
 use Rattle.loop_disk.specs.Medium.{Medium}
 use Rattle.loop_desk.specs.declared.limits.Outline.{Outline}
 use Rattle.loop_desk.specs.Seen.{SeenDesk, TellsOutline}
@@ -11,7 +10,7 @@ use Rattle.loop_recorder.specs.declared.entry.Entry.{Entry}
 use Rattle.loop_recorder.specs.declared.entry.Pass.{Pass}
 use Rattle.loop_recorder.specs.Endings.{EndsTied, IsFaithfulCamera, SameOutline}
 use Rattle.loop_recorder.specs.Ends.{EndsAt}
-use Rattle.loop_recorder.specs.Sessions.{IsFaithful, HasGoneOn}
+use Rattle.loop_recorder.specs.Sessions.{IsFaithful}
 
 module _ {D A B : Type 0} (medium : D → Medium) (one : Outline A) (other : Outline B) (same : SameOutline one other) where
   tells-same : (d : SeenDesk D) → TellsOutline medium d one → TellsOutline medium d other
