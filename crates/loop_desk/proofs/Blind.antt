@@ -1,21 +1,19 @@
 -- Nothing in the model of a desk looks at pixels.
-use Rattle.std.proofs.Common.{◌≡◌, ◌≢◌, ◌⊎◌, inl, inr, ℕ, ◌+◌, ◌-◌, ◌%◌, ◌<◌, ◌≤◌, Bool, true, false, not, min, if◌then◌else◌, is_some, IsTrue, Option, Some, None, Result, Ok, Err, List, [], ◌∷◌, length, take, map, refl, sym, ap, ◌∙◌, subst}
+use Rattle.std.proofs.Common.{◌≡◌, ◌≢◌, inl, inr, ℕ, ◌+◌, ◌-◌, ◌%◌, Bool, true, false, not, min, if◌then◌else◌, is_some, IsTrue, Option, Some, None, Result, Ok, Err, List, [], ◌∷◌, length, take, map, refl, sym, ap, ◌∙◌, subst}
 use Rattle.std.proofs.lemmas.List.{drop-map, length-map, map-append, take-map}
 use Rattle.std.specs.Prelude.{◌==◌, ◌&&◌, ◌||◌, nat_le, nat_lt}
 use Rattle.std.specs.List.{filter, find, list_all, range_with_len}
 use Rattle.std.specs.Option.{option_map}
 use Rattle.loop_record.specs.declared.clip.Span.{Span}
-use Rattle.loop_record.specs.declared.frame.FrameHead.{FrameHead}
 use Rattle.loop_record.specs.declared.geometry.Geometry.{Geometry}
 use Rattle.loop_record.specs.Geometry.{frame_bytes}
-use Rattle.loop_record.specs.Recording.{Picture, Recording, Ring, Step, after as stepped, block, blocks_of, clip_of, frame_under, free_id, holds, holds_all, is_locked, last_number, lock, needs_recycling, plain, recycle, recycling_first, ring_of, steps, store, stores_after, unlock, victim, with_block}
+use Rattle.loop_record.specs.Recording.{Picture, Recording, Ring, Step, after as stepped, block, blocks_of, frame_under, free_id, holds, holds_all, is_locked, last_number, lock, needs_recycling, plain, recycle, recycling_first, ring_of, steps, store, stores_after, unlock, victim, with_block}
 use Rattle.loop_store.specs.declared.fault.StoreFault.{StoreFault}
-use Rattle.loop_store.specs.Calls.{AreAnswered, CanLock, Call, IsAnswered, IsFirstMissing, RefusesAppend, RefusesLock, RefusesRead, RefusesSpan, RefusesUnlock, StoreState, after as stored, after_calls, appended, asked, has_failed, locked, made, unlocked, was_read, was_read_part}
-use Rattle.loop_store.specs.Faults.{is_disk}
+use Rattle.loop_store.specs.Calls.{AreAnswered, CanLock, Call, IsAnswered, IsFirstMissing, RefusesAppend, RefusesLock, RefusesRead, RefusesSpan, StoreState, after as stored, after_calls, appended, asked, has_failed, locked, made, unlocked, was_read, was_read_part}
 use Rattle.loop_store.specs.Steps.{if_answered, steps_or_none}
 use Rattle.loop_desk.specs.declared.limits.Flushed.{Flushed}
 use Rattle.loop_desk.specs.Bare.{IsBlind, bare, bare_call, bare_frame, bare_read, bare_recording, bare_state, bare_store}
-use Rattle.loop_desk.specs.Desk.{AreDeskAnswers, DeskCall, DeskState, IsCounted, IsDeskAnswer, IsDeskTold, IsFlush, Rules, Waiting, append_of, clip_locked, clip_unlocked, desk_after, desk_after_calls, flushed, frame_read, group_of, pending_after, status_told, store_calls, submitted, waiting_at}
+use Rattle.loop_desk.specs.Desk.{AreDeskAnswers, DeskCall, DeskState, IsCounted, IsDeskAnswer, IsDeskTold, IsFlush, Rules, append_of, clip_locked, clip_unlocked, desk_after, desk_after_calls, flushed, frame_read, group_of, pending_after, status_told, store_calls, submitted, waiting_at}
 
 abbrev bare_step : Step → Step
 bare_step (store p) = store (bare p)

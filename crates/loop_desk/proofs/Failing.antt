@@ -14,7 +14,7 @@ use Rattle.loop_store.specs.Calls.{failed_for}
 use Rattle.loop_store.specs.Faults.{failed_by, failed_in}
 use Rattle.loop_store.specs.Goes.{with_each}
 use Rattle.loop_desk.specs.declared.limits.Flushed.{Flushed}
-use Rattle.loop_desk.specs.Desk.{AreTold, DeskCall, IsDeskTold, IsFlush, Rules, Waiting, append_of, appended_as, clip_locked, clip_unlocked, desk_failed_for, flushed, frame_read, group_of, status_told, store_calls, store_calls_in, submit_answer, submitted, waiting_after}
+use Rattle.loop_desk.specs.Desk.{AreTold, DeskCall, IsDeskTold, IsFlush, Rules, Waiting, append_of, clip_locked, clip_unlocked, desk_failed_for, flushed, frame_read, group_of, status_told, store_calls, store_calls_in, submit_answer, submitted, waiting_after}
 use Rattle.loop_desk.specs.Seen.{DeskGoes, SeenDesk, rules_of, waiting_of}
 
 with_each-behind : (xs ys : List (Option DiskFault)) (before : Failures) → with_each (xs ++ ys) before ≡ with_each ys (with_each xs before)

@@ -1,6 +1,6 @@
 -- That a table of fds, over planes that may, may go to another thread, and be looked at by several: each alone, and (`in`) as what holds it has it.
 use denote.RattleType.{RattleType}
-use denote.Param.Send.{IsSend, IsSync, sendable}
+use denote.Param.Send.{IsSend, sendable}
 use Rattle.std.proofs.Crossing.{crosses}
 use Rattle.std.specs.contracts.alloc.Global as heap
 use Rattle.std.specs.contracts.impls.GlobalAllocator.TheImpl.{ghosts}
