@@ -1,4 +1,6 @@
 // Commands on stores in files.
+ghost use Rattle.std.specs.Prelude.{IsTrue};
+ghost use Rattle.loop_record.specs.Geometry.{is_good};
 
 use crate::even::EvenWriter;
 use loop_ahead::AheadDisk;
@@ -204,7 +206,9 @@ fn format_at<'a, R: AllocGlobal + Files<File = File>>(
     path: &'a str,
     mut place: FilePlace,
     geometry: Geometry,
-) -> Result<(), Undone<'a>> {
+) -> Result<(), Undone<'a>>
+    requires { IsTrue (is_good geometry) }
+{
     match place.create(rt, geometry.disk_size()) {
         Err(fault) => Err(cannot_make(path, fault)),
         Ok(disk) => match loop_store::format(rt.alloc(), disk, geometry) {

@@ -1,0 +1,80 @@
+//! `fill STORE SEGMENTS SLOTS VIDEO`: a fresh store in a file, and in it the frames of a YUV4MPEG2 file or pipe.
+#![tactic(auto)]
+
+use anyhow::{Context, Result, anyhow};
+use loop_desk::{Desk, DeskLimits};
+use loop_file::FileDisk;
+use loop_record::{Frame, Geometry};
+use loop_store::{OpenRefused, format};
+use loop_y4m::Y4mReader;
+use std::alloc::Global;
+use std::env;
+use std::fs::File;
+use std::io::{BufReader, Read};
+
+/// How many frames wait at most. They are stored in groups.
+const WAITING: u32 = 8;
+
+/// Submits each frame of a video, and stores them.
+fn fill<R: Read + Drop>(
+    alloc: Global,
+    video: &mut Y4mReader<R>,
+    desk: &mut Desk<FileDisk>,
+) -> Result<()> {
+    let (num, den) = video.rate();
+    for n in 0..u64::MAX {
+        let mut bytes = vec![in alloc; 0; video.frame_bytes() as usize]?;
+        if !video.next_frame(&mut bytes)? {
+            break;
+        }
+        let frame = Frame {
+            sequence: (n % 4_294_967_296) as u32,
+            flags: 0x2000,
+            timestamp: n.saturating_mul(1_000_000 * u64::from(den)) / u64::from(num.max(1)),
+            bytes,
+        };
+        if let Err((fault, _)) = desk.submit(frame) {
+            return Err(anyhow!("refused {fault}"));
+        }
+        if desk.status().pending == WAITING {
+            desk.flush()?;
+        }
+    }
+    for _ in 0..WAITING {
+        desk.flush()?;
+    }
+    Ok(())
+}
+
+fn main(rt: HostRuntime) -> Result<()> {
+    let alloc = rt.alloc();
+    let mut words = env::args(&rt)?;
+    let _program = words.next();
+    let path = words.next().context("no store")?;
+    let segments = words.next().context("no segments")?.parse()?;
+    let slots = words.next().context("no slots")?.parse()?;
+    let source = words.next().context("no video")?;
+    let input = BufReader::new(alloc, File::open(&rt, source.as_str())?)?;
+    let mut video = Y4mReader::open(input)?;
+    let geometry = Geometry {
+        width: video.width(),
+        height: video.height(),
+        format: video.format(),
+        rate_num: video.rate().0,
+        rate_den: video.rate().1,
+        segments,
+        slots,
+    };
+    geometry.check()?;
+    let disk = FileDisk::create(&rt, path.as_str(), geometry.disk_size())?;
+    let store = format(alloc, disk, geometry).map_err(|OpenRefused { fault, disk: _ }| fault)?;
+    let limits = DeskLimits {
+        pending: WAITING,
+        group: 8,
+        calls: 1_000_000,
+    };
+    let mut desk = Desk::new(alloc, store, limits).ok().context("no memory")?;
+    fill(alloc, &mut video, &mut desk)?;
+    println!(&rt; "next {}", desk.status().next)?;
+    Ok(())
+}
