@@ -160,9 +160,11 @@ fn cameras_of<D: Disk + Drop, P: PlaneMemory>(
 ) -> Result<Vec<Camera<D, P>>>
     ensures { IfOk result (λ cameras. All (IsReady P.plane) cameras.items) }
 {
-    let mut cameras = Vec::new(alloc);
+    let mut cameras = Vec::with_capacity(alloc, stores.len())?;
     for store in stores {
-        cameras.push(camera_of(alloc, desk_of(alloc, store, group)?))?;
+        let desk = desk_of(alloc, store, group)?;
+        let camera = camera_of(alloc, desk);
+        cameras.push_reserved(camera);
     }
     Ok(cameras)
 }
@@ -205,6 +207,10 @@ fn rate<R: Threads + Wait + Sync + Clock, D: Disk + Drop + Send + Sync>(
 
 // Fresh stores in memory.
 fn in_memory(alloc: Global, geometry: Geometry, count: u32) -> Result<Vec<Store<MemDisk>>> {
+    match geometry.check() {
+        Ok(()) => (),
+        Err(_) => return Err(anyhow!("a geometry within the limits")),
+    }
     let mut stores = Vec::new(alloc);
     for _ in 0..count {
         let disk = MemDisk::new(alloc, geometry.disk_size())?;
