@@ -103,7 +103,8 @@ fn calls<R: Wait + Abort, D: Disk + Drop, P: PlaneMemory>(
     };
     for turn in 0..TURNS {
         let camera = caller.dice.roll() % 4;
-        let call = caller.call(caller.newest[camera as usize]);
+        let newest = caller.newest[camera as usize];
+        let call = caller.call(newest);
         let answer = makes(rt, alloc, recorder, &AtOnce, camera as u32, &mut pass, call);
         holds!(rt; answer.is_ok(), turn);
         if let Ok(Noted::Submit(_, _, Ok(number))) = answer {
