@@ -144,7 +144,7 @@ fn four_cameras<P: PlaneMemory>(rt: &impl Abort, alloc: Global) -> Vec<Camera<Cr
     ensures count { vec_len result ≡ 4 }
 {
     let mut cameras = Vec::new(alloc);
-    for _ in 0..4 {
+    for _ in 0..4u32 {
         let camera = camera(rt, alloc, disk(rt, alloc), limits(64, 1_000_000));
         cameras.push(camera).expect(rt, "memory for a list");
     }

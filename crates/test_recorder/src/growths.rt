@@ -63,7 +63,7 @@ fn two_cameras<'a, P: PlaneMemory>(
     ensures count { vec_len result ≡ 2 }
 {
     let mut cameras = Vec::new(memory);
-    for _ in 0..2 {
+    for _ in 0..2u32 {
         let desk = desk_of(
             rt,
             memory,
