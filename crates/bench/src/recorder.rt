@@ -201,7 +201,10 @@ fn rate<R: Threads + Wait + Sync + Clock, D: Disk + Drop + Send + Sync>(
     if fed.contains(&false) {
         return Err(anyhow!("a call was refused, or a flush left frames waiting"));
     }
-    let frames = u128::from(count) * u128::from(work.group) * u128::from(work.groups);
+    let group = u128::from(work.group);
+    let frames = u128::from(count)
+        .saturating_mul(group)
+        .saturating_mul(u128::from(work.groups));
     Ok(u64::try_from(frames.saturating_mul(1_000_000_000) / nanos.max(1)).unwrap_or(u64::MAX))
 }
 
