@@ -1,6 +1,7 @@
 //! A desk: frames that wait, before a store.
 
-ghost use Rattle.std.specs.Prelude.{◌≡◌, ◌≢◌, ◌≤◌, ◌+◌, ◌∷◌, [], Err, IfErr, IfOk, false, length};
+ghost use Rattle.std.specs.Prelude.{◌≡◌, ◌≢◌, ◌≤◌, ◌+◌, ◌∷◌, [], Err, IfErr, IfOk, drop, false, length};
+ghost use Rattle.circular_buffer.specs.Buffer.{buffer};
 ghost use Rattle.loop_record.specs.Geometry.{frame_bytes};
 ghost use Rattle.loop_record.specs.Plain.{pictures};
 ghost use Rattle.loop_record.specs.Recording.{last_number, picture, ring_of};
@@ -19,11 +20,13 @@ use loop_store::{ReadFrame, Store, StoreFault};
 use std::alloc::{Allocator, Global};
 use std::marker::Model;
 
-/// A store, and the frames that wait to be stored. What waits is lost when the desk is, or the power.
+/// A store, and the frames that wait to be stored. What waits is lost when the desk is, or the power. The memory of
+/// frames that were stored is kept for later ones.
 #[derive(Drop)]
 pub struct Desk<D: Disk + Drop, A: Allocator = Global> {
     store: Store<D, A>,
     pending: HeapCircularBuffer<Frame<A>, A>,
+    spare: HeapCircularBuffer<Vec<u8, A>, A>,
     limits: DeskLimits,
 }
 
@@ -35,23 +38,59 @@ impl<D: Disk + Drop, A: Allocator> Model for Desk<D, A> {
     ghost invariant = { λ d. IsDesk d.store d.limits d.pending };
 }
 
-impl<D: Disk + Drop, A: Allocator> Desk<D, A> {
-    /// A desk at which nothing waits. It takes the room for all frames that may wait; where there is none, the
-    /// store comes back.
+/// Takes out the first `count` frames that wait, and puts their memory aside.
+fn set_aside<A: Allocator>(
+    pending: &mut HeapCircularBuffer<Frame<A>, A>,
+    spare: &mut HeapCircularBuffer<Vec<u8, A>, A>,
+    count: usize,
+)
+    ensures { pending.new ≡ buffer (drop count pending.old.items) pending.old.capacity }
+{
+    for _ in 0..count {
+        if let Some(frame) = pending.pop_front() {
+            spare.push_back(frame.bytes);
+        }
+    }
+}
+
+impl<D: Disk + Drop, A: Allocator + Copy> Desk<D, A> {
+    /// A desk at which nothing waits. It takes the room for all frames that may wait, and for a list of as much memory
+    /// to use again; where there is none, the store comes back.
     pub fn new(alloc: A, store: Store<D, A>, limits: DeskLimits) -> Result<Self, Store<D, A>>
         requires pending { (1 ≤ limits.pending) × (limits.pending ≤ 64) }
         requires group { (1 ≤ limits.group) × (limits.group ≤ 8) }
         ensures made { IfOk result (λ desk. desk ≡ record { store = store; pending = []; limits = limits }) }
         ensures refused { IfErr result (λ back. back ≡ store) }
     {
-        match HeapCircularBuffer::with_capacity(alloc, limits.pending as usize) {
-            Ok(pending) => Ok(Desk {
-                store,
-                pending,
-                limits,
-            }),
-            Err(_) => Err(store),
-        }
+        let most = limits.pending as usize;
+        let (Ok(pending), Ok(spare)) = (
+            HeapCircularBuffer::with_capacity(alloc, most),
+            HeapCircularBuffer::with_capacity(alloc, most),
+        ) else {
+            return Err(store);
+        };
+        Ok(Desk {
+            store,
+            pending,
+            spare,
+            limits,
+        })
+    }
+}
+
+impl<D: Disk + Drop, A: Allocator> Desk<D, A> {
+    /// Memory of a frame that was stored, to be filled again by a later one; None where there is none.
+    pub fn spare_memory(&mut self) -> Option<Vec<u8, A>>
+        ensures { self.new ≡ self.old }
+    {
+        self.spare.pop_back()
+    }
+
+    /// Keeps memory for a later frame; where there is no room for it, the oldest that is kept goes.
+    pub fn keep_memory(&mut self, bytes: Vec<u8, A>)
+        ensures { self.new ≡ self.old }
+    {
+        self.spare.push_back(bytes);
     }
 
     /// Where the desk needn't be reopened and its disk is honest, its store stands for a recording. The function does
@@ -146,7 +185,7 @@ impl<D: Disk + Drop, A: Allocator> Desk<D, A> {
         }
         match append_first(&mut self.store, self.pending.make_contiguous(), count) {
             Ok(first) => {
-                self.pending.truncate_front(waiting - count);
+                set_aside(&mut self.pending, &mut self.spare, count);
                 Ok(Flushed {
                     first,
                     stored: count as u32,
@@ -195,6 +234,7 @@ impl<D: Disk + Drop, A: Allocator> Desk<D, A> {
         let Desk {
             store,
             pending: _,
+            spare: _,
             limits: _,
         } = self;
         store.into_disk()

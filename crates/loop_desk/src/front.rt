@@ -6,6 +6,7 @@ ghost use Rattle.loop_desk.specs.Parts.{GetsBuffer, is_ioctl};
 
 use crate::frame::copy_frame;
 use crate::hand::{Hand, LaneFault};
+use crate::memory::frame_memory;
 use bitflags::Flags;
 use loop_ioctl::{Ioctl, QueueEvent, QueueReply, hand_back, is_whole, react};
 use loop_plane::{FdTable, PlaneMemory};
@@ -111,11 +112,13 @@ fn hold<P: PlaneMemory, A: Allocator + Copy>(
 /// DQBUF into the hand; answers the buffer's index. HandFull unless the hand is empty, NoMemory where there is no
 /// room for the bytes of a frame, then the queue's refusals (NotStreaming, FatalError, NothingDone); a refusal
 /// changes nothing. The buffer's planes go with it, unless they are mapped memory, and their fds stay attached. A
-/// buffer that the device gave up is spent at once.
+/// buffer that the device gave up is spent at once. The frame's memory is what is spare, where that has its length; what
+/// isn't needed is left.
 pub(crate) fn dequeue<P: PlaneMemory, A: Allocator + Copy>(
     alloc: A,
     queue: &mut Queue<P, A>,
     hand: &mut Hand<P, A>,
+    spare: &mut Option<Vec<u8, A>>,
 ) -> Result<u32, LaneFault>
     ensures turn { TurnsBeside P.plane queue.old hand.old (dequeued result) queue.new hand.new }
     ensures shape { queue.new.body.shape ≡ queue.old.body.shape }
@@ -126,7 +129,7 @@ pub(crate) fn dequeue<P: PlaneMemory, A: Allocator + Copy>(
             return Err(LaneFault::Store(StoreFault::HandFull));
         }
     }
-    let Ok(bytes) = vec![in alloc; 0u8; queue.frame_bytes() as usize] else {
+    let Ok(bytes) = frame_memory(alloc, spare.take(), queue.frame_bytes() as usize) else {
         return Err(LaneFault::Store(StoreFault::NoMemory));
     };
     match queue.dequeue() {
@@ -135,7 +138,10 @@ pub(crate) fn dequeue<P: PlaneMemory, A: Allocator + Copy>(
             *hand = hold(queue, answer, bytes);
             Ok(index)
         }
-        Err(errno) => Err(LaneFault::Queue(errno)),
+        Err(errno) => {
+            *spare = Some(bytes);
+            Err(LaneFault::Queue(errno))
+        }
     }
 }
 

@@ -2,12 +2,12 @@
 
 ghost use Rattle.std.specs.Prelude.{◌≡◌, [], ◌∷◌, IfErr, IfOk};
 ghost use Rattle.loop_ioctl.specs.Types.{type_of};
-ghost use Rattle.loop_desk.specs.Front.{IsSubmit, hand_given, hand_state};
+ghost use Rattle.loop_desk.specs.Front.{IsSubmit, TurnsBeside, dequeued, hand_given, hand_state};
 ghost use Rattle.loop_desk.specs.Lane.{LaneKeeps, LaneRan, is_dequeue, submit_calls};
 ghost use Rattle.loop_desk.specs.Seen.{DeskGoes};
 
 use crate::front::{dequeue, on_queue, requeue};
-use crate::{Desk, Hand, LaneEvent, LaneReply};
+use crate::{Desk, Hand, LaneEvent, LaneFault, LaneReply};
 use loop_disk::Disk;
 use loop_ioctl::{BufferType, Ioctl, QueueEvent};
 use loop_plane::{FdTable, PlaneMemory};
@@ -77,6 +77,22 @@ fn submit<D: Disk + Drop, P: PlaneMemory, A: Allocator + Copy>(
     }
 }
 
+/// DQBUF into the hand, with memory that the desk keeps.
+fn dequeues<D: Disk + Drop, P: PlaneMemory, A: Allocator + Copy>(
+    alloc: A,
+    lane: &mut Lane<D, P, A>,
+) -> Result<u32, LaneFault>
+    ensures turn { TurnsBeside P.plane lane.old.queue lane.old.hand (dequeued result) lane.new.queue lane.new.hand }
+    ensures same { lane.new ≡ record lane.old { queue = lane.new.queue; hand = lane.new.hand } }
+{
+    let mut spare = lane.desk.spare_memory();
+    let answer = dequeue(alloc, &mut lane.queue, &mut lane.hand, &mut spare);
+    if let Some(bytes) = spare {
+        lane.desk.keep_memory(bytes);
+    }
+    answer
+}
+
 /// Does one event.
 fn answer<D: Disk + Drop, P: PlaneMemory, A: Allocator + Copy>(
     alloc: A,
@@ -88,13 +104,11 @@ fn answer<D: Disk + Drop, P: PlaneMemory, A: Allocator + Copy>(
     match event {
         LaneEvent::Queue(event) => {
             if is_dequeue(lane.queue.format(), &event) {
-                return LaneReply::Dequeue(dequeue(alloc, &mut lane.queue, &mut lane.hand));
+                return LaneReply::Dequeue(dequeues(alloc, lane));
             }
             LaneReply::Queue(on_queue(&mut lane.queue, &mut lane.table, &lane.hand, event))
         }
-        LaneEvent::Dequeue => {
-            LaneReply::Dequeue(dequeue(alloc, &mut lane.queue, &mut lane.hand))
-        }
+        LaneEvent::Dequeue => LaneReply::Dequeue(dequeues(alloc, lane)),
         LaneEvent::Submit => LaneReply::Submit(submit(&mut lane.hand, &mut lane.desk)),
         LaneEvent::Requeue => LaneReply::Requeue(requeue(&mut lane.queue, &mut lane.hand)),
         LaneEvent::Flush => LaneReply::Flush(lane.desk.flush()),

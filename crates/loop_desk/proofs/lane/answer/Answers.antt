@@ -10,10 +10,12 @@ use Rattle.loop_desk.proofs.lane.answer.Goals as goal
 pub returns-then-is_dequeue : goal.returns-then-is_dequeue
 returns-then-is_dequeue g c =
     let lane = c.args.lane.now in
-    let new : Lane g.row.D.Denot g.row.P.Denot g.row.A.Denot = record { queue = c.dequeue.new.queue; table = lane.table; hand = c.dequeue.new.hand; desk = lane.desk } in
-    subst (λ (e : LaneEvent g.row.P.Denot g.row.A.Denot). LaneRan g.P.PlaneMemory.plane g.D.Disk.medium lane new (e ∷ []) (reply.Dequeue c.dequeue.result ∷ [])) (sym c.in-Queue.is)
-    (told-dqbuf g.P.PlaneMemory.plane g.D.Disk.medium lane new c.in-Queue.event c.dequeue.result (λ now. g.met.D.Disk.sound lane.desk.store.disk now) refl
-    (ap (λ (format : PixelFormat). is_dequeue format c.in-Queue.event) (sym c.format.ensures) ∙ sym c.is_dequeue.ensures ∙ c.if-is_dequeue.true) (c.dequeue.ensures.turn lane.table))
+    let now = c.dequeues.new.lane in
+    let new : Lane g.row.D.Denot g.row.P.Denot g.row.A.Denot = record { queue = now.queue; table = lane.table; hand = now.hand; desk = lane.desk } in
+    subst (λ (l : Lane g.row.D.Denot g.row.P.Denot g.row.A.Denot). LaneRan g.P.PlaneMemory.plane g.D.Disk.medium lane l (c.args.event ∷ []) (reply.Dequeue c.dequeues.result ∷ [])) (sym c.dequeues.ensures.same)
+    (subst (λ (e : LaneEvent g.row.P.Denot g.row.A.Denot). LaneRan g.P.PlaneMemory.plane g.D.Disk.medium lane new (e ∷ []) (reply.Dequeue c.dequeues.result ∷ [])) (sym c.in-Queue.is)
+    (told-dqbuf g.P.PlaneMemory.plane g.D.Disk.medium lane new c.in-Queue.event c.dequeues.result (λ now. g.met.D.Disk.sound lane.desk.store.disk now) refl
+    (ap (λ (format : PixelFormat). is_dequeue format c.in-Queue.event) (sym c.format.ensures) ∙ sym c.is_dequeue.ensures ∙ c.if-is_dequeue.true) (c.dequeues.ensures.turn lane.table)))
 
 pub returns-else-is_dequeue : goal.returns-else-is_dequeue
 returns-else-is_dequeue g c =
@@ -26,9 +28,11 @@ returns-else-is_dequeue g c =
 pub returns-in-Dequeue : goal.returns-in-Dequeue
 returns-in-Dequeue g c =
     let lane = c.args.lane.now in
-    let new : Lane g.row.D.Denot g.row.P.Denot g.row.A.Denot = record { queue = c.dequeue-in-Dequeue.new.queue; table = lane.table; hand = c.dequeue-in-Dequeue.new.hand; desk = lane.desk } in
-    subst (λ (e : LaneEvent g.row.P.Denot g.row.A.Denot). LaneRan g.P.PlaneMemory.plane g.D.Disk.medium lane new (e ∷ []) (reply.Dequeue c.dequeue-in-Dequeue.result ∷ [])) (sym c.in-Dequeue.is)
-    (told-dequeue g.P.PlaneMemory.plane g.D.Disk.medium lane new c.dequeue-in-Dequeue.result (λ now. g.met.D.Disk.sound lane.desk.store.disk now) refl (c.dequeue-in-Dequeue.ensures.turn lane.table))
+    let now = c.dequeues-in-Dequeue.new.lane in
+    let new : Lane g.row.D.Denot g.row.P.Denot g.row.A.Denot = record { queue = now.queue; table = lane.table; hand = now.hand; desk = lane.desk } in
+    subst (λ (l : Lane g.row.D.Denot g.row.P.Denot g.row.A.Denot). LaneRan g.P.PlaneMemory.plane g.D.Disk.medium lane l (c.args.event ∷ []) (reply.Dequeue c.dequeues-in-Dequeue.result ∷ [])) (sym c.dequeues-in-Dequeue.ensures.same)
+    (subst (λ (e : LaneEvent g.row.P.Denot g.row.A.Denot). LaneRan g.P.PlaneMemory.plane g.D.Disk.medium lane new (e ∷ []) (reply.Dequeue c.dequeues-in-Dequeue.result ∷ [])) (sym c.in-Dequeue.is)
+    (told-dequeue g.P.PlaneMemory.plane g.D.Disk.medium lane new c.dequeues-in-Dequeue.result (λ now. g.met.D.Disk.sound lane.desk.store.disk now) refl (c.dequeues-in-Dequeue.ensures.turn lane.table)))
 
 pub returns-in-Submit : goal.returns-in-Submit
 returns-in-Submit g c =

@@ -1,7 +1,7 @@
 use Rattle.std.proofs.Common.{◌≡◌, ℕ, ◌+◌, ◌-◌, ◌≤◌, min, false, Result, Ok, Err, List, [], ◌∷◌, length, take, drop, sym, ap, ◌∙◌, subst, arith}
 use Rattle.std.proofs.lemmas.List.{length-map, take-map, drop-map}
 use Rattle.std.specs.List.{refill}
-use Rattle.circular_buffer.specs.Buffer.{Buffer, buffer, keep_last}
+use Rattle.circular_buffer.specs.Buffer.{Buffer, buffer}
 use Rattle.loop_record.specs.declared.frame.Frame.{Frame}
 use Rattle.loop_record.specs.Plain.{pictures}
 use Rattle.loop_record.specs.Recording.{Picture, picture}
@@ -13,7 +13,7 @@ use Rattle.loop_desk.specs.declared.limits.Flushed.{Flushed}
 use Rattle.loop_desk.specs.Desk.{flushed}
 use Rattle.loop_desk.specs.Seen.{DeskGoes, IsDesk, SeenDesk}
 use Rattle.loop_desk.proofs.Called.{IsGroup, flush-none, flush-refused, flush-stored}
-use Rattle.loop_desk.proofs.Kept.{keep-rest, kept-flushed, none-of, refused-as, stored-size}
+use Rattle.loop_desk.proofs.Kept.{kept-flushed, none-of, refused-as, stored-size}
 use Rattle.loop_desk.proofs.desk.Desk.flush.Goals as goal
 
 pub returns-then-count-eq0 : goal.returns-then-count-eq0
@@ -37,11 +37,11 @@ invariant_of-self g c =
     let frames = c.make_contiguous.result.now in
     let same : refill (length items) items frames ≡ items = c.make_contiguous.ensures.same_len frames (ap length c.make_contiguous.ensures.value) ∙ c.make_contiguous.ensures.value in
     let few : count ≤ c.len-waiting.result = omega (arith, c.min-count.ensures) in
-    let left : keep_last (c.len-waiting.result - count) (refill (length items) items frames) ≡ drop count items = ap (keep_last (c.len-waiting.result - count)) same ∙ keep-rest count c.len-waiting.result items c.len-waiting.ensures.len few in
+    let left : drop count (refill (length items) items frames) ≡ drop count items = ap (drop count) same in
     let goes : Goes g.D.Disk.medium s.store c.append_first.new.store (appended (pictures (take count frames)) (Ok c.in-Ok.first) ∷ []) = subst (λ (x : Result ℕ StoreFault). Goes g.D.Disk.medium s.store c.append_first.new.store (appended (pictures (take count frames)) x ∷ [])) c.in-Ok.is c.append_first.ensures.goes in
     let size : length (pictures (take count frames)) ≡ count = stored-size count items frames c.make_contiguous.ensures.value (omega (arith, few, c.len-waiting.ensures.len)) in
     let next = ap (λ (p : Progress). p.next) goes.progress ∙ ap (λ (n : ℕ). s.store.next + n) size in
-    subst (λ (b : Buffer (Frame g.row.A.Denot)). IsDesk c.append_first.new.store s.limits b) (sym (c.truncate_front.ensures ∙ ap (λ l. buffer l s.pending.capacity) left))
+    subst (λ (b : Buffer (Frame g.row.A.Denot)). IsDesk c.append_first.new.store s.limits b) (sym (c.set_aside.ensures ∙ ap (λ l. buffer l s.pending.capacity) left))
     (kept-flushed s.store c.append_first.new.store s.limits s.pending count c.self.invariant goes.geometry next (omega (arith, few, c.len-waiting.ensures.len)))
 
 pub returns-in-Ok : goal.returns-in-Ok
@@ -61,10 +61,10 @@ returns-in-Ok g c =
     let goes : Goes g.D.Disk.medium s.store c.append_first.new.store (appended (pictures (take count frames)) (Ok c.in-Ok.first) ∷ []) = subst (λ (x : Result ℕ StoreFault). Goes g.D.Disk.medium s.store c.append_first.new.store (appended (pictures (take count frames)) x ∷ [])) c.in-Ok.is c.append_first.ensures.goes in
     let same : refill (length items) items frames ≡ items = c.make_contiguous.ensures.same_len frames (ap length c.make_contiguous.ensures.value) ∙ c.make_contiguous.ensures.value in
     let few : count ≤ c.len-waiting.result = omega (arith, c.min-count.ensures) in
-    let left : keep_last (c.len-waiting.result - count) (refill (length items) items frames) ≡ drop count items = ap (keep_last (c.len-waiting.result - count)) same ∙ keep-rest count c.len-waiting.result items c.len-waiting.ensures.len few in
-    let pending : drop count d.pending ≡ pictures c.truncate_front.new.self.items = sym (ap (λ (b : Buffer (Frame g.row.A.Denot)). pictures b.items) c.truncate_front.ensures ∙ ap pictures left ∙ sym (drop-map picture count items)) in
+    let left : drop count (refill (length items) items frames) ≡ drop count items = ap (drop count) same in
+    let pending : drop count d.pending ≡ pictures c.set_aside.new.pending.items = sym (ap (λ (b : Buffer (Frame g.row.A.Denot)). pictures b.items) c.set_aside.ensures ∙ ap pictures left ∙ sym (drop-map picture count items)) in
     record {
-      goes = subst (λ (v : SeenDesk g.row.D.Denot). DeskGoes g.D.Disk.medium v (record { store = c.append_first.new.store; pending = pictures c.truncate_front.new.self.items; limits = s.limits }) (flushed (Ok (record { first = c.in-Ok.first; stored = count; left = c.len-waiting.result - count })) ∷ [])) c.self.view_is
+      goes = subst (λ (v : SeenDesk g.row.D.Denot). DeskGoes g.D.Disk.medium v (record { store = c.append_first.new.store; pending = pictures c.set_aside.new.pending.items; limits = s.limits }) (flushed (Ok (record { first = c.in-Ok.first; stored = count; left = c.len-waiting.result - count })) ∷ [])) c.self.view_is
           (subst (λ (l : List Picture). DeskGoes g.D.Disk.medium d (record { store = c.append_first.new.store; pending = l; limits = s.limits }) (flushed (Ok (record { first = c.in-Ok.first; stored = count; left = c.len-waiting.result - count })) ∷ [])) pending
           (flush-stored g.D.Disk.medium d c.append_first.new.store c.min-most.result count c.in-Ok.first c.len-waiting.result group waiting
           (subst (λ (l : List Picture). Goes g.D.Disk.medium s.store c.append_first.new.store (appended l (Ok c.in-Ok.first) ∷ [])) first goes)));

@@ -1,0 +1,6 @@
+use Rattle.std.proofs.Common.{◌≡◌, drop}
+use Rattle.circular_buffer.specs.Buffer.{buffer}
+use Rattle.loop_desk.proofs.desk.set_aside.Given as goal
+
+abbrev pub invariant-loop : goal.invariant-loop
+invariant-loop g l = l.pending ≡ buffer (drop l.counter g.args.pending.old.items) g.args.pending.old.capacity
