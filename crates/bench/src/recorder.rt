@@ -6,7 +6,7 @@ use crate::store::geometry;
 use crate::words::{number, open_file, path, refused};
 use anyhow::{Result, anyhow};
 use loop_desk::laws::new_fronts_stand;
-use loop_desk::{Desk, DeskLimits};
+use loop_desk::{Desk, DeskLimits, frame_memory};
 use loop_disk::{Disk, MemDisk};
 use loop_file::FileDisk;
 use loop_plane::{FdTable, MmapPlane, PlaneMemory};
@@ -38,7 +38,7 @@ impl Pace for AtOnce {
     fn reached(&self, _camera: u32, _step: Step) {}
 }
 
-// Submits a group of frames, whose bytes are zero; whether all were taken in.
+// Submits a group of frames, whose bytes don't matter; whether all were taken in.
 fn submit_group<R: Wait, D: Disk + Drop, P: PlaneMemory>(
     rt: &R,
     alloc: Global,
@@ -50,7 +50,8 @@ fn submit_group<R: Wait, D: Disk + Drop, P: PlaneMemory>(
     requires { camera < length recorder.now.outlines }
 {
     for _ in 0..work.group {
-        let Ok(bytes) = vec![in alloc; 0; work.size as usize] else {
+        let spare = recorder.spare_memory(rt, camera);
+        let Ok(bytes) = frame_memory(alloc, spare, work.size as usize) else {
             return false;
         };
         let frame = Frame {

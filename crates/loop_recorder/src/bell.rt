@@ -1,0 +1,40 @@
+//! Where a worker sleeps until another one has something for it.
+
+use std::sync::{Condvar, Mutex, Wait};
+
+/// Counts what happened, and wakes who waits for more. Nothing is lost between a look and the sleep behind it: who reads
+/// the count before it looks for work, and finds none, waits for another count.
+#[derive(Drop)]
+pub(crate) struct Bell {
+    rung: Mutex<u64>,
+    changed: Condvar,
+}
+
+impl Bell {
+    /// One that hasn't rung.
+    pub(crate) fn new() -> Bell {
+        Bell {
+            rung: Mutex::new(0),
+            changed: Condvar::new(),
+        }
+    }
+
+    /// How often it rang.
+    pub(crate) fn count<R: Wait>(&self, rt: &R) -> u64 {
+        *self.rung.lock(rt)
+    }
+
+    /// Wakes who waits.
+    pub(crate) fn ring<R: Wait>(&self, rt: &R) {
+        let mut rung = self.rung.lock(rt);
+        *rung = rung.wrapping_add(1);
+        self.changed.notify_all();
+    }
+
+    /// Waits until it has rung again since it had this count.
+    pub(crate) fn wait<R: Wait>(&self, rt: &R, seen: u64) {
+        let _rung = self
+            .changed
+            .wait_while(rt, self.rung.lock(rt), |rung| *rung == seen);
+    }
+}
