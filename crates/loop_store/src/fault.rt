@@ -8,6 +8,8 @@ use loop_disk::DiskFault;
 use loop_record::Damage;
 use loop_ring::SlotFault;
 use std::alloc::AllocError;
+use std::fmt;
+use std::fmt::{Debug, Display, Formatter};
 use thiserror::Error;
 
 /// Why a call of a store is refused. The names and numbers are this project's own; a refusal changes nothing,
@@ -18,7 +20,7 @@ pub enum StoreFault {
     #[error("no memory")]
     NoMemory,
     /// A call of the disk failed.
-    #[error("the disk failed")]
+    #[error("the disk failed: {0}")]
     Disk(DiskFault),
     /// A call that writes answered `Disk` before: the disk is to be taken out and opened again.
     #[error("the store has to be opened again")]
@@ -27,7 +29,7 @@ pub enum StoreFault {
     #[error("the disk isn't formatted")]
     NotFormatted,
     /// What stands on the disk can't be.
-    #[error("the image is damaged")]
+    #[error("the image is damaged: {0}")]
     Damaged(Damage),
     /// No frame has this number.
     #[error("no frame has this number")]
@@ -45,7 +47,7 @@ pub enum StoreFault {
     #[error("the clip is empty")]
     ClipEmpty,
     /// No frame has this number, which is the clip's least one of which that is so.
-    #[error("the clip has a number that isn't held")]
+    #[error("the clip has number {0}, of which no frame is held")]
     ClipNotHeld(u64),
     /// Each of the 64 ids has a clip.
     #[error("as many clips stand as there may be")]
@@ -154,7 +156,7 @@ impl From<AllocError> for StoreFault {
     }
 }
 
-/// A disk that gives no store, and why.
+/// A disk that gives no store, and why. As an error it is its fault, and says nothing of the disk.
 #[derive(Drop)]
 pub struct OpenRefused<D> {
     /// Why.
@@ -162,3 +164,19 @@ pub struct OpenRefused<D> {
     /// The disk, handed back.
     pub disk: D,
 }
+
+impl<D> Debug for OpenRefused<D> {
+    /// The fault; the disk may hold gigabytes, and needn't be `Debug`.
+    fn fmt<W: fmt::Write>(&self, f: &mut Formatter<W>) -> fmt::Result {
+        write!(f, "OpenRefused {{ fault: {:?}, .. }}", self.fault)
+    }
+}
+
+impl<D> Display for OpenRefused<D> {
+    /// The fault's sentence.
+    fn fmt<W: fmt::Write>(&self, f: &mut Formatter<W>) -> fmt::Result {
+        write!(f, "{}", self.fault)
+    }
+}
+
+impl<D: Drop> std::error::Error for OpenRefused<D> {}
