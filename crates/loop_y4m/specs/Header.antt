@@ -3,9 +3,12 @@ use Rattle.std.specs.Prelude.{ℕ, Bool, ◌&&◌, ◌||◌, ◌==◌, nat_lt, n
 use Rattle.std.specs.List.{before_first, after_first, slice_split}
 use Rattle.std.specs.Str.{all_ascii_digits}
 use Rattle.std.specs.Str.Parse.{digits_value}
+use Rattle.loop_record.specs.declared.geometry.Geometry.{Geometry}
 use Rattle.loop_record.specs.declared.geometry.PixelFormat.{PixelFormat}
 use Rattle.loop_record.specs.declared.geometry.PixelFormat.TheVariants.{Grey, Ym12, Ym16, Ym24}
-use Rattle.loop_record.specs.Geometry.{plane_sizes}
+use Rattle.loop_record.specs.Geometry.{is_good, plane_sizes}
+use Rattle.loop_y4m.specs.declared.fault.GeometryFault.{GeometryFault}
+use Rattle.loop_y4m.specs.declared.fault.GeometryFault.TheVariants.{RateUnknown, BadGeometry}
 use Rattle.loop_y4m.specs.declared.fault.Y4mFault.{Y4mFault}
 use Rattle.loop_y4m.specs.declared.fault.Y4mFault.TheVariants.{BadHeader, UnsupportedColour, UnsupportedInterlace}
 use Rattle.loop_y4m.specs.declared.header.Header.{Header}
@@ -95,3 +98,22 @@ complete (Some w) (Some h) p =
 -- what a header line says behind its `YUV4MPEG2` and a space
 abbrev pub header_of : List ℕ → Result Header Y4mFault
 header_of text = and_then (with_parameters nothing_given (words text)) (λ p. complete p.width p.height p)
+
+-- ---- a store for the frames
+
+-- the geometry with a header's format, size and rate, and so many segments and slots
+abbrev pub ring_for : Header → ℕ → ℕ → Geometry
+ring_for h segments slots = record {
+  width = h.width;
+  height = h.height;
+  format = h.format;
+  rate_num = h.rate_num;
+  rate_den = h.rate_den;
+  segments = segments;
+  slots = slots;
+}
+
+-- that geometry, where there is a rate, of which no part is 0, and every limit holds
+abbrev pub geometry_for : Header → ℕ → ℕ → Result Geometry GeometryFault
+geometry_for h segments slots = if h.rate_num == 0 || h.rate_den == 0 then Err RateUnknown
+    else if is_good (ring_for h segments slots) then Ok (ring_for h segments slots) else Err BadGeometry

@@ -1,12 +1,13 @@
 //! What a stream's header line says.
 
-ghost use Rattle.std.specs.Prelude.{◌≡◌, ◌≤◌, IfSome, IfOk};
-ghost use Rattle.loop_y4m.specs.Header.{side, rate, colour, interlace, with_parameter, complete, header_of, size_of_frame};
+ghost use Rattle.std.specs.Prelude.{◌≡◌, ◌≤◌, IfSome, IfOk, IsTrue};
+ghost use Rattle.loop_record.specs.Geometry.{is_good};
+ghost use Rattle.loop_y4m.specs.Header.{side, rate, colour, interlace, with_parameter, complete, geometry_for, header_of, size_of_frame};
 ghost use Rattle.loop_y4m.specs.Steps.{HasSmallSides, IsSmall};
 
-use crate::Y4mFault;
 use crate::number::{find, number};
-use loop_record::PixelFormat;
+use crate::{GeometryFault, Y4mFault};
+use loop_record::{Geometry, PixelFormat};
 
 /// The most bytes of a frame.
 const MAX_FRAME: u32 = 16_777_216;
@@ -39,6 +40,36 @@ impl Header {
         }
         let chroma = self.format.plane_bytes(self.width, self.height, 1);
         luma + chroma + chroma
+    }
+
+    /// The geometry of a store for the frames, with so many segments, and so many slots in each.
+    pub(crate) fn geometry(&self, segments: u32, slots: u32) -> Result<Geometry, GeometryFault>
+        ensures geometry { result ≡ geometry_for self.now segments slots }
+        ensures good { IfOk result (λ geometry. IsTrue (is_good geometry)) }
+    {
+        let Header {
+            format,
+            width,
+            height,
+            rate_num,
+            rate_den,
+        } = *self;
+        if rate_num == 0 || rate_den == 0 {
+            return Err(GeometryFault::RateUnknown);
+        }
+        let geometry = Geometry {
+            width,
+            height,
+            format,
+            rate_num,
+            rate_den,
+            segments,
+            slots,
+        };
+        match geometry.check() {
+            Ok(()) => Ok(geometry),
+            Err(_) => Err(GeometryFault::BadGeometry),
+        }
     }
 }
 

@@ -6,8 +6,9 @@
 //! private functions say. The code:
 //!
 //! - `reader`: the `Y4mReader`, which gives an input's frames one after another; `fault`: what can be wrong
-//!   with an input, and why an export ends;
-//! - `header`: what a stream's header line says; `number`: decimal numbers, judged by their value;
+//!   with an input, why it has no geometry, and why an export ends;
+//! - `header`: what a stream's header line says, and the geometry of a store for it; `number`: decimal numbers,
+//!   judged by their value;
 //! - `input`: bytes and lines from a reader; `frame`: a frame's line and its bytes;
 //! - `text`: the header and the frames as they are written; `exported`: the held frames of a store, so written;
 //! - `laws`: that what is written is read back, and a run of calls gives all frames: contracts of functions
@@ -27,7 +28,7 @@ mod reader;
 mod text;
 
 pub use exported::export;
-pub use fault::{ExportFault, Y4mFault};
+pub use fault::{ExportFault, GeometryFault, Y4mFault};
 pub use header::Header;
 pub use reader::Y4mReader;
 pub use text::{write_frame, write_frame_line, write_header, write_pixels};

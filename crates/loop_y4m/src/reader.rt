@@ -1,7 +1,8 @@
 //! A reader of an input's frames.
 
-ghost use Rattle.std.specs.Prelude.{◌≡◌, ◌<◌, ◌≤◌, IfErr, IfOk, IfSome, None, OnOk, Some, length};
-ghost use Rattle.loop_y4m.specs.Header.{size_of_frame};
+ghost use Rattle.std.specs.Prelude.{◌≡◌, ◌<◌, ◌≤◌, IfErr, IfOk, IfSome, IsTrue, None, OnOk, Some, length};
+ghost use Rattle.loop_record.specs.Geometry.{is_good};
+ghost use Rattle.loop_y4m.specs.Header.{geometry_for, size_of_frame};
 ghost use Rattle.loop_y4m.specs.Reader.{GivesNext, Opened, OpensAs, opened_with};
 ghost use Rattle.loop_y4m.specs.Steps.{HeaderIs, IsSmall, LineIs};
 ghost use Rattle.loop_y4m.specs.Stream.{ends, header_line};
@@ -9,8 +10,8 @@ ghost use Rattle.loop_y4m.specs.Stream.{ends, header_line};
 use crate::frame::{fill, next_frame};
 use crate::header::parse_header;
 use crate::input::{MAX_LINE, next_line};
-use crate::{Header, Y4mFault};
-use loop_record::PixelFormat;
+use crate::{GeometryFault, Header, Y4mFault};
+use loop_record::{Geometry, PixelFormat};
 use std::io::Read;
 use std::marker::Model;
 
@@ -77,6 +78,16 @@ impl<R: Read + Drop> Y4mReader<R> {
         ensures { result ≡ (self.now.header.rate_num, self.now.header.rate_den) }
     {
         (self.header.rate_num, self.header.rate_den)
+    }
+
+    /// The geometry of a store for these frames: their format, size and rate, with so many segments, 2 to 64, and so
+    /// many slots in each, 1 to 256. RateUnknown: the header has no rate, or one with a part of 0, and a store needs
+    /// one. BadGeometry: the segments or the slots are beyond their limits.
+    pub fn geometry(&self, segments: u32, slots: u32) -> Result<Geometry, GeometryFault>
+        ensures geometry { result ≡ geometry_for self.now.header segments slots }
+        ensures good { IfOk result (λ geometry. IsTrue (is_good geometry)) }
+    {
+        self.header.geometry(segments, slots)
     }
 
     /// The bytes of a frame, 16,777,216 at most.

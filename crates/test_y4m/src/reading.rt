@@ -2,8 +2,8 @@
 
 use crate::fakes::{Drip, Shape, Want, reads, tell};
 use crate::told::same;
-use loop_record::PixelFormat;
-use loop_y4m::Y4mFault;
+use loop_record::{Geometry, PixelFormat};
+use loop_y4m::{GeometryFault, Y4mFault, Y4mReader};
 use std::alloc::{AllocError, Global};
 use std::io::ErrorKind;
 use std::ops::RangeInclusive;
@@ -209,6 +209,104 @@ fn opens(
 #[test]
 fn a_header_is_read_or_refused_by_name(rt: HostRuntime) -> Result<(), Fail> {
     opens(&rt, rt.alloc(), &HEADERS)?;
+    Ok(())
+}
+
+/// Header lines, segments and slots, and the geometry of a store of them.
+const GEOMETRIES: [(&[u8], u32, u32, Result<Geometry, GeometryFault>); 11] = [
+    (
+        b"YUV4MPEG2 W5 H3 F30000:1001 C422\n",
+        2,
+        1,
+        Ok(Geometry {
+            width: 5,
+            height: 3,
+            format: PixelFormat::Ym16,
+            rate_num: 30_000,
+            rate_den: 1_001,
+            segments: 2,
+            slots: 1,
+        }),
+    ),
+    (
+        b"YUV4MPEG2 W16384 H1024 F1:4294967295 Cmono\n",
+        64,
+        256,
+        Ok(Geometry {
+            width: 16_384,
+            height: 1_024,
+            format: PixelFormat::Grey,
+            rate_num: 1,
+            rate_den: 4_294_967_295,
+            segments: 64,
+            slots: 256,
+        }),
+    ),
+    (b"YUV4MPEG2 W4 H2\n", 3, 2, Err(GeometryFault::RateUnknown)),
+    (
+        b"YUV4MPEG2 W4 H2 F0:0\n",
+        3,
+        2,
+        Err(GeometryFault::RateUnknown),
+    ),
+    (
+        b"YUV4MPEG2 W4 H2 F25:0\n",
+        3,
+        2,
+        Err(GeometryFault::RateUnknown),
+    ),
+    (
+        b"YUV4MPEG2 W4 H2 F0:1\n",
+        3,
+        2,
+        Err(GeometryFault::RateUnknown),
+    ),
+    (
+        b"YUV4MPEG2 W4 H2 F0:1\n",
+        1,
+        0,
+        Err(GeometryFault::RateUnknown),
+    ),
+    (
+        b"YUV4MPEG2 W4 H2 F25:1\n",
+        1,
+        2,
+        Err(GeometryFault::BadGeometry),
+    ),
+    (
+        b"YUV4MPEG2 W4 H2 F25:1\n",
+        65,
+        2,
+        Err(GeometryFault::BadGeometry),
+    ),
+    (
+        b"YUV4MPEG2 W4 H2 F25:1\n",
+        3,
+        0,
+        Err(GeometryFault::BadGeometry),
+    ),
+    (
+        b"YUV4MPEG2 W4 H2 F25:1\n",
+        3,
+        257,
+        Err(GeometryFault::BadGeometry),
+    ),
+];
+
+// A store of each of these headers has this geometry.
+fn gives_geometry(rt: &impl Abort, rows: &[(&[u8], u32, u32, Result<Geometry, GeometryFault>)]) {
+    for (row, (line, segments, slots, want)) in rows.iter().enumerate() {
+        let given = match Y4mReader::open(*line) {
+            Ok(reader) => Some(reader.geometry(*segments, *slots)),
+            Err(_) => None,
+        };
+        same!(rt; given, Some(*want), row);
+    }
+}
+
+#[test]
+fn a_geometry_is_the_headers_or_refused_by_name(rt: HostRuntime) -> Result<(), Fail> {
+    gives_geometry(&rt, &GEOMETRIES);
     Ok(())
 }
 
