@@ -4,8 +4,8 @@
 use anyhow::{Context, Result, anyhow};
 use loop_desk::{Desk, DeskLimits};
 use loop_file::FileDisk;
-use loop_record::{Frame, Geometry};
-use loop_store::{OpenRefused, format};
+use loop_record::Frame;
+use loop_store::format;
 use loop_y4m::Y4mReader;
 use std::alloc::Global;
 use std::env;
@@ -56,18 +56,9 @@ fn main(rt: HostRuntime) -> Result<()> {
     let source = words.next().context("no video")?;
     let input = BufReader::new(alloc, File::open(&rt, source.as_str())?)?;
     let mut video = Y4mReader::open(input)?;
-    let geometry = Geometry {
-        width: video.width(),
-        height: video.height(),
-        format: video.format(),
-        rate_num: video.rate().0,
-        rate_den: video.rate().1,
-        segments,
-        slots,
-    };
-    geometry.check()?;
+    let geometry = video.geometry(segments, slots)?;
     let disk = FileDisk::create(&rt, path.as_str(), geometry.disk_size())?;
-    let store = format(alloc, disk, geometry).map_err(|OpenRefused { fault, disk: _ }| fault)?;
+    let store = format(alloc, disk, geometry)?;
     let limits = DeskLimits {
         pending: WAITING,
         group: 8,
