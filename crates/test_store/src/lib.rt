@@ -3,7 +3,7 @@
 //!
 //! - `common`: a geometry, frames of a pattern, images, and calls that see to their preconditions first;
 //! - `memory`: each growth is refused in turn;
-//! - `names`: the numbers and the names of the refusals;
+//! - `names`: the numbers, the names and the sentences of the refusals;
 //! - `told`: assertions that are cheap to prove.
 #![tactic(auto)]
 

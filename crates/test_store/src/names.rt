@@ -1,9 +1,10 @@
-//! The names and the numbers of the refusals.
+//! The names, the numbers and the sentences of the refusals.
 
 use crate::told::same;
 use loop_disk::DiskFault;
 use loop_record::Damage;
-use loop_store::StoreFault;
+use loop_store::{OpenRefused, StoreFault};
+use std::test::Fail;
 
 #[test]
 fn a_refusal_has_its_number_and_its_name(rt: HostRuntime) {
@@ -25,4 +26,29 @@ fn a_refusal_has_its_number_and_its_name(rt: HostRuntime) {
     for (fault, number, name) in faults {
         same!(rt; (fault.number(), fault.name()), (number, name));
     }
+}
+
+#[test]
+fn a_refused_opening_is_printed_as_its_fault_with_the_cause(rt: HostRuntime) -> Result<(), Fail> {
+    let sentences = [
+        (
+            StoreFault::Disk(DiskFault::Sync),
+            "the disk failed: a sync failed",
+        ),
+        (
+            StoreFault::Damaged(Damage::SlotHead),
+            "the image is damaged: a slot holds another frame",
+        ),
+        (
+            StoreFault::ClipNotHeld(7),
+            "the clip has number 7, of which no frame is held",
+        ),
+        (StoreFault::NotFormatted, "the disk isn't formatted"),
+    ];
+    for (fault, sentence) in sentences {
+        let refused = OpenRefused { fault, disk: () };
+        let printed = format!(in rt.alloc(); "{refused}")?;
+        same!(rt; printed.as_str(), sentence);
+    }
+    Ok(())
 }
