@@ -11,11 +11,15 @@
 mod cameras;
 mod even;
 mod files;
+mod on_store;
 mod program;
 mod record;
 mod simulation;
 
 pub use even::EvenWriter;
 pub use files::run_on_file;
+pub use on_store::{
+    NotExported, Target, Told, export_along, export_apart, export_text, list, lock, unlock,
+};
 pub use program::{run_words, words_refused};
 pub use simulation::simulate;
