@@ -1,11 +1,13 @@
 //! The program's commands.
 //!
 //! `program` reads the program's words and chooses what to do, and ends with a status. `simulation` runs a script
-//! line by line on a recorder whose disk lies in memory. `files` does commands on stores in files; `even` makes the
-//! writes of an export even. `record` records from a source into stores in files; `cameras` sets up a camera before
-//! each, with its queue and memory for the buffers.
+//! line by line on a recorder whose disk lies in memory. `files` does commands on stores in files: it opens them, and
+//! `on_store` does the rest, over any disk and any writer; `even` makes the writes of an export even. `record`
+//! records from a source into stores in files; `cameras` sets up a camera before each, with its queue and memory for
+//! the buffers.
 //!
-//! What a line and the words mean is loop_script's, and proved there; the lines that are printed are tested.
+//! What a line and the words mean is loop_script's, and proved there. What becomes of an open store and of the text of
+//! an export, and when that is told, is proved of `on_store`; all other lines that are printed are tested.
 #![tactic(auto)]
 
 mod cameras;
