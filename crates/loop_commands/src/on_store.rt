@@ -1,7 +1,8 @@
 //! Commands on an open store, over any disk and any writers: what becomes of the store, and what is written. Which
 //! files are opened, and how, is `files`.
 
-ghost use Rattle.std.specs.Prelude.{◌≡◌, ◌++◌, ◌∷◌, ◌⊎◌, ℕ, IfErr, IfOk, IfSome, IsSome, List, None, OnErr, OnOk, Option, [], codes, map};
+ghost use Rattle.std.specs.Prelude.{◌≡◌, ◌++◌, ◌∷◌, ◌⊎◌, ℕ, List, None, Option, [], codes, map};
+ghost use Rattle.std.specs.Prelude.{IfErr, IfOk, IfSome, IsSome, OnErr, OnOk};
 ghost use Rattle.std.specs.Io.KnownBytes.{Appends, Keeps};
 ghost use Rattle.loop_clips.specs.Table.{listed};
 ghost use Rattle.loop_record.specs.Recording.{Recording};
@@ -60,7 +61,8 @@ pub fn list<D: Disk + Drop, A: Allocator + Copy, W: Write>(
     ensures numbers { (r : Recording) → StandsFor D.medium store.now r → (D.medium store.now.disk).honest
         → IfOk result.answer (λ listing. listing.numbers.items ≡ map (λ f. f.0) r.frames) }
     ensures clips { IfOk result.answer (λ listing. listing.clips.items ≡ listed 0 store.now.clips) }
-    ensures refusals { IfErr result.answer (λ fault. (fault ≡ StoreFault.MustReopen) ⊎ (fault ≡ StoreFault.NoMemory)) }
+    ensures refusals { IfErr result.answer
+        (λ fault. (fault ≡ StoreFault.MustReopen) ⊎ (fault ≡ StoreFault.NoMemory)) }
     ensures silent { OnErr result.answer (out.new ≡ out.old) }
 {
     match Listing::of(store, alloc) {
@@ -107,7 +109,8 @@ pub fn unlock<D: Disk + Drop, A: Allocator, W: Write>(
     out: &mut W,
 ) -> Told<()>
     ensures goes { Goes D.medium store.old store.new (unlocked id result.answer ∷ []) }
-    ensures told { IsTold W.contents out.old out.new (λ _. line_of (codes "unlocked") id) result.answer result.printed }
+    ensures told { IsTold W.contents out.old out.new (λ _. line_of (codes "unlocked") id)
+        result.answer result.printed }
 {
     match store.unlock(id) {
         Ok(()) => Told {
@@ -149,8 +152,8 @@ fn refused_before<D: Disk + Drop, A: Allocator>(
 }
 
 /// Writes the held frames from a number to another as a text, as `loop_y4m::export`, and answers how many, with the
-/// writer. They are gathered, so that each write but the last has the same size. Ok says that the last write and the flush
-/// behind it were Ok too.
+/// writer. They are gathered, so that each write but the last has the same size. Ok says that the last write and the
+/// flush behind it were Ok too.
 pub fn export_text<D: Disk + Drop, A: Allocator + Copy, W: Write + Drop>(
     alloc: A,
     store: &mut Store<D, A>,
@@ -235,7 +238,8 @@ pub fn export_apart<D: Disk + Drop, A: Allocator + Copy, T: Target + Drop, W: Wr
         (T.emptied target) (T.contents done.1) done.0) }
     ensures kept { HoldsNone store.old.numbers from to → IsKept target result.answer }
     ensures store { OnlyRead D.medium store.old store.new (failed_export (fault_of result.answer)) }
-    ensures told { IsTold W.contents out.old out.new (λ done. line_of (codes "exported") done.0) result.answer result.printed }
+    ensures told { IsTold W.contents out.old out.new (λ done. line_of (codes "exported") done.0)
+        result.answer result.printed }
 {
     match export_into(alloc, store, from, to, target) {
         Ok((count, target)) => Told {
