@@ -3,3 +3,4 @@ pub mod Numerals
 pub mod FirstLine
 pub mod Kept
 pub mod Called
+pub mod Reopened

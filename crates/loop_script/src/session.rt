@@ -4,7 +4,7 @@ ghost use Rattle.loop_desk.specs.Desk.{clip_locked, clip_unlocked, flushed, fram
 ghost use Rattle.loop_desk.specs.Seen.{DeskGoes, TellsOutline};
 ghost use Rattle.loop_record.specs.declared.damage.Damage.TheVariants.{SlotHead};
 ghost use Rattle.loop_record.specs.Geometry.{is_good};
-ghost use Rattle.loop_record.specs.Recording.{empty};
+ghost use Rattle.loop_record.specs.Recording.{Recording, empty};
 ghost use Rattle.loop_store.specs.Faults.{is_disk};
 ghost use Rattle.loop_store.specs.Formatted.{IsFormatted};
 ghost use Rattle.loop_store.specs.Opened.{IsOpened, IsRefusedOpen};
@@ -152,7 +152,9 @@ impl<A: Allocator + Copy> Session<A> {
 
     /// Takes the disk out of the desk and finds the store on it again; what waited is lost, and the frames that were
     /// accepted stay so. It answers NoMemory, and then leaves nothing behind. So does a disk that holds no store of
-    /// this geometry, which is refused as NotFormatted, Damaged or BadGeometry.
+    /// this geometry, which is refused as NotFormatted, Damaged or BadGeometry. A store that stands for a recording is
+    /// refused for want of memory alone.
+    #[tactic(auto, using(crate::proofs::Reopened::refused_for_memory, crate::proofs::Reopened::same_geometry))]
     pub fn reopen(self, alloc: A) -> Result<Self, StoreFault>
         ensures opened { IfOk result (λ s. IsOpened ⟦<MemDisk<A> as Disk>⟧.medium
             (⟦<MemDisk<A> as Disk>⟧.medium self.desk.store.disk).bytes s.desk.store) }
@@ -163,6 +165,8 @@ impl<A: Allocator + Copy> Session<A> {
         ensures refused { IfErr result (λ fault. (fault ≡ StoreFault.BadGeometry)
             ⊎ IsRefusedOpen (⟦<MemDisk<A> as Disk>⟧.medium self.desk.store.disk).bytes fault) }
         ensures refusals { IfErr result (λ fault. is_disk fault ≡ false) }
+        ensures sound { (r : Recording) → StandsFor ⟦<MemDisk<A> as Disk>⟧.medium self.desk.store r
+            → IfErr result (λ fault. fault ≡ StoreFault.NoMemory) }
     {
         let Session { desk, accepted } = self;
         let geometry = desk.geometry();

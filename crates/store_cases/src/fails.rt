@@ -2,7 +2,9 @@
 
 use crate::acts::{Act, does, frames_of};
 use crate::case::{Case, Moment, close};
-use crate::frames::{append_next, held, is_beginning, opened, read, refused, unexpected};
+use crate::frames::{
+    append_again, append_next, held, is_beginning, opened, read, refused, unexpected,
+};
 use anyhow::{Result, anyhow};
 use loop_disk::{Disk, DiskFault, FuseDisk, MemDisk, OnceDisk};
 use loop_store::{Command, Store, StoreFault};
@@ -110,13 +112,15 @@ fn is_left(case: &Case, store: &Store<MemDisk>, done: &Done, found: &[u64]) -> R
     })
 }
 
-// What is left shows what it may. A frame is stored then, in a second attempt, and its number is answered.
-fn goes_on(case: &Case, store: &mut Store<MemDisk>, done: &Done) -> Result<u64> {
+// What is left shows what it may. A frame is stored then, in a second attempt, if it has a place, and its number is
+// answered.
+fn goes_on(case: &Case, store: &mut Store<MemDisk>, done: &Done) -> Result<Option<u64>> {
     let found = held(case.alloc, store, u64::MAX)?;
     if !is_left(case, store, done, &found)? {
         return Err(unexpected(&found));
     }
-    append_next(case.alloc, store, 1, 1)?.map_err(refused)
+    let clips = store.clips(case.alloc).map_err(refused)?;
+    append_again(case.alloc, store, &found, &clips)
 }
 
 // The last frame is the one of this number. It is of the second attempt, and those before it are of the first.
@@ -131,7 +135,9 @@ fn ends_with(alloc: Global, store: &mut Store<MemDisk>, number: u64) -> Result<(
 // Opens what is left, stores a frame in a second attempt, and opens it again. What was given up doesn't come back.
 fn reopens(case: &Case, disk: MemDisk, done: &Done) -> Result<()> {
     let mut store = opened(case.alloc, disk)?;
-    let number = goes_on(case, &mut store, done)?;
+    let Some(number) = goes_on(case, &mut store, done)? else {
+        return Ok(());
+    };
     let mut store = opened(case.alloc, store.into_disk())?;
     ends_with(case.alloc, &mut store, number)
 }

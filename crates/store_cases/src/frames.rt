@@ -5,8 +5,8 @@ ghost use Rattle.loop_record.specs.Geometry.{frame_bytes};
 
 use anyhow::{Error, Result, anyhow};
 use loop_disk::Disk;
-use loop_record::{Frame, FrameHead};
-use loop_store::{Store, StoreFault};
+use loop_record::{Frame, FrameHead, Geometry};
+use loop_store::{Clip, Store, StoreFault};
 use std::alloc::{AllocError, Global};
 
 /// A refusal that isn't expected.
@@ -205,6 +205,62 @@ pub(crate) fn held<D: Disk + Drop>(
 pub(crate) fn is_beginning(found: &[u64], before: &[u64], after: &[u64], count: u64) -> bool {
     let most = found.len().saturating_add(count as usize);
     *found == *before || (most >= after.len() && after.starts_with(found))
+}
+
+// The block of a number.
+fn block_of(geometry: &Geometry, number: u64) -> u64 {
+    number / u64::from(geometry.slots.max(1))
+}
+
+// Whether a clip meets the block of a number.
+fn meets(geometry: &Geometry, clip: &Clip, number: u64) -> bool {
+    let block = block_of(geometry, number);
+    block_of(geometry, clip.from) <= block && block <= block_of(geometry, clip.to)
+}
+
+// Whether the block of each frame is the newest, or a clip meets it.
+fn all_stay(geometry: &Geometry, frames: &[u64], newest: u64, clips: &[Clip]) -> bool {
+    frames.iter().all(|number| {
+        block_of(geometry, *number) == newest
+            || clips.iter().any(|clip| meets(geometry, clip, *number))
+    })
+}
+
+// How many blocks frames lie in. The first frame of each is held.
+fn count_blocks(geometry: &Geometry, frames: &[u64]) -> usize {
+    frames
+        .iter()
+        .filter(|number: &&u64| **number % u64::from(geometry.slots.max(1)) == 0)
+        .count()
+}
+
+/// Whether no frame more has a place, by the rules: the newest block is full, each segment holds a block, and no block
+/// may go.
+pub(crate) fn is_all_locked(geometry: &Geometry, frames: &[u64], clips: &[Clip]) -> bool {
+    let Some(last) = frames.last() else {
+        return false;
+    };
+    let newest = block_of(geometry, *last);
+    block_of(geometry, last.wrapping_add(1)) != newest
+        && count_blocks(geometry, frames) == geometry.segments as usize
+        && all_stay(geometry, frames, newest, clips)
+}
+
+/// Stores a frame in a second attempt, and answers its number; nothing where it is refused because each block stays,
+/// which it has to be just then.
+pub(crate) fn append_again<D: Disk + Drop>(
+    alloc: Global,
+    store: &mut Store<D>,
+    found: &[u64],
+    clips: &[Clip],
+) -> Result<Option<u64>> {
+    let is_full = is_all_locked(&store.geometry(), found, clips);
+    match append_next(alloc, store, 1, 1)? {
+        Ok(number) if !is_full => Ok(Some(number)),
+        Err(StoreFault::AllLocked) if is_full => Ok(None),
+        Ok(_) => Err(anyhow!("a block has gone that had to stay")),
+        Err(fault) => Err(refused(fault)),
+    }
 }
 
 /// The store of a disk that has a recording.

@@ -4,7 +4,7 @@
 use crate::acts::{Act, does, frames_of};
 use crate::case::{Case, Moment};
 use crate::frames::{
-    append_next, frame, held, is_beginning, opened, refused, size_of_frames, unexpected,
+    append_again, frame, held, is_beginning, opened, refused, size_of_frames, unexpected,
 };
 use crate::list::run;
 use crate::text::print_numbers;
@@ -124,12 +124,19 @@ fn may_show(case: &Case, calls: usize, frames: &[u64], clips: &[Clip]) -> bool {
     }
 }
 
+// The number of the frame that a second attempt has stored; behind all numbers where it had no place.
+fn again_from(found: &[u64], after: &[u64]) -> u64 {
+    match after.last() {
+        Some(last) if *found != *after => *last,
+        _ => u64::MAX,
+    }
+}
+
 // After a stop in the second attempt the frames are those from before it or after it, and what was given up isn't
 // back.
 fn is_again(alloc: Global, left: MemDisk, found: &[u64], after: &[u64]) -> Result<()> {
     let mut store = opened(alloc, left)?;
-    let again = after.last().copied().unwrap_or(0);
-    let shown = held(alloc, &mut store, again)?;
+    let shown = held(alloc, &mut store, again_from(found, after))?;
     if is_beginning(&shown, found, after, 1) {
         Ok(())
     } else {
@@ -147,18 +154,23 @@ fn stops_again(alloc: Global, disk: &CrashDisk, found: &[u64], after: &[u64]) ->
     Ok(())
 }
 
-// Stores a frame in a second attempt, and answers which frames are held then.
-fn stores_again(alloc: Global, store: &mut Store<CrashDisk>) -> Result<Vec<u64>> {
-    let next = append_next(alloc, store, 1, 1)?.map_err(refused)?;
-    held(alloc, store, next)
+// Stores a frame in a second attempt, if it has a place, and answers which frames are held then.
+fn stores_again(
+    alloc: Global,
+    store: &mut Store<CrashDisk>,
+    found: &[u64],
+    clips: &[Clip],
+) -> Result<Vec<u64>> {
+    let again = append_again(alloc, store, found, clips)?;
+    held(alloc, store, again.unwrap_or(u64::MAX))
 }
 
 // Opens what a stop left on a disk that remembers its calls, and stores a frame in a second attempt, which is
-// stopped too.
-fn tries_again(alloc: Global, left: MemDisk, found: &[u64]) -> Result<()> {
+// stopped too. A stop within an unlock may leave the clip, and then the frame may have no place.
+fn tries_again(alloc: Global, left: MemDisk, found: &[u64], clips: &[Clip]) -> Result<()> {
     let disk = CrashDisk::of(alloc, left.bytes().to_vec(alloc)?)?;
     let mut store = opened(alloc, disk)?;
-    let after = stores_again(alloc, &mut store)?;
+    let after = stores_again(alloc, &mut store, found, clips)?;
     stops_again(alloc, &store.into_disk(), found, &after)
 }
 
@@ -184,7 +196,7 @@ fn stops_at(case: &Case, disk: &CrashDisk, calls: usize, spoil: Spoil) -> Result
     if !AGAIN.contains(&spoil) {
         return Ok(());
     }
-    tries_again(case.alloc, left_at(disk, calls, spoil)?, &found)
+    tries_again(case.alloc, left_at(disk, calls, spoil)?, &found, &clips)
 }
 
 // Opens what stops behind so many calls leave.
