@@ -248,21 +248,41 @@ fn outlines_within<'a>(rt: &impl Abort, memory: &'a Budget, desk: &Desk<MemDisk,
     same!(rt; outline_fault(memory, desk), None);
 }
 
-// A desk takes its memory first: one growth.
+// A desk needs more growths than these; its store comes back.
+fn refused_within<'a>(
+    rt: &impl Abort,
+    memory: &'a Budget,
+    store: Store<MemDisk, &'a Budget>,
+    allowed: u64,
+) -> Store<MemDisk, &'a Budget> {
+    memory.allow(allowed);
+    match without_desk(rt, memory, store) {
+        Some(store) => store,
+        None => panic!(rt; "a desk needs more growths than {allowed}"),
+    }
+}
+
+// A desk takes its memory first: two growths, for the frames that wait and for memory to use again.
 fn desk_within<'a>(
     rt: &impl Abort,
     memory: &'a Budget,
     store: Store<MemDisk, &'a Budget>,
 ) -> Desk<MemDisk, &'a Budget> {
-    memory.allow(0);
-    let Some(store) = without_desk(rt, memory, store) else {
-        panic!(rt; "a desk needs memory")
-    };
+    let store = refused_within(rt, memory, store, 0);
+    let store = refused_within(rt, memory, store, 1);
     same!(rt; store.geometry(), SMALL);
-    memory.allow(1);
+    memory.allow(2);
     match with_desk(rt, memory, store) {
         Some(desk) => desk,
-        None => panic!(rt; "one growth is enough"),
+        None => panic!(rt; "two growths are enough"),
+    }
+}
+
+// The length of the memory that a desk has to spare, or 0.
+fn spare<A: Allocator + Copy>(desk: &mut Desk<MemDisk, A>) -> usize {
+    match desk.spare_memory() {
+        Some(bytes) => bytes.len(),
+        None => 0,
     }
 }
 
@@ -274,7 +294,10 @@ fn a_desk_takes_its_memory_first(rt: HostRuntime) -> Result<(), Fail> {
     let mut desk = desk_within(&rt, &memory, store);
     same!(rt; memory.left(), 0);
     memory.allow(1);
+    same!(rt; spare(&mut desk), 0);
     holds_one(&rt, &memory, &mut desk);
+    same!(rt; spare(&mut desk), 12);
+    same!(rt; spare(&mut desk), 0);
     outlines_within(&rt, &memory, &desk);
     memory.allow(0);
     same!(rt; reads(&memory, &mut desk), Err(StoreFault::NoMemory));
