@@ -72,7 +72,7 @@ impl<A: Allocator + Copy> Session<A> {
         }
     }
 
-    /// Makes the next frame of the pattern, in memory that the desk kept or new, and submits it; answers the number that it will
+    /// Makes the next frame of the pattern, in memory of its own, and submits it; answers the number that it will
     /// have. It answers NoMemory, PendingFull or NumbersSpent; then nothing is changed, and the frame isn't
     /// accepted, so the next call makes it again.
     pub fn submit_next(&mut self, alloc: A) -> Result<u64, StoreFault>
@@ -83,8 +83,7 @@ impl<A: Allocator + Copy> Session<A> {
         ensures accepted { self.new.accepted ≡ accepted_after self.old.accepted result }
     {
         let geometry = self.desk.geometry();
-        let spare = self.desk.spare_memory();
-        let frame = match pattern_frame(alloc, spare, &geometry, self.accepted) {
+        let frame = match pattern_frame(alloc, &geometry, self.accepted) {
             Ok(frame) => frame,
             Err(_) => return Err(StoreFault::NoMemory),
         };
@@ -93,10 +92,7 @@ impl<A: Allocator + Copy> Session<A> {
                 self.accepted = self.accepted.saturating_add(1);
                 Ok(number)
             }
-            Err((fault, frame)) => {
-                self.desk.keep_memory(frame.bytes);
-                Err(fault)
-            }
+            Err((fault, _)) => Err(fault),
         }
     }
 

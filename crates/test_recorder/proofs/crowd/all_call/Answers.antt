@@ -3,7 +3,7 @@ use Rattle.std.proofs.Crossing.{crosses}
 use Rattle.loop_recorder.proofs.Crossing.{pass_send, recorder_sync}
 use Rattle.test_recorder.proofs.crowd.all_call.Goals as goal
 
-pub map_vec-called-requires-sync-F : goal.map_vec-requires-sync-F
+pub map_vec-called-requires-sync-F : goal.map_vec-called-requires-sync-F
 map_vec-called-requires-sync-F g c =
     let yr = c.type_bounds.sync-R in
     let sv = pass_send in

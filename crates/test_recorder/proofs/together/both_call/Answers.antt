@@ -3,8 +3,8 @@ use Rattle.std.proofs.Crossing.{crosses}
 use Rattle.loop_recorder.proofs.Crossing.{pass_send, recorder_sync}
 use Rattle.test_recorder.proofs.together.both_call.Goals as goal
 
-pub join-requires-send-F : goal.join-requires-send-F
-join-requires-send-F g c =
+pub join-one-requires-send-F : goal.join-one-requires-send-F
+join-one-requires-send-F g c =
     let yr = c.type_bounds.sync-R in
     let sv = pass_send in
     let yo = recorder_sync _ _ g.D.Disk g.P.PlaneMemory c.type_bounds.send-D c.type_bounds.sync-D c.type_bounds.send-P in
