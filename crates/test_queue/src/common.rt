@@ -67,6 +67,24 @@ pub(crate) fn supplied<A: Allocator + Copy>(
     next
 }
 
+/// Puts so many sets of one page behind the others.
+pub(crate) fn supplied_many<A: Allocator + Copy>(
+    rt: &impl Abort,
+    alloc: A,
+    ledger: &Arc<PageLedger<A>, A>,
+    mut seat: PageSeat,
+    count: u32,
+    supply: &mut Vec<PlaneSet<MmapPlane<A>>, A>,
+) -> PageSeat
+    requires { IsIdle (arc_value ledger.now) seat }
+    ensures { IsIdle (arc_value ledger.now) result }
+{
+    for _set in 0..count {
+        seat = supplied(rt, alloc, ledger, seat, supply);
+    }
+    seat
+}
+
 /// A call of a queue whose frames have one byte.
 #[derive(Clone, Copy)]
 pub(crate) enum Call {

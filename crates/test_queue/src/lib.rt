@@ -4,6 +4,7 @@
 //! - `common`: planes over claimed pages, and a queue of frames of one byte whose calls stand in tables;
 //! - `rounds`: buffers go round, with ample memory and with each growth refused;
 //! - `refusals`: what a refused request hands back, and which pages are free again; `supplies`: the same by ioctls;
+//!   `lists`: by a list of events;
 //! - `boxes`: a frame on its way through a queue of boxes, with a contract as a crate above the queue writes it;
 //! - `told`: assertions that are cheap to prove.
 #![tactic(auto)]
@@ -11,6 +12,8 @@
 pub mod boxes;
 #[cfg(test)]
 mod common;
+#[cfg(test)]
+mod lists;
 #[cfg(test)]
 mod refusals;
 #[cfg(test)]
