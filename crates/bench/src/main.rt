@@ -44,6 +44,17 @@
 //! and runs so many lists of events through the lane, one after the other: each brings GROUP frames of the store's
 //! size, and flushes them. A flush that leaves a frame waiting, and every event that is refused, ends the program.
 //!
+//!     recorder COUNT WIDTH HEIGHT SEGMENTS SLOTS GROUP GROUPS
+//!
+//! makes a recorder of one camera, and then one of COUNT cameras, each over a disk in memory of its own for GREY frames,
+//! and in each stores GROUPS groups of GROUP frames a camera, from a thread for each camera, with a flush a group. It
+//! prints how many frames a second the cameras stored together, how many the one alone, and the first as a part of the
+//! second: with as many processors as cameras, 100 % a camera is the most;
+//!
+//!     recorder-files GROUP GROUPS COUNT ALONE PATH..
+//!
+//! does the same with the store in the file ALONE, and then with those in COUNT files;
+//!
 //! Without a word it does nothing, since what it measures is never the same twice.
 #![tactic(auto)]
 
@@ -51,6 +62,7 @@ mod lane;
 mod memory;
 mod planes;
 mod queue;
+mod recorder;
 mod store;
 mod words;
 
@@ -63,11 +75,15 @@ fn main(rt: HostRuntime) -> Result<()> {
     let _program = words.next();
     match words.next() {
         None => Ok(()),
-        Some(word) => measure(&rt, word.as_str(), &mut words),
+        Some(word) => match word.as_str() {
+            "recorder" => recorder::measure(&rt, rt.alloc(), &mut words),
+            "recorder-files" => recorder::measure_files(&rt, rt.alloc(), &mut words),
+            alone => measure(&rt, alone, &mut words),
+        },
     }
 }
 
-// Measures what a word names, as the words behind it say.
+// Measures what a word names that needs no threads, as the words behind it say.
 fn measure(rt: &HostRuntime, word: &str, words: &mut Args) -> Result<()> {
     match word {
         "planes" => planes::measure(rt, rt.alloc(), words),
@@ -84,7 +100,7 @@ fn measure(rt: &HostRuntime, word: &str, words: &mut Args) -> Result<()> {
         "record" => store::record(rt, words),
         "lane" => told(rt, "stored, next", lane::record(rt, rt.alloc(), words)),
         _ => Err(anyhow!(
-            "planes, queue, append, append-file, open, list, lock-file, record or lane"
+            "planes, queue, recorder, recorder-files, append, append-file, open, list, lock-file, record or lane"
         )),
     }
 }

@@ -1,4 +1,5 @@
 // A writer whose writes end at even places.
+ghost use Rattle.std.specs.Prelude.{◌≡◌};
 
 use std::io::{Result, Write};
 
@@ -15,12 +16,26 @@ pub struct EvenWriter<W> {
 
 impl<W> EvenWriter<W> {
     /// Nothing was written yet. Multiples of 0 are taken as those of 1.
-    pub fn new(inner: W, at_once: usize) -> Self {
+    pub fn new(inner: W, at_once: usize) -> Self
+        ensures { result.inner ≡ inner }
+    {
         EvenWriter {
             inner,
             at_once: at_once.max(1),
             left: 0,
         }
+    }
+
+    /// The writer beneath. It may have gathered what isn't written yet.
+    pub(crate) fn into_inner(self) -> W
+        ensures { result ≡ self.inner }
+    {
+        let EvenWriter {
+            inner,
+            at_once: _,
+            left: _,
+        } = self;
+        inner
     }
 }
 

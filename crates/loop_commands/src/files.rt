@@ -2,23 +2,20 @@
 ghost use Rattle.std.specs.Prelude.{IsTrue};
 ghost use Rattle.loop_record.specs.Geometry.{is_good};
 
-use crate::even::EvenWriter;
+use crate::on_store::{Target, Told, export_along, export_apart, list, lock, unlock};
 use loop_ahead::AheadDisk;
 use loop_disk::Disk;
 use loop_file::{FileDisk, FileFault, FilePlace};
 use loop_record::Geometry;
-use loop_script::{FileCommand, Listing, print_line, print_parts, print_refusal};
+use loop_script::{FileCommand, print_line, print_parts, print_refusal};
 use loop_store::{OpenRefused, Store, StoreFault};
-use loop_y4m::export;
+use loop_y4m::ExportFault;
 use std::alloc::{AllocGlobal, Global};
 use std::fs::{File, OpenFile, OpenOptions};
 use std::io::{BufWriter, Error, Write};
 use std::os::unix::fs::MetadataExt;
 use std::rt::Files;
 use std::{fs, io};
-
-/// How many bytes of a text are gathered before they are written to its file.
-const TEXT_AT_ONCE: usize = 262_144;
 
 /// How many bytes of a store are fetched at once where an export reads on.
 const READ_AHEAD: usize = 65_536;
@@ -28,13 +25,39 @@ const OWN_OUTPUT: &str = "/dev/stdout";
 
 /// Where the text of an export goes.
 #[derive(Drop)]
-enum Target {
+enum Opened {
     /// Through the program's own output, in front of what is printed. Where that is a file, its lock is held.
     Own(Option<File>),
-    /// Into a file, whose lock is held.
-    File(File),
-    /// Into a pipe or a device.
-    Stream(File),
+    /// Elsewhere.
+    Apart(Output),
+}
+
+/// A file, whose lock is held, or a pipe or a device.
+#[derive(Drop)]
+struct Output {
+    file: File,
+    is_file: bool,
+}
+
+impl Write for Output {
+    fn write(&mut self, buf: &[u8]) -> io::Result<usize> {
+        self.file.write(buf)
+    }
+
+    fn flush(&mut self) -> io::Result<()> {
+        self.file.flush()
+    }
+}
+
+impl Target for Output {
+    // One that has nothing is left alone, since some file systems write a file that was cut to nothing through to the
+    // disk when it is closed.
+    fn empty(&mut self) -> io::Result<()> {
+        if self.is_file && self.file.metadata()?.len() > 0 {
+            self.file.set_len(0)?;
+        }
+        Ok(())
+    }
 }
 
 /// Why a command wasn't done, or not to its end.
@@ -119,9 +142,9 @@ fn print_command<'a, R: AllocGlobal + Files<File = File>, W: Write>(
 ) -> Result<(), Undone<'a>> {
     match command {
         FileCommand::Format(geometry) => print_format(rt, path, geometry, out),
-        FileCommand::List => print_list(&open(rt, path)?, rt.alloc(), out),
-        FileCommand::Lock(from, to) => print_lock(&mut open(rt, path)?, (from, to), out),
-        FileCommand::Unlock(id) => print_unlock(&mut open(rt, path)?, id, out),
+        FileCommand::List => ended(list(&open(rt, path)?, rt.alloc(), out)),
+        FileCommand::Lock(from, to) => ended(lock(&mut open(rt, path)?, from, to, out)),
+        FileCommand::Unlock(id) => ended(unlock(&mut open(rt, path)?, id, out)),
         FileCommand::Export(from, to, target) => print_export(rt, path, (from, to), target, out),
     }
 }
@@ -138,50 +161,53 @@ fn print_format<'a, R: AllocGlobal + Files<File = File>, W: Write>(
     Ok(())
 }
 
-// Prints what is listed of a store.
-fn print_list<'a, W: Write>(
-    store: &Store<FileDisk>,
-    alloc: Global,
-    out: &mut W,
-) -> Result<(), Undone<'a>> {
-    let listing = Listing::of(store, alloc)?;
-    listing.print(out)?;
+// What a command on a store told, as far as it was done.
+fn ended<'a, T: Drop>(told: Told<T>) -> Result<(), Undone<'a>> {
+    told.answer?;
+    told.printed?;
     Ok(())
 }
 
-// Locks a clip, and prints its id.
-fn print_lock<'a, W: Write>(
-    store: &mut Store<FileDisk>,
-    (from, to): (u64, u64),
-    out: &mut W,
-) -> Result<(), Undone<'a>> {
-    let id = store.lock(from, to)?;
-    print_line(out, "locked", &[(" ", u64::from(id))])?;
-    Ok(())
-}
-
-// Unlocks a clip, and prints its id.
-fn print_unlock<'a, W: Write>(
-    store: &mut Store<FileDisk>,
-    id: u32,
-    out: &mut W,
-) -> Result<(), Undone<'a>> {
-    store.unlock(id)?;
-    print_line(out, "unlocked", &[(" ", u64::from(id))])?;
-    Ok(())
-}
-
-// Exports frames, and prints how many.
+// Exports frames, and prints how many. Both files are opened before the store is looked for.
 fn print_export<'a, R: AllocGlobal + Files<File = File>, W: Write>(
     rt: &R,
     path: &'a str,
-    numbers: (u64, u64),
+    (from, to): (u64, u64),
     target: &'a str,
     out: &mut W,
 ) -> Result<(), Undone<'a>> {
-    let count = export_into(rt, path, numbers, target, out)?;
-    print_line(out, "exported", &[(" ", count)])?;
-    Ok(())
+    let Ok(disk) = FileDisk::open(rt, path) else {
+        return Err(Undone::CannotOpen(path));
+    };
+    let opened = target_of(rt, target)?;
+    let mut store = find_ahead(rt.alloc(), disk)?;
+    match opened {
+        Opened::Own(_lock) => {
+            let told = export_along(rt.alloc(), &mut store, from, to, out);
+            is_exported(told.answer.err(), told.printed, target)
+        }
+        Opened::Apart(text) => {
+            let told = export_apart(rt.alloc(), &mut store, from, to, text, out);
+            let fault = told.answer.err().map(|refused| refused.fault);
+            is_exported(fault, told.printed, target)
+        }
+    }
+}
+
+// Whether frames were exported to where a path leads, and that told.
+fn is_exported<'a>(
+    fault: Option<ExportFault>,
+    printed: io::Result<()>,
+    target: &'a str,
+) -> Result<(), Undone<'a>> {
+    let Some(fault) = fault else {
+        printed?;
+        return Ok(());
+    };
+    match fault.refusal() {
+        Some(refusal) => Err(Undone::Refused(refusal)),
+        None => Err(Undone::CannotWrite(target)),
+    }
 }
 
 // Makes the file anew, with a store in it. A bad geometry is refused before the file is looked for.
@@ -229,42 +255,6 @@ fn cannot_make(path: &str, fault: FileFault) -> Undone<'_> {
     }
 }
 
-// Writes the held frames from a number to another to where a path leads. Both files are opened before the store is
-// looked for. What the file had is gone only once a frame to write is found.
-fn export_into<'a, R: AllocGlobal + Files<File = File>, W: Write>(
-    rt: &R,
-    path: &'a str,
-    numbers: (u64, u64),
-    target: &'a str,
-    out: &mut W,
-) -> Result<u64, Undone<'a>> {
-    let Ok(disk) = FileDisk::open(rt, path) else {
-        return Err(Undone::CannotOpen(path));
-    };
-    let opened = target_of(rt, target)?;
-    let mut store = find_ahead(rt.alloc(), disk)?;
-    look_for(&store, numbers)?;
-    write_into(rt, &mut store, numbers, (opened, target), out)
-}
-
-// Writes the held frames from a number to another into what was opened for them, whose path may be told.
-fn write_into<'a, R: AllocGlobal, D: Disk + Drop, W: Write>(
-    rt: &R,
-    store: &mut Store<D>,
-    numbers: (u64, u64),
-    (opened, target): (Target, &'a str),
-    out: &mut W,
-) -> Result<u64, Undone<'a>> {
-    match opened {
-        Target::Own(_lock) => write_text(rt, store, numbers, &mut *out, target),
-        Target::Stream(stream) => write_text(rt, store, numbers, stream, target),
-        Target::File(file) => match empty(&file) {
-            Ok(()) => write_text(rt, store, numbers, file, target),
-            Err(_) => Err(Undone::CannotWrite(target)),
-        },
-    }
-}
-
 // The store on an open file, which is read ahead.
 fn find_ahead<'a>(alloc: Global, disk: FileDisk) -> Result<Store<AheadDisk<FileDisk>>, Undone<'a>> {
     match AheadDisk::new(alloc, disk, READ_AHEAD) {
@@ -273,43 +263,9 @@ fn find_ahead<'a>(alloc: Global, disk: FileDisk) -> Result<Store<AheadDisk<FileD
     }
 }
 
-// Refuses where no frame from a number to another is held.
-fn look_for<'a, D: Disk + Drop>(
-    store: &Store<D>,
-    (from, to): (u64, u64),
-) -> Result<(), Undone<'a>> {
-    match store.next_held(from) {
-        Some(number) if number <= to => Ok(()),
-        _ => Err(Undone::Refused(StoreFault::NotHeld)),
-    }
-}
-
-// Writes the held frames from a number to another through a writer, whose path may be told.
-fn write_text<'a, R: AllocGlobal, D: Disk + Drop, T: Write + Drop>(
-    rt: &R,
-    store: &mut Store<D>,
-    (from, to): (u64, u64),
-    out: T,
-    target: &'a str,
-) -> Result<u64, Undone<'a>> {
-    let Ok(gathered) = BufWriter::with_capacity(rt.alloc(), TEXT_AT_ONCE, out) else {
-        return Err(Undone::Refused(StoreFault::NoMemory));
-    };
-    let mut text = EvenWriter::new(gathered, TEXT_AT_ONCE);
-    let written = export(rt.alloc(), store, from, to, &mut text);
-    match (written, text.flush()) {
-        (Ok(count), Ok(())) => Ok(count),
-        (Ok(_), Err(_)) => Err(Undone::CannotWrite(target)),
-        (Err(fault), _) => match fault.refusal() {
-            Some(refusal) => Err(Undone::Refused(refusal)),
-            None => Err(Undone::CannotWrite(target)),
-        },
-    }
-}
-
 // Opens what a text goes to. Nothing of it is changed. A file that has a lock is a store that is in use, the one that
 // is exported perhaps.
-fn target_of<'a, R: Files<File = File>>(rt: &R, target: &'a str) -> Result<Target, Undone<'a>> {
+fn target_of<'a, R: Files<File = File>>(rt: &R, target: &'a str) -> Result<Opened, Undone<'a>> {
     if is_own_output(rt, target) {
         return own_output(rt, target);
     }
@@ -318,9 +274,15 @@ fn target_of<'a, R: Files<File = File>>(rt: &R, target: &'a str) -> Result<Targe
     };
     match file.metadata() {
         Err(_) => Err(Undone::CannotWrite(target)),
-        Ok(data) if !data.is_file() => Ok(Target::Stream(file)),
+        Ok(data) if !data.is_file() => Ok(Opened::Apart(Output {
+            file,
+            is_file: false,
+        })),
         Ok(_) => match file.try_lock() {
-            Ok(()) => Ok(Target::File(file)),
+            Ok(()) => Ok(Opened::Apart(Output {
+                file,
+                is_file: true,
+            })),
             Err(_) => Err(Undone::CannotWrite(target)),
         },
     }
@@ -339,27 +301,18 @@ fn is_own_output<R: Files<File = File>>(rt: &R, target: &str) -> bool {
 
 // The program's own output, whatever that is. Where it is a file its lock is taken as of any other: it may be the store
 // that is exported. One that can't be opened anew is written all the same.
-fn own_output<'a, R: Files<File = File>>(rt: &R, target: &'a str) -> Result<Target, Undone<'a>> {
+fn own_output<'a, R: Files<File = File>>(rt: &R, target: &'a str) -> Result<Opened, Undone<'a>> {
     match fs::metadata(rt, target) {
         Ok(data) if data.is_file() => (),
-        _ => return Ok(Target::Own(None)),
+        _ => return Ok(Opened::Own(None)),
     }
     let Ok(file) = OpenOptions::new().write(true).open(rt, target) else {
-        return Ok(Target::Own(None));
+        return Ok(Opened::Own(None));
     };
     match file.try_lock() {
-        Ok(()) => Ok(Target::Own(Some(file))),
+        Ok(()) => Ok(Opened::Own(Some(file))),
         Err(_) => Err(Undone::CannotWrite(target)),
     }
-}
-
-// Takes from a file what it has. One that has nothing is left alone, since some file systems write a file that was
-// cut to nothing through to the disk when it is closed.
-fn empty(file: &File) -> io::Result<()> {
-    if file.metadata()?.len() > 0 {
-        file.set_len(0)?;
-    }
-    Ok(())
 }
 
 // Opens the file, and then the store in it.

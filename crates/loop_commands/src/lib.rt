@@ -1,21 +1,27 @@
 //! The program's commands.
 //!
 //! `program` reads the program's words and chooses what to do, and ends with a status. `simulation` runs a script
-//! line by line on a recorder whose disk lies in memory. `files` does commands on stores in files; `even` makes the
-//! writes of an export even. `record` records from a source into stores in files; `cameras` sets up a camera before
-//! each, with its queue and memory for the buffers.
+//! line by line on a recorder whose disk lies in memory. `files` does commands on stores in files: it opens them, and
+//! `on_store` does the rest, over any disk and any writer; `even` makes the writes of an export even. `record`
+//! records from a source into stores in files; `cameras` sets up a camera before each, with its queue and memory for
+//! the buffers.
 //!
-//! What a line and the words mean is loop_script's, and proved there; the lines that are printed are tested.
+//! What a line and the words mean is loop_script's, and proved there. What becomes of an open store and of the text of
+//! an export, and when that is told, is proved of `on_store`; all other lines that are printed are tested.
 #![tactic(auto)]
 
 mod cameras;
 mod even;
 mod files;
+mod on_store;
 mod program;
 mod record;
 mod simulation;
 
 pub use even::EvenWriter;
 pub use files::run_on_file;
+pub use on_store::{
+    NotExported, Target, Told, export_along, export_apart, export_text, list, lock, unlock,
+};
 pub use program::{run_words, words_refused};
 pub use simulation::simulate;

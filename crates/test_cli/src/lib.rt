@@ -8,7 +8,7 @@
 //! - `memory`: scripts and sessions where memory is refused;
 //! - `parts`: lines, numbers, refusals and frames of the pattern, each alone;
 //! - `words`: words that can't be read; `files`: commands on stores in files; `recordings`: recordings into them;
-//!   `even`: the writes of an export.
+//!   `even`: the writes of an export; `targets`: exports whose output fails.
 #![tactic(auto)]
 
 #[cfg(test)]
@@ -27,6 +27,8 @@ mod ran;
 mod recordings;
 #[cfg(test)]
 mod scripts;
+#[cfg(test)]
+mod targets;
 #[cfg(test)]
 mod told;
 #[cfg(test)]

@@ -36,6 +36,8 @@ fn a_file_is_written_and_read_back(rt: HostRuntime) -> Result<(), Fail> {
     // A file that was cut short under the disk: a read fails, and is counted as a read's failure.
     OpenOptions::new().write(true).open(&rt, path)?.set_len(50)?;
     same!(rt; read_at(&mut disk, 4094, &mut last), Err(DiskFault::Read));
+    // The lock is had as before.
+    same!(rt; FileDisk::open(&rt, path).err(), Some(FileFault::Busy));
     drop(disk);
 
     // No file has that size: the file is as it was.

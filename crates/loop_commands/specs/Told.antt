@@ -1,0 +1,35 @@
+-- What commands on an open store print.
+use Rattle.std.specs.Prelude.{◌≡◌, ◌≤◌, ℕ, Result, Ok, Err, OnOk, List, [], ◌∷◌, ◌++◌, length, codes, decimal, Option, Some, false}
+use Rattle.std.specs.Io.KnownBytes.{Appends}
+use Rattle.loop_record.specs.declared.geometry.Geometry.{Geometry}
+use Rattle.loop_store.specs.Numbers.{is_among}
+use Rattle.loop_y4m.specs.declared.fault.ExportFault.{ExportFault}
+use Rattle.loop_y4m.specs.Text.{text}
+use Rattle.loop_commands.specs.declared.on_store.NotExported.{NotExported}
+
+-- a line of a word and a number
+abbrev pub line_of : List ℕ → ℕ → List ℕ
+line_of word number = word ++ codes " " ++ decimal number ++ 10 ∷ []
+
+-- What a command answered is told by this line, where that could be printed; of a refusal nothing is printed.
+abbrev pub IsTold : {W T E F : Type 0} → (W → Option (List ℕ)) → W → W → (T → List ℕ) → Result T E → Result (Unit {0}) F → Type 0
+IsTold contents old new line (Ok x) printed = OnOk printed (Appends (contents old) (contents new) (line x))
+IsTold contents old new line (Err fault) printed = new ≡ old
+
+-- none of these numbers is one from a number on to another
+abbrev pub HoldsNone : List ℕ → ℕ → ℕ → Type 0
+HoldsNone numbers from to = (n : ℕ) → from ≤ n → n ≤ to → is_among numbers n ≡ false
+
+-- A writer was given the whole text of these frames, and they are counted.
+abbrev pub IsText : Geometry → List (List ℕ) → Option (List ℕ) → Option (List ℕ) → ℕ → Type 0
+IsText g frames old new count = Appends old new (text g frames) × (count ≡ length frames)
+
+-- nothing was written, and the target is as it was
+abbrev pub IsKept : {T U : Type 0} → T → Result U (NotExported T) → Type 0
+IsKept target (Ok done) = ⊥
+IsKept target (Err refused) = refused.target ≡ Some target
+
+-- what refused
+abbrev pub fault_of : {T U : Type 0} → Result U (NotExported T) → Result U ExportFault
+fault_of (Ok done) = Ok done
+fault_of (Err refused) = Err refused.fault
