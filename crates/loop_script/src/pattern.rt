@@ -4,6 +4,7 @@ ghost use Rattle.loop_record.specs.Geometry.{frame_bytes, is_good};
 ghost use Rattle.loop_record.specs.Recording.{picture};
 ghost use Rattle.loop_script.specs.Pattern.{pattern_bytes, pattern_picture, timestamp_of};
 
+use loop_desk::frame_memory;
 use loop_record::{Frame, Geometry};
 use std::alloc::{AllocError, Allocator};
 
@@ -38,9 +39,10 @@ pub fn pattern_timestamp(n: u64, num: u32, den: u32) -> u64
     u64::try_from(micros).unwrap_or(u64::MAX)
 }
 
-/// Frame `n`, of this geometry, in memory of its own.
+/// Frame `n`, of this geometry, in spare memory where that has its length, otherwise in new memory.
 pub fn pattern_frame<A: Allocator>(
     alloc: A,
+    spare: Option<Vec<u8, A>>,
     geometry: &Geometry,
     n: u64,
 ) -> Result<Frame<A>, AllocError>
@@ -48,7 +50,7 @@ pub fn pattern_frame<A: Allocator>(
     ensures picture { IfOk result (λ frame. picture frame ≡ pattern_picture geometry.now n) }
     ensures size { IfOk result (λ frame. length frame.bytes.items ≡ frame_bytes geometry.now) }
 {
-    let mut bytes = vec![in alloc; 0; geometry.frame_bytes() as usize]?;
+    let mut bytes = frame_memory(alloc, spare, geometry.frame_bytes() as usize)?;
     fill_pattern(&mut bytes, n);
     Ok(Frame {
         sequence: pattern_sequence(n),

@@ -1,23 +1,24 @@
 // A formatted store behind a desk, and the frames that a script makes for it.
-ghost use Rattle.std.specs.Prelude.{◌≡◌, ◌⊎◌, ◌↔◌, ◌∷◌, [], Err, IfErr, IfOk, OnErr, false};
+ghost use Rattle.std.specs.Prelude.{◌≡◌, ◌⊎◌, ◌↔◌, ◌∷◌, [], Err, IfErr, IfOk, OnErr, false, length};
 ghost use Rattle.loop_desk.specs.Desk.{clip_locked, clip_unlocked, flushed, frame_read};
 ghost use Rattle.loop_desk.specs.Seen.{DeskGoes, TellsOutline};
 ghost use Rattle.loop_record.specs.declared.damage.Damage.TheVariants.{SlotHead};
-ghost use Rattle.loop_record.specs.Geometry.{is_good};
-ghost use Rattle.loop_record.specs.Recording.{Recording, empty};
+ghost use Rattle.loop_record.specs.Geometry.{frame_bytes, is_good};
+ghost use Rattle.loop_record.specs.Recording.{Recording, empty, picture};
 ghost use Rattle.loop_store.specs.Faults.{is_disk};
 ghost use Rattle.loop_store.specs.Formatted.{IsFormatted};
 ghost use Rattle.loop_store.specs.Opened.{IsOpened, IsRefusedOpen};
 ghost use Rattle.loop_store.specs.Runs.{read_of};
 ghost use Rattle.loop_store.specs.Seen.{StandsFor};
+ghost use Rattle.loop_script.specs.Pattern.{pattern_picture};
 ghost use Rattle.loop_script.specs.Sessions.{IsNewDesk, RefusesFrame, accepted_after, calls_of_store, calls_of_submit, script_limits};
 
 use crate::pattern::pattern_frame;
 use loop_desk::{Desk, DeskLimits, Flushed, Outline};
 use loop_disk::{Disk, MemDisk};
-use loop_record::Geometry;
+use loop_record::{Frame, Geometry};
 use loop_store::{OpenRefused, ReadFrame, Store, StoreFault};
-use std::alloc::{Allocator, Global};
+use std::alloc::{AllocError, Allocator, Global};
 use std::marker::Model;
 
 /// How much the desk of a script takes in, and that of a camera that is recorded.
@@ -72,8 +73,8 @@ impl<A: Allocator + Copy> Session<A> {
         }
     }
 
-    /// Makes the next frame of the pattern, in memory of its own, and submits it; answers the number that it will
-    /// have. It answers NoMemory, PendingFull or NumbersSpent; then nothing is changed, and the frame isn't
+    /// Makes the next frame of the pattern, in memory that the desk kept or new, and submits it; answers the number that
+    /// it will have. It answers NoMemory, PendingFull or NumbersSpent; then nothing is changed, and the frame isn't
     /// accepted, so the next call makes it again.
     pub fn submit_next(&mut self, alloc: A) -> Result<u64, StoreFault>
         ensures goes { DeskGoes ⟦<MemDisk<A> as Disk>⟧.medium self.old.desk self.new.desk
@@ -82,8 +83,7 @@ impl<A: Allocator + Copy> Session<A> {
         ensures unchanged { OnErr result (self.new ≡ self.old) }
         ensures accepted { self.new.accepted ≡ accepted_after self.old.accepted result }
     {
-        let geometry = self.desk.geometry();
-        let frame = match pattern_frame(alloc, &geometry, self.accepted) {
+        let frame = match next_frame(alloc, &mut self.desk, self.accepted) {
             Ok(frame) => frame,
             Err(_) => return Err(StoreFault::NoMemory),
         };
@@ -207,6 +207,21 @@ impl<A: Allocator + Copy> Session<A> {
     {
         self.desk.status().next
     }
+}
+
+// Frame `n` of the pattern for a desk's store, in memory that the desk kept or new.
+fn next_frame<A: Allocator + Copy>(
+    alloc: A,
+    desk: &mut Desk<MemDisk<A>, A>,
+    n: u64,
+) -> Result<Frame<A>, AllocError>
+    ensures same { desk.new ≡ desk.old }
+    ensures picture { IfOk result (λ frame. picture frame ≡ pattern_picture desk.old.store.geometry n) }
+    ensures size { IfOk result (λ frame. length frame.bytes.items ≡ frame_bytes desk.old.store.geometry) }
+{
+    let geometry = desk.geometry();
+    let spare = desk.spare_memory();
+    pattern_frame(alloc, spare, &geometry, n)
 }
 
 // A desk before a store, with the limits of a script. It answers NoMemory.
