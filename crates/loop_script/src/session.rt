@@ -1,5 +1,5 @@
 // A formatted store behind a desk, and the frames that a script makes for it.
-ghost use Rattle.std.specs.Prelude.{◌≡◌, ◌⊎◌, ◌↔◌, ◌∷◌, [], Err, IfErr, IfOk, OnErr, false, length};
+ghost use Rattle.std.specs.Prelude.{◌≡◌, ◌⊎◌, ◌↔◌, ◌∷◌, [], Err, IfErr, IfOk, IsTrue, OnErr, false, length};
 ghost use Rattle.loop_desk.specs.Desk.{clip_locked, clip_unlocked, flushed, frame_read};
 ghost use Rattle.loop_desk.specs.Seen.{DeskGoes, TellsOutline};
 ghost use Rattle.loop_record.specs.declared.damage.Damage.TheVariants.{SlotHead};
@@ -215,6 +215,7 @@ fn next_frame<A: Allocator + Copy>(
     desk: &mut Desk<MemDisk<A>, A>,
     n: u64,
 ) -> Result<Frame<A>, AllocError>
+    requires { IsTrue (is_good desk.old.store.geometry) }
     ensures same { desk.new ≡ desk.old }
     ensures picture { IfOk result (λ frame. picture frame ≡ pattern_picture desk.old.store.geometry n) }
     ensures size { IfOk result (λ frame. length frame.bytes.items ≡ frame_bytes desk.old.store.geometry) }
