@@ -35,3 +35,7 @@ overlaid m writes failures = record m {
   moment = length writes;
   left_since = ShownSince writes m.bytes;
 }
+
+-- the same of a value of an overlay, by what the disk beneath is
+abbrev pub shown : {D : Type 0} → (D → Medium) → Layered D → Medium
+shown medium overlay = overlaid (medium overlay.disk) overlay.writes overlay.failures

@@ -7,13 +7,18 @@ use Rattle.loop_overlay.specs.Layers.{KeptWrite, laid, laid_on, overlaid}
 
 pub length-laid_on : (image : List ℕ) (w : KeptWrite) → length (laid_on image w) ≡ length image
 length-laid_on image w =
-    omega (arith, length-take (length image) (written w.at w.bytes image), length-append (take w.at image ++ w.bytes) (drop (w.at + length w.bytes) image), length-append (take w.at image) w.bytes, length-take w.at image, length-drop (w.at + length w.bytes) image)
+    let end = w.at + length w.bytes in
+    let front = length-append (take w.at image) w.bytes in
+    let whole = length-append (take w.at image ++ w.bytes) (drop end image) in
+    let cut = length-take (length image) (written w.at w.bytes image) in
+    omega (arith, cut, whole, front, length-take w.at image, length-drop end image)
 
 pub length-laid : (writes : List KeptWrite) (image : List ℕ) → length (laid writes image) ≡ length image
 length-laid [] image = refl
 length-laid (w ∷ writes) image = length-laid writes (laid_on image w) ∙ length-laid_on image w
 
-pub sound_overlaid : (m : Medium) (writes : List KeptWrite) (failures : Failures) → IsSound m → IsSound (overlaid m writes failures)
+pub sound_overlaid : (m : Medium) (writes : List KeptWrite) (failures : Failures) → IsSound m
+    → IsSound (overlaid m writes failures)
 sound_overlaid m writes failures sound =
     let whole : length (laid writes m.bytes) ≡ m.size = length-laid writes m.bytes ∙ sound.length_is in
     let all : (k : ℕ) → length writes ≤ k → laid (take k writes) m.bytes ≡ laid writes m.bytes =

@@ -1,9 +1,9 @@
 // A disk over another that is never written to.
-ghost use Rattle.std.specs.Prelude.{◌≡◌, ◌+◌, ◌≤◌, [], IfErr, OnErr, OnOk, length};
+ghost use Rattle.std.specs.Prelude.{◌≡◌, ◌+◌, ◌≤◌, [], IfErr, IsOk, OnErr, OnOk, length};
 ghost use Rattle.loop_disk.specs.declared.fault.DiskFault.TheVariants.{Read, Write, Sync};
 ghost use Rattle.loop_disk.specs.Medium.{LeavesEach, LeavesEachTorn, piece};
 ghost use Rattle.loop_disk.specs.Calls.{Called, Stays, Syncs, Writes, failed_call, no_failures, with_failed};
-ghost use Rattle.loop_overlay.specs.Layers.{Layered, overlaid};
+ghost use Rattle.loop_overlay.specs.Layers.{Layered, shown};
 ghost use Rattle.loop_overlay.specs.Sound.{sound_overlaid};
 
 use crate::kept::{Kept, keep, lay_all};
@@ -69,7 +69,7 @@ impl<D, A: Allocator + Copy> OverlayDisk<D, A> {
 }
 
 impl<D: Disk, A: Allocator + Copy> Disk for OverlayDisk<D, A> {
-    ghost medium = { λ overlay. overlaid (D.medium overlay.disk) overlay.writes overlay.failures };
+    ghost medium = { shown D.medium };
 
     ghost harsh = { λ overlay. ⊥ };
 
@@ -84,15 +84,13 @@ impl<D: Disk, A: Allocator + Copy> Disk for OverlayDisk<D, A> {
     fn read(&mut self, at: u64, buf: &mut [u8]) -> Result<(), DiskFault>
         requires { at + length buf.old ≤ (D.medium self.old.disk).size }
         ensures read { (D.medium self.old.disk).honest
-            → OnOk result (buf.new ≡ piece at (length buf.old) (⟦<OverlayDisk<D, A> as Disk>⟧.medium self.old).bytes) }
-        ensures disk { (D.medium self.old.disk).honest
-            → Stays (⟦<OverlayDisk<D, A> as Disk>⟧.medium self.old) (⟦<OverlayDisk<D, A> as Disk>⟧.medium self.new) }
-        ensures each { ⊥ → ⊥
-            × LeavesEach (⟦<OverlayDisk<D, A> as Disk>⟧.medium self.old) (⟦<OverlayDisk<D, A> as Disk>⟧.medium self.new) }
+            → OnOk result (buf.new ≡ piece at (length buf.old) (shown D.medium self.old).bytes) }
+        ensures disk { (D.medium self.old.disk).honest → Stays (shown D.medium self.old) (shown D.medium self.new) }
+        ensures each { ⊥ → ⊥ × LeavesEach (shown D.medium self.old) (shown D.medium self.new) }
         ensures fault { IfErr result (λ fault. fault ≡ Read) }
-        ensures called { Called (⟦<OverlayDisk<D, A> as Disk>⟧.medium self.old)
-            (⟦<OverlayDisk<D, A> as Disk>⟧.medium self.new) (failed_call result) }
+        ensures called { Called (shown D.medium self.old) (shown D.medium self.new) (failed_call result) }
         ensures beneath { (D.medium self.old.disk).honest → Stays (D.medium self.old.disk) (D.medium self.new.disk) }
+        ensures passes { Called (D.medium self.old.disk) (D.medium self.new.disk) (failed_call result) }
     {
         let outcome = self.inner.read(at, buf);
         self.failures.note(outcome)?;
@@ -104,14 +102,11 @@ impl<D: Disk, A: Allocator + Copy> Disk for OverlayDisk<D, A> {
     fn write_at(&mut self, at: u64, bytes: &[u8]) -> Result<(), DiskFault>
         requires { at + length bytes.now ≤ (D.medium self.old.disk).size }
         ensures disk { (D.medium self.old.disk).honest
-            → Writes at bytes.now (⟦<OverlayDisk<D, A> as Disk>⟧.medium self.old)
-            (⟦<OverlayDisk<D, A> as Disk>⟧.medium self.new) result }
+            → Writes at bytes.now (shown D.medium self.old) (shown D.medium self.new) result }
         ensures each { ⊥ → ⊥
-            × OnOk result (LeavesEachTorn at (length bytes.now) (⟦<OverlayDisk<D, A> as Disk>⟧.medium self.old)
-            (⟦<OverlayDisk<D, A> as Disk>⟧.medium self.new)) }
+            × OnOk result (LeavesEachTorn at (length bytes.now) (shown D.medium self.old) (shown D.medium self.new)) }
         ensures fault { IfErr result (λ fault. fault ≡ Write) }
-        ensures called { Called (⟦<OverlayDisk<D, A> as Disk>⟧.medium self.old)
-            (⟦<OverlayDisk<D, A> as Disk>⟧.medium self.new) (failed_call result) }
+        ensures called { Called (shown D.medium self.old) (shown D.medium self.new) (failed_call result) }
         ensures beneath { self.new.disk ≡ self.old.disk }
         ensures refused { OnErr result (self.new
             ≡ record self.old { failures = with_failed (failed_call result) self.old.failures }) }
@@ -122,15 +117,14 @@ impl<D: Disk, A: Allocator + Copy> Disk for OverlayDisk<D, A> {
         }
     }
 
-    /// It never fails, and doesn't sync the disk beneath.
+    /// It never fails, changes nothing, and doesn't sync the disk beneath.
     fn sync(&mut self) -> Result<(), DiskFault>
         ensures disk { (D.medium self.old.disk).honest
-            → Syncs (⟦<OverlayDisk<D, A> as Disk>⟧.medium self.old) (⟦<OverlayDisk<D, A> as Disk>⟧.medium self.new)
-            result }
+            → Syncs (shown D.medium self.old) (shown D.medium self.new) result }
         ensures each { ⊥ → ⊥ }
         ensures fault { IfErr result (λ fault. fault ≡ Sync) }
-        ensures called { Called (⟦<OverlayDisk<D, A> as Disk>⟧.medium self.old)
-            (⟦<OverlayDisk<D, A> as Disk>⟧.medium self.new) (failed_call result) }
+        ensures called { Called (shown D.medium self.old) (shown D.medium self.new) (failed_call result) }
+        ensures always { IsOk result }
         ensures beneath { self.new ≡ self.old }
     {
         Ok(())
