@@ -4,7 +4,10 @@ use crate::calls::{read_at, write_at};
 use crate::told::same;
 use loop_budget::Budget;
 use loop_disk::{Disk, DiskFault, MemDisk};
+use loop_file::FileDisk;
 use loop_overlay::OverlayDisk;
+use std::fs;
+use std::fs::OpenOptions;
 use std::process::Abort;
 use std::test::Fail;
 
@@ -87,7 +90,12 @@ fn a_write_that_finds_no_room_fails_and_changes_nothing(rt: HostRuntime) -> Resu
             memory.allow(allowed);
             same!(rt; write_at(&mut disk, 4, b"EFG"), Err(DiskFault::Write), allowed);
             same!(rt; disk.written(), round.saturating_mul(4));
-            shows(&rt, &mut disk, 2, if round == 0 { b"cdefgh" } else { b"cdEFGh" });
+            shows(
+                &rt,
+                &mut disk,
+                2,
+                if round == 0 { b"cdefgh" } else { b"cdEFGh" },
+            );
         }
         memory.allow(5);
         for _ in 0..4u64 {
@@ -97,5 +105,21 @@ fn a_write_that_finds_no_room_fails_and_changes_nothing(rt: HostRuntime) -> Resu
         shows(&rt, &mut disk, 2, b"cdEFGh");
     }
     same!(rt; disk.into_inner().bytes(), BENEATH);
+    Ok(())
+}
+
+#[test]
+fn a_file_that_is_open_for_reading_alone_is_written_over(rt: HostRuntime) -> Result<(), Fail> {
+    let path = "looked_at.img";
+    drop(FileDisk::create(&rt, path, 12)?);
+    let file = OpenOptions::new().read(true).open(&rt, path)?;
+    let mut disk = OverlayDisk::new(rt.alloc(), FileDisk::over(file)?);
+    same!(rt; write_at(&mut disk, 4, b"EFG"), Ok(()));
+    same!(rt; disk.sync(), Ok(()));
+    shows(&rt, &mut disk, 2, b"\0\0EFG\0");
+    let mut file = disk.into_inner();
+    shows(&rt, &mut file, 2, &[0; 6]);
+    same!(rt; write_at(&mut file, 4, b"EFG"), Err(DiskFault::Write));
+    fs::remove_file(&rt, path)?;
     Ok(())
 }
