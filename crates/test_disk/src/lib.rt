@@ -5,6 +5,7 @@
 //! - `faults` has files whose calls fail, over the bytes in memory of `faulty`; `places` where a file is made and how
 //!   it is refused, over a system whose calls fail;
 //! - `crashing` and `ahead` refuse memory to the disk that remembers its calls and to the one that reads ahead;
+//! - `overlay` has the disk over another that is never written to;
 //! - `calls` has reads and writes that see to the size of a disk first, `told` assertions that are cheap to prove.
 #![tactic(auto)]
 
@@ -22,6 +23,8 @@ mod faulty;
 mod files;
 #[cfg(test)]
 mod memory;
+#[cfg(test)]
+mod overlay;
 #[cfg(test)]
 mod places;
 #[cfg(test)]

@@ -1,0 +1,41 @@
+-- Writes that lie over an image, and the disk that shows them over another.
+use Rattle.std.specs.Prelude.{◌≡◌, ℕ, ◌≤◌, List, fold, length, take}
+use Rattle.loop_disk.specs.declared.fault.Failures.{Failures}
+use Rattle.loop_disk.specs.Medium.{Medium, written}
+
+-- a write that is kept: the place that it begins at, and its bytes
+pub record KeptWrite : Type 0 where
+  pub at : ℕ
+  pub bytes : List ℕ
+
+-- the image with a write over it, and no longer than it was
+abbrev pub laid_on : List ℕ → KeptWrite → List ℕ
+laid_on image w = take (length image) (written w.at w.bytes image)
+
+-- the image with writes over it, the first one first
+abbrev pub laid : List KeptWrite → List ℕ → List ℕ
+laid writes image = fold laid_on image writes
+
+-- an image that a read gave when the first t writes were made, or after a later one
+abbrev pub ShownSince : List KeptWrite → List ℕ → ℕ → List ℕ → Type 0
+ShownSince writes image t c = (k : ℕ) × (t ≤ k) × (k ≤ length writes) × (c ≡ laid (take k writes) image)
+
+-- a disk, the writes over it, and which calls have failed of those that were made by way of the overlay
+pub record Layered (D : Type 0) : Type 0 where
+  pub disk : D
+  pub writes : List KeptWrite
+  pub failures : Failures
+
+-- The disk that shows these writes over another. A crash leaves what a read gives.
+abbrev pub overlaid : Medium → List KeptWrite → Failures → Medium
+overlaid m writes failures = record m {
+  failures = failures;
+  bytes = laid writes m.bytes;
+  may_leave = λ c. c ≡ laid writes m.bytes;
+  moment = length writes;
+  left_since = ShownSince writes m.bytes;
+}
+
+-- the same of a value of an overlay, by what the disk beneath is
+abbrev pub shown : {D : Type 0} → (D → Medium) → Layered D → Medium
+shown medium overlay = overlaid (medium overlay.disk) overlay.writes overlay.failures

@@ -1,0 +1,72 @@
+// The writes that are kept in memory.
+ghost use Rattle.std.specs.Prelude.{◌≡◌, ◌≤◌, ◌+◌, ◌++◌, [], ◌∷◌, List, OnErr, OnOk, length, ℕ};
+ghost use Rattle.loop_disk.specs.Medium.{written};
+ghost use Rattle.loop_overlay.specs.Layers.{laid, laid_on};
+ghost use Rattle.loop_overlay.specs.Parts.{IsPart};
+
+use std::alloc::{AllocError, Allocator};
+use std::marker::Model;
+
+/// A write that is kept: the place that it begins at, and its bytes.
+#[derive(Drop)]
+pub(crate) struct Kept<A: Allocator> {
+    at: u64,
+    bytes: Vec<u8, A>,
+}
+
+impl<A: Allocator> Model for Kept<A> {
+    ghost use Rattle.loop_overlay.specs.Layers.{KeptWrite};
+
+    ghost Value = { KeptWrite };
+
+    ghost view = { λ kept. record { at = kept.at; bytes = kept.bytes.items } };
+}
+
+impl<A: Allocator> Kept<A> {
+    // Lays the write over a buffer that holds a disk's bytes from `at` on.
+    fn lay(&self, at: u64, buf: &mut [u8])
+        ensures { (image : List ℕ) → IsPart at image buf.old → IsPart at (laid_on image self.now) buf.new }
+    {
+        let to = self.at.saturating_sub(at) as usize;
+        let from = at.saturating_sub(self.at) as usize;
+        if to >= buf.len() || from >= self.bytes.len() {
+            return;
+        }
+        let count = (buf.len() - to).min(self.bytes.len() - from);
+        put(buf, to, &self.bytes[from..from + count]);
+    }
+}
+
+// Puts bytes in their place.
+fn put(buf: &mut [u8], at: usize, bytes: &[u8])
+    requires { at + length bytes.now ≤ length buf.old }
+    ensures { buf.new ≡ written at bytes.now buf.old }
+{
+    buf[at..at + bytes.len()].copy_from_slice(bytes);
+}
+
+// Lays the writes over a buffer that holds a disk's bytes from `at` on, the first one first.
+pub(crate) fn lay_all<A: Allocator>(writes: &[Kept<A>], at: u64, buf: &mut [u8])
+    ensures { (image : List ℕ) → IsPart at image buf.old → IsPart at (laid writes.now image) buf.new }
+{
+    for kept in writes {
+        kept.lay(at, buf);
+    }
+}
+
+// Keeps a write behind the others, or changes nothing where there is no room.
+pub(crate) fn keep<A: Allocator + Copy>(
+    alloc: A,
+    writes: &mut Vec<Kept<A>, A>,
+    at: u64,
+    bytes: &[u8],
+) -> Result<(), AllocError>
+    ensures kept { OnOk result (writes.new.items
+        ≡ writes.old.items ++ record { at = at; bytes = bytes.now } ∷ []) }
+    ensures same { OnErr result (writes.new.items ≡ writes.old.items) }
+{
+    let bytes = Vec::from_slice(alloc, bytes)?;
+    writes.reserve(1)?;
+    writes.push_reserved(Kept { at, bytes });
+    Ok(())
+}

@@ -1,0 +1,50 @@
+//! A store that is opened over a disk that is never written to.
+
+use crate::common::*;
+use crate::told::{holds as so, same};
+use loop_disk::{Disk, MemDisk};
+use loop_overlay::OverlayDisk;
+use loop_store::Store;
+use std::alloc::Global;
+use std::process::Abort;
+use std::test::Fail;
+
+// The image of three frames, with the gates of the last block torn as a stop may leave them: that of frame 2 is closed,
+// and the one behind it open. An opening clears that one.
+fn torn(rt: &impl Abort, alloc: Global) -> Result<Vec<u8>, Fail> {
+    let mut image = image_of(rt, alloc, 3)?;
+    for (at, gate) in [(3416usize, 0), (3417, 0xA5)] {
+        if let Some(byte) = image.get_mut(at) {
+            *byte = gate;
+        }
+    }
+    Ok(image)
+}
+
+fn opens<D: Disk + Drop>(alloc: Global, disk: D) -> Result<Store<D>, Fail> {
+    match Store::open(alloc, disk) {
+        Ok(store) => Ok(store),
+        Err(_) => Err("the disk is opened".into()),
+    }
+}
+
+#[test]
+fn a_store_is_looked_at_and_tried_without_a_write(rt: HostRuntime) -> Result<(), Fail> {
+    let alloc = rt.alloc();
+    let image = torn(&rt, alloc)?;
+    let cleared = opens(alloc, MemDisk::of(image.to_vec(alloc)?))?;
+    same!(rt; cleared.into_disk().bytes().get(3417), Some(&0));
+
+    let beneath = MemDisk::of(image.to_vec(alloc)?);
+    let mut store = opens(alloc, OverlayDisk::new(alloc, beneath))?;
+    holds(&rt, alloc, &mut store, &[(0, 1)])?;
+    let mut frames = Vec::new(alloc);
+    frames.push(frame(alloc, 12, 2, 0)?)?;
+    same!(rt; append(&rt, &mut store, &frames), Ok(2));
+    holds(&rt, alloc, &mut store, &[(0, 2)])?;
+
+    let tried = store.into_disk();
+    so!(rt; tried.written() > 1);
+    same!(rt; tried.into_inner().bytes(), image.as_slice());
+    Ok(())
+}
