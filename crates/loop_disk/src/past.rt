@@ -26,6 +26,7 @@ impl Model for Past {
 
 // It owns nothing.
 unsafe impl Send for Past {}
+
 unsafe impl Sync for Past {}
 
 impl Past {
