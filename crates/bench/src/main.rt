@@ -46,9 +46,9 @@
 //!
 //!     recorder COUNT WIDTH HEIGHT SEGMENTS SLOTS GROUP GROUPS
 //!
-//! makes a recorder of one camera, and then one of COUNT cameras, each over a disk in memory of its own for GREY frames,
-//! and in each stores GROUPS groups of GROUP frames a camera, from a thread for each camera, with a flush a group. It
-//! prints how many frames a second the cameras stored together, how many the one alone, and the first as a part of the
+//! makes a recorder of one camera, and then one of COUNT cameras, each over a disk in memory of its own for GREY
+//! frames, and in each stores GROUPS groups of GROUP frames a camera, from a thread for each camera, with a flush a
+//! group. It prints how many frames a second the cameras stored together, how many the one alone, and the first as a part of the
 //! second: with as many processors as cameras, 100 % a camera is the most;
 //!
 //!     recorder-files GROUP GROUPS COUNT ALONE PATH..

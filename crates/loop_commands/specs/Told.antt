@@ -12,9 +12,10 @@ abbrev pub line_of : List ℕ → ℕ → List ℕ
 line_of word number = word ++ codes " " ++ decimal number ++ 10 ∷ []
 
 -- What a command answered is told by this line, where that could be printed; of a refusal nothing is printed.
-abbrev pub IsTold : {W T E F : Type 0} → (W → Option (List ℕ)) → W → W → (T → List ℕ) → Result T E → Result (Unit {0}) F → Type 0
-IsTold contents old new line (Ok x) printed = OnOk printed (Appends (contents old) (contents new) (line x))
-IsTold contents old new line (Err fault) printed = new ≡ old
+abbrev pub IsPrinted : {W T E F : Type 0} → (W → Option (List ℕ)) → W → W → (T → List ℕ) → Result T E
+    → Result (Unit {0}) F → Type 0
+IsPrinted contents old new line (Ok x) printed = OnOk printed (Appends (contents old) (contents new) (line x))
+IsPrinted contents old new line (Err fault) printed = new ≡ old
 
 -- none of these numbers is one from a number on to another
 abbrev pub HoldsNone : List ℕ → ℕ → ℕ → Type 0
@@ -25,9 +26,9 @@ abbrev pub IsText : Geometry → List (List ℕ) → Option (List ℕ) → Optio
 IsText g frames old new count = Appends old new (text g frames) × (count ≡ length frames)
 
 -- nothing was written, and the target is as it was
-abbrev pub IsKept : {T U : Type 0} → T → Result U (NotExported T) → Type 0
-IsKept target (Ok done) = ⊥
-IsKept target (Err refused) = refused.target ≡ Some target
+abbrev pub IsUntouched : {T U : Type 0} → T → Result U (NotExported T) → Type 0
+IsUntouched target (Ok done) = ⊥
+IsUntouched target (Err refused) = refused.target ≡ Some target
 
 -- what refused
 abbrev pub fault_of : {T U : Type 0} → Result U (NotExported T) → Result U ExportFault

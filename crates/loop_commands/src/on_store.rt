@@ -11,7 +11,7 @@ ghost use Rattle.loop_store.specs.Goes.{Goes};
 ghost use Rattle.loop_store.specs.Seen.{StandsFor};
 ghost use Rattle.loop_y4m.specs.Export.{OnlyRead, failed_export, frames_between};
 ghost use Rattle.loop_y4m.specs.Text.{text};
-ghost use Rattle.loop_commands.specs.Told.{HoldsNone, IsKept, IsText, IsTold, fault_of, line_of};
+ghost use Rattle.loop_commands.specs.Told.{HoldsNone, IsUntouched, IsText, IsPrinted, fault_of, line_of};
 
 use crate::even::EvenWriter;
 use loop_disk::Disk;
@@ -88,7 +88,7 @@ pub fn lock<D: Disk + Drop, A: Allocator, W: Write>(
     out: &mut W,
 ) -> Told<u32>
     ensures goes { Goes D.medium store.old store.new (locked (record { from = from; to = to }) result.answer ∷ []) }
-    ensures told { IsTold W.contents out.old out.new (line_of (codes "locked")) result.answer result.printed }
+    ensures told { IsPrinted W.contents out.old out.new (line_of (codes "locked")) result.answer result.printed }
 {
     match store.lock(from, to) {
         Ok(id) => Told {
@@ -109,7 +109,7 @@ pub fn unlock<D: Disk + Drop, A: Allocator, W: Write>(
     out: &mut W,
 ) -> Told<()>
     ensures goes { Goes D.medium store.old store.new (unlocked id result.answer ∷ []) }
-    ensures told { IsTold W.contents out.old out.new (λ _. line_of (codes "unlocked") id)
+    ensures told { IsPrinted W.contents out.old out.new (λ _. line_of (codes "unlocked") id)
         result.answer result.printed }
 {
     match store.unlock(id) {
@@ -199,7 +199,7 @@ fn export_into<D: Disk + Drop, A: Allocator + Copy, T: Target + Drop>(
     ensures text { (r : Recording) → StandsFor D.medium store.old r → (D.medium store.old.disk).honest
         → IfOk result (λ done. IsText store.old.geometry (frames_between from to r.frames)
         (T.emptied target) (T.contents done.1) done.0) }
-    ensures kept { HoldsNone store.old.numbers from to → IsKept target result }
+    ensures kept { HoldsNone store.old.numbers from to → IsUntouched target result }
     ensures store { OnlyRead D.medium store.old store.new (failed_export (fault_of result)) }
 {
     if let Some(fault) = refused_before(store, from, to) {
@@ -236,9 +236,9 @@ pub fn export_apart<D: Disk + Drop, A: Allocator + Copy, T: Target + Drop, W: Wr
     ensures text { (r : Recording) → StandsFor D.medium store.old r → (D.medium store.old.disk).honest
         → IfOk result.answer (λ done. IsText store.old.geometry (frames_between from to r.frames)
         (T.emptied target) (T.contents done.1) done.0) }
-    ensures kept { HoldsNone store.old.numbers from to → IsKept target result.answer }
+    ensures kept { HoldsNone store.old.numbers from to → IsUntouched target result.answer }
     ensures store { OnlyRead D.medium store.old store.new (failed_export (fault_of result.answer)) }
-    ensures told { IsTold W.contents out.old out.new (λ done. line_of (codes "exported") done.0)
+    ensures told { IsPrinted W.contents out.old out.new (λ done. line_of (codes "exported") done.0)
         result.answer result.printed }
 {
     match export_into(alloc, store, from, to, target) {

@@ -6,7 +6,7 @@ use Rattle.loop_disk.specs.Medium.{piece, written}
 use Rattle.loop_disk.proofs.Images.{length-piece, length-written, get_or-piece, get_or-written_there, get_or-written_before, get_or-written_behind, same_piece}
 use Rattle.loop_overlay.specs.Layers.{KeptWrite, laid_on}
 use Rattle.loop_overlay.specs.Sound.{length-laid_on}
-use Rattle.loop_overlay.specs.Parts.{IsPart}
+use Rattle.loop_overlay.specs.Parts.{IsBufferOf}
 
 -- a byte before the write
 laid_before : (image : List ℕ) (w : KeptWrite) (i : ℕ) → i < length image → i < w.at → get_or (laid_on image w) i 0 ≡ get_or image i 0
@@ -39,7 +39,7 @@ laid_beyond at image w i within low behind = ⊎_elim
 
 -- a write that touches no byte of the part
 pub part_outside : (at to from : ℕ) (image buf : List ℕ) (w : KeptWrite) → to ≡ w.at - at → from ≡ at - w.at
-    → (length buf ≤ to) ⊎ (length w.bytes ≤ from) → IsPart at image buf → IsPart at (laid_on image w) buf
+    → (length buf ≤ to) ⊎ (length w.bytes ≤ from) → IsBufferOf at image buf → IsBufferOf at (laid_on image w) buf
 part_outside at to from image buf w to_is from_is outside part =
     let same : (i : ℕ) → at ≤ i → i < at + length buf → get_or (laid_on image w) i 0 ≡ get_or image i 0 = λ i low high. ⊎_elim
     (λ (before : length buf ≤ to). laid_before image w i (omega (arith, high, part.fits)) (omega (arith, low, high, before, to_is)))
@@ -51,7 +51,7 @@ part_outside at to from image buf w to_is from_is outside part =
 
 -- the bytes that the write has in the part, written over it
 pub part_laid : (at to from count : ℕ) (image buf : List ℕ) (w : KeptWrite) → to ≡ w.at - at → from ≡ at - w.at → count ≡ min (length buf - to) (length w.bytes - from)
-    → to < length buf → from < length w.bytes → IsPart at image buf → IsPart at (laid_on image w) (written to (piece from count w.bytes) buf)
+    → to < length buf → from < length w.bytes → IsBufferOf at image buf → IsBufferOf at (laid_on image w) (written to (piece from count w.bytes) buf)
 part_laid at to from count image buf w to_is from_is count_is inside has part =
     let laid_bytes = piece from count w.bytes in
     let n = length buf in

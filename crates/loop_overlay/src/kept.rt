@@ -2,7 +2,7 @@
 ghost use Rattle.std.specs.Prelude.{◌≡◌, ◌≤◌, ◌+◌, ◌++◌, [], ◌∷◌, List, OnErr, OnOk, length, ℕ};
 ghost use Rattle.loop_disk.specs.Medium.{written};
 ghost use Rattle.loop_overlay.specs.Layers.{laid, laid_on};
-ghost use Rattle.loop_overlay.specs.Parts.{IsPart};
+ghost use Rattle.loop_overlay.specs.Parts.{IsBufferOf};
 
 use std::alloc::{AllocError, Allocator};
 use std::marker::Model;
@@ -25,7 +25,7 @@ impl<A: Allocator> Model for Kept<A> {
 impl<A: Allocator> Kept<A> {
     // Lays the write over a buffer that holds a disk's bytes from `at` on.
     fn lay(&self, at: u64, buf: &mut [u8])
-        ensures { (image : List ℕ) → IsPart at image buf.old → IsPart at (laid_on image self.now) buf.new }
+        ensures { (image : List ℕ) → IsBufferOf at image buf.old → IsBufferOf at (laid_on image self.now) buf.new }
     {
         let to = self.at.saturating_sub(at) as usize;
         let from = at.saturating_sub(self.at) as usize;
@@ -47,7 +47,7 @@ fn put(buf: &mut [u8], at: usize, bytes: &[u8])
 
 // Lays the writes over a buffer that holds a disk's bytes from `at` on, the first one first.
 pub(crate) fn lay_all<A: Allocator>(writes: &[Kept<A>], at: u64, buf: &mut [u8])
-    ensures { (image : List ℕ) → IsPart at image buf.old → IsPart at (laid writes.now image) buf.new }
+    ensures { (image : List ℕ) → IsBufferOf at image buf.old → IsBufferOf at (laid writes.now image) buf.new }
 {
     for kept in writes {
         kept.lay(at, buf);

@@ -1,7 +1,7 @@
 use Rattle.std.proofs.Common.{◌≡◌, ◌∙◌, ◌+◌, ◌-◌, ℕ, List, ap, subst, sym, inl, inr, take, drop, arith}
 use Rattle.loop_disk.specs.Medium.{written}
 use Rattle.loop_overlay.specs.Layers.{KeptWrite, laid_on}
-use Rattle.loop_overlay.specs.Parts.{IsPart}
+use Rattle.loop_overlay.specs.Parts.{IsBufferOf}
 use Rattle.loop_overlay.proofs.Laying.{part_laid, part_outside}
 use Rattle.loop_overlay.proofs.kept.Kept.lay.Goals.{then-to-buf-via-then-to-buf, then-to-buf-via-else-to-buf+then-from-len}
 use Rattle.loop_overlay.proofs.kept.Kept.lay.Goals as goal
@@ -11,7 +11,7 @@ returns-then-to-buf g c = λ image part.
     let inside = c.self.inside in
     let w : KeptWrite = record { at = inside.at; bytes = inside.bytes.items } in
     let buf = c.args.buf.now in
-    subst (λ (v : KeptWrite). IsPart c.args.at (laid_on image v) buf) c.self.view_is
+    subst (λ (v : KeptWrite). IsBufferOf c.args.at (laid_on image v) buf) c.self.view_is
     (elim c.then-to-buf.branch [
       | then-to-buf-via-then-to-buf way ↦ part_outside c.args.at _ _ image buf w c.saturating_sub-to.ensures c.saturating_sub-from.ensures (inl way.if-to-buf.true) part
       | then-to-buf-via-else-to-buf+then-from-len way ↦ part_outside c.args.at _ _ image buf w c.saturating_sub-to.ensures c.saturating_sub-from.ensures (inr (omega (arith, way.if-from-len.true, way.len.ensures, inside.bytes.ok.0))) part
@@ -28,6 +28,6 @@ returns g c = λ image part.
     let many = inside.bytes.ok.0 in
     let same : c.put.new.buf ≡ written to (take count (drop from w.bytes)) buf =
     c.put.ensures ∙ ap (λ (l : List ℕ). written to (take (from + count - from) (drop from l)) buf) c.deref.ensures.value ∙ ap (λ (k : ℕ). written to (take k (drop from w.bytes)) buf) (omega arith) in
-    subst (λ (v : KeptWrite). IsPart c.args.at (laid_on image v) c.put.new.buf) c.self.view_is
-    (subst (λ (l : List ℕ). IsPart c.args.at (laid_on image w) l) (sym same)
+    subst (λ (v : KeptWrite). IsBufferOf c.args.at (laid_on image v) c.put.new.buf) c.self.view_is
+    (subst (λ (l : List ℕ). IsBufferOf c.args.at (laid_on image w) l) (sym same)
     (part_laid c.args.at to from count image buf w c.saturating_sub-to.ensures c.saturating_sub-from.ensures (omega (arith, c.min-count.ensures, c.len.ensures, c.len-2.ensures, many)) c.if-to-buf.false (omega (arith, c.if-from-len.false, c.len.ensures, many)) part))
