@@ -62,6 +62,22 @@ def log_of(path):
     return records
 
 
+def settle(log, path):
+    """Makes a log behind a kill one of what was done: a record that was cut goes, and a last write, which is told of before it is made, has the
+    bytes that the file has in its place, since the kill may have come in between."""
+    if not os.path.exists(log):
+        return
+    whole = log_of(log)
+    if whole and whole[-1][0] == "W":
+        _, at, data = whole[-1]
+        with open(path, "rb") as file:
+            file.seek(at)
+            whole[-1] = ("W", at, file.read(len(data)))
+    with open(log, "wb") as file:
+        for kind, at, data in whole:
+            file.write(kind.encode() + struct.pack("<QQ", at, len(data)) + data)
+
+
 def write_to(image, at, data):
     """Writes bytes into an image, which grows where it has to."""
     if len(image) < at + len(data):
