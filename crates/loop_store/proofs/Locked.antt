@@ -1,5 +1,7 @@
 -- What a lock and an unlock make of an image, of what is known of it, and of a store.
-use Rattle.std.proofs.Common.{◌≡◌, ◌≢◌, inl, inr, ℕ, suc, ◌+◌, ◌*◌, ◌<◌, ◌≤◌, Bool, true, false, not, ◌&&◌, leb, ltb, if◌then◌else◌, is_some, Option, None, Some, Result, Err, List, [], ◌∷◌, length, get_or, set, map, refl, sym, ap, ◌∙◌, subst, arith}
+use Rattle.std.proofs.Common.{◌≡◌, ◌≢◌, ◌⊎◌, inl, inr, ℕ, suc, ◌+◌, ◌*◌, ◌/◌, ◌%◌, ◌<◌, ◌≤◌, Bool, true, false, not, ◌&&◌, eqb, leb, ltb, if◌then◌else◌, is_some, Option, None, Some, Result, Err, List, [], ◌∷◌, length, get_or, set, map, refl, sym, ap, ◌∙◌, subst, arith}
+use Rattle.std.proofs.Math.Nat.{add-mul}
+use Rattle.std.proofs.lemmas.Bool.{cases_lt}
 use Rattle.std.proofs.lemmas.List.{length-map, set-get_or}
 use Rattle.std.proofs.lemmas.Result.{on_ok_weaker}
 use Rattle.std.proofs.lemmas.List.Sums.{prefix_len_stops}
@@ -18,7 +20,7 @@ use Rattle.loop_record.specs.Layout.{clip_in}
 use Rattle.loop_record.specs.Reading.{Holds, Parts, parts_of, shown}
 use Rattle.loop_record.specs.Recording.{Recording, Step, after, clip_of, first_free, holds, last_number, lock, plain, ring_of, unlock}
 use Rattle.loop_record.proofs.Clips.{clip_of-entry, clips-are, parts-clip, reading-clip, reading-lock, reading-unlock}
-use Rattle.loop_record.proofs.Decided.{at_most, at_most_test, both}
+use Rattle.loop_record.proofs.Decided.{at_most, at_most_test, both, equal}
 use Rattle.loop_record.proofs.Framing.{same_open, same_segment, same_whole_frames}
 use Rattle.loop_record.proofs.Parts.{reading-stages, within_behind}
 use Rattle.loop_record.proofs.Readings.{get_or-map_range, length-range}
@@ -33,11 +35,12 @@ use Rattle.loop_store.specs.Calls.{Call, CanRefuseSpan, IsAllowed, IsAnswered, R
 use Rattle.loop_store.specs.Faults.{failed_by, is_disk}
 use Rattle.loop_store.specs.Goes.{Goes, progress_of}
 use Rattle.loop_store.specs.Held.{HasNoneStray, HoldsSome, Makes}
-use Rattle.loop_store.specs.Locks.{KeepsSegments, CanTake}
+use Rattle.loop_store.specs.Locks.{EndsRun, KeepsSegments, CanTake}
 use Rattle.loop_store.specs.Recovered.{IsClipNoted, IsHeadIn, IsIndex, IsIndexOf}
 use Rattle.loop_store.specs.Seen.{IsKept, IsPresent, Seen, StandsFor, seen_with}
 use Rattle.loop_store.proofs.Grown.{held-some}
 use Rattle.loop_store.specs.Numbers.{is_among}
+use Rattle.loop_store.proofs.Looked.{missing-behind}
 use Rattle.loop_store.proofs.Looks.{known-by, there-held, told-by}
 use Rattle.loop_store.proofs.Once.{goes-done, goes-failed, goes-refused}
 use Rattle.loop_store.proofs.Numbers.{among-block, among-range}
@@ -211,6 +214,23 @@ run-held g r image table j n m h held same within l some there has low high =
 
     first-le : is_among (range_with_len (h.block * g.slots) h.frames) n ≡ true → h.block * g.slots ≤ n
     first-le e = at_most (h.block * g.slots) n (both (leb (h.block * g.slots) n) (ltb n (h.block * g.slots + h.frames)) (sym (among-range n (h.block * g.slots) h.frames) ∙ e)).0
+
+-- the run ends behind the block's frames
+pub run-ends : (g : Geometry) (r : Recording) (image : List ℕ) (table : List (Option SegmentHead)) (j n end : ℕ) (h : SegmentHead) → Holds g r image → table ≡ heads_of g image → All (IsHeadIn g) table → j < g.segments → get_or table j None ≡ Some h
+    → has_number g.slots n (get_or table j None) ≡ true → end ≡ h.block * g.slots + h.frames → EndsRun (ring_of g) r n end
+run-ends g r image table j n end h held same within l there has is = go (cases_lt h.frames g.slots)
+  where
+    few : h.frames ≤ g.slots
+    few = (subst (IsHeadIn g) there (within j None (omega (arith, l, ap length same, heads-length g image)))).0
+
+    of : h.block ≡ n / g.slots
+    of = equal h.block (n / g.slots) (both (eqb h.block (n / g.slots)) (ltb (n % g.slots) h.frames) (sym (ap (has_number g.slots n) there) ∙ has)).0
+
+    go : (h.frames < g.slots) ⊎ (g.slots ≤ h.frames) → EndsRun (ring_of g) r n end
+    go (inl room) = inl (ap (holds r) is ∙ missing-behind g r image j h held (ap (λ (hs : List (Option SegmentHead)). get_or hs j None) (sym same) ∙ there) room)
+    go (inr full) =
+        let block : h.block * g.slots ≡ n / g.slots * g.slots = ap (λ (b : ℕ). b * g.slots) of in
+        inr (omega (arith, is, few, full, block, add-mul (n / g.slots) 1 g.slots))
 
 -- ---- a store
 

@@ -4,6 +4,7 @@ use Rattle.std.proofs.Math.Nat.{div-add-mod'}
 use Rattle.std.proofs.lemmas.Bool.Decides.{nat_tests}
 use Rattle.std.proofs.lemmas.List.Folds.{list_any_at}
 use Rattle.std.proofs.lemmas.List.Quantifiers.{position-Some}
+use Rattle.std.proofs.lemmas.Nat.{div-mul-add, mod-mul-add}
 use Rattle.std.specs.Prelude.{◌&&◌}
 use Rattle.std.specs.List.{list_any, position}
 use Rattle.loop_disk.specs.Medium.{piece}
@@ -84,6 +85,17 @@ missing-slot g r image n j h held found at few = none-held g r image n held (λ 
     let one : h ≡ u = some-inj h u (sym at ∙ ap (λ (i : ℕ). get_or (heads_of g image) i None) same ∙ is) in
     let frames : h.frames ≡ u.frames = ap (λ (x : SegmentHead). x.frames) one in
     omega (arith, frames, few, l))
+
+-- the number behind the frames of a segment that has room for more
+pub missing-behind : (g : Geometry) (r : Recording) (image : List ℕ) (j : ℕ) (h : SegmentHead) → Holds g r image → get_or (heads_of g image) j None ≡ Some h → h.frames < g.slots → holds r (h.block * g.slots + h.frames) ≡ false
+missing-behind g r image j h held at room =
+    let of : (h.block * g.slots + h.frames) / g.slots ≡ h.block = div-mul-add h.block g.slots h.frames room in
+    let slot : (h.block * g.slots + h.frames) % g.slots ≡ h.frames = mod-mul-add h.block g.slots h.frames room in
+    none-held g r image (h.block * g.slots + h.frames) held (λ k u is block l.
+    let same : j ≡ k = one-entry g r image j k h u held at is (sym of ∙ sym block) in
+    let one : h ≡ u = some-inj h u (sym at ∙ ap (λ (i : ℕ). get_or (heads_of g image) i None) same ∙ is) in
+    let frames : h.frames ≡ u.frames = ap (λ (x : SegmentHead). x.frames) one in
+    omega (arith, frames, slot, l))
 
 pub if-none : {T : Type 0} {P : Type 0} (o : Option T) → P → IfNone o P
 if-none None p = p

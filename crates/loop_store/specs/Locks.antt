@@ -1,8 +1,8 @@
 -- Which clips may be locked, and what a lock and an unlock note.
-use Rattle.std.specs.Prelude.{◌≡◌, ℕ, ◌<◌, ◌≤◌, true, Option, None, Some, Result, Ok, Err, List}
+use Rattle.std.specs.Prelude.{◌≡◌, ◌⊎◌, ℕ, ◌+◌, ◌*◌, ◌<◌, ◌≤◌, true, false, Option, None, Some, Result, Ok, Err, List}
 use Rattle.loop_record.specs.declared.clip.Span.{Span}
 use Rattle.loop_record.specs.declared.geometry.Geometry.{Geometry}
-use Rattle.loop_record.specs.Recording.{Recording, free_id, holds, holds_all}
+use Rattle.loop_record.specs.Recording.{Recording, Ring, block, free_id, holds, holds_all}
 use Rattle.loop_ring.specs.Heads.{heads_of}
 use Rattle.loop_store.specs.declared.fault.StoreFault.{StoreFault}
 use Rattle.loop_store.specs.Calls.{CanLock, IsFirstMissing, RefusesSpan}
@@ -11,6 +11,10 @@ use Rattle.loop_store.specs.Held.{HasNoneStray}
 -- the numbers from one up to another, without it, are held
 abbrev pub AreHeld : Recording → ℕ → ℕ → Type 0
 AreHeld r from end = (m : ℕ) → from ≤ m → m < end → holds r m ≡ true
+
+-- a run from this number on is whole in its block: its end isn't held, or is the first number behind that block
+abbrev pub EndsRun : Ring → Recording → ℕ → ℕ → Type 0
+EndsRun ring r from end = (holds r end ≡ false) ⊎ (end ≡ (block ring from + 1) * ring.slots)
 
 -- the least number of a span that isn't held, or none where each is
 abbrev pub IsMissing : Recording → Span → Option ℕ → Type 0

@@ -7,7 +7,7 @@ ghost use Rattle.loop_record.specs.Recording.{Recording, clip_of, first_free, ho
 ghost use Rattle.loop_store.specs.Calls.{CanRefuseSpan, locked, unlocked};
 ghost use Rattle.loop_store.specs.Goes.{Goes};
 ghost use Rattle.loop_store.specs.Held.{Makes};
-ghost use Rattle.loop_store.specs.Locks.{AnswersSpan, AreHeld, IsInSpan, IsMissing, KeepsSegments, CanTake};
+ghost use Rattle.loop_store.specs.Locks.{AnswersSpan, AreHeld, EndsRun, IsInSpan, IsMissing, KeepsSegments, CanTake};
 ghost use Rattle.loop_store.specs.Recovered.{IsClipNoted, IsIndex, IsIndexOf};
 ghost use Rattle.loop_store.specs.Seen.{IsKept, IsPresent, Refused, seen_with};
 
@@ -26,6 +26,8 @@ fn run_end<A: Allocator>(index: &Index<A>, number: u64) -> u64
     ensures held { (r : Recording) (image : List ℕ) → IsIndexOf index.now r image → AreHeld r number result }
     ensures missing { (r : Recording) (image : List ℕ) → IsIndexOf index.now r image → result ≡ number
         → holds r number ≡ false }
+    ensures whole { (r : Recording) (image : List ℕ) → IsIndexOf index.now r image
+        → EndsRun (ring_of index.now.ring.geometry) r number result }
 {
     match segment_with(index, number) {
         Some(segment) => match index.table.get(segment) {

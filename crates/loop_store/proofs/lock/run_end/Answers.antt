@@ -1,6 +1,6 @@
-use Rattle.std.proofs.Common.{◌+◌, ◌*◌, ◌<◌, ℕ, sym, ◌∙◌, subst}
+use Rattle.std.proofs.Common.{inl, ◌+◌, ◌*◌, ◌<◌, ℕ, sym, ◌∙◌, subst}
 use Rattle.loop_record.proofs.Bounds.{limits}
-use Rattle.loop_store.proofs.Locked.{run-held}
+use Rattle.loop_store.proofs.Locked.{run-ends, run-held}
 use Rattle.loop_store.proofs.lock.run_end.Goals as goal
 
 pub returns-in-Some-get-clause-held : goal.returns-in-Some-get-clause-held
@@ -13,3 +13,13 @@ returns-in-Some-get-clause-held g c = λ r image known m low high.
 
 pub returns-in-None-clause-missing : goal.returns-in-None-clause-missing
 returns-in-None-clause-missing g c = λ r image known same. c.in-None.ensures.missing r image known
+
+pub returns-in-Some-get-clause-whole : goal.returns-in-Some-get-clause-whole
+returns-in-Some-get-clause-whole g c = λ r image known.
+    let h = c.args.index.now.ring.geometry in
+    let head = c.in-Some-get.head in
+    run-ends h r image c.args.index.now.table.heads c.in-Some.segment c.args.number _ head known.held known.heads_are c.requires.within c.in-Some.ensures.within
+    (sym c.get.ensures ∙ c.in-Some-get.is) c.in-Some.ensures.there (λ i. head.block * c.from.ensures i + c.from-in-Some-get.ensures i)
+
+pub returns-in-None-clause-whole : goal.returns-in-None-clause-whole
+returns-in-None-clause-whole g c = λ r image known. inl (c.in-None.ensures.missing r image known)
