@@ -4,6 +4,8 @@ use Rattle.std.proofs.lemmas.List.{drop-map, length-map, map-append, take-map}
 use Rattle.std.specs.Prelude.{◌==◌, ◌&&◌, ◌||◌, nat_le, nat_lt}
 use Rattle.std.specs.List.{filter, find, list_all, range_with_len}
 use Rattle.std.specs.Option.{option_map}
+use Rattle.loop_clips.specs.Table.{listed}
+use Rattle.loop_disk.specs.Medium.{Medium}
 use Rattle.loop_record.specs.declared.clip.Span.{Span}
 use Rattle.loop_record.specs.declared.geometry.Geometry.{Geometry}
 use Rattle.loop_record.specs.Geometry.{frame_bytes}
@@ -12,8 +14,10 @@ use Rattle.loop_store.specs.declared.fault.StoreFault.{StoreFault}
 use Rattle.loop_store.specs.Calls.{AreAnswered, CanLock, Call, IsAnswered, IsFirstMissing, RefusesAppend, RefusesLock, RefusesRead, RefusesSpan, StoreState, after as stored, after_calls, appended, asked, has_failed, locked, made, unlocked, was_read, was_read_part}
 use Rattle.loop_store.specs.Steps.{if_answered, steps_or_none}
 use Rattle.loop_desk.specs.declared.limits.Flushed.{Flushed}
-use Rattle.loop_desk.specs.Bare.{IsBlind, bare, bare_call, bare_frame, bare_read, bare_recording, bare_state, bare_store}
+use Rattle.loop_desk.specs.declared.limits.Outline.{Outline}
+use Rattle.loop_desk.specs.Bare.{IsBlind, IsOutlineOf, bare, bare_call, bare_frame, bare_read, bare_recording, bare_state, bare_store}
 use Rattle.loop_desk.specs.Desk.{AreDeskAnswers, DeskCall, DeskState, IsCounted, IsDeskAnswer, IsDeskTold, IsFlush, Rules, append_of, clip_locked, clip_unlocked, desk_after, desk_after_calls, flushed, frame_read, group_of, pending_after, status_told, store_calls, submitted, waiting_at}
+use Rattle.loop_desk.specs.Seen.{SeenDesk, StandsAt, TellsOutline}
 
 abbrev bare_step : Step → Step
 bare_step (store p) = store (bare p)
@@ -274,3 +278,28 @@ blind k s (c ∷ calls) =
       answers = λ said. (call-bare k s c said.0, subst (λ (x : DeskState). AreDeskAnswers k x (map bare_call calls)) (sym one) (rest.answers said.1));
       state = ap (λ (x : DeskState). desk_after_calls k x (map bare_call calls)) one ∙ rest.state;
     }
+
+-- ---- outlines
+
+numbers-bare : (frames : List (ℕ × Picture)) → map (λ f. f.0) (map bare_frame frames) ≡ map (λ f. f.0) frames
+numbers-bare [] = refl
+numbers-bare (f ∷ frames) = ap (λ l. f.0 ∷ l) (numbers-bare frames)
+
+pub outline-tells : {D A : Type 0} (medium : D → Medium) (d : SeenDesk D) (outline : Outline A) (s : DeskState)
+    → TellsOutline medium d outline → StandsAt medium d s → (medium d.store.disk).honest → IsOutlineOf s outline
+outline-tells medium d outline s told stands now =
+    let tells = stands.store.recording.told now in
+    record {
+      next = told.next ∙ tells.next_is;
+      frames = told.frames s.store.recording stands.store.recording now;
+      clips = told.clips ∙ ap (listed 0) tells.clips_are;
+      pending = told.pending ∙ ap (λ l. length l) stands.pending;
+    }
+
+pub outline-bare : {A : Type 0} (s : DeskState) (outline : Outline A) → IsOutlineOf s outline → IsOutlineOf (bare_state s) outline
+outline-bare s outline is = record {
+  next = is.next;
+  frames = is.frames ∙ sym (numbers-bare s.store.recording.frames);
+  clips = is.clips;
+  pending = is.pending ∙ sym (length-map s.pending bare);
+}

@@ -1,9 +1,11 @@
 -- Histories without pixels: the same definitions, over frames without their bytes.
-use Rattle.std.specs.Prelude.{◌≡◌, ℕ, Result, Ok, Err, List, [], map}
+use Rattle.std.specs.Prelude.{◌≡◌, ℕ, Result, Ok, Err, List, [], length, map}
+use Rattle.loop_clips.specs.Table.{listed}
 use Rattle.loop_record.specs.declared.frame.FrameHead.{FrameHead}
 use Rattle.loop_record.specs.Recording.{Picture, Recording}
 use Rattle.loop_store.specs.declared.fault.StoreFault.{StoreFault}
 use Rattle.loop_store.specs.Calls.{StoreState}
+use Rattle.loop_desk.specs.declared.limits.Outline.{Outline}
 use Rattle.loop_desk.specs.Desk.{AreDeskAnswers, DeskCall, DeskState, Rules, clip_locked, clip_unlocked, desk_after_calls, flushed, frame_read, status_told, submitted}
 
 -- a frame without its bytes
@@ -40,3 +42,10 @@ bare_call (status_told status) = status_told status
 pub record IsBlind (k : Rules) (s : DeskState) (calls : List DeskCall) : Type 0 where
   pub answers : AreDeskAnswers k s calls → AreDeskAnswers k (bare_state s) (map bare_call calls)
   pub state : desk_after_calls k (bare_state s) (map bare_call calls) ≡ bare_state (desk_after_calls k s calls)
+
+-- the outline says what the state is
+pub record IsOutlineOf {A : Type 0} (s : DeskState) (outline : Outline A) : Type 0 where
+  pub next : outline.next ≡ s.store.recording.next
+  pub frames : outline.frames.items ≡ map (λ f. f.0) s.store.recording.frames
+  pub clips : outline.clips.items ≡ listed 0 s.store.recording.clips
+  pub pending : outline.pending ≡ length s.pending

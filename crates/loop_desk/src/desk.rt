@@ -93,6 +93,16 @@ impl<D: Disk + Drop, A: Allocator> Desk<D, A> {
         self.spare.push_back(bytes);
     }
 
+    /// Memory for the frame of a number, where that is held and there is some to spare.
+    fn spare_for(&mut self, number: u64) -> Option<Vec<u8, A>>
+        ensures { self.new ≡ self.old }
+    {
+        if self.store.holds(number) {
+            return self.spare_memory();
+        }
+        None
+    }
+
     /// Where the desk needn't be reopened and its disk is honest, its store stands for a recording. The function does
     /// nothing: its contract is the law.
     pub fn opens(&self)
@@ -242,13 +252,15 @@ impl<D: Disk + Drop, A: Allocator> Desk<D, A> {
 }
 
 impl<D: Disk + Drop, A: Allocator + Copy> Desk<D, A> {
-    /// Reads a stored frame into memory of its own: `MustReopen`, `NotHeld`, `NoMemory`, then `Disk` or `Damaged`,
-    /// as `Store::read_frame`. A frame that waits isn't held yet.
+    /// Reads a stored frame, into memory of a frame that was stored or new: `MustReopen`, `NotHeld`, `NoMemory`, then
+    /// `Disk` or `Damaged`, as `Store::read_frame`. A frame that waits isn't held yet. Who is done with the frame may
+    /// give its memory back (`keep_memory`).
     pub fn read_frame(&mut self, alloc: A, number: u64) -> Result<ReadFrame<A>, StoreFault>
         ensures goes { DeskGoes D.medium self.old self.new (frame_read number (read_of result) ∷ []) }
         ensures same { self.new.store ≡ record self.old.store { disk = self.new.store.disk } }
     {
-        self.store.read_frame(alloc, number)
+        let spare = self.spare_for(number);
+        self.store.read_frame_in(alloc, spare, number)
     }
 
     /// What the desk holds: the next number, the numbers of the held frames, the clips, and how many frames wait.

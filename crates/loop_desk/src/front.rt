@@ -6,12 +6,11 @@ ghost use Rattle.loop_desk.specs.Parts.{GetsBuffer, is_ioctl};
 
 use crate::frame::copy_frame;
 use crate::hand::{Hand, LaneFault};
-use crate::memory::frame_memory;
 use bitflags::Flags;
 use loop_ioctl::{Ioctl, QueueEvent, QueueReply, hand_back, is_whole, react};
 use loop_plane::{FdTable, PlaneMemory};
 use loop_record::Frame;
-use loop_store::StoreFault;
+use loop_store::{StoreFault, frame_memory};
 use loop_vb2::{BufferFlags, Dequeued, Queue, Reason};
 use std::alloc::Allocator;
 use std::mem;

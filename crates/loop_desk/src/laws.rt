@@ -3,14 +3,15 @@
 ghost use Rattle.std.specs.Prelude.{◌++◌, List};
 ghost use Rattle.loop_store.specs.Calls.{StoreState};
 ghost use Rattle.loop_store.specs.Goes.{Stands};
-ghost use Rattle.loop_desk.specs.Bare.{IsBlind};
+ghost use Rattle.loop_desk.specs.Bare.{IsBlind, IsOutlineOf, bare_state};
 ghost use Rattle.loop_desk.specs.Desk.{AreDeskAnswers, DeskCall, DeskState, Rules, desk_after_calls};
 ghost use Rattle.loop_desk.specs.Footage.{KeepsFootage};
 ghost use Rattle.loop_desk.specs.declared.event.LaneEvent.{LaneEvent};
 ghost use Rattle.loop_desk.specs.declared.event.LaneReply.{LaneReply};
+ghost use Rattle.loop_desk.specs.declared.limits.Outline.{Outline};
 ghost use Rattle.loop_desk.specs.FrontLaws.{NewFrontsStand, WholeFramesAreTaken};
 ghost use Rattle.loop_desk.specs.Lane.{LaneKeeps, LaneRan};
-ghost use Rattle.loop_desk.specs.Seen.{DeskGoes, StandsAt, rules_of};
+ghost use Rattle.loop_desk.specs.Seen.{DeskGoes, StandsAt, TellsOutline, rules_of};
 
 use crate::{Desk, Lane};
 use loop_disk::Disk;
@@ -71,4 +72,12 @@ pub fn calls_are_the_models<D: Disk + Drop, A: Allocator>(before: &Desk<D, A>, a
 /// has it are so without pixels too. So one model serves a desk and a history of its calls that holds none.
 pub fn model_is_blind()
     ensures { (k : Rules) (s : DeskState) (calls : List DeskCall) → IsBlind k s calls }
+{}
+
+/// What a desk's outline says is the state for which the desk stands, and that state without pixels: an outline doesn't
+/// depend on them either.
+pub fn outlines_are_blind<D: Disk + Drop, A: Allocator>(desk: &Desk<D, A>)
+    ensures { (outline : Outline A) (s : DeskState) → TellsOutline D.medium desk.now outline
+        → StandsAt D.medium desk.now s → (D.medium desk.now.store.disk).honest
+        → IsOutlineOf s outline × IsOutlineOf (bare_state s) outline }
 {}

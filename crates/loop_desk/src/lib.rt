@@ -1,7 +1,7 @@
 //! A desk of frames that wait before a store, and a lane from a queue of buffers to it.
 //!
 //! - `desk` has the desk and its calls, each of which is one call of the model in `specs/Desk`; `group`: the first
-//!   of the frames that wait, stored as one group; `limits`: how much a desk takes in, and what it tells; `memory`: memory for frames;
+//!   of the frames that wait, stored as one group; `limits`: how much a desk takes in, and what it tells;
 //! - `hand` has what was taken from a queue; `front` the events of queue, table of fds and hand, each of which is one
 //!   turn of the model in `specs/Front`; `frame` copies a frame's bytes out of a buffer's planes;
 //! - `lane` has `lane_run`, whose contract is the promise of the whole: whenever the power fails, the recording is
@@ -21,11 +21,10 @@ mod hand;
 mod lane;
 pub mod laws;
 mod limits;
-mod memory;
 
 pub use desk::Desk;
 pub use event::{LaneEvent, LaneReply};
 pub use hand::{Hand, LaneFault};
 pub use lane::{Lane, lane_run};
 pub use limits::{DeskLimits, Flushed, Outline, Status};
-pub use memory::frame_memory;
+pub use loop_store::frame_memory;

@@ -5,7 +5,7 @@ ghost use Rattle.loop_store.specs.Calls.{Call, was_read};
 ghost use Rattle.loop_store.specs.Goes.{Goes};
 ghost use Rattle.loop_store.specs.Runs.{IsCall, IsOfSize, Ran, read_of};
 
-use crate::{Store, StoreFault};
+use crate::{Store, StoreFault, frame_memory};
 use loop_disk::Disk;
 use loop_record::{Frame, FrameHead, Span};
 use std::alloc::{Allocator, Global};
@@ -52,6 +52,19 @@ impl<D: Disk + Drop, A: Allocator + Copy> Store<D, A> {
         ensures goes { Goes D.medium self.old self.new (was_read number (read_of result) ∷ []) }
         ensures same { self.new ≡ record self.old { disk = self.new.disk } }
     {
+        self.read_frame_in(alloc, None, number)
+    }
+
+    /// As `read_frame`, into spare memory, where that has a frame's length.
+    pub fn read_frame_in(
+        &mut self,
+        alloc: A,
+        spare: Option<Vec<u8, A>>,
+        number: u64,
+    ) -> Result<ReadFrame<A>, StoreFault>
+        ensures goes { Goes D.medium self.old self.new (was_read number (read_of result) ∷ []) }
+        ensures same { self.new ≡ record self.old { disk = self.new.disk } }
+    {
         if self.must_reopen {
             return Err(StoreFault::MustReopen);
         }
@@ -59,7 +72,7 @@ impl<D: Disk + Drop, A: Allocator + Copy> Store<D, A> {
             return Err(StoreFault::NotHeld);
         }
         let size = self.index.ring.geometry.frame_bytes() as usize;
-        let mut bytes = vec![in alloc; 0; size]?;
+        let mut bytes = frame_memory(alloc, spare, size)?;
         let head = self.read(number, &mut bytes)?;
         Ok(ReadFrame { head, bytes })
     }

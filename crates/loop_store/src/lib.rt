@@ -8,7 +8,7 @@
 //! - `reopen`: finds the recording on a disk again; `recover` and `found`: what a disk's image reads as;
 //! - `store`: the store and its calls; `index`: what it knows in memory; `put`: the append of a group, `place`:
 //!   where it goes, `grow`: what it writes there; `lock`: locks and unlocks of clips; `look`: what is read;
-//! - `command`: lists of commands, and the replies;
+//! - `command`: lists of commands, and the replies; `memory`: memory for a frame;
 //! - `laws`: what calls leave, one after the other; `chain`: calls in a row, across a crash;
 //! - `fault`: the refusals, with their numbers and names.
 #![tactic(auto)]
@@ -24,6 +24,7 @@ pub mod laws;
 mod lock;
 mod look;
 mod make;
+mod memory;
 mod place;
 mod put;
 mod recover;
@@ -34,4 +35,5 @@ pub use command::{Command, ReadFrame, Reply};
 pub use fault::{OpenRefused, StoreFault};
 pub use loop_clips::Clip;
 pub use make::format;
+pub use memory::frame_memory;
 pub use store::Store;

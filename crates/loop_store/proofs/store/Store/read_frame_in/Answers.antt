@@ -3,7 +3,7 @@ use Rattle.std.proofs.lemmas.Result.{err_from_is_err_and}
 use Rattle.loop_store.specs.declared.fault.StoreFault.TheVariants.{NoMemory, NotHeld}
 use Rattle.loop_store.specs.Calls.{was_read}
 use Rattle.loop_store.proofs.Reading.{goes-unread, look-read}
-use Rattle.loop_store.proofs.store.Store.read_frame.Goals as goal
+use Rattle.loop_store.proofs.store.Store.read_frame_in.Goals as goal
 
 pub returns-then-not-holds-clause-goes : goal.returns-then-not-holds-clause-goes
 returns-then-not-holds-clause-goes g c =
