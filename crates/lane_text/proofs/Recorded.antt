@@ -16,7 +16,7 @@ contents_of other (Ok c) = c
 contents_of other (Err fault) = other
 
 -- one image reads as one recording
-one-reading : (g h : Geometry) (q r : Recording) (image : List ℕ) → Holds g q image → Holds h r image → ◌≡◌ {A = Contents} (record { geometry = g; recording = q }) (record { geometry = h; recording = r })
+pub one-reading : (g h : Geometry) (q r : Recording) (image : List ℕ) → Holds g q image → Holds h r image → ◌≡◌ {A = Contents} (record { geometry = g; recording = q }) (record { geometry = h; recording = r })
 one-reading g h q r image first second = ap (contents_of (record { geometry = h; recording = r })) (sym first ∙ second)
 
 -- the text of what an image reads as

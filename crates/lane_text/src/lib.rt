@@ -1,16 +1,20 @@
-//! From a lane to a text: what was recorded is found again on the disk, and written as YUV4MPEG2.
+//! From a lane to a text, and to what is found after a power loss.
 //!
-//! `record_and_export` calls nothing but what a program would, one after the other; its contract follows from theirs
-//! alone.
+//! - `record_and_export`: what was recorded is found again on the disk, and written as YUV4MPEG2;
+//! - `run_and_reopen`: whatever a power loss left of a run's disk is opened, and is the recording after a beginning of
+//!   the run's steps.
+//!
+//! Both call nothing but what a program would, one after the other; their contracts follow from theirs alone.
 #![tactic(auto)]
 
-ghost use Rattle.std.specs.Prelude.{IfOk};
+ghost use Rattle.std.specs.Prelude.{◌≡◌, IfOk, false};
 ghost use Rattle.std.specs.Io.KnownBytes.{Appends};
 ghost use Rattle.loop_record.specs.Recording.{plain, ring_of};
 ghost use Rattle.loop_store.specs.Calls.{StoreState};
 ghost use Rattle.loop_store.specs.Goes.{Stands};
 ghost use Rattle.loop_desk.specs.Footage.{steps_made};
 ghost use Rattle.loop_desk.specs.Lane.{LaneRan};
+ghost use Rattle.lane_text.specs.Reopened.{AnswersReopened, IsLeft};
 ghost use Rattle.loop_desk.specs.declared.lane.Lane.{Lane};
 ghost use Rattle.loop_y4m.specs.Export.{frames_between};
 ghost use Rattle.loop_y4m.specs.Text.{text};
@@ -73,5 +77,29 @@ pub fn record_and_export<D: Disk + Drop, P: PlaneMemory, A: Allocator + Copy, W:
     match export(alloc, &mut store, from, to, out) {
         Ok(_) => Ok(replies),
         Err(fault) => Err(TextFault::Export(fault)),
+    }
+}
+
+/// Runs a lane through events, and opens a disk that has what a power loss may have left of the lane's: the image of any
+/// moment since the run began, before, between or within any writes. It opens, but for want of memory or a failed call
+/// of that disk; and what it holds is the recording after a beginning of the run's steps, in which each clip has all its
+/// frames.
+pub fn run_and_reopen<D: Disk + Drop, E: Disk + Drop, P: PlaneMemory, A: Allocator + Copy>(
+    alloc: A,
+    lane: &mut Lane<D, P, A>,
+    events: Vec<LaneEvent<P, A>, A>,
+    left: E,
+) -> Result<(Vec<LaneReply<P, A>, A>, Store<E, A>), TextFault>
+    ensures { (s : StoreState) → Stands D.medium lane.old.desk.store s → s.must_reopen ≡ false
+        → IsLeft D.medium E.medium lane.old.desk lane.new.desk left
+        → AnswersReopened P.plane D.medium E.medium lane.old lane.new events.items (E.medium left).bytes s result }
+{
+    let replies = match lane_run(alloc, lane, events) {
+        Ok(replies) => replies,
+        Err((fault, _)) => return Err(TextFault::Run(fault)),
+    };
+    match Store::open(alloc, left) {
+        Ok(store) => Ok((replies, store)),
+        Err(OpenRefused { fault, disk: _ }) => Err(TextFault::Open(fault)),
     }
 }

@@ -12,6 +12,8 @@ mod common;
 #[cfg(test)]
 mod growths;
 #[cfg(test)]
+mod stops;
+#[cfg(test)]
 mod text;
 #[cfg(test)]
 mod told;

@@ -12,7 +12,7 @@ use loop_store::StoreFault;
 use std::test::Fail;
 
 /// One frame comes to the disk, and one is given up by the device.
-const FIFTEEN: [(Call, Told); 15] = [
+pub(crate) const FIFTEEN: [(Call, Told); 15] = [
     (ReqBufs(2), Count(2)),
     (QBuf(0), Done),
     (QBuf(1), Done),
