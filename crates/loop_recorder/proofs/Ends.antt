@@ -1,7 +1,5 @@
 -- The end of a camera, told of the outline that was kept beside its lock.
-use Rattle.std.proofs.Common.{ℕ, List, All, sym, subst, ◌∙◌}
-use Rattle.std.proofs.lemmas.List.Elements.{All-get_or}
-use Rattle.std.proofs.lemmas.Option.{get_or_from_slice_get, slice_get_within}
+use Rattle.std.proofs.Common.{ℕ, List, All, sym, ◌∙◌}
 use Rattle.loop_disk.specs.Medium.{Medium}
 use Rattle.loop_desk.specs.declared.limits.Outline.{Outline}
 use Rattle.loop_desk.specs.Seen.{SeenDesk, TellsOutline}
@@ -11,6 +9,7 @@ use Rattle.loop_recorder.specs.declared.entry.Pass.{Pass}
 use Rattle.loop_recorder.specs.Endings.{EndsTied, IsFaithfulCamera, SameOutline}
 use Rattle.loop_recorder.specs.Ends.{EndsAt}
 use Rattle.loop_recorder.specs.Sessions.{IsFaithful}
+use Rattle.loop_recorder.proofs.Apart.{all-read, tied-apart}
 
 module _ {D A B : Type 0} (medium : D → Medium) (one : Outline A) (other : Outline B) (same : SameOutline one other) where
   tells-same : (d : SeenDesk D) → TellsOutline medium d one → TellsOutline medium d other
@@ -35,8 +34,9 @@ module _ {D A B : Type 0} (medium : D → Medium) (one : Outline A) (other : Out
 pub ends-at : {D A : Type 0} (medium : D → Medium) (outlines : List (Outline A)) (cameras : List (EndedCamera D A)) (passes : List (Pass A)) (k : ℕ) → All (IsFaithfulCamera medium) cameras → EndsTied outlines cameras passes k → EndsAt medium outlines cameras passes k
 ends-at {D} {A} medium outlines cameras passes k all tied = λ e o at_e at_o.
     let here = tied e o at_e at_o in
-    let there : IsFaithfulCamera medium e = subst (λ (x : EndedCamera D A). IsFaithfulCamera medium x) (get_or_from_slice_get cameras k e e at_e) (All-get_or (IsFaithfulCamera medium) cameras k e (slice_get_within cameras k e at_e) all) in
+    let there : IsFaithfulCamera medium e = all-read (IsFaithfulCamera medium) cameras k e all at_e in
     record {
       faithful = faithful-same medium e.outline o here.outline_is e.history.items e.desk there;
       tied = here.tied;
+      apart = tied-apart k e.history.items passes here.tied;
     }

@@ -2,8 +2,8 @@
 
 use std::sync::{Condvar, Mutex, Wait};
 
-/// Counts what happened, and wakes who waits for more. Nothing is lost between a look and the sleep behind it: who reads
-/// the count before it looks for work, and finds none, waits for another count.
+/// Counts what happened, and wakes who waits for more. Nothing is lost between a look and the sleep behind it: who
+/// reads the count before it looks for work, and finds none, waits for another count.
 #[derive(Drop)]
 pub(crate) struct Bell {
     rung: Mutex<u64>,

@@ -26,9 +26,9 @@ type Thrifty<'a, P> = Recorder<MemDisk, P, &'a Budget>;
 /// Its passes.
 type Passes<'a> = Vec<Pass<&'a Budget>, &'a Budget>;
 
-/// The growths of a new recorder of two cameras, each with frames and a clip: two lists of locks, the lists for the
-/// end and for what is given up, the passes, and twice the outlines, each with a list of its frames and one of its
-/// clips.
+/// The growths of a new recorder of two cameras, each with a frame and a clip: two lists of locks, the lists for the
+/// end and for what is given up, the passes, and twice a list of outlines, each of which takes two growths for its
+/// frames and one for its clips.
 const NEW: u64 = 19;
 
 // Within so many growths no recorder is made, and the cameras come back as they were.
@@ -113,7 +113,7 @@ const NOTED: [Noted; 8] = [
 
 /// So many growths, all of which are needed; a call; and whether it is noted, as above, or refused for want of memory
 /// for an entry or a receipt. Each has room for four. What is submitted takes a growth for its frame.
-const ROWS: [(u64, usize, bool); 18] = [
+const ROWS: [(u64, usize, bool); 19] = [
     (0, 0, false),
     (1, 0, false),
     (0, 0, false),
@@ -124,6 +124,7 @@ const ROWS: [(u64, usize, bool); 18] = [
     (1, 4, false),
     (2, 4, false),
     (0, 0, false),
+    (0, 2, false),
     (1, 4, false),
     (0, 5, false),
     (0, 6, false),
