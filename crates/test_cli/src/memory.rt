@@ -165,6 +165,8 @@ fn each_frame_that_waits_takes_one_block_of_memory_and_without_it_nothing_is_cha
     for first in 1..1000 {
         stores(&rt, &budget, &mut session, 0, Ok(stored(first, 1)));
     }
+    // So does a frame that is read, and the next one that is read has none.
+    reads(&rt, &budget, &mut session, (0, 999), Ok(999));
     reads(
         &rt,
         &budget,
@@ -180,8 +182,8 @@ fn each_frame_that_waits_takes_one_block_of_memory_and_without_it_nothing_is_cha
         Err(StoreFault::NotHeld),
     );
     tells(&rt, &budget, &session, 0, Err(StoreFault::NoMemory));
-    submits(&rt, &budget, &mut session, 0, Ok(1000));
     submits(&rt, &budget, &mut session, 0, Err(StoreFault::NoMemory));
+    submits(&rt, &budget, &mut session, 1, Ok(1000));
     submits(&rt, &budget, &mut session, 1, Ok(1001));
     reads(&rt, &budget, &mut session, (1, 999), Ok(999));
     budget.allow(1000);

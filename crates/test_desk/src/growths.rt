@@ -29,7 +29,8 @@ const READY: [(Call, Told); 5] = [
     (Complete(0, 0), Done),
 ];
 
-// The first growth is that of the replies, the second that of the frame's bytes, and the third that of the read.
+// The first growth is that of the replies, the second that of the frame's bytes, and the third that of the second read: the
+// first one has the stored frame's memory.
 const NO_FRAME: [(Call, Told); 5] = [
     (Dequeue, Fault(StoreFault::NoMemory)),
     (Submit, Fault(StoreFault::HandEmpty)),
@@ -38,19 +39,21 @@ const NO_FRAME: [(Call, Told); 5] = [
     (Read(0), Fault(StoreFault::NotHeld)),
 ];
 
-const NO_READ: [(Call, Told); 5] = [
+const NO_READ: [(Call, Told); 6] = [
     (Dequeue, Index(0)),
     (Submit, Number(0)),
     (Requeue, Index(0)),
     (Flush, Flushed(0, 1, 0)),
+    (Read(0), Frame(0)),
     (Read(0), Fault(StoreFault::NoMemory)),
 ];
 
-const ALL: [(Call, Told); 5] = [
+const ALL: [(Call, Told); 6] = [
     (Dequeue, Index(0)),
     (Submit, Number(0)),
     (Requeue, Index(0)),
     (Flush, Flushed(0, 1, 0)),
+    (Read(0), Frame(0)),
     (Read(0), Frame(0)),
 ];
 

@@ -3,7 +3,7 @@
 //!
 //! - `common`: events and replies as they stand in tables, and lanes and desks over images;
 //! - `growths`: each growth is refused in turn;
-//! - `text`: what a lane recorded becomes a text;
+//! - `stops`: what a power loss within a lane's run leaves is opened; `text`: what a lane recorded becomes a text;
 //! - `told`: assertions that are cheap to prove.
 #![tactic(auto)]
 
