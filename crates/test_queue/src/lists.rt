@@ -66,7 +66,7 @@ fn come_of(replies: &[QueueReply<Plane<'_>, &Budget>]) -> Came {
     }
 }
 
-// Does the list where so many growths are granted, all of which are needed. Where it isn't granted the queue is as it was.
+// Does the list where so many growths are granted, all of which are needed. Where it isn't done the queue is as it was.
 fn does<'a>(
     rt: &impl Abort,
     memory: &'a Budget,
