@@ -15,6 +15,7 @@ if ! command -v ffmpeg >/dev/null || ! command -v yuvfps >/dev/null; then
     apt-get install -y -qq --no-install-recommends ffmpeg mjpegtools
 fi
 if [ ! -x "$program" ]; then
+    echo "proving and building loop_cli where something has changed: up to an hour, silently" >&2
     (cd "$here/../crates/loop_cli" && rt run --jobs 1 </dev/null >/dev/null)
 fi
 exec python3 "$here/export_check.py" "$program"

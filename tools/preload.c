@@ -1,4 +1,5 @@
-/* Stands between a program and one of its files, for kill_check, power_check and format_check: built by them as a shared library and preloaded.
+/* Stands between a program and one of its files, for kill_check, power_check, format_check and start_check: built by them as a shared library
+ * and preloaded.
  *
  *   LOOP_FILE   the file: calls on descriptors that were opened by this name
  *   LOOP_LOG    a file to which each change of it is appended before it is made, and each sync and answer once it was made: a byte W, T, S or A,
@@ -8,11 +9,14 @@
  *                 late_sync    a sync is made only before the next write: what is answered in between isn't on the disk
  *                 gate_first   a frame's slot is written and synced only behind its gate
  *   LOOP_FAIL   COUNT:ERRNO, or COUNT:ERRNO:on   the call of that number on any file, from 0, fails so, or all from there on; calls are open,
- *               flock, statx, pread, pwrite, ftruncate, fsync, fdatasync and unlink. ERRNO 0: the read or write is of one byte alone
+ *               flock, statx, readlink, pread, pwrite, ftruncate, fsync, fdatasync and unlink. ERRNO 0: the read or write is of one byte alone
+ *   LOOP_THREADS   COUNT   the thread of that number, from 0, can't be started (EAGAIN)
  */
 #define _GNU_SOURCE
+#include <dlfcn.h>
 #include <errno.h>
 #include <fcntl.h>
+#include <pthread.h>
 #include <stdarg.h>
 #include <stdint.h>
 #include <stdlib.h>
@@ -56,7 +60,7 @@ static void begin(void) {
 /* Whether this call fails; a call that is to be short isn't told here, and one that waits for nothing is never interrupted. */
 static int fails_if(int waits) {
     begin();
-    long call = calls++;
+    long call = __atomic_fetch_add(&calls, 1, __ATOMIC_SEQ_CST);
     if (fail_at < 0 || call < fail_at || (call > fail_at && !fail_on) || fail_with == 0) return 0;
     if (fail_with == EINTR && !waits) return 0;
     errno = fail_with;
@@ -117,6 +121,18 @@ int statx(int fd, const char *path, int flags, unsigned mask, struct statx *out)
 
 int unlink(const char *path) {
     return fails_if(0) ? -1 : (int)syscall(SYS_unlink, path);
+}
+
+ssize_t readlink(const char *path, char *out, size_t count) {
+    return fails_if(0) ? -1 : syscall(SYS_readlink, path, out, count);
+}
+
+int pthread_create(pthread_t *thread, const pthread_attr_t *how, void *(*run)(void *), void *with) {
+    static long started = 0;
+    const char *refused = getenv("LOOP_THREADS");
+    if (refused && __atomic_fetch_add(&started, 1, __ATOMIC_SEQ_CST) == atol(refused)) return EAGAIN;
+    int (*real)(pthread_t *, const pthread_attr_t *, void *(*)(void *), void *) = dlsym(RTLD_NEXT, "pthread_create");
+    return real(thread, how, run, with);
 }
 
 static int synced(int fd, long number) {

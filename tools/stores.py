@@ -1,4 +1,4 @@
-"""What kill_check, power_check and format_check share: the programs, the preloaded library and its log, what a loss of power may leave of a
+"""What kill_check, power_check, format_check, start_check and output_check share: the programs, the preloaded library and its log, what a loss of power may leave of a
 file, and the plain recorder that says what may stand in it."""
 import os
 import random
@@ -25,6 +25,7 @@ def built(name):
     if given:
         return given
     crate = os.path.join(CRATES, name)
+    print(f"proving and building {name} where something has changed: up to an hour, silently", file=sys.stderr, flush=True)
     if subprocess.run(["rt", "run", "--jobs", "1"], cwd=crate, stdin=subprocess.DEVNULL, capture_output=True).returncode != 0:
         sys.exit(f"rt run made no {name}")
     return os.path.join(crate, "out", name)
@@ -33,14 +34,15 @@ def built(name):
 def library(folder):
     """The preloaded library, built into a folder."""
     path = os.path.join(folder, "preload.so")
-    subprocess.run(["cc", "-shared", "-fPIC", "-O2", "-o", path, os.path.join(TOOLS, "preload.c")], check=True)
+    subprocess.run(["cc", "-shared", "-fPIC", "-O2", "-o", path, os.path.join(TOOLS, "preload.c"), "-ldl"], check=True)
     return path
 
 
-def under(preload, path, log=None, mode=None, fail=None):
+def under(preload, path, log=None, mode=None, fail=None, threads=None):
     """The environment of a program with the library before it."""
     env = dict(os.environ, LD_PRELOAD=preload, LOOP_FILE=path)
-    env.update({name: value for name, value in (("LOOP_LOG", log), ("LOOP_MODE", mode), ("LOOP_FAIL", fail)) if value})
+    given = (("LOOP_LOG", log), ("LOOP_MODE", mode), ("LOOP_FAIL", fail), ("LOOP_THREADS", threads))
+    env.update({name: value for name, value in given if value})
     return env
 
 

@@ -15,16 +15,18 @@ use std::io::{BufReader, Read};
 /// How many frames wait at most. They are stored in groups.
 const WAITING: u32 = 8;
 
-/// Submits each frame of a video, and stores them.
+/// Submits each frame of a video, and stores them: of one that is cut, those in front of the cut.
 fn fill<R: Read + Drop>(
     alloc: Global,
     video: &mut Y4mReader<R>,
     desk: &mut Desk<FileDisk>,
 ) -> Result<()> {
     let (num, den) = video.rate();
+    let mut read = Ok(true);
     for n in 0..u64::MAX {
         let mut bytes = vec![in alloc; 0; video.frame_bytes() as usize]?;
-        if !video.next_frame(&mut bytes)? {
+        read = video.next_frame(&mut bytes);
+        if read != Ok(true) {
             break;
         }
         let frame = Frame {
@@ -43,6 +45,7 @@ fn fill<R: Read + Drop>(
     for _ in 0..WAITING {
         desk.flush()?;
     }
+    read?;
     Ok(())
 }
 

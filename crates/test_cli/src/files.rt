@@ -347,7 +347,7 @@ fn what_cannot_be_printed_ends_with_status_1(rt: HostRuntime) -> Result<(), Fail
 }
 
 // Exports of the ring into one file, each with how many bytes that has then: a header of 39, and 18 a frame.
-static EXPORTS: [(Step, usize); 14] = [
+static EXPORTS: [(Step, usize); 16] = [
     (
         (
             &["export", "frames.img", "2", "3", "frames.y4m"],
@@ -415,6 +415,25 @@ static EXPORTS: [(Step, usize); 14] = [
     (
         (
             &["export", "frames.img", "6", "6", "/dev/stdout"],
+            "YUV4MPEG2 W4 H2 F25:1 Ip A0:0 C420jpeg\nFRAME\n\0\0\0\0\0\0\0\0\0\0\0\0exported 1\n",
+            "",
+            0,
+        ),
+        129,
+    ),
+    // So it has by another name.
+    (
+        (
+            &["export", "frames.img", "6", "6", "/dev/fd/1"],
+            "YUV4MPEG2 W4 H2 F25:1 Ip A0:0 C420jpeg\nFRAME\n\0\0\0\0\0\0\0\0\0\0\0\0exported 1\n",
+            "",
+            0,
+        ),
+        129,
+    ),
+    (
+        (
+            &["export", "frames.img", "6", "6", "/proc/self/fd/1"],
             "YUV4MPEG2 W4 H2 F25:1 Ip A0:0 C420jpeg\nFRAME\n\0\0\0\0\0\0\0\0\0\0\0\0exported 1\n",
             "",
             0,

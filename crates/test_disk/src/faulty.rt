@@ -33,11 +33,11 @@ impl Image {
         self.bytes[0] == 0
     }
 
-    // The same, begun with a zero.
-    fn closed(&self) -> Image {
-        let mut closed = *self;
+    // Whether it is this image, or the same begun with a zero.
+    fn is_left_of(&self, old: &Image) -> bool {
+        let mut closed = *old;
         closed.bytes[0] = 0;
-        closed
+        *self == *old || *self == closed
     }
 }
 
@@ -83,12 +83,12 @@ impl Medium {
     }
 
     // Notes what the file has now, and whether a stop may leave it. A stop leaves any mixture of what is on the disk
-    // and what is in the file: so both begin with a zero, or they are the old ones but for a first byte.
+    // and what is in the file: so both begin with a zero, or they are the old ones but for a first byte of zero.
     fn note(&self, now: Image) {
         self.now.set(now);
         let synced = self.synced.get();
         let are_closed = now.is_closed() && synced.is_closed();
-        let are_old = now.closed() == self.old.closed() && synced.closed() == self.old.closed();
+        let are_old = now.is_left_of(&self.old) && synced.is_left_of(&self.old);
         self.is_safe
             .set(self.is_safe.get() && (are_closed || are_old));
     }

@@ -61,7 +61,8 @@ fn what_is_no_file_of_ours_is_refused_by_name(rt: HostRuntime) -> Result<(), Fai
     let path = "denied.img";
     drop(FileDisk::create(&rt, path, 1)?);
     fs::set_permissions(&rt, path, Permissions::from_mode(0o400))?;
-    // The gate runs tests without a superuser's rights; a superuser may open it.
+    // The gate runs tests as nobody, who may not open it. A superuser may, as under `rt try`: then nothing is shown
+    // here, since a test can't lay its rights down.
     if let Err(fault) = FileDisk::open(&rt, path) {
         same!(rt; fault, FileFault::Denied);
     }
@@ -136,7 +137,7 @@ fn short_counts_and_interruptions_are_gone_on_from(rt: HostRuntime) -> Result<()
     Ok(())
 }
 
-// The syncs of a file's bytes.
+// The syncs of a file's bytes, and whether they and the writes fail.
 #[derive(Drop)]
 struct Syncs {
     data: Cell<u32>,
@@ -144,16 +145,20 @@ struct Syncs {
 }
 
 impl Syncs {
-    fn count(&self) -> io::Result<()> {
-        self.data.set(self.data.get().wrapping_add(1));
+    fn call(&self) -> io::Result<()> {
         if self.fails.get() {
             return Err(io::Error::from(ErrorKind::Other));
         }
         Ok(())
     }
+
+    fn count(&self) -> io::Result<()> {
+        self.data.set(self.data.get().wrapping_add(1));
+        self.call()
+    }
 }
 
-// A file whose syncs are counted, and fail where they are to.
+// A file whose syncs are counted. They and its writes fail where they are to.
 #[derive(Drop)]
 struct Counting<'a> {
     file: File,
@@ -185,15 +190,17 @@ impl<'a> FileExt for Counting<'a> {
     }
 
     fn write_at(&self, buf: &[u8], offset: u64) -> io::Result<usize> {
+        self.syncs.call()?;
         self.file.write_at(buf, offset)
     }
 }
 
 #[test]
-fn a_sync_is_one_of_the_file(rt: HostRuntime) -> Result<(), Fail> {
+fn a_sync_is_one_of_the_file_and_a_failed_one_leaves_its_lock(rt: HostRuntime) -> Result<(), Fail> {
     let path = "counting.img";
     drop(FileDisk::create(&rt, path, 8)?);
     let file = OpenOptions::new().read(true).write(true).open(&rt, path)?;
+    holds!(rt; file.try_lock().is_ok());
     let syncs = Syncs {
         data: Cell::new(0),
         fails: Cell::new(false),
@@ -210,6 +217,11 @@ fn a_sync_is_one_of_the_file(rt: HostRuntime) -> Result<(), Fail> {
     syncs.fails.set(true);
     same!(rt; disk.sync(), Err(DiskFault::Sync));
     same!(rt; syncs.data.get(), 2);
+    same!(rt; FileDisk::open(&rt, path).err(), Some(FileFault::Busy));
+    same!(rt; write_at(&mut disk, 1, b"cd"), Err(DiskFault::Write));
+    same!(rt; FileDisk::open(&rt, path).err(), Some(FileFault::Busy));
+    drop(disk);
+    same!(rt; FileDisk::open(&rt, path)?.size(), 8);
     fs::remove_file(&rt, path)?;
     Ok(())
 }

@@ -267,6 +267,10 @@ fn what_a_link_names_is_made_and_removed(rt: HostRuntime) -> Result<(), Fail> {
     fs::write(&rt, "linked/named.img", b"old")?;
     same!(rt; FileDisk::create(&rt, "first.img", u64::MAX).err(), Some(FileFault::Failed));
     has(&rt, "linked/named.img", Some(b"old"), 2)?;
+    // The first link can't be read, or what it names can't be looked at.
+    same!(rt; makes(&rt, "first.img", (Trouble::Fails, 1)), Some(FileFault::Failed));
+    same!(rt; makes(&rt, "first.img", (Trouble::Fails, 2)), Some(FileFault::Failed));
+    has(&rt, "linked/named.img", Some(b"old"), 3)?;
     same!(rt; FileDisk::create(&rt, "first.img", 5)?.size(), 5);
     holds!(rt; is_link(&rt, "first.img")? && is_link(&rt, "linked/second.img")?);
     // Links in a circle lead nowhere.

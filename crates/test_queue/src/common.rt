@@ -85,6 +85,13 @@ pub(crate) fn supplied_many<A: Allocator + Copy>(
     seat
 }
 
+/// How many buffers there are, of which memory, and whether the device has started.
+pub(crate) fn facts<P: PlaneMemory, A: Allocator + Copy>(
+    queue: &Queue<P, A>,
+) -> (usize, Memory, bool) {
+    (queue.count(), queue.kind(), queue.started())
+}
+
 /// A call of a queue whose frames have one byte.
 #[derive(Clone, Copy)]
 pub(crate) enum Call {

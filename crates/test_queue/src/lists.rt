@@ -1,6 +1,6 @@
 //! A list of events where memory is refused.
 
-use crate::common::supplied_many;
+use crate::common::{facts, supplied_many};
 use crate::told::same;
 use loop_budget::Budget;
 use loop_ioctl::{BufferType, Ioctl, IoctlReply, QueueEvent, QueueReply, are_whole, run_events};
@@ -66,7 +66,7 @@ fn come_of(replies: &[QueueReply<Plane<'_>, &Budget>]) -> Came {
     }
 }
 
-// Does the list where so many growths are granted, all of which are needed.
+// Does the list where so many growths are granted, all of which are needed. Where it isn't done the queue is as it was.
 fn does<'a>(
     rt: &impl Abort,
     memory: &'a Budget,
@@ -75,12 +75,18 @@ fn does<'a>(
     (allowed, want): (u64, Came),
 ) {
     assert!(rt; are_whole(&queue.shape(), &events));
+    let before = facts(queue);
     memory.allow(allowed);
     let got = match run_events(queue, table, events) {
         Ok(replies) => come_of(&replies),
         Err((errno, events)) => Came::Back(errno, sets_of(&events)),
     };
     same!(rt; (got, memory.left()), (want, 0), allowed);
+    let left = match want {
+        Came::Granted(count) => (count as usize, Memory::Mmap, false),
+        _ => before,
+    };
+    same!(rt; facts(queue), left, allowed);
     memory.allow(u64::MAX);
 }
 

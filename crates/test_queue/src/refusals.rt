@@ -1,6 +1,6 @@
 //! What a refused request hands back, and which pages are free again.
 
-use crate::common::{supplied, supplied_many};
+use crate::common::{facts, supplied, supplied_many};
 use crate::told::{holds, same};
 use loop_budget::Budget;
 use loop_pages::PageLedger;
@@ -71,11 +71,6 @@ fn is_mapped<P: PlaneMemory, A: Allocator + Copy>(
     } else {
         queue.unmap(index).is_ok()
     }
-}
-
-// How many buffers there are, of which memory, and whether the device has started.
-fn facts<P: PlaneMemory, A: Allocator + Copy>(queue: &Queue<P, A>) -> (usize, Memory, bool) {
-    (queue.count(), queue.kind(), queue.started())
 }
 
 const BUSY: Errno = Errno {

@@ -105,8 +105,8 @@ fn stores_without_growth<'a>(
     Ok(())
 }
 
-// The list of the numbers, a lock and an unlock, the list of the clips, and a list of one command that reads a
-// frame, where each growth is refused in turn.
+// The list of the numbers, a lock and an unlock, the list of the clips, a frame that is read, and a list of one command
+// that reads it, where each growth is refused in turn.
 fn grows_in_looks<'a>(
     rt: &impl Abort,
     memory: &'a Budget,
@@ -124,6 +124,14 @@ fn grows_in_looks<'a>(
     same!(rt; store.unlock(0), Ok(()));
     memory.allow(1);
     so!(rt; store.clips(memory)?.is_empty());
+    for (allowed, answer) in [(0, Err(StoreFault::NoMemory)), (1, Ok(12))] {
+        memory.allow(allowed);
+        let frame = store.read_frame(memory, number);
+        same!(rt; frame.map(|frame| frame.bytes.len()), answer);
+        same!(rt; memory.left(), 0);
+    }
+    memory.allow(0);
+    same!(rt; store.read_frame(memory, u64::MAX).err(), Some(StoreFault::NotHeld));
     for (allowed, answer) in [(0, None), (1, Some(false)), (2, Some(true))] {
         memory.allow(allowed);
         let replies = run(rt, memory, store, &[Command::Read(number)]).ok();
