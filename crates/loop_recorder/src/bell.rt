@@ -1,6 +1,7 @@
 //! Where a worker sleeps until another one has something for it.
 
 use std::sync::{Condvar, Mutex, Wait};
+use std::time::{Clock, Duration};
 
 /// Counts what happened, and wakes who waits for more. Nothing is lost between a look and the sleep behind it: who
 /// reads the count before it looks for work, and finds none, waits for another count.
@@ -36,5 +37,13 @@ impl Bell {
         let _rung = self
             .changed
             .wait_while(rt, self.rung.lock(rt), |rung| *rung == seen);
+    }
+
+    /// Waits until it has rung again since it had this count, for so long at most; whether it has.
+    pub(crate) fn wait_for<R: Wait + Clock>(&self, rt: &R, seen: u64, most: Duration) -> bool {
+        let (_rung, waited) = self
+            .changed
+            .wait_timeout_while(rt, self.rung.lock(rt), most, |rung| *rung == seen);
+        !waited.timed_out()
     }
 }
