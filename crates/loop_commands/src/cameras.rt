@@ -18,6 +18,7 @@ use loop_vb2::{PlaneSet, Planes, Queue, Shape};
 use std::alloc::{AllocError, Global};
 use std::sync::{Arc, Wait};
 use std::thread::Threads;
+use std::time::Clock;
 
 /// The buffers of a queue.
 const BUFFERS: u32 = 4;
@@ -279,7 +280,7 @@ fn passes_for(cameras: usize) -> Option<u32>
 ///
 /// `TooLarge` where these need more than 1,024 pages. What a store refuses is noted in its camera's history, and no
 /// refusal of the recording.
-pub(crate) fn record_stores<R: Threads + Wait + Sync, D: Disk + Drop + Send + Sync>(
+pub(crate) fn record_stores<R: Threads + Wait + Clock + Sync, D: Disk + Drop + Send + Sync>(
     rt: &R,
     alloc: Global,
     stores: Vec<Store<D>>,

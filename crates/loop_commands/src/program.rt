@@ -15,6 +15,7 @@ use std::io::{Read, Write};
 use std::rt::Files;
 use std::sync::Wait;
 use std::thread::Threads;
+use std::time::Clock;
 
 /// The status of a run that was refused, or that couldn't be read or printed to its end.
 const FAILED: u8 = 1;
@@ -32,7 +33,7 @@ const COMMANDS: [&str; 7] = [
 /// file, for a failed write and for want of memory; 2 for words that can't be read. No words are the same as
 /// `simulate`.
 pub fn run_words<
-    R: AllocGlobal + Files<File = File> + Threads + Wait + Sync,
+    R: AllocGlobal + Files<File = File> + Threads + Wait + Clock + Sync,
     S: AsStr,
     I: Read + Drop,
     W: Write,
@@ -55,7 +56,7 @@ pub fn run_words<
 
 // Does a task, and answers the program's status.
 fn perform<
-    R: AllocGlobal + Files<File = File> + Threads + Wait + Sync,
+    R: AllocGlobal + Files<File = File> + Threads + Wait + Clock + Sync,
     I: Read + Drop,
     W: Write,
     E: Write,

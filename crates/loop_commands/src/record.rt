@@ -17,6 +17,7 @@ use std::io::{BufReader, BufWriter, Error, Write};
 use std::rt::Files;
 use std::sync::Wait;
 use std::thread::Threads;
+use std::time::Clock;
 
 /// The source that is a pattern, and no file.
 const PATTERN: &str = "-";
@@ -77,7 +78,7 @@ impl FrameSource for Source {
 /// number, and answers the program's status: 0; 1 where a file can't be had, a store can't be opened or a camera can't
 /// be set up, which `err` then names, and where `out` or `err` fails. What a store refuses meanwhile leaves it at 0.
 pub(crate) fn run_record<
-    R: AllocGlobal + Files<File = File> + Threads + Wait + Sync,
+    R: AllocGlobal + Files<File = File> + Threads + Wait + Clock + Sync,
     W: Write,
     E: Write,
 >(rt: &R, frames: u32, source: &str, paths: Paths<'_>, out: &mut W, err: &mut E) -> u8 {
@@ -114,7 +115,7 @@ fn print_path<E: Write>(err: &mut E, what: &str, path: &str) -> io::Result<()> {
 }
 
 // Opens each file in the order of the words, records, and prints what came of it. Memory to print comes first.
-fn perform<'a, R: AllocGlobal + Files<File = File> + Threads + Wait + Sync, W: Write>(
+fn perform<'a, R: AllocGlobal + Files<File = File> + Threads + Wait + Clock + Sync, W: Write>(
     rt: &R,
     frames: u32,
     source: &'a str,
@@ -219,7 +220,7 @@ fn find_stores<'a, D: Disk + Drop>(
 }
 
 // Records from each source into the store at its place.
-fn record_from<R: AllocGlobal + Threads + Wait + Sync, D: Disk + Drop + Send + Sync>(
+fn record_from<R: AllocGlobal + Threads + Wait + Clock + Sync, D: Disk + Drop + Send + Sync>(
     rt: &R,
     sources: Vec<Source>,
     stores: Vec<Store<D>>,

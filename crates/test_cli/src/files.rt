@@ -11,6 +11,7 @@ use std::rt::Files;
 use std::sync::Wait;
 use std::test::Fail;
 use std::thread::Threads;
+use std::time::Clock;
 
 // Writes bytes into an image, at a place.
 fn put(image: &mut [u8], at: usize, bytes: &[u8]) {
@@ -67,7 +68,7 @@ pub(crate) type Step = (&'static [&'static str], &'static str, &'static str, u8)
 
 // Runs words, and fails the test unless what comes of it is as wanted.
 fn does(
-    rt: &(impl Abort + AllocGlobal + Files<File = File> + Threads + Wait + Sync),
+    rt: &(impl Abort + AllocGlobal + Files<File = File> + Threads + Wait + Clock + Sync),
     words: &[&str],
     printed: &str,
     told: &str,
@@ -79,7 +80,7 @@ fn does(
 
 // Runs each step, one after the other.
 pub(crate) fn each_does(
-    rt: &(impl Abort + AllocGlobal + Files<File = File> + Threads + Wait + Sync),
+    rt: &(impl Abort + AllocGlobal + Files<File = File> + Threads + Wait + Clock + Sync),
     steps: &[Step],
 ) {
     for (words, printed, told, status) in steps {
@@ -89,7 +90,7 @@ pub(crate) fn each_does(
 
 // Fails the test unless a file has these bytes.
 pub(crate) fn has(
-    rt: &(impl Abort + AllocGlobal + Files<File = File> + Threads + Wait + Sync),
+    rt: &(impl Abort + AllocGlobal + Files<File = File> + Threads + Wait + Clock + Sync),
     path: &str,
     bytes: &[u8],
 ) -> Result<(), Fail> {
@@ -169,7 +170,7 @@ const CLIPS: [u8; 64] = [
 
 // Does a step on the file of a path. A refusal changes nothing. Once the clip 0 is unlocked, the file has these bytes.
 fn does_and_keeps(
-    rt: &(impl Abort + AllocGlobal + Files<File = File> + Threads + Wait + Sync),
+    rt: &(impl Abort + AllocGlobal + Files<File = File> + Threads + Wait + Clock + Sync),
     path: &str,
     step: &Step,
     unlocked: &[u8],
@@ -304,7 +305,7 @@ static SPOILT: [(usize, u8, usize, &str); 5] = [
 
 // Writes a spoilt ring into the file of a path; each command on it is refused, and leaves it as it is.
 fn is_refused(
-    rt: &(impl Abort + AllocGlobal + Files<File = File> + Threads + Wait + Sync),
+    rt: &(impl Abort + AllocGlobal + Files<File = File> + Threads + Wait + Clock + Sync),
     path: &str,
     spoilt: &(usize, u8, usize, &str),
 ) -> Result<(), Fail> {
@@ -507,7 +508,7 @@ static EXPORTS: [(Step, usize); 16] = [
 
 // Exports as a step says; then the text has so many bytes.
 fn exports(
-    rt: &(impl Abort + AllocGlobal + Files<File = File> + Threads + Wait + Sync),
+    rt: &(impl Abort + AllocGlobal + Files<File = File> + Threads + Wait + Clock + Sync),
     step: &Step,
     size: usize,
 ) -> Result<(), Fail> {

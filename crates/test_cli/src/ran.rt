@@ -11,6 +11,7 @@ use std::rt::Files;
 use std::str;
 use std::sync::Wait;
 use std::thread::Threads;
+use std::time::Clock;
 
 /// What a run printed, what it told on the other output, and its status.
 #[derive(Drop)]
@@ -30,7 +31,7 @@ pub(crate) fn run_script<A: Allocator + Copy>(alloc: A, home: Global, script: &[
 
 /// Runs the words behind the program's name, with a script on its input.
 pub(crate) fn run(
-    rt: &(impl AllocGlobal + Files<File = File> + Threads + Wait + Sync),
+    rt: &(impl AllocGlobal + Files<File = File> + Threads + Wait + Clock + Sync),
     words: &[&str],
     script: &[u8],
 ) -> Ran {
@@ -42,7 +43,7 @@ pub(crate) fn run(
 
 /// The status of a run of words where nothing can be printed or told.
 pub(crate) fn run_unprinted(
-    rt: &(impl AllocGlobal + Files<File = File> + Threads + Wait + Sync),
+    rt: &(impl AllocGlobal + Files<File = File> + Threads + Wait + Clock + Sync),
     words: &[&str],
 ) -> u8 {
     run_words(rt, words, b"".as_slice(), &mut Broken, &mut Broken)

@@ -10,6 +10,7 @@ use std::process::Abort;
 use std::rt::Files;
 use std::sync::Wait;
 use std::thread::Threads;
+use std::time::Clock;
 
 // Words, what they tell beside the script's output, and the status.
 static WORDS: [(&[&str], &str, u8); 28] = [
@@ -61,7 +62,7 @@ static WORDS: [(&[&str], &str, u8); 28] = [
 
 // Runs the words of each row, with a script that prints a line, and then where nothing can be printed.
 fn each_comes_to(
-    rt: &(impl Abort + AllocGlobal + Files<File = File> + Threads + Wait + Sync),
+    rt: &(impl Abort + AllocGlobal + Files<File = File> + Threads + Wait + Clock + Sync),
     rows: &[(&[&str], &str, u8)],
 ) {
     for (words, told, status) in rows {
