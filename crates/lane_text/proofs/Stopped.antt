@@ -16,18 +16,18 @@ use Rattle.loop_desk.specs.Footage.{HoldsWhole, steps_begun, steps_made}
 use Rattle.loop_desk.specs.Lane.{LaneKeeps}
 use Rattle.lane_text.proofs.Recorded.{one-reading}
 use Rattle.lane_text.specs.declared.TextFault.TheVariants as fault
-use Rattle.lane_text.specs.Reopened.{IsForWant, IsLeft, Reopens}
+use Rattle.lane_text.specs.Reopened.{IsForWant, IsLeftBehind, Reopens}
 
 module _ {D E P A : Type 0} (meaning : P → Plane) (medium : D → Medium) (other : E → Medium) (old new : Lane D P A)
     (events : List (LaneEvent P A)) (replies : List (LaneReply P A)) (s : StoreState) (left : E) where
   -- what was left holds a beginning of the steps, each clip whole
   left-whole : (keeps : LaneKeeps meaning medium old new events replies) → Stands medium old.desk.store s → s.must_reopen ≡ false
-      → IsLeft medium other old.desk new.desk left
+      → IsLeftBehind medium other old.desk new.desk left
       → HoldsWhole old.desk.store.geometry s.recording (steps_made old.desk s keeps.ran.calls ++ steps_begun old.desk s keeps.ran.calls) (other left).bytes
   left-whole keeps stands fine is = ((keeps.footage s stands is.honest).clips fine).each _ is.since
 
   pub reopened : (keeps : LaneKeeps meaning medium old new events replies) (store : Seen E) → Stands medium old.desk.store s → s.must_reopen ≡ false
-      → IsLeft medium other old.desk new.desk left → IsOpened other (other left).bytes store
+      → IsLeftBehind medium other old.desk new.desk left → IsOpened other (other left).bytes store
       → Reopens meaning medium other old new events replies (other left).bytes s store
   reopened keeps store stands fine is found =
       let whole = left-whole keeps stands fine is in
@@ -42,7 +42,7 @@ module _ {D E P A : Type 0} (meaning : P → Plane) (medium : D → Medium) (oth
       }
 
   pub for-want : (keeps : LaneKeeps meaning medium old new events replies) (why : StoreFault) → Stands medium old.desk.store s → s.must_reopen ≡ false
-      → IsLeft medium other old.desk new.desk left → IsRefusedOpen (other left).bytes why → IsForWant (fault.Open why)
+      → IsLeftBehind medium other old.desk new.desk left → IsRefusedOpen (other left).bytes why → IsForWant (fault.Open why)
   for-want keeps why stands fine is refused = go why (left-whole keeps stands fine is).held refused
     where
       go : (why : StoreFault) {r : Recording} → Holds old.desk.store.geometry r (other left).bytes → IsRefusedOpen (other left).bytes why → IsForWant (fault.Open why)

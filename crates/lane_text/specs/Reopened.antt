@@ -43,7 +43,7 @@ AnswersReopened meaning medium other old new events image s (Err fault) = IsForW
 
 -- The second disk has what a power loss may have left of the desk's at some moment since the run began; both are
 -- honest.
-pub record IsLeft {D E : Type 0} (medium : D → Medium) (other : E → Medium) (old new : SeenDesk D) (left : E)
+pub record IsLeftBehind {D E : Type 0} (medium : D → Medium) (other : E → Medium) (old new : SeenDesk D) (left : E)
     : Type 0 where
   pub honest : (medium old.store.disk).honest
   pub other_honest : (other left).honest

@@ -14,7 +14,7 @@ ghost use Rattle.loop_store.specs.Calls.{StoreState};
 ghost use Rattle.loop_store.specs.Goes.{Stands};
 ghost use Rattle.loop_desk.specs.Footage.{steps_made};
 ghost use Rattle.loop_desk.specs.Lane.{LaneRan};
-ghost use Rattle.lane_text.specs.Reopened.{AnswersReopened, IsLeft};
+ghost use Rattle.lane_text.specs.Reopened.{AnswersReopened, IsLeftBehind};
 ghost use Rattle.loop_desk.specs.declared.lane.Lane.{Lane};
 ghost use Rattle.loop_y4m.specs.Export.{frames_between};
 ghost use Rattle.loop_y4m.specs.Text.{text};
@@ -80,10 +80,10 @@ pub fn record_and_export<D: Disk + Drop, P: PlaneMemory, A: Allocator + Copy, W:
     }
 }
 
-/// Runs a lane through events, and opens a disk that has what a power loss may have left of the lane's: the image of any
-/// moment since the run began, before, between or within any writes. It opens, but for want of memory or a failed call
-/// of that disk; and what it holds is the recording after a beginning of the run's steps, in which each clip has all its
-/// frames.
+/// Runs a lane through events, and opens a disk that has what a power loss may have left of the lane's: the image of
+/// any moment since the run began, before, between or within any writes. It opens, but for want of memory or a failed
+/// call of that disk; and what it holds is the recording after a beginning of the run's steps, in which each clip has
+/// all its frames.
 pub fn run_and_reopen<D: Disk + Drop, E: Disk + Drop, P: PlaneMemory, A: Allocator + Copy>(
     alloc: A,
     lane: &mut Lane<D, P, A>,
@@ -91,7 +91,7 @@ pub fn run_and_reopen<D: Disk + Drop, E: Disk + Drop, P: PlaneMemory, A: Allocat
     left: E,
 ) -> Result<(Vec<LaneReply<P, A>, A>, Store<E, A>), TextFault>
     ensures { (s : StoreState) → Stands D.medium lane.old.desk.store s → s.must_reopen ≡ false
-        → IsLeft D.medium E.medium lane.old.desk lane.new.desk left
+        → IsLeftBehind D.medium E.medium lane.old.desk lane.new.desk left
         → AnswersReopened P.plane D.medium E.medium lane.old lane.new events.items (E.medium left).bytes s result }
 {
     let replies = match lane_run(alloc, lane, events) {
