@@ -104,15 +104,16 @@ const NOTED: [Noted; 8] = [
         stored: 1,
         left: 0,
     })),
-    Noted::Read(1, Err(StoreFault::NoMemory)),
+    Noted::Read(1, Ok(HEAD)),
     Noted::Submit(NINE, SIZE, Ok(2)),
     Noted::Lock(Span { from: 0, to: 1 }, Ok(1)),
     Noted::Unlock(0, Ok(())),
-    Noted::Read(1, Ok(HEAD)),
+    Noted::Read(1, Err(StoreFault::NoMemory)),
 ];
 
 /// So many growths, all of which are needed; a call; and whether it is noted, as above, or refused for want of memory
-/// for an entry or a receipt. Each has room for four. What is submitted takes a growth for its frame.
+/// for an entry or a receipt. Each has room for four. What is submitted takes a growth for its frame; the first frame that is
+/// read lies in the memory of the stored one, and for the second there is none.
 const ROWS: [(u64, usize, bool); 19] = [
     (0, 0, false),
     (1, 0, false),
@@ -132,7 +133,7 @@ const ROWS: [(u64, usize, bool); 19] = [
     (2, 4, true),
     (0, 5, true),
     (0, 6, true),
-    (1, 7, true),
+    (0, 7, true),
 ];
 
 // Makes the calls of a table of growths.
