@@ -1,4 +1,5 @@
-//! Ten thousand calls by eight threads at four desks, and what crashes of their disks leave, at one moment in eleven.
+//! Ten thousand calls by eight threads at four desks, and what each crash of their disks leaves. Each is a replay of all
+//! calls of the disk before it: some seconds as the tests are built, and more than `rt try`, with its checks, has time for.
 
 ghost use Rattle.std.specs.Prelude.{◌<◌, length};
 
@@ -19,10 +20,6 @@ use std::thread::Threads;
 
 /// The calls of each of eight callers.
 const TURNS: u32 = 1250;
-
-/// One of so many moments of a crash is looked at. A crash is a replay of all calls of the disk before it, so that all
-/// moments would take four processor minutes, and a test has one.
-const STRIDE: usize = 11;
 
 /// What no answer is looked at in.
 const UNHEARD: StoreFault = StoreFault::NoMemory;
@@ -162,9 +159,6 @@ fn is_one_of(
     states: &[Plain],
     (moment, spoil): (usize, Spoil),
 ) {
-    if moment % STRIDE != 0 {
-        return;
-    }
     let mut store = crashed(rt, alloc, disk, moment, spoil);
     for plain in states {
         if plain.is_in(alloc, &mut store) {
@@ -193,9 +187,9 @@ fn are_beginnings(
     }
 }
 
-// A crash of a camera's disk since it was opened, at the moments that are looked at, reads as its history's recording,
-// or as that and a beginning of the call that was made; whether what wasn't synced is gone or mixed.
-fn some_crashes(rt: &impl Abort, alloc: Global, opening: usize, camera: EndedCamera<CrashDisk>) {
+// Each crash of a camera's disk since it was opened reads as its history's recording, or as that and a beginning of the
+// call that was made; whether what wasn't synced is gone or mixed.
+fn all_crashes(rt: &impl Abort, alloc: Global, opening: usize, camera: EndedCamera<CrashDisk>) {
     let EndedCamera {
         desk,
         history,
@@ -217,7 +211,7 @@ fn some_crashes(rt: &impl Abort, alloc: Global, opening: usize, camera: EndedCam
 }
 
 #[test]
-fn a_crash_in_eleven_reads_as_a_beginning_of_what_eight_threads_called(rt: HostRuntime) {
+fn each_crash_reads_as_a_beginning_of_what_eight_threads_called(rt: HostRuntime) {
     let alloc = rt.alloc();
     let opening = store_on(&rt, alloc, disk(&rt, alloc)).into_disk().calls();
     let disks = vec![in alloc;
@@ -239,7 +233,7 @@ fn a_crash_in_eleven_reads_as_a_beginning_of_what_eight_threads_called(rt: HostR
     let mut calls = 0usize;
     for camera in ended.cameras {
         calls = calls.saturating_add(camera.history.len());
-        some_crashes(&rt, alloc, opening, camera);
+        all_crashes(&rt, alloc, opening, camera);
     }
     same!(rt; calls, 10_000);
 }
