@@ -1,20 +1,20 @@
 -- A store whose disk crashed, and is opened again.
-use Rattle.std.proofs.Common.{◌≡◌, ◌⊎◌, inl, inr, ℕ, true, false, Result, Ok, Err, List, sym, ap, ◌∙◌, subst}
+use Rattle.std.proofs.Common.{◌≡◌, ◌⊎◌, inl, inr, ℕ, true, false, not, None, Some, Result, Ok, Err, List, [], refl, sym, ap, ◌∙◌, subst}
 use Rattle.loop_disk.specs.Medium.{Medium}
 use Rattle.loop_record.specs.declared.damage.LayoutFault.{LayoutFault}
 use Rattle.loop_record.specs.declared.frame.FrameHead.{FrameHead}
 use Rattle.loop_record.specs.declared.geometry.Geometry.{Geometry}
 use Rattle.loop_record.specs.Reading.{Contents, Holds}
 use Rattle.loop_record.specs.Recording.{holds}
-use Rattle.loop_record.proofs.Decided.{clash}
 use Rattle.loop_store.specs.declared.fault.StoreFault.{StoreFault}
-use Rattle.loop_store.specs.declared.fault.StoreFault.TheVariants.{NoMemory}
-use Rattle.loop_store.specs.Calls.{IsAnswered, RefusesRead, StoreState, read_with, was_read}
+use Rattle.loop_store.specs.declared.fault.StoreFault.TheVariants.{MustReopen, NoMemory, NotHeld}
+use Rattle.loop_store.specs.Calls.{IsAnswered, IsGiven, IsHeldFrame, StoreState, checks, first_of, read_with, was_read}
 use Rattle.loop_store.specs.Faults.{is_disk}
 use Rattle.loop_store.specs.Goes.{Stands}
 use Rattle.loop_store.specs.Opened.{IsOpened}
 use Rattle.loop_store.specs.Reads.{ReadsFrame}
 use Rattle.loop_store.specs.Seen.{Seen, StandsFor}
+use Rattle.loop_store.proofs.Checked.{due-none, due-some, passed}
 
 ok-inj : (a b : Contents) → let x : Result Contents LayoutFault = Ok a in let y : Result Contents LayoutFault = Ok b in x ≡ y → a ≡ b
 ok-inj a b e = cc
@@ -42,10 +42,15 @@ opened-same medium other old new image s stands fine honest left opened still =
 
 -- a read of a held number
 pub read-held : (g : Geometry) (s : StoreState) (number : ℕ) (result : Result FrameHead StoreFault) (out : List ℕ) → s.must_reopen ≡ false → holds s.recording number ≡ true → IsAnswered g s (was_read number (read_with result out)) → ReadsFrame s.recording number result out
-read-held g s number (Ok h) out fine there said = said.1
-read-held g s number (Err fault) out fine there said = go said
+read-held g s number (Ok h) out fine there said = (due-none (first_of (checks g s (was_read number (Ok (h, out))))) (was_read number (Ok (h, out))) (IsHeldFrame s.recording number h out) said refl).1
+read-held g s number (Err fault) out fine there said = go (due-some (first_of (checks g s (was_read number (Err fault)))) (was_read number (Err fault)) (IsGiven s.recording (was_read number (Err fault))) said)
   where
-    go : RefusesRead s number fault → (fault ≡ NoMemory) ⊎ (is_disk fault ≡ true)
-    go (inl x) = absurd (clash s.must_reopen x.1 fine)
-    go (inr (inl x)) = absurd (clash (holds s.recording number) there x.1.1)
-    go (inr (inr x)) = x.0
+    none : first_of (checks g s (was_read number (Err fault))) ≡ None
+    none = passed s.must_reopen MustReopen _ fine ∙ passed (not (holds s.recording number)) NotHeld [] (ap not there)
+
+    apart : None ≡ Some fault → ⊥
+    apart e = absurd cc
+
+    go : (first_of (checks g s (was_read number (Err fault))) ≡ Some fault) ⊎ ((first_of (checks g s (was_read number (Err fault))) ≡ None) × IsGiven s.recording (was_read number (Err fault))) → (fault ≡ NoMemory) ⊎ (is_disk fault ≡ true)
+    go (inl e) = absurd (apart (sym none ∙ e))
+    go (inr x) = x.1

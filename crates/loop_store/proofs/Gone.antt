@@ -1,18 +1,25 @@
 -- Calls of a store, one after the other.
-use Rattle.std.proofs.Common.{◌≡◌, Bool, true, false, Option, List, [], ◌∷◌, ◌++◌, map, refl, sym, ap, ◌∙◌, subst}
+use Rattle.std.proofs.Common.{◌≡◌, inl, Bool, true, false, not, ◌&&◌, is_some, Option, None, Some, List, [], ◌∷◌, ◌++◌, get_or, map, refl, sym, ap, ◌∙◌, subst, arith}
 use Rattle.std.proofs.lemmas.List.{append-nil, map-append}
+use Rattle.std.specs.Prelude.{◌||◌, ◌==◌, nat_lt, slice_index_or}
+use Rattle.std.specs.List.{list_all}
 use Rattle.loop_disk.specs.declared.fault.DiskFault.{DiskFault}
 use Rattle.loop_disk.specs.declared.fault.Failures.{Failures}
-use Rattle.loop_disk.specs.Calls.{Called, with_failed}
+use Rattle.loop_disk.specs.Calls.{Called, Stays, with_failed}
 use Rattle.loop_disk.specs.Medium.{Medium, IsSound}
 use Rattle.loop_record.specs.declared.geometry.Geometry.{Geometry}
-use Rattle.loop_record.specs.Recording.{Recording, plain, ring_of}
+use Rattle.loop_record.specs.Recording.{Recording, last_number, plain, ring_of}
 use Rattle.loop_record.specs.Turns.{EachIn, after_all}
+use Rattle.loop_record.proofs.Decided.{both}
 use Rattle.loop_record.proofs.Turned.{after-behind, each-behind, told-behind}
-use Rattle.loop_store.specs.Calls.{AreAnswered, Call, IsAllowed, IsAnswered, Progress, StoreState, after, after_calls, begun, begun_in, failed_for, made, made_in, progress_after}
+use Rattle.loop_ring.proofs.SlotReads.{stays_on}
+use Rattle.loop_store.specs.declared.fault.StoreFault.TheVariants.{ClipEmpty, MustReopen, NoSuchClip, NumbersSpent}
+use Rattle.loop_store.specs.Calls.{AreAnswered, Call, IsAllowed, IsAnswered, MayGive, Progress, StoreState, after, after_calls, appended, begun, begun_in, due, failed_for, fault_of, has_failed, is_look, locked, made, made_in, progress_after, unlocked, was_read, was_read_part, was_refused}
+use Rattle.loop_store.specs.Faults.{is_early}
 use Rattle.loop_store.specs.Goes.{CalledEach, Goes, Stands, progress_of, with_each}
 use Rattle.loop_store.specs.Seen.{Seen}
 use Rattle.loop_store.specs.Steps.{LeavesSteps}
+use Rattle.loop_store.proofs.Checked.{must-known}
 use Rattle.loop_store.proofs.Leaves.{leaves-joined, leaves-none, leaves-same}
 use Rattle.loop_store.proofs.Modelled.{fine-all, idle-all, recording-after}
 
@@ -35,6 +42,39 @@ called-joined old mid new xs ys first second = record {
   failures = second.failures ∙ ap (with_each ys) first.failures ∙ sym (with_each-behind xs ys old.failures);
 }
 
+-- nothing was called
+pub stays-still : (m : Medium) → Stays m m
+stays-still m = record { bytes = refl; images = λ c left. left; time = record { later = omega arith; nothing_else = λ t c before left. inl left; keeps = λ t c before left. left } }
+
+-- so it is of each of two lists
+all-both : (p : Call → Bool) (xs ys : List Call) → list_all p (xs ++ ys) ≡ true → (list_all p xs ≡ true) × (list_all p ys ≡ true)
+all-both p [] ys all = (refl, all)
+all-both p (x ∷ xs) ys all =
+    let k = both (p x) (list_all p (xs ++ ys)) all in
+    let rest = all-both p xs ys k.1 in
+    (let first = k.0 in let others = rest.0 in λ i. first i && others i, rest.1)
+
+-- ---- a store that must be reopened
+
+known-must : (g : Geometry) (o : Progress) (c : Call) → o.must_reopen ≡ true → IsAllowed g o c → fault_of c ≡ Some MustReopen
+known-must g o (appended group result) must said = must-known o (due (o.next == last_number (ring_of g)) NumbersSpent ∷ []) (appended group result) (MayGive o (appended group result)) must said
+known-must g o (locked span result) must said = must-known o (due (nat_lt span.to span.from) ClipEmpty ∷ []) (locked span result) (MayGive o (locked span result)) must said
+known-must g o (unlocked id result) must said = must-known o (due (not (is_some (slice_index_or o.clips id None))) NoSuchClip ∷ []) (unlocked id result) (MayGive o (unlocked id result)) must said
+known-must g o (was_read number result) must said = must-known o [] (was_read number result) (MayGive o (was_read number result)) must said
+known-must g o (was_read_part number at result) must said = must-known o [] (was_read_part number at result) (MayGive o (was_read_part number at result)) must said
+
+-- each call of it is refused
+all-refused : (g : Geometry) (o : Progress) (calls : List Call) → o.must_reopen ≡ true → EachIn progress_after (IsAllowed g) o calls → list_all was_refused calls ≡ true
+all-refused g o [] must said = refl
+all-refused g o (c ∷ calls) must said =
+    let early = ap is_early (known-must g o c must said.0) in
+    let rest = all-refused g (progress_after o c) calls (ap (λ (b : Bool). b || has_failed c) must) said.1 in
+    λ i. early i && rest i
+
+-- and so nothing is moved
+pub idle : {D : Type 0} (medium : D → Medium) (old new : Seen D) (calls : List Call) → Goes medium old new calls → old.must_reopen ≡ true → new ≡ old
+idle medium old new calls goes must = goes.unmoved (all-refused old.geometry (progress_of old) calls must goes.allowed)
+
 -- ---- calls
 
 -- no call
@@ -45,7 +85,8 @@ goes-none medium store sound = record {
   leaves = λ s stands now fine.
       let still : store.must_reopen ≡ false = stands.must_reopen ∙ fine in
       leaves-none store.geometry s.recording (medium store.disk) (sound now) (stands.recording.settled still now) (stands.recording.held still now);
-  idle = λ must. refl;
+  looks = λ all now. stays-still (medium store.disk);
+  unmoved = λ all. refl;
   allowed = tt;
   progress = refl;
   geometry = refl;
@@ -58,7 +99,8 @@ pub record GoesOnce {D : Type 0} (medium : D → Medium) (old new : Seen D) (c :
   pub stands : (s : StoreState) → Stands medium old s → (medium old.disk).honest → Stands medium new (after old.geometry s c)
   pub leaves : (s : StoreState) → Stands medium old s → (medium old.disk).honest → s.must_reopen ≡ false
       → LeavesSteps old.geometry s.recording (made old.geometry s c) (begun old.geometry s c) (medium old.disk) (medium new.disk)
-  pub idle : old.must_reopen ≡ true → new ≡ old
+  pub looks : is_look c ≡ true → (medium old.disk).honest → Stays (medium old.disk) (medium new.disk)
+  pub unmoved : was_refused c ≡ true → new ≡ old
   pub allowed : IsAllowed old.geometry (progress_of old) c
   pub progress : progress_of new ≡ progress_after (progress_of old) c
   pub geometry : new.geometry ≡ old.geometry
@@ -71,7 +113,8 @@ goes-once medium old new c one = record {
   leaves = λ s stands now fine.
       let g = old.geometry in
       leaves-same g s.recording (made g s c) (made g s c ++ []) (begun g s c) (begun g s c ++ []) (medium old.disk) (medium new.disk) (sym (append-nil (made g s c))) (sym (append-nil (begun g s c))) (one.leaves s stands now fine);
-  idle = one.idle;
+  looks = λ all now. one.looks (both (is_look c) true all).0 now;
+  unmoved = λ all. one.unmoved (both (was_refused c) true all).0;
   allowed = (one.allowed, tt);
   progress = one.progress;
   geometry = one.geometry;
@@ -88,7 +131,8 @@ goes-joined {D} medium old mid new xs ys first second = record {
   leaves = λ s stands now fine.
       leaves-same g s.recording (made_in g s xs ++ made_in g (mid_state s) ys) (made_in g s (xs ++ ys)) (begun_in g s xs ++ begun_in g (mid_state s) ys) (begun_in g s (xs ++ ys)) (medium old.disk) (medium new.disk)
       (sym (told-behind (after g) (made g) s xs ys)) (sym (told-behind (after g) (begun g) s xs ys)) (go s stands now fine (mid_state s).must_reopen refl);
-  idle = λ must. let same = first.idle must in second.idle (ap (λ (t : Seen D). t.must_reopen) same ∙ must) ∙ same;
+  looks = λ all now. let k = all-both is_look xs ys all in stays_on (medium old.disk) (medium mid.disk) (medium new.disk) (first.looks k.0 now) (second.looks k.1 (first.called.honest.0 now));
+  unmoved = λ all. let k = all-both was_refused xs ys all in second.unmoved k.1 ∙ first.unmoved k.0;
   allowed =
       each-behind progress_after (IsAllowed g) (progress_of old) xs ys first.allowed
       (subst (λ (o : Progress). EachIn progress_after (IsAllowed g) o ys) first.progress (subst (λ (h : Geometry). EachIn progress_after (IsAllowed h) (progress_of mid) ys) first.geometry second.allowed));
@@ -113,7 +157,7 @@ goes-joined {D} medium old mid new xs ys first second = record {
     go s stands now fine true must =
         let none = idle-all g (mid_state s) ys must (later s stands now) in
         let there = first.stands s stands now in
-        let same : new ≡ mid = second.idle (there.must_reopen ∙ must) in
+        let same : new ≡ mid = idle medium mid new ys second (there.must_reopen ∙ must) in
         subst (λ (t : Seen D). LeavesSteps g s.recording (made_in g s xs ++ made_in g (mid_state s) ys) (begun_in g s xs ++ begun_in g (mid_state s) ys) (medium old.disk) (medium t.disk)) (sym same)
         (leaves-same g s.recording (made_in g s xs) (made_in g s xs ++ made_in g (mid_state s) ys) (begun_in g s xs) (begun_in g s xs ++ begun_in g (mid_state s) ys) (medium old.disk) (medium mid.disk)
         (sym (ap (λ l. made_in g s xs ++ l) none.made ∙ append-nil (made_in g s xs))) (sym (ap (λ l. begun_in g s xs ++ l) none.begun ∙ append-nil (begun_in g s xs))) (first.leaves s stands now fine))

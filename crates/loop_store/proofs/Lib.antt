@@ -19,6 +19,8 @@ pub mod Ran
 pub mod RecoveredParts
 pub mod RecoveredWhole
 pub mod Leaves
+pub mod Checked
+pub mod Missing
 pub mod Modelled
 pub mod Gone
 pub mod Once

@@ -1,5 +1,5 @@
 -- What a lock and an unlock make of an image, of what is known of it, and of a store.
-use Rattle.std.proofs.Common.{◌≡◌, ◌≢◌, ◌⊎◌, inl, inr, ℕ, suc, ◌+◌, ◌*◌, ◌/◌, ◌%◌, ◌<◌, ◌≤◌, Bool, true, false, not, ◌&&◌, eqb, leb, ltb, if◌then◌else◌, is_some, Option, None, Some, Result, Err, List, [], ◌∷◌, length, get_or, set, map, refl, sym, ap, ◌∙◌, subst, arith}
+use Rattle.std.proofs.Common.{◌≡◌, ◌≢◌, ◌⊎◌, inl, inr, ℕ, suc, ◌+◌, ◌*◌, ◌/◌, ◌%◌, ◌<◌, ◌≤◌, Bool, true, false, not, ◌&&◌, eqb, leb, ltb, if◌then◌else◌, is_some, Option, None, Some, Result, Ok, Err, List, [], ◌∷◌, length, get_or, set, map, refl, sym, ap, ◌∙◌, subst, arith}
 use Rattle.std.proofs.Math.Nat.{add-mul}
 use Rattle.std.proofs.lemmas.Bool.{cases_lt}
 use Rattle.std.proofs.lemmas.List.{length-map, set-get_or}
@@ -20,7 +20,7 @@ use Rattle.loop_record.specs.Layout.{clip_in}
 use Rattle.loop_record.specs.Reading.{Holds, Parts, parts_of, shown}
 use Rattle.loop_record.specs.Recording.{Recording, Step, after, clip_of, first_free, holds, last_number, lock, plain, ring_of, unlock}
 use Rattle.loop_record.proofs.Clips.{clip_of-entry, clips-are, parts-clip, reading-clip, reading-lock, reading-unlock}
-use Rattle.loop_record.proofs.Decided.{at_most, at_most_test, both, equal}
+use Rattle.loop_record.proofs.Decided.{at_most, at_most_test, both, equal, not_below_test}
 use Rattle.loop_record.proofs.Framing.{same_open, same_segment, same_whole_frames}
 use Rattle.loop_record.proofs.Parts.{reading-stages, within_behind}
 use Rattle.loop_record.proofs.Readings.{get_or-map_range, length-range}
@@ -30,18 +30,19 @@ use Rattle.loop_ring.specs.Heads.{clip_counts, has_number, heads_of}
 use Rattle.loop_ring.proofs.Heads.{head_of, heads-are, heads-length}
 use Rattle.loop_store.specs.declared.index.Index.{Index}
 use Rattle.loop_store.specs.declared.fault.StoreFault.{StoreFault}
-use Rattle.loop_store.specs.declared.fault.StoreFault.TheVariants.{NoSuchClip}
-use Rattle.loop_store.specs.Calls.{Call, CanRefuseSpan, IsAllowed, IsAnswered, RefusesSpan, StoreState, begun, count_stored, failed_for, has_failed, locked, made, unlocked}
-use Rattle.loop_store.specs.Faults.{failed_by, is_disk}
+use Rattle.loop_store.specs.declared.fault.StoreFault.TheVariants.{ClipEmpty, MustReopen, NoSuchClip}
+use Rattle.loop_store.specs.Calls.{Call, IsAllowed, IsAnswered, IsGiven, MayGive, Progress, StoreState, begun, clips_after, count_stored, failed_for, first_of, has_failed, is_look, known_checks, locked, made, span_checks, unlocked, was_refused}
+use Rattle.loop_store.specs.Faults.{failed_by, is_disk, is_early}
 use Rattle.loop_store.specs.Goes.{Goes, progress_of}
 use Rattle.loop_store.specs.Held.{HasNoneStray, HoldsSome, Makes}
-use Rattle.loop_store.specs.Locks.{EndsRun, KeepsSegments, CanTake}
+use Rattle.loop_store.specs.Locks.{CanRefuseSpan, CanTake, EndsRun, KeepsSegments}
 use Rattle.loop_store.specs.Recovered.{IsClipNoted, IsHeadIn, IsIndex, IsIndexOf}
 use Rattle.loop_store.specs.Seen.{IsKept, IsPresent, Seen, StandsFor, seen_with}
 use Rattle.loop_store.proofs.Grown.{held-some}
 use Rattle.loop_store.specs.Numbers.{is_among}
 use Rattle.loop_store.proofs.Looked.{missing-behind}
 use Rattle.loop_store.proofs.Looks.{known-by, there-held, told-by}
+use Rattle.loop_store.proofs.Checked.{answer-due, answer-given, failed, given, passed, refused}
 use Rattle.loop_store.proofs.Once.{goes-done, goes-failed, goes-refused}
 use Rattle.loop_store.proofs.Numbers.{among-block, among-range}
 
@@ -236,18 +237,23 @@ run-ends g r image table j n end h held same within l there has is = go (cases_l
 
 -- a call that adds a clip or takes one away, by what it says where it is answered, and of a recording of which it may be made
 pub record IsClipCall (g : Geometry) (c : Call) (IsOne : Recording → Type 0) : Type 0 where
+  pub writes : is_look c ≡ false
+  pub late : was_refused c ≡ false
   pub stored : count_stored c ≡ 0
   pub answers : (s : StoreState) → s.must_reopen ≡ false → IsOne s.recording → IsAnswered g s c
 
 pub goes-noted : {D A : Type 0} (medium : D → Medium) (old new : D) (was now : Index A) (must : Bool) (id : ℕ) (clip : Option Span) (IsOne : Recording → Type 0) (step : Step) (c : Call) → IsKept medium old was must → must ≡ false → 1 ≤ was.ring.geometry.slots
     → Noted medium old new was now id clip IsOne step → ((r : Recording) → IsOne r → (medium old).honest → Holds was.ring.geometry r (medium old).bytes → LeavesOnly (medium old) (medium new) (HoldsSome was.ring.geometry r (step ∷ [])))
-    → ((r : Recording) → (medium old).honest → IsIndexOf was r (medium old).bytes → IsOne r) → IsClipCall was.ring.geometry c IsOne → has_failed c ≡ false → failed_for c ≡ None → ((s : StoreState) → made was.ring.geometry s c ≡ step ∷ []) → ((s : StoreState) → begun was.ring.geometry s c ≡ [])
+    → ((r : Recording) → (medium old).honest → IsIndexOf was r (medium old).bytes → IsOne r) → IsClipCall was.ring.geometry c IsOne → clips_after was.clips c ≡ set was.clips id clip → has_failed c ≡ false → failed_for c ≡ None → ((s : StoreState) → made was.ring.geometry s c ≡ step ∷ []) → ((s : StoreState) → begun was.ring.geometry s c ≡ [])
     → IsAllowed was.ring.geometry (progress_of (seen_with old was must)) c → Goes medium (seen_with old was must) (seen_with new now must) (c ∷ [])
-goes-noted medium old new was now must id clip IsOne step c kept fine some n moments one call unfailed none made_all begun_none allowed =
+goes-noted medium old new was now must id clip IsOne step c kept fine some n moments one call clips unfailed none made_all begun_none allowed =
     goes-done medium (seen_with old was must) (seen_with new now must) c (λ r. step ∷ []) (record {
+      writes = call.writes;
+      late = call.late;
       fine = fine;
       still = fine;
       next = omega (arith, n.noted.next, call.stored);
+      clips = n.noted.clips ∙ sym clips;
       geometry = geometry-same was now id clip n.noted;
       called = n.called;
       unfailed = unfailed;
@@ -264,10 +270,13 @@ goes-noted medium old new was now must id clip IsOne step c kept fine some n mom
 
 pub goes-unnoted : {D A : Type 0} (medium : D → Medium) (old new : D) (was now : Index A) (must : Bool) (IsOne : Recording → Type 0) (step : Step) (c : Call) (fault : DiskFault) → IsKept medium old was must → must ≡ false → now ≡ was
     → ((medium new).honest → IsSound (medium new)) → Called (medium old) (medium new) (Some fault) → ((r : Recording) → IsOne r → (medium old).honest → Holds was.ring.geometry r (medium old).bytes → LeavesOnly (medium old) (medium new) (HoldsSome was.ring.geometry r (step ∷ [])))
-    → ((r : Recording) → (medium old).honest → IsIndexOf was r (medium old).bytes → IsOne r) → IsClipCall was.ring.geometry c IsOne → has_failed c ≡ true → failed_for c ≡ Some fault → ((s : StoreState) → made was.ring.geometry s c ≡ []) → ((s : StoreState) → begun was.ring.geometry s c ≡ step ∷ [])
+    → ((r : Recording) → (medium old).honest → IsIndexOf was r (medium old).bytes → IsOne r) → IsClipCall was.ring.geometry c IsOne → ((cs : List (Option Span)) → clips_after cs c ≡ cs) → has_failed c ≡ true → failed_for c ≡ Some fault → ((s : StoreState) → made was.ring.geometry s c ≡ []) → ((s : StoreState) → begun was.ring.geometry s c ≡ step ∷ [])
     → IsAllowed was.ring.geometry (progress_of (seen_with old was must)) c → Goes medium (seen_with old was must) (seen_with new now true) (c ∷ [])
-goes-unnoted medium old new was now must IsOne step c fault kept fine same sound called moments one call has some made_none begun_all allowed =
+goes-unnoted medium old new was now must IsOne step c fault kept fine same sound called moments one call clips has some made_none begun_all allowed =
     goes-failed medium (seen_with old was must) (seen_with new now true) c (λ r. step ∷ []) fault (record {
+      writes = call.writes;
+      late = call.late;
+      clips = clips;
       fine = fine;
       failed = λ i. seen_with new (same i) true;
       called = called;
@@ -285,33 +294,77 @@ goes-unnoted medium old new was now must IsOne step c fault kept fine same sound
 -- ---- refusals
 
 -- a span that is refused says nothing of the disk
-pub span-quiet : (span : Span) (fault : StoreFault) → CanRefuseSpan span fault → (is_disk fault ≡ false) × (failed_by fault ≡ None)
-span-quiet span fault (inl x) = (ap is_disk x.0, ap failed_by x.0)
-span-quiet span fault (inr (inl x)) = (ap is_disk x.1.0, ap failed_by x.1.0)
-span-quiet span fault (inr (inr x)) = (ap is_disk x.0, ap failed_by x.0)
+pub record IsSpanQuiet (fault : StoreFault) : Type 0 where
+  pub early : is_early (Some fault) ≡ true
+  pub unfailed : is_disk fault ≡ false
+  pub none : failed_by fault ≡ None
 
-pub lock-refused : {D : Type 0} (medium : D → Medium) (s : Seen D) (span : Span) (fault : StoreFault) → ((medium s.disk).honest → IsSound (medium s.disk)) → s.must_reopen ≡ false → CanRefuseSpan span fault
-    → ((r : Recording) → StandsFor medium s r → (medium s.disk).honest → RefusesSpan r span fault) → Goes medium s s (locked span (Err fault) ∷ [])
-lock-refused medium s span fault sound fine can refuses =
-    let quiet = span-quiet span fault can in
+span-quiet : (span : Span) (clips : List (Option Span)) (fault : StoreFault) → CanRefuseSpan span clips fault → IsSpanQuiet fault
+span-quiet span clips fault (inl x) = let e = x.0 in record { early = ap (λ (f : StoreFault). is_early (Some f)) e; unfailed = ap is_disk e; none = ap failed_by e }
+span-quiet span clips fault (inr (inl x)) = let e = x.0.1.0 in record { early = ap (λ (f : StoreFault). is_early (Some f)) e; unfailed = ap is_disk e; none = ap failed_by e }
+span-quiet span clips fault (inr (inr x)) = let e = x.0 in record { early = ap (λ (f : StoreFault). is_early (Some f)) e; unfailed = ap is_disk e; none = ap failed_by e }
+
+known-span : (g : Geometry) (o : Progress) (span : Span) (result : Result ℕ StoreFault) → o.must_reopen ≡ false → span.from ≤ span.to → first_of (known_checks g o (locked span result)) ≡ None
+known-span g o span result fine some = passed o.must_reopen MustReopen _ fine ∙ passed (ltb span.to span.from) ClipEmpty [] (not_below_test span.to span.from some)
+
+-- what the call may give, where the span isn't empty
+pub lock-allowed : (g : Geometry) (o : Progress) (span : Span) (result : Result ℕ StoreFault) → o.must_reopen ≡ false → span.from ≤ span.to → MayGive o (locked span result) → IsAllowed g o (locked span result)
+lock-allowed g o span result fine some may = given (first_of (known_checks g o (locked span result))) (locked span result) (MayGive o (locked span result)) (known-span g o span result fine some) may
+
+span-allowed : (g : Geometry) (o : Progress) (span : Span) (fault : StoreFault) → o.must_reopen ≡ false → CanRefuseSpan span o.clips fault → IsAllowed g o (locked span (Err fault))
+span-allowed g o span fault fine (inl x) =
+    refused (first_of (known_checks g o (locked span (Err fault)))) (locked span (Err fault)) (MayGive o (locked span (Err fault))) ClipEmpty
+    (passed o.must_reopen MustReopen _ fine ∙ failed (ltb span.to span.from) ClipEmpty [] (at_most_test (suc span.to) span.from x.1)) (ap (λ (f : StoreFault). Some f) x.0)
+span-allowed g o span fault fine (inr (inl x)) = lock-allowed g o span (Err fault) fine x.1 (inl (x.0.0, (x.0.1.0, x.0.1.1)))
+span-allowed g o span fault fine (inr (inr x)) = lock-allowed g o span (Err fault) fine x.1.0 (inr (inl (x.0, x.1.1)))
+
+pub lock-refused : {D : Type 0} (medium : D → Medium) (s : Seen D) (span : Span) (fault : StoreFault) → ((medium s.disk).honest → IsSound (medium s.disk)) → s.must_reopen ≡ false → CanRefuseSpan span s.clips fault
+    → ((r : Recording) → StandsFor medium s r → (medium s.disk).honest → first_of (span_checks r span) ≡ Some fault) → Goes medium s s (locked span (Err fault) ∷ [])
+lock-refused medium s span fault sound fine can first =
+    let quiet = span-quiet span s.clips fault can in
     goes-refused medium s (locked span (Err fault)) sound (record {
-      unfailed = quiet.0;
-      none = quiet.1;
+      early = quiet.early;
+      clips = λ cs. refl;
+      unfailed = quiet.unfailed;
+      none = quiet.none;
       stored = refl;
       made_none = λ g t. refl;
-      begun_none = λ g t. ap (λ (b : Bool). if b then lock span ∷ [] else []) quiet.0;
-    }) (λ t stands honest. inr (inl (sym stands.must_reopen ∙ fine, refuses t.recording stands.recording honest))) (inr (fine, inl can))
+      begun_none = λ g t. ap (λ (b : Bool). if b then lock span ∷ [] else []) quiet.unfailed;
+    }) (λ t stands honest. answer-due s.geometry t (locked span (Err fault)) fault (sym stands.must_reopen ∙ fine) (first t.recording stands.recording honest) refl) (span-allowed s.geometry (progress_of s) span fault fine can)
 
-pub unlock-refused : {D : Type 0} (medium : D → Medium) (s : Seen D) (id : ℕ) → ((medium s.disk).honest → IsSound (medium s.disk)) → s.must_reopen ≡ false
+-- ---- an unlock
+
+some-is : (o : Option Span) → o ≢ None → not (is_some o) ≡ false
+some-is None e = absurd (e refl)
+some-is (Some s) e = refl
+
+none-is : (o : Option Span) → o ≡ None → not (is_some o) ≡ true
+none-is None e = refl
+none-is (Some s) e = absurd cc
+
+-- a clip that stands may be taken away
+pub unlock-answered : (g : Geometry) (s : StoreState) (id : ℕ) (result : Result (Unit {0}) StoreFault) → s.must_reopen ≡ false → clip_of s.recording id ≢ None → IsGiven s.recording (unlocked id result) → IsAnswered g s (unlocked id result)
+unlock-answered g s id result fine some is = answer-given g s (unlocked id result) fine (passed (not (is_some (clip_of s.recording id))) NoSuchClip [] (some-is (clip_of s.recording id) some)) is
+
+pub unlock-allowed : (g : Geometry) (o : Progress) (id : ℕ) (result : Result (Unit {0}) StoreFault) → o.must_reopen ≡ false → get_or o.clips id None ≢ None → MayGive o (unlocked id result) → IsAllowed g o (unlocked id result)
+unlock-allowed g o id result fine some may =
+    given (first_of (known_checks g o (unlocked id result))) (unlocked id result) (MayGive o (unlocked id result))
+    (passed o.must_reopen MustReopen _ fine ∙ passed (not (is_some (get_or o.clips id None))) NoSuchClip [] (some-is (get_or o.clips id None) some)) may
+
+pub unlock-refused : {D : Type 0} (medium : D → Medium) (s : Seen D) (id : ℕ) → ((medium s.disk).honest → IsSound (medium s.disk)) → s.must_reopen ≡ false → get_or s.clips id None ≡ None
     → ((r : Recording) → StandsFor medium s r → (medium s.disk).honest → clip_of r id ≡ None) → Goes medium s s (unlocked id (Err NoSuchClip) ∷ [])
-unlock-refused medium s id sound fine none =
+unlock-refused medium s id sound fine seen none =
     goes-refused medium s (unlocked id (Err NoSuchClip)) sound (record {
+      early = refl;
+      clips = λ cs. refl;
       unfailed = refl;
       none = refl;
       stored = refl;
       made_none = λ g t. refl;
       begun_none = λ g t. refl;
-    }) (λ t stands honest. inr (inl (refl, (sym stands.must_reopen ∙ fine, none t.recording stands.recording honest)))) (inr (inl refl, fine))
+    }) (λ t stands honest. answer-due s.geometry t (unlocked id (Err NoSuchClip)) NoSuchClip (sym stands.must_reopen ∙ fine) (failed (not (is_some (clip_of t.recording id))) NoSuchClip [] (none-is (clip_of t.recording id) (none t.recording stands.recording honest))) refl)
+    (refused (first_of (known_checks s.geometry (progress_of s) (unlocked id (Err NoSuchClip)))) (unlocked id (Err NoSuchClip)) (MayGive (progress_of s) (unlocked id (Err NoSuchClip))) NoSuchClip
+    (passed s.must_reopen MustReopen _ fine ∙ failed (not (is_some (get_or s.clips id None))) NoSuchClip [] (none-is (get_or s.clips id None) seen)) refl)
 
 -- what an index says of an id is what its recording does
 pub clip-known : {A : Type 0} (index : Index A) (r : Recording) (image : List ℕ) (id : ℕ) → IsIndexOf index r image → clip_of r id ≡ get_or index.clips id None

@@ -1,14 +1,15 @@
 -- Calls of the model of a store, one after the other.
-use Rattle.std.proofs.Common.{◌≡◌, inl, inr, ℕ, Bool, true, false, Ok, Err, List, [], ◌∷◌, ◌++◌, if◌then◌else◌, refl, sym, ap, ◌∙◌}
+use Rattle.std.proofs.Common.{◌≡◌, Bool, true, false, Option, List, [], ◌∷◌, ◌++◌, if◌then◌else◌, refl, sym, ap, ◌∙◌}
 use Rattle.std.specs.Prelude.{◌||◌}
 use Rattle.loop_record.specs.declared.geometry.Geometry.{Geometry}
-use Rattle.loop_record.specs.declared.clip.Span.{Span}
-use Rattle.loop_record.specs.Recording.{Picture, Step, lock, plain, ring_of, unlock}
-use Rattle.loop_record.proofs.Decided.{clash, neither}
+use Rattle.loop_record.specs.Recording.{Step, lock, plain, ring_of, unlock}
+use Rattle.loop_record.proofs.Decided.{neither}
 use Rattle.loop_record.proofs.Steps.{plain-append}
 use Rattle.loop_store.specs.declared.fault.StoreFault.{StoreFault}
-use Rattle.loop_store.specs.Faults.{is_disk}
-use Rattle.loop_store.specs.Calls.{AreAnswered, Call, IsAnswered, RefusesAppend, RefusesLock, RefusesUnlock, StoreState, appended, locked, unlocked, was_read, after, after_calls, asked, begun, begun_in, has_failed, made, made_in, was_read_part}
+use Rattle.loop_store.specs.Faults.{answers_disk}
+use Rattle.loop_store.specs.Calls.{AreAnswered, Call, IsAnswered, StoreState, appended, locked, unlocked, was_read, after, after_calls, asked, begun, begun_in, has_failed, made, made_in, steps_of, was_read_part}
+use Rattle.loop_store.specs.Steps.{if_answered, if_failed}
+use Rattle.loop_store.proofs.Checked.{must-answer}
 
 -- the recording after calls is the one after their steps
 pub recording-after : (g : Geometry) (s : StoreState) (calls : List Call) → (after_calls g s calls).recording ≡ plain (ring_of g) s.recording (made_in g s calls)
@@ -17,11 +18,18 @@ recording-after g s (c ∷ calls) = recording-after g (after g s c) calls ∙ sy
 
 -- ---- what hasn't failed has begun nothing that it didn't make
 
+abbrev no_steps : List Step
+no_steps = []
+
+pub none-either : (b : Bool) → (if b then no_steps else no_steps) ≡ no_steps
+none-either true = refl
+none-either false = refl
+
 begun-none : (g : Geometry) (s : StoreState) (c : Call) → has_failed c ≡ false → begun g s c ≡ []
-begun-none g s (was_read number result) fine = refl
+begun-none g s (was_read number result) fine = none-either (answers_disk result)
 begun-none g s (locked span result) fine = ap (λ (b : Bool). if b then lock span ∷ [] else []) fine
 begun-none g s (unlocked id result) fine = ap (λ (b : Bool). if b then unlock id ∷ [] else []) fine
-begun-none g s (was_read_part number at result) fine = refl
+begun-none g s (was_read_part number at result) fine = none-either (answers_disk result)
 begun-none g s (appended group result) fine = ap (λ (b : Bool). if b then asked g s.recording group else []) fine
 
 -- nothing has failed before
@@ -44,31 +52,10 @@ pub record IsIdle (a b : List Step) : Type 0 where
   pub made : a ≡ []
   pub begun : b ≡ []
 
-idle-append : (g : Geometry) (s : StoreState) (group : List Picture) (fault : StoreFault) → s.must_reopen ≡ true → RefusesAppend g s group fault → IsIdle [] (if is_disk fault then asked g s.recording group else [])
-idle-append g s group fault must (inl x) = record { made = refl; begun = ap (λ (f : StoreFault). if is_disk f then asked g s.recording group else []) x.0 }
-idle-append g s group fault must (inr (inl x)) = absurd (clash s.must_reopen must x.1.0)
-idle-append g s group fault must (inr (inr (inl x))) = absurd (clash s.must_reopen must x.1.0)
-idle-append g s group fault must (inr (inr (inr x))) = absurd (clash s.must_reopen must x.1.0)
-
-idle-lock : (g : Geometry) (s : StoreState) (span : Span) (fault : StoreFault) → s.must_reopen ≡ true → RefusesLock g s span fault → IsIdle [] (if is_disk fault then lock span ∷ [] else [])
-idle-lock g s span fault must (inl x) = record { made = refl; begun = ap (λ (f : StoreFault). if is_disk f then lock span ∷ [] else []) x.0 }
-idle-lock g s span fault must (inr (inl x)) = absurd (clash s.must_reopen must x.0)
-idle-lock g s span fault must (inr (inr x)) = absurd (clash s.must_reopen must x.1.0)
-
-idle-unlock : (s : StoreState) (id : ℕ) (fault : StoreFault) → s.must_reopen ≡ true → RefusesUnlock s id fault → IsIdle [] (if is_disk fault then unlock id ∷ [] else [])
-idle-unlock s id fault must (inl x) = record { made = refl; begun = ap (λ (f : StoreFault). if is_disk f then unlock id ∷ [] else []) x.0 }
-idle-unlock s id fault must (inr (inl x)) = absurd (clash s.must_reopen must x.1.0)
-idle-unlock s id fault must (inr (inr x)) = absurd (clash s.must_reopen must x.1.0)
-
 idle-one : (g : Geometry) (s : StoreState) (c : Call) → s.must_reopen ≡ true → IsAnswered g s c → IsIdle (made g s c) (begun g s c)
-idle-one g s (was_read number result) must said = record { made = refl; begun = refl }
-idle-one g s (locked span (Ok id)) must said = absurd (clash s.must_reopen must said.0)
-idle-one g s (locked span (Err fault)) must said = idle-lock g s span fault must said
-idle-one g s (unlocked id (Ok x)) must said = absurd (clash s.must_reopen must said.0)
-idle-one g s (unlocked id (Err fault)) must said = idle-unlock s id fault must said
-idle-one g s (was_read_part number at result) must said = record { made = refl; begun = refl }
-idle-one g s (appended group (Ok number)) must said = absurd (clash s.must_reopen must said.0)
-idle-one g s (appended group (Err fault)) must said = idle-append g s group fault must said
+idle-one g s c must said =
+    let is = must-answer g s c must said in
+    record { made = ap (λ (o : Option StoreFault). if_answered o (steps_of g s c)) is; begun = ap (λ (o : Option StoreFault). if_failed o (steps_of g s c)) is }
 
 pub idle-all : (g : Geometry) (s : StoreState) (calls : List Call) → s.must_reopen ≡ true → AreAnswered g s calls → IsIdle (made_in g s calls) (begun_in g s calls)
 idle-all g s [] must said = record { made = refl; begun = refl }

@@ -5,17 +5,18 @@ use Rattle.std.specs.Prelude.{◌||◌}
 use Rattle.loop_disk.specs.declared.fault.DiskFault.{DiskFault}
 use Rattle.loop_disk.specs.Calls.{Called}
 use Rattle.loop_disk.specs.Medium.{Medium, IsSettled, IsSound, LeavesOnly}
+use Rattle.loop_record.specs.declared.clip.Span.{Span}
 use Rattle.loop_record.specs.declared.geometry.Geometry.{Geometry}
 use Rattle.loop_record.specs.Reading.{Holds}
 use Rattle.loop_record.specs.Recording.{Recording, Step, plain, ring_of}
 use Rattle.loop_record.proofs.Decided.{clash}
-use Rattle.loop_store.specs.Calls.{Call, IsAllowed, IsAnswered, StoreState, begun, count_stored, failed_for, has_failed, made}
+use Rattle.loop_store.specs.Calls.{Call, IsAllowed, IsAnswered, StoreState, begun, clips_after, count_stored, failed_for, has_failed, is_look, made, was_refused}
 use Rattle.loop_store.specs.Goes.{Goes, Stands, progress_of}
 use Rattle.loop_store.specs.Held.{HoldsFrom, HoldsSome}
 use Rattle.loop_store.specs.Seen.{HasFailed, Seen, StandsFor}
 use Rattle.loop_store.specs.Steps.{LeavesSteps}
 use Rattle.loop_store.proofs.Asked.{each-now, failed-stands, holds-all}
-use Rattle.loop_store.proofs.Gone.{goes-once}
+use Rattle.loop_store.proofs.Gone.{goes-once, stays-still}
 use Rattle.loop_store.proofs.Leaves.{leaves-none, leaves-same}
 
 or-false : (b : Bool) → (b || false) ≡ b
@@ -36,6 +37,8 @@ or-loud b t loud = ap (λ (x : Bool). b || x) loud ∙ or-true b
 
 -- the answer says that nothing was done, and that no call of the disk failed
 pub record IsQuiet (c : Call) : Type 0 where
+  pub early : was_refused c ≡ true
+  pub clips : (cs : List (Option Span)) → clips_after cs c ≡ cs
   pub unfailed : has_failed c ≡ false
   pub none : failed_for c ≡ None
   pub stored : count_stored c ≡ 0
@@ -54,11 +57,13 @@ goes-refused {D} medium s c sound quiet answers allowed = goes-once medium s s c
       let still : s.must_reopen ≡ false = stands.must_reopen ∙ fine in
       leaves-same s.geometry t.recording [] (made s.geometry t c) [] (begun s.geometry t c) (medium s.disk) (medium s.disk) (sym (quiet.made_none s.geometry t)) (sym (quiet.begun_none s.geometry t))
       (leaves-none s.geometry t.recording (medium s.disk) (sound now) (stands.recording.settled still now) (stands.recording.held still now));
-  idle = λ must. refl;
+  looks = λ look now. stays-still (medium s.disk);
+  unmoved = λ early. refl;
   allowed = allowed;
   progress =
       let zero : s.next ≡ s.next + count_stored c = omega (arith, quiet.stored) in
-      λ i. record { next = zero i; must_reopen = sym (or-quiet s.must_reopen (has_failed c) quiet.unfailed) i };
+      let same = sym (quiet.clips s.clips) in
+      λ i. record { next = zero i; clips = same i; must_reopen = sym (or-quiet s.must_reopen (has_failed c) quiet.unfailed) i };
   geometry = refl;
   called = subst (λ (f : Option DiskFault). Called (medium s.disk) (medium s.disk) f) (sym quiet.none) (record { size = refl; honest = (λ h. h, λ h. h); failures = refl });
 })
@@ -73,9 +78,12 @@ done-leaves g r steps old new run settled held = record {
 
 -- what is known where the call made its steps
 pub record Done {D : Type 0} (medium : D → Medium) (old new : Seen D) (c : Call) (steps : Recording → List Step) : Type 0 where
+  pub writes : is_look c ≡ false
+  pub late : was_refused c ≡ false
   pub fine : old.must_reopen ≡ false
   pub still : new.must_reopen ≡ false
   pub next : new.next ≡ old.next + count_stored c
+  pub clips : new.clips ≡ clips_after old.clips c
   pub geometry : new.geometry ≡ old.geometry
   pub called : Called (medium old.disk) (medium new.disk) None
   pub unfailed : has_failed c ≡ false
@@ -101,9 +109,10 @@ goes-done {D} medium old new c steps done = goes-once medium old new c (record {
       leaves-same old.geometry r (steps r) (made old.geometry s c) [] (begun old.geometry s c) (medium old.disk) (medium new.disk) (sym (done.made_all s)) (sym (done.begun_none s))
       (done-leaves old.geometry r (steps r) (medium old.disk) (medium new.disk) (done.moments r stands.recording now) (later.settled done.still there)
       (subst (λ (g : Geometry). Holds g (plain (ring_of old.geometry) r (steps r)) (medium new.disk).bytes) done.geometry (later.held done.still there)));
-  idle = λ must. absurd (clash old.must_reopen must done.fine);
+  looks = λ look now. absurd (clash (is_look c) look done.writes);
+  unmoved = λ early. absurd (clash (was_refused c) early done.late);
   allowed = done.allowed;
-  progress = λ i. record { next = done.next i; must_reopen = (done.still ∙ sym (or-quiet old.must_reopen (has_failed c) done.unfailed ∙ done.fine)) i };
+  progress = λ i. record { next = done.next i; clips = done.clips i; must_reopen = (done.still ∙ sym (or-quiet old.must_reopen (has_failed c) done.unfailed ∙ done.fine)) i };
   geometry = done.geometry;
   called = subst (λ (f : Option DiskFault). Called (medium old.disk) (medium new.disk) f) (sym done.none) done.called;
 })
@@ -112,6 +121,9 @@ goes-done {D} medium old new c steps done = goes-once medium old new c (record {
 
 -- what is known where the disk failed
 pub record Failed {D : Type 0} (medium : D → Medium) (old new : Seen D) (c : Call) (steps : Recording → List Step) (fault : DiskFault) : Type 0 where
+  pub writes : is_look c ≡ false
+  pub late : was_refused c ≡ false
+  pub clips : (cs : List (Option Span)) → clips_after cs c ≡ cs
   pub fine : old.must_reopen ≡ false
   pub failed : HasFailed old new
   pub called : Called (medium old.disk) (medium new.disk) (Some fault)
@@ -140,11 +152,13 @@ goes-failed {D} medium old new c steps fault failed = goes-once medium old new c
         moments = run;
         now = each-now (medium old.disk) (medium new.disk) (HoldsSome old.geometry s.recording (steps s.recording)) (failed.sound (failed.called.honest.0 now)) run;
       });
-  idle = λ must. absurd (clash old.must_reopen must failed.fine);
+  looks = λ look now. absurd (clash (is_look c) look failed.writes);
+  unmoved = λ early. absurd (clash (was_refused c) early failed.late);
   allowed = failed.allowed;
   progress =
       let zero : old.next ≡ old.next + count_stored c = omega (arith, failed.stored) in
-      λ i. record { next = (ap (λ (x : Seen D). x.next) failed.failed ∙ zero) i; must_reopen = (ap (λ (x : Seen D). x.must_reopen) failed.failed ∙ sym (or-loud old.must_reopen (has_failed c) failed.has)) i };
+      let same = sym (failed.clips old.clips) in
+      λ i. record { next = (ap (λ (x : Seen D). x.next) failed.failed ∙ zero) i; clips = (ap (λ (x : Seen D). x.clips) failed.failed ∙ same) i; must_reopen = (ap (λ (x : Seen D). x.must_reopen) failed.failed ∙ sym (or-loud old.must_reopen (has_failed c) failed.has)) i };
   geometry = ap (λ (x : Seen D). x.geometry) failed.failed;
   called = subst (λ (f : Option DiskFault). Called (medium old.disk) (medium new.disk) f) (sym failed.some) failed.called;
 })

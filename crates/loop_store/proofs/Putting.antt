@@ -1,38 +1,79 @@
 -- A group that was appended, or wasn't.
-use Rattle.std.proofs.Common.{◌≡◌, ◌≢◌, ◌⊎◌, inl, inr, ◌+◌, Bool, false, None, Some, Ok, Err, List, [], ◌∷◌, length, if◌then◌else◌, refl, sym, ap, ◌∙◌}
+use Rattle.std.proofs.Common.{◌≡◌, ◌≢◌, ◌⊎◌, inl, inr, ◌+◌, ℕ, Bool, true, false, not, ◌&&◌, eqb, is_some, Option, None, Some, Result, Ok, Err, List, [], ◌∷◌, length, if◌then◌else◌, refl, sym, ap, ◌∙◌}
 use Rattle.loop_disk.specs.declared.fault.DiskFault.{DiskFault}
 use Rattle.loop_disk.specs.Calls.{Called}
 use Rattle.loop_disk.specs.Medium.{Medium, IsSound, LeavesOnly}
-use Rattle.loop_record.specs.Recording.{Picture, Recording, last_number, plain, ring_of, steps}
+use Rattle.loop_record.specs.declared.geometry.Geometry.{Geometry}
+use Rattle.loop_record.specs.Recording.{Picture, Recording, last_number, needs_recycling, plain, recycling_first, ring_of, victim}
+use Rattle.loop_record.proofs.Decided.{differ_test, equal_test}
 use Rattle.loop_store.specs.declared.fault.StoreFault.{StoreFault}
-use Rattle.loop_store.specs.declared.fault.StoreFault.TheVariants.{AllLocked, Disk, NumbersSpent}
-use Rattle.loop_store.specs.Calls.{IsAllowed, RefusesAppend, StoreState, appended, asked}
-use Rattle.loop_store.specs.Faults.{failed_by, is_disk}
+use Rattle.loop_store.specs.declared.fault.StoreFault.TheVariants.{AllLocked, Disk, MustReopen, NumbersSpent}
+use Rattle.loop_store.specs.Calls.{Call, IsAllowed, IsAnswered, IsGiven, MayGive, Progress, StoreState, appended, asked, checks_on, first_of, known_checks, lacks_victim, was_refused}
+use Rattle.loop_store.specs.Faults.{failed_by, is_disk, is_early}
 use Rattle.loop_store.specs.Goes.{Goes, Stands, progress_of}
 use Rattle.loop_store.specs.Held.{HoldsSome}
 use Rattle.loop_store.specs.Places.{RefusesPlace}
 use Rattle.loop_store.specs.Seen.{HasFailed, Seen, StandsFor}
-use Rattle.loop_store.proofs.Appended.{place-none}
+use Rattle.loop_store.proofs.Checked.{answer-due, answer-given, failed, given, passed, refused}
 use Rattle.loop_store.proofs.Once.{goes-done, goes-failed, goes-refused}
 
--- ---- refused before the disk was called
+-- ---- the checks
 
-pub put-refused : {D : Type 0} (medium : D → Medium) (s : Seen D) (ps : List Picture) (fault : StoreFault) → ((medium s.disk).honest → IsSound (medium s.disk)) → is_disk fault ≡ false → failed_by fault ≡ None
-    → ((t : StoreState) → Stands medium s t → (medium s.disk).honest → RefusesAppend s.geometry t ps fault) → IsAllowed s.geometry (progress_of s) (appended ps (Err fault)) → Goes medium s s (appended ps (Err fault) ∷ [])
-put-refused medium s ps fault sound quiet none answers allowed = goes-refused medium s (appended ps (Err fault)) sound (record {
-  unfailed = quiet;
-  none = none;
-  stored = refl;
-  made_none = λ g t. refl;
-  begun_none = λ g t. ap (λ (b : Bool). if b then asked g t.recording ps else []) quiet;
-}) answers allowed
+-- where the numbers are spent
+first-spent : (g : Geometry) (r : Recording) (ps : List Picture) (result : Result ℕ StoreFault) → r.next ≡ last_number (ring_of g) → first_of (checks_on g r (appended ps result)) ≡ Some NumbersSpent
+first-spent g r ps result spent = failed (eqb r.next (last_number (ring_of g))) NumbersSpent _ (equal_test r.next (last_number (ring_of g)) spent)
+
+lacks : (recycles : Bool) (v : Option ℕ) → recycling_first recycles v ≡ None → (recycles && not (is_some v)) ≡ true
+lacks false v e = absurd cc
+lacks true None e = refl
+lacks true (Some b) e = absurd cc
+
+has : (recycles : Bool) (v : Option ℕ) → recycling_first recycles v ≢ None → (recycles && not (is_some v)) ≡ false
+has false v e = refl
+has true None e = absurd (e refl)
+has true (Some b) e = refl
+
+-- where a block has to go and none may
+first-locked : (g : Geometry) (r : Recording) (ps : List Picture) (result : Result ℕ StoreFault) → r.next ≢ last_number (ring_of g) → recycling_first (needs_recycling (ring_of g) r) (victim (ring_of g) r) ≡ None → first_of (checks_on g r (appended ps result)) ≡ Some AllLocked
+first-locked g r ps result unspent none =
+    passed (eqb r.next (last_number (ring_of g))) NumbersSpent _ (differ_test r.next (last_number (ring_of g)) unspent)
+    ∙ failed (lacks_victim (ring_of g) r) AllLocked [] (lacks (needs_recycling (ring_of g) r) (victim (ring_of g) r) none)
+
+-- where there is a place
+first-none : (g : Geometry) (r : Recording) (ps : List Picture) (result : Result ℕ StoreFault) → r.next ≢ last_number (ring_of g) → recycling_first (needs_recycling (ring_of g) r) (victim (ring_of g) r) ≢ None → first_of (checks_on g r (appended ps result)) ≡ None
+first-none g r ps result unspent some =
+    passed (eqb r.next (last_number (ring_of g))) NumbersSpent _ (differ_test r.next (last_number (ring_of g)) unspent)
+    ∙ passed (lacks_victim (ring_of g) r) AllLocked [] (has (needs_recycling (ring_of g) r) (victim (ring_of g) r) some)
+
+known-spent : (g : Geometry) (o : Progress) (ps : List Picture) (result : Result ℕ StoreFault) → o.must_reopen ≡ false → o.next ≡ last_number (ring_of g) → first_of (known_checks g o (appended ps result)) ≡ Some NumbersSpent
+known-spent g o ps result fine spent = passed o.must_reopen MustReopen _ fine ∙ failed (eqb o.next (last_number (ring_of g))) NumbersSpent [] (equal_test o.next (last_number (ring_of g)) spent)
+
+known-none : (g : Geometry) (o : Progress) (ps : List Picture) (result : Result ℕ StoreFault) → o.must_reopen ≡ false → o.next ≢ last_number (ring_of g) → first_of (known_checks g o (appended ps result)) ≡ None
+known-none g o ps result fine unspent = passed o.must_reopen MustReopen _ fine ∙ passed (eqb o.next (last_number (ring_of g))) NumbersSpent [] (differ_test o.next (last_number (ring_of g)) unspent)
+
+-- ---- refused before the disk was called
 
 -- where there is no place
 pub place-refused : {D : Type 0} (medium : D → Medium) (s : Seen D) (ps : List Picture) (fault : StoreFault) → ((medium s.disk).honest → IsSound (medium s.disk)) → s.must_reopen ≡ false → (fault ≡ NumbersSpent) ⊎ (fault ≡ AllLocked)
     → (fault ≡ NumbersSpent → s.next ≡ last_number (ring_of s.geometry)) → (fault ≡ AllLocked → s.next ≢ last_number (ring_of s.geometry))
     → ((r : Recording) → StandsFor medium s r → (medium s.disk).honest → RefusesPlace s.geometry r fault) → Goes medium s s (appended ps (Err fault) ∷ [])
-place-refused {D} medium s ps fault sound fine either spent unspent known = put-refused medium s ps fault sound (quiet either) (none either) answers (allowed either)
+place-refused {D} medium s ps fault sound fine either spent unspent known = goes-refused medium s (appended ps (Err fault)) sound (record {
+  early = early either;
+  clips = λ cs. refl;
+  unfailed = quiet either;
+  none = none either;
+  stored = refl;
+  made_none = λ g t. refl;
+  begun_none = λ g t. ap (λ (b : Bool). if b then asked g t.recording ps else []) (quiet either);
+}) answers (allowed either)
   where
+    call : Call
+    call = appended ps (Err fault)
+
+    early : (fault ≡ NumbersSpent) ⊎ (fault ≡ AllLocked) → was_refused call ≡ true
+    early (inl e) = ap (λ (f : StoreFault). is_early (Some f)) e
+    early (inr e) = ap (λ (f : StoreFault). is_early (Some f)) e
+
     quiet : (fault ≡ NumbersSpent) ⊎ (fault ≡ AllLocked) → is_disk fault ≡ false
     quiet (inl e) = ap is_disk e
     quiet (inr e) = ap is_disk e
@@ -41,18 +82,26 @@ place-refused {D} medium s ps fault sound fine either spent unspent known = put-
     none (inl e) = ap failed_by e
     none (inr e) = ap failed_by e
 
-    allowed : (fault ≡ NumbersSpent) ⊎ (fault ≡ AllLocked) → IsAllowed s.geometry (progress_of s) (appended ps (Err fault))
-    allowed (inl e) = inr (inl (e, (fine, spent e)))
-    allowed (inr e) = inr (inr (inl e, (fine, unspent e)))
+    allowed : (fault ≡ NumbersSpent) ⊎ (fault ≡ AllLocked) → IsAllowed s.geometry (progress_of s) call
+    allowed (inl e) = refused (first_of (known_checks s.geometry (progress_of s) call)) call (MayGive (progress_of s) call) NumbersSpent (known-spent s.geometry (progress_of s) ps (Err fault) fine (spent e)) (ap (λ (f : StoreFault). Some f) e)
+    allowed (inr e) = given (first_of (known_checks s.geometry (progress_of s) call)) call (MayGive (progress_of s) call) (known-none s.geometry (progress_of s) ps (Err fault) fine (unspent e)) (inl e)
 
-    refuses : (t : StoreState) → t.must_reopen ≡ false → RefusesPlace s.geometry t.recording fault → RefusesAppend s.geometry t ps fault
-    refuses t still (inl x) = inr (inl (x.0, (still, x.1)))
-    refuses t still (inr x) = inr (inr (inl (x.0, (still, (x.1.0, place-none s.geometry t.recording ps x.1.1)))))
+    refuses : (t : StoreState) → t.must_reopen ≡ false → RefusesPlace s.geometry t.recording fault → IsAnswered s.geometry t call
+    refuses t still (inl x) = answer-due s.geometry t call NumbersSpent still (first-spent s.geometry t.recording ps (Err fault) x.1) (ap (λ (f : StoreFault). Some f) x.0)
+    refuses t still (inr x) = answer-due s.geometry t call AllLocked still (first-locked s.geometry t.recording ps (Err fault) x.1.0 x.1.1) (ap (λ (f : StoreFault). Some f) x.0)
 
-    answers : (t : StoreState) → Stands medium s t → (medium s.disk).honest → RefusesAppend s.geometry t ps fault
+    answers : (t : StoreState) → Stands medium s t → (medium s.disk).honest → IsAnswered s.geometry t call
     answers t stands now = refuses t (sym stands.must_reopen ∙ fine) (known t.recording stands.recording now)
 
 -- ---- stored
+
+-- a number is left, and no block has to go that may not
+pub record HasPlace (g : Geometry) (r : Recording) : Type 0 where
+  pub unspent : r.next ≢ last_number (ring_of g)
+  pub some : recycling_first (needs_recycling (ring_of g) r) (victim (ring_of g) r) ≢ None
+
+placed : (g : Geometry) (s : StoreState) (ps : List Picture) (result : Result ℕ StoreFault) → s.must_reopen ≡ false → HasPlace g s.recording → IsGiven s.recording (appended ps result) → IsAnswered g s (appended ps result)
+placed g s ps result fine place is = answer-given g s (appended ps result) fine (first-none g s.recording ps result place.unspent place.some) is
 
 -- what is known where the frames were stored
 pub record Stored {D : Type 0} (medium : D → Medium) (old new : Seen D) (ps : List Picture) : Type 0 where
@@ -60,25 +109,29 @@ pub record Stored {D : Type 0} (medium : D → Medium) (old new : Seen D) (ps : 
   pub still : new.must_reopen ≡ false
   pub unspent : old.next ≢ last_number (ring_of old.geometry)
   pub next : new.next ≡ old.next + length ps
+  pub clips : new.clips ≡ old.clips
   pub geometry : new.geometry ≡ old.geometry
   pub called : Called (medium old.disk) (medium new.disk) None
-  pub some : (r : Recording) → StandsFor medium old r → (medium old.disk).honest → steps (ring_of old.geometry) r ps ≢ None
+  pub place : (r : Recording) → StandsFor medium old r → (medium old.disk).honest → HasPlace old.geometry r
   pub moments : (r : Recording) → StandsFor medium old r → (medium old.disk).honest → LeavesOnly (medium old.disk) (medium new.disk) (HoldsSome old.geometry r (asked old.geometry r ps))
   pub stands : (r : Recording) → StandsFor medium old r → (medium old.disk).honest → StandsFor medium new (plain (ring_of old.geometry) r (asked old.geometry r ps))
 
 pub put-stored : {D : Type 0} (medium : D → Medium) (old new : Seen D) (ps : List Picture) → Stored medium old new ps → Goes medium old new (appended ps (Ok old.next) ∷ [])
 put-stored medium old new ps stored = goes-done medium old new (appended ps (Ok old.next)) (λ r. asked old.geometry r ps) (record {
+  writes = refl;
+  late = refl;
   fine = stored.fine;
   still = stored.still;
   next = stored.next;
+  clips = stored.clips;
   geometry = stored.geometry;
   called = stored.called;
   unfailed = refl;
   none = refl;
   made_all = λ s. refl;
   begun_none = λ s. refl;
-  answers = λ s stands now. (sym stands.must_reopen ∙ stored.fine, (stored.some s.recording stands.recording now, (stands.recording.told now).next_is));
-  allowed = (stored.fine, (stored.unspent, refl));
+  answers = λ s stands now. placed old.geometry s ps (Ok old.next) (sym stands.must_reopen ∙ stored.fine) (stored.place s.recording stands.recording now) (stands.recording.told now).next_is;
+  allowed = given (first_of (known_checks old.geometry (progress_of old) (appended ps (Ok old.next)))) (appended ps (Ok old.next)) (MayGive (progress_of old) (appended ps (Ok old.next))) (known-none old.geometry (progress_of old) ps (Ok old.next) stored.fine stored.unspent) refl;
   moments = stored.moments;
   stands = stored.stands;
 })
@@ -92,11 +145,14 @@ pub record Failed {D : Type 0} (medium : D → Medium) (old new : Seen D) (ps : 
   pub has_failed : HasFailed old new
   pub called : Called (medium old.disk) (medium new.disk) (Some fault)
   pub sound : (medium new.disk).honest → IsSound (medium new.disk)
-  pub some : (r : Recording) → StandsFor medium old r → (medium old.disk).honest → steps (ring_of old.geometry) r ps ≢ None
+  pub place : (r : Recording) → StandsFor medium old r → (medium old.disk).honest → HasPlace old.geometry r
   pub moments : (r : Recording) → StandsFor medium old r → (medium old.disk).honest → LeavesOnly (medium old.disk) (medium new.disk) (HoldsSome old.geometry r (asked old.geometry r ps))
 
 pub put-failed : {D : Type 0} (medium : D → Medium) (old new : Seen D) (ps : List Picture) (fault : DiskFault) → Failed medium old new ps fault → Goes medium old new (appended ps (Err (Disk fault)) ∷ [])
 put-failed medium old new ps fault failed = goes-failed medium old new (appended ps (Err (Disk fault))) (λ r. asked old.geometry r ps) fault (record {
+  writes = refl;
+  late = refl;
+  clips = λ cs. refl;
   fine = failed.fine;
   failed = failed.has_failed;
   called = failed.called;
@@ -106,7 +162,7 @@ put-failed medium old new ps fault failed = goes-failed medium old new (appended
   stored = refl;
   made_none = λ s. refl;
   begun_all = λ s. refl;
-  answers = λ s stands now. inr (inr (inr (refl, (sym stands.must_reopen ∙ failed.fine, failed.some s.recording stands.recording now))));
-  allowed = inr (inr (inr refl, (failed.fine, failed.unspent)));
+  answers = λ s stands now. placed old.geometry s ps (Err (Disk fault)) (sym stands.must_reopen ∙ failed.fine) (failed.place s.recording stands.recording now) refl;
+  allowed = given (first_of (known_checks old.geometry (progress_of old) (appended ps (Err (Disk fault))))) (appended ps (Err (Disk fault))) (MayGive (progress_of old) (appended ps (Err (Disk fault)))) (known-none old.geometry (progress_of old) ps (Err (Disk fault)) failed.fine failed.unspent) (inr refl);
   moments = failed.moments;
 })

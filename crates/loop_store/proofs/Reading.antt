@@ -1,27 +1,35 @@
 -- A read of a frame.
-use Rattle.std.proofs.Common.{◌≡◌, ◌⊎◌, inl, inr, ℕ, ◌+◌, Bool, true, false, IfErr, Option, None, Result, Ok, Err, List, [], ◌∷◌, refl, sym, ◌∙◌, ap, subst, arith}
+use Rattle.std.proofs.Common.{◌≡◌, ◌⊎◌, inl, inr, ℕ, ◌+◌, Bool, true, false, not, ◌&&◌, is_some, IfErr, Option, None, Some, Result, Ok, Err, List, [], ◌∷◌, refl, sym, ◌∙◌, ap, subst, arith}
 use Rattle.std.specs.Prelude.{◌||◌}
 use Rattle.loop_disk.specs.declared.fault.DiskFault.{DiskFault}
 use Rattle.loop_disk.specs.Calls.{Called, Stays}
 use Rattle.loop_disk.specs.Medium.{Medium, IsSound}
+use Rattle.loop_record.specs.declared.clip.Span.{Span}
 use Rattle.loop_record.specs.declared.damage.Damage.TheVariants.{SlotHead}
 use Rattle.loop_record.specs.declared.geometry.Geometry.{Geometry}
 use Rattle.loop_record.specs.declared.frame.FrameHead.{FrameHead}
-use Rattle.loop_record.specs.Recording.{Step, plain, ring_of}
+use Rattle.loop_record.specs.Recording.{Picture, Recording, Step, frame_under, holds, plain, ring_of}
 use Rattle.loop_store.specs.declared.fault.StoreFault.{StoreFault}
-use Rattle.loop_store.specs.declared.fault.StoreFault.TheVariants.{Damaged}
-use Rattle.loop_store.specs.Calls.{Call, IsAllowed, IsAnswered, Progress, StoreState, begun, count_stored, failed_for, has_failed, made, part_with, read_with, was_read, was_read_part}
-use Rattle.loop_store.specs.Faults.{failed_in, is_disk}
+use Rattle.loop_store.specs.declared.fault.StoreFault.TheVariants.{Damaged, MustReopen, NoMemory, NotHeld}
+use Rattle.loop_store.specs.Calls.{AnswersDue, Call, IsAllowed, IsAnswered, MayGive, Progress, StoreState, begun, checks_on, clips_after, count_stored, due, failed_for, first_of, has_failed, known_checks, made, part_with, read_with, was_read, was_read_part, was_refused}
+use Rattle.loop_store.specs.Faults.{answers_disk, failed_in, fault_in, is_damage, is_disk, is_early}
 use Rattle.loop_store.specs.Goes.{Goes, Stands, progress_of}
 use Rattle.loop_store.specs.Reads.{AnswersFrame, AnswersFramePart}
 use Rattle.loop_store.specs.Seen.{Seen, StandsFor}
-use Rattle.loop_store.proofs.Gone.{goes-once}
+use Rattle.loop_store.specs.Steps.{if_answered}
+use Rattle.loop_store.proofs.Checked.{answer-due, answer-given, failed, given, passed}
+use Rattle.loop_store.proofs.Gone.{goes-once, stays-still}
 use Rattle.loop_store.proofs.Leaves.{leaves-looked, leaves-same}
 use Rattle.loop_store.proofs.Looks.{looked-stands}
+use Rattle.loop_store.proofs.Modelled.{none-either}
 
 or-false : (b : Bool) → (b || false) ≡ b
 or-false true = refl
 or-false false = refl
+
+made-either : (o : Option StoreFault) → if_answered o [] ≡ []
+made-either None = refl
+made-either (Some fault) = refl
 
 -- a call that makes no step, begins none and fails none
 pub record IsLook (c : Call) : Type 0 where
@@ -29,12 +37,13 @@ pub record IsLook (c : Call) : Type 0 where
   pub begins : (g : Geometry) (s : StoreState) → begun g s c ≡ []
   pub fine : has_failed c ≡ false
   pub none : count_stored c ≡ 0
+  pub clips : (cs : List (Option Span)) → clips_after cs c ≡ cs
 
 pub look-read : (number : ℕ) (result : Result (FrameHead × List ℕ) StoreFault) → IsLook (was_read number result)
-look-read number result = record { steps = λ g s. refl; begins = λ g s. refl; fine = refl; none = refl }
+look-read number result = record { steps = λ g s. made-either (fault_in result); begins = λ g s. none-either (answers_disk result); fine = refl; none = refl; clips = λ cs. refl }
 
 pub look-part : (number at : ℕ) (result : Result (List ℕ) StoreFault) → IsLook (was_read_part number at result)
-look-part number at result = record { steps = λ g s. refl; begins = λ g s. refl; fine = refl; none = refl }
+look-part number at result = record { steps = λ g s. made-either (fault_in result); begins = λ g s. none-either (answers_disk result); fine = refl; none = refl; clips = λ cs. refl }
 
 -- what is known of a read
 pub record Looked {D : Type 0} (medium : D → Medium) (old : Seen D) (disk : D) (c : Call) : Type 0 where
@@ -42,7 +51,7 @@ pub record Looked {D : Type 0} (medium : D → Medium) (old : Seen D) (disk : D)
   pub allowed : IsAllowed old.geometry (progress_of old) c
   pub stays : (medium old.disk).honest → Stays (medium old.disk) (medium disk)
   pub called : Called (medium old.disk) (medium disk) (failed_for c)
-  pub idle : old.must_reopen ≡ true → disk ≡ old.disk
+  pub unmoved : was_refused c ≡ true → disk ≡ old.disk
 
 pub goes-looked : {D : Type 0} (medium : D → Medium) (old : Seen D) (disk : D) (c : Call) → IsLook c → ((medium old.disk).honest → IsSound (medium old.disk)) → Looked medium old disk c
     → Goes medium old (record old { disk = disk }) (c ∷ [])
@@ -56,12 +65,14 @@ goes-looked {D} medium old disk c look sound looked = goes-once medium old (reco
       let still : old.must_reopen ≡ false = stands.must_reopen ∙ fine in
       leaves-same old.geometry s.recording [] (made old.geometry s c) [] (begun old.geometry s c) (medium old.disk) (medium disk) (sym (look.steps old.geometry s)) (sym (look.begins old.geometry s))
       (leaves-looked old.geometry s.recording (medium old.disk) (medium disk) (sound now) (stands.recording.settled still now) (stands.recording.held still now) (looked.stays now));
-  idle = λ must. ap (λ (d : D). record old { disk = d }) (looked.idle must);
+  looks = λ look now. looked.stays now;
+  unmoved = λ early. ap (λ (d : D). record old { disk = d }) (looked.unmoved early);
   allowed = looked.allowed;
   progress =
       let zero : old.next ≡ old.next + count_stored c = omega (arith, look.none) in
       let must = unfailed old.must_reopen in
-      λ i. record { next = zero i; must_reopen = must i };
+      let same = look.clips old.clips in
+      λ i. record { next = zero i; clips = sym same i; must_reopen = must i };
   geometry = refl;
   called = looked.called;
 })
@@ -69,42 +80,86 @@ goes-looked {D} medium old disk c look sound looked = goes-once medium old (reco
     unfailed : (b : Bool) → b ≡ (b || has_failed c)
     unfailed b = sym (or-false b) ∙ ap (λ (x : Bool). b || x) (sym look.fine)
 
--- nothing was called
-pub still : (m : Medium) → Stays m m
-still m = record { bytes = refl; images = λ c left. left; time = record { later = omega arith; nothing_else = λ t c before left. inl left; keeps = λ t c before left. left } }
-
 -- refused before the disk was called
 pub goes-unread : {D : Type 0} (medium : D → Medium) (s : Seen D) (c : Call) → IsLook c → ((medium s.disk).honest → IsSound (medium s.disk)) → failed_for c ≡ None
     → ((t : StoreState) → Stands medium s t → (medium s.disk).honest → IsAnswered s.geometry t c) → IsAllowed s.geometry (progress_of s) c → Goes medium s s (c ∷ [])
 goes-unread medium s c look sound none answers allowed = goes-looked medium s s.disk c look sound (record {
   answers = answers;
   allowed = allowed;
-  stays = λ now. still (medium s.disk);
+  stays = λ now. stays-still (medium s.disk);
   called = subst (λ (f : Option DiskFault). Called (medium s.disk) (medium s.disk) f) (sym none) (record { size = refl; honest = (λ h. h, λ h. h); failures = refl });
-  idle = λ must. refl;
+  unmoved = λ early. refl;
 })
+
+-- ---- the checks
+
+held-none : (g : Geometry) (s : StoreState) (number : ℕ) (result : Result (FrameHead × List ℕ) StoreFault) → holds s.recording number ≡ true → first_of (checks_on g s.recording (was_read number result)) ≡ None
+held-none g s number result held = passed (not (holds s.recording number)) NotHeld [] (ap not held)
+
+held-none-part : (g : Geometry) (s : StoreState) (number at : ℕ) (result : Result (List ℕ) StoreFault) → holds s.recording number ≡ true → first_of (checks_on g s.recording (was_read_part number at result)) ≡ None
+held-none-part g s number at result held = passed (not (holds s.recording number)) NotHeld [] (ap not held)
+
+frame-held : (r : Recording) (number : ℕ) (p : Picture) → frame_under r.frames number ≡ Some p → holds r number ≡ true
+frame-held r number p there = ap (λ (o : Option Picture). is_some o) there
+
+-- ---- answers
+
+-- a number that isn't held
+pub read-missing : (g : Geometry) (s : StoreState) (number : ℕ) → s.must_reopen ≡ false → holds s.recording number ≡ false → IsAnswered g s (was_read number (Err NotHeld))
+read-missing g s number fine none = answer-due g s (was_read number (Err NotHeld)) NotHeld fine (failed (not (holds s.recording number)) NotHeld [] (ap not none)) refl
+
+pub part-missing : (g : Geometry) (s : StoreState) (number at : ℕ) → s.must_reopen ≡ false → holds s.recording number ≡ false → IsAnswered g s (was_read_part number at (Err NotHeld))
+part-missing g s number at fine none = answer-due g s (was_read_part number at (Err NotHeld)) NotHeld fine (failed (not (holds s.recording number)) NotHeld [] (ap not none)) refl
+
+-- one for which there is no memory
+pub read-unread : (g : Geometry) (s : StoreState) (number : ℕ) → s.must_reopen ≡ false → holds s.recording number ≡ true → IsAnswered g s (was_read number (Err NoMemory))
+read-unread g s number fine held = answer-given g s (was_read number (Err NoMemory)) fine (held-none g s number (Err NoMemory) held) (inl refl)
 
 -- what a read into lent memory answers
 pub read-answered : (g : Geometry) (s : StoreState) (number : ℕ) (result : Result FrameHead StoreFault) (out : List ℕ) → s.must_reopen ≡ false → AnswersFrame s.recording number result out → IsAnswered g s (was_read number (read_with result out))
-read-answered g s number (Ok h) out fine said = (fine, said)
-read-answered g s number (Err fault) out fine said = inr (inr (inr said.0, (fine, said.1)))
+read-answered g s number (Ok h) out fine said = answer-given g s (was_read number (Ok (h, out))) fine (held-none g s number (Ok (h, out)) (frame-held s.recording number said.picture said.there)) said
+read-answered g s number (Err fault) out fine said = answer-given g s (was_read number (Err fault)) fine (held-none g s number (Err fault) said.1) (inr said.0)
+
+known-fine : (g : Geometry) (o : Progress) (c : Call) (Given : Type 0) → known_checks g o c ≡ due o.must_reopen MustReopen ∷ [] → o.must_reopen ≡ false → Given → AnswersDue (first_of (known_checks g o c)) c Given
+known-fine g o c Given are fine is = given (first_of (known_checks g o c)) c Given (ap first_of are ∙ passed o.must_reopen MustReopen [] fine) is
 
 pub read-allowed : (g : Geometry) (o : Progress) (number : ℕ) (result : Result FrameHead StoreFault) (out : List ℕ) → o.must_reopen ≡ false → IfErr result (λ fault. (fault ≡ Damaged SlotHead) ⊎ (is_disk fault ≡ true)) → IsAllowed g o (was_read number (read_with result out))
-read-allowed g o number (Ok h) out fine said = fine
-read-allowed g o number (Err fault) out fine said = inr (inr (inr said), fine)
+read-allowed g o number (Ok h) out fine said = known-fine g o (was_read number (Ok (h, out))) (Unit {0}) refl fine tt
+read-allowed g o number (Err fault) out fine said = known-fine g o (was_read number (Err fault)) (MayGive o (was_read number (Err fault))) refl fine (inr (inr said))
+
+-- refused before the disk was called
+pub unread-allowed : (g : Geometry) (o : Progress) (number : ℕ) (fault : StoreFault) → o.must_reopen ≡ false → (fault ≡ NotHeld) ⊎ (fault ≡ NoMemory) → IsAllowed g o (was_read number (Err fault))
+unread-allowed g o number fault fine (inl is) = known-fine g o (was_read number (Err fault)) (MayGive o (was_read number (Err fault))) refl fine (inl is)
+unread-allowed g o number fault fine (inr is) = known-fine g o (was_read number (Err fault)) (MayGive o (was_read number (Err fault))) refl fine (inr (inl is))
+
+pub part-unallowed : (g : Geometry) (o : Progress) (number at : ℕ) → o.must_reopen ≡ false → IsAllowed g o (was_read_part number at (Err NotHeld))
+part-unallowed g o number at fine = known-fine g o (was_read_part number at (Err NotHeld)) (MayGive o (was_read_part number at (Err NotHeld))) refl fine (inl refl)
 
 pub read-failed : (result : Result FrameHead StoreFault) (out : List ℕ) (old new : Medium) → Called old new (failed_in result) → Called old new (failed_in (read_with result out))
 read-failed (Ok h) out old new called = called
 read-failed (Err fault) out old new called = called
 
+-- the disk was called
+late-fault : (fault : StoreFault) → (fault ≡ Damaged SlotHead) ⊎ (is_disk fault ≡ true) → is_early (Some fault) ≡ false
+late-fault fault (inl is) = ap (λ (f : StoreFault). is_early (Some f)) is
+late-fault fault (inr is) = ap (λ (b : Bool). not b && not (is_damage fault)) is
+
+pub read-late : (number : ℕ) (result : Result FrameHead StoreFault) (out : List ℕ) → IfErr result (λ fault. (fault ≡ Damaged SlotHead) ⊎ (is_disk fault ≡ true)) → was_refused (was_read number (read_with result out)) ≡ false
+read-late number (Ok h) out said = refl
+read-late number (Err fault) out said = late-fault fault said
+
+pub part-late : (number at : ℕ) (result : Result (Unit {0}) StoreFault) (out : List ℕ) → IfErr result (λ fault. (fault ≡ Damaged SlotHead) ⊎ (is_disk fault ≡ true)) → was_refused (was_read_part number at (part_with result out)) ≡ false
+part-late number at (Ok done) out said = refl
+part-late number at (Err fault) out said = late-fault fault said
+
 -- so it is with a read of a part
 pub part-answered : (g : Geometry) (s : StoreState) (number at : ℕ) (result : Result (Unit {0}) StoreFault) (out : List ℕ) → s.must_reopen ≡ false → AnswersFramePart s.recording number at result out → IsAnswered g s (was_read_part number at (part_with result out))
-part-answered g s number at (Ok done) out fine said = (fine, said)
-part-answered g s number at (Err fault) out fine said = inr (inr (said.0, (fine, said.1)))
+part-answered g s number at (Ok done) out fine said = answer-given g s (was_read_part number at (Ok out)) fine (held-none-part g s number at (Ok out) (frame-held s.recording number said.picture said.there)) said
+part-answered g s number at (Err fault) out fine said = answer-given g s (was_read_part number at (Err fault)) fine (held-none-part g s number at (Err fault) said.1) said.0
 
 pub part-allowed : (g : Geometry) (o : Progress) (number at : ℕ) (result : Result (Unit {0}) StoreFault) (out : List ℕ) → o.must_reopen ≡ false → IfErr result (λ fault. (fault ≡ Damaged SlotHead) ⊎ (is_disk fault ≡ true)) → IsAllowed g o (was_read_part number at (part_with result out))
-part-allowed g o number at (Ok done) out fine said = fine
-part-allowed g o number at (Err fault) out fine said = inr (inr said, fine)
+part-allowed g o number at (Ok done) out fine said = known-fine g o (was_read_part number at (Ok out)) (Unit {0}) refl fine tt
+part-allowed g o number at (Err fault) out fine said = known-fine g o (was_read_part number at (Err fault)) (MayGive o (was_read_part number at (Err fault))) refl fine (inr said)
 
 pub part-failed : (result : Result (Unit {0}) StoreFault) (out : List ℕ) (old new : Medium) → Called old new (failed_in result) → Called old new (failed_in (part_with result out))
 part-failed (Ok done) out old new called = called

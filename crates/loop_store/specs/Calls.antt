@@ -1,16 +1,17 @@
 -- The calls of a store with their answers, and what they make of a recording: the model of the store.
-use Rattle.std.specs.Prelude.{◌≡◌, ◌≢◌, ◌⊎◌, ℕ, ◌+◌, ◌<◌, ◌≤◌, Bool, true, false, ◌||◌, IsTrue, Option, Some, None, Result, Ok, Err, List, [], ◌∷◌, length}
+use Rattle.std.specs.Prelude.{◌≡◌, ◌⊎◌, ℕ, ◌+◌, ◌-◌, ◌<◌, ◌≤◌, Bool, true, false, not, ◌&&◌, ◌||◌, ◌==◌, nat_lt, is_some, option_map, Option, Some, None, Result, Ok, Err, List, [], ◌∷◌, length, slice_index_or, slice_set}
+use Rattle.std.specs.List.{find, range_with_len}
 use Rattle.loop_disk.specs.declared.fault.DiskFault.{DiskFault}
 use Rattle.loop_disk.specs.Medium.{piece}
 use Rattle.loop_record.specs.declared.clip.Span.{Span}
 use Rattle.loop_record.specs.declared.damage.Damage.TheVariants.{SlotHead}
 use Rattle.loop_record.specs.declared.frame.FrameHead.{FrameHead}
 use Rattle.loop_record.specs.declared.geometry.Geometry.{Geometry}
-use Rattle.loop_record.specs.Recording.{Picture, Recording, Step, clip_of, frame_under, free_id, head, holds, holds_all, is_legal, last_number, lock, plain, ring_of, steps, unlock}
+use Rattle.loop_record.specs.Recording.{Picture, Recording, Ring, Step, clip_of, first_free, frame_under, free_id, head, holds, last_number, lock, needs_recycling, plain, ring_of, steps, unlock, victim}
 use Rattle.loop_record.specs.Turns.{after_all, told_in, EachIn}
 use Rattle.loop_store.specs.declared.fault.StoreFault.{StoreFault}
 use Rattle.loop_store.specs.declared.fault.StoreFault.TheVariants.{AllLocked, ClipEmpty, ClipNotHeld, ClipTableFull, Damaged, NoMemory, NoSuchClip, MustReopen, NotHeld, NumbersSpent}
-use Rattle.loop_store.specs.Faults.{answers_disk, failed_in, is_disk}
+use Rattle.loop_store.specs.Faults.{disk_failed, failed_with, fault_in, is_disk, is_early}
 use Rattle.loop_store.specs.Steps.{if_answered, if_failed, steps_or_none}
 
 -- a call and its answer: an append of a group, a lock of a span with the clip's id, an unlock of an id, a read of a
@@ -38,37 +39,52 @@ pub record StoreState : Type 0 where
   pub recording : Recording
   pub must_reopen : Bool
 
--- ---- the steps of a call
+-- ---- what a call asks for, and what its answer says of it
+
+-- the refusal in an answer
+abbrev pub fault_of : Call → Option StoreFault
+fault_of (appended group result) = fault_in result
+fault_of (locked span result) = fault_in result
+fault_of (unlocked id result) = fault_in result
+fault_of (was_read number result) = fault_in result
+fault_of (was_read_part number at result) = fault_in result
+
+-- it writes nothing
+abbrev pub is_look : Call → Bool
+is_look (was_read number result) = true
+is_look (was_read_part number at result) = true
+is_look _ = false
 
 -- the steps that an append is asked for
 abbrev pub asked : Geometry → Recording → List Picture → List Step
 asked g r group = steps_or_none (steps (ring_of g) r group)
 
+-- the steps that a call is asked for
+abbrev pub steps_of : Geometry → StoreState → Call → List Step
+steps_of g s (appended group result) = asked g s.recording group
+steps_of g s (locked span result) = lock span ∷ []
+steps_of g s (unlocked id result) = unlock id ∷ []
+steps_of g s _ = []
+
 -- the steps that a call made, as it answered
 abbrev pub made : Geometry → StoreState → Call → List Step
-made g s (appended group result) = if_answered result (asked g s.recording group)
-made g s (locked span result) = if_answered result (lock span ∷ [])
-made g s (unlocked id result) = if_answered result (unlock id ∷ [])
-made g s (was_read number result) = []
-made g s (was_read_part number at result) = []
+made g s call = if_answered (fault_of call) (steps_of g s call)
 
 -- the steps that it began, and of which a beginning may stand
 abbrev pub begun : Geometry → StoreState → Call → List Step
-begun g s (appended group result) = if_failed result (asked g s.recording group)
-begun g s (locked span result) = if_failed result (lock span ∷ [])
-begun g s (unlocked id result) = if_failed result (unlock id ∷ [])
-begun g s (was_read number result) = []
-begun g s (was_read_part number at result) = []
+begun g s call = if_failed (fault_of call) (steps_of g s call)
 
--- ---- the state after a call
+-- the call of the disk that failed, if the answer says that one did
+abbrev pub failed_for : Call → Option DiskFault
+failed_for call = failed_with (fault_of call)
 
 -- the disk failed in a call that writes
 abbrev pub has_failed : Call → Bool
-has_failed (appended group result) = answers_disk result
-has_failed (locked span result) = answers_disk result
-has_failed (unlocked id result) = answers_disk result
-has_failed (was_read number result) = false
-has_failed (was_read_part number at result) = false
+has_failed call = not (is_look call) && disk_failed (fault_of call)
+
+-- it was refused before the disk was called
+abbrev pub was_refused : Call → Bool
+was_refused call = is_early (fault_of call)
 
 abbrev pub after : Geometry → StoreState → Call → StoreState
 after g s call = record {
@@ -78,66 +94,47 @@ after g s call = record {
 
 -- ---- the answers
 
--- why an append is refused: it must be reopened, or otherwise no number is left, or otherwise no block may go
--- that has to, or otherwise the disk failed
-abbrev pub RefusesAppend : Geometry → StoreState → List Picture → StoreFault → Type 0
-RefusesAppend g s group fault =
-    (fault ≡ MustReopen) × (s.must_reopen ≡ true)
-    ⊎ ((fault ≡ NumbersSpent) × ((s.must_reopen ≡ false) × (s.recording.next ≡ last_number (ring_of g)))
-    ⊎ ((fault ≡ AllLocked)
-    × ((s.must_reopen ≡ false)
-    × ((s.recording.next ≢ last_number (ring_of g)) × (steps (ring_of g) s.recording group ≡ None)))
-    ⊎ (is_disk fault ≡ true) × ((s.must_reopen ≡ false) × (steps (ring_of g) s.recording group ≢ None))))
+-- the least number of a span that isn't held
+abbrev pub missing : Recording → Span → Option ℕ
+missing r s = find (λ n. not (holds r n)) (range_with_len s.from (s.to + 1 - s.from))
 
--- a clip of a span may be added: it isn't empty, each of its numbers is held, and an id is free
-abbrev pub CanLock : Geometry → Recording → Span → Type 0
-CanLock g r span = IsTrue (is_legal (ring_of g) r (lock span))
+-- a block has to go first and none may
+abbrev pub lacks_victim : Ring → Recording → Bool
+lacks_victim ring r = needs_recycling ring r && not (is_some (victim ring r))
 
--- n is the least number of a span that isn't held
-pub record IsFirstMissing (r : Recording) (s : Span) (n : ℕ) : Type 0 where
-  pub from : s.from ≤ n
-  pub to : n ≤ s.to
-  pub missing : holds r n ≡ false
-  pub held : (m : ℕ) → s.from ≤ m → m < n → holds r m ≡ true
+-- a refusal that is due where a check fails
+abbrev pub due : Bool → StoreFault → Option StoreFault
+due true fault = Some fault
+due false fault = None
 
--- why no clip of a span may be added: it is empty, or otherwise this is the least of its numbers that isn't held, or
--- otherwise each id has a clip
-abbrev pub RefusesSpan : Recording → Span → StoreFault → Type 0
-RefusesSpan r span fault =
-    (fault ≡ ClipEmpty) × (span.to < span.from)
-    ⊎ (((n : ℕ) × ((fault ≡ ClipNotHeld n) × IsFirstMissing r span n))
-    ⊎ (fault ≡ ClipTableFull) × ((span.from ≤ span.to) × ((holds_all r span ≡ true) × (free_id r ≡ 64))))
+-- the first that is due
+abbrev pub first_of : List (Option StoreFault) → Option StoreFault
+first_of [] = None
+first_of (None ∷ more) = first_of more
+first_of (Some fault ∷ more) = Some fault
 
--- why a lock is refused: it must be reopened, or otherwise no clip of the span may be added, or otherwise the disk
--- failed
-abbrev pub RefusesLock : Geometry → StoreState → Span → StoreFault → Type 0
-RefusesLock g s span fault =
-    (fault ≡ MustReopen) × (s.must_reopen ≡ true)
-    ⊎ ((s.must_reopen ≡ false) × RefusesSpan s.recording span fault
-    ⊎ (is_disk fault ≡ true) × ((s.must_reopen ≡ false) × CanLock g s.recording span))
+-- the checks of a span that is to be locked
+abbrev pub span_checks : Recording → Span → List (Option StoreFault)
+span_checks r span =
+    due (nat_lt span.to span.from) ClipEmpty
+    ∷ option_map ClipNotHeld (missing r span)
+    ∷ due (free_id r == 64) ClipTableFull
+    ∷ []
 
--- why an unlock is refused: it must be reopened, or otherwise no clip has the id, or otherwise the disk failed
-abbrev pub RefusesUnlock : StoreState → ℕ → StoreFault → Type 0
-RefusesUnlock s id fault =
-    (fault ≡ MustReopen) × (s.must_reopen ≡ true)
-    ⊎ ((fault ≡ NoSuchClip) × ((s.must_reopen ≡ false) × (clip_of s.recording id ≡ None))
-    ⊎ (is_disk fault ≡ true) × ((s.must_reopen ≡ false) × (clip_of s.recording id ≢ None)))
+-- the checks of a call on what is recorded, in their order
+abbrev pub checks_on : Geometry → Recording → Call → List (Option StoreFault)
+checks_on g r (appended group result) =
+    due (r.next == last_number (ring_of g)) NumbersSpent
+    ∷ due (lacks_victim (ring_of g) r) AllLocked
+    ∷ []
+checks_on g r (locked span result) = span_checks r span
+checks_on g r (unlocked id result) = due (not (is_some (clip_of r id))) NoSuchClip ∷ []
+checks_on g r (was_read number result) = due (not (holds r number)) NotHeld ∷ []
+checks_on g r (was_read_part number at result) = due (not (holds r number)) NotHeld ∷ []
 
--- why a read is refused: it must be reopened, or otherwise the number isn't held, or otherwise memory was
--- refused or the disk failed
-abbrev pub RefusesRead : StoreState → ℕ → StoreFault → Type 0
-RefusesRead s number fault =
-    (fault ≡ MustReopen) × (s.must_reopen ≡ true)
-    ⊎ ((fault ≡ NotHeld) × ((s.must_reopen ≡ false) × (holds s.recording number ≡ false))
-    ⊎ ((fault ≡ NoMemory) ⊎ (is_disk fault ≡ true)) × ((s.must_reopen ≡ false) × (holds s.recording number ≡ true)))
-
--- why a read of a part is refused: it must be reopened, or otherwise the number isn't held, or otherwise the disk
--- failed
-abbrev pub RefusesPart : StoreState → ℕ → StoreFault → Type 0
-RefusesPart s number fault =
-    (fault ≡ MustReopen) × (s.must_reopen ≡ true)
-    ⊎ ((fault ≡ NotHeld) × ((s.must_reopen ≡ false) × (holds s.recording number ≡ false))
-    ⊎ (is_disk fault ≡ true) × ((s.must_reopen ≡ false) × (holds s.recording number ≡ true)))
+-- the checks of a call, in their order
+abbrev pub checks : Geometry → StoreState → Call → List (Option StoreFault)
+checks g s call = due s.must_reopen MustReopen ∷ checks_on g s.recording call
 
 -- the frame of a number, with this head and these bytes
 pub record IsHeldFrame (r : Recording) (number : ℕ) (h : FrameHead) (bytes : List ℕ) : Type 0 where
@@ -152,20 +149,27 @@ pub record IsPart (r : Recording) (number at : ℕ) (bytes : List ℕ) : Type 0 
   pub there : frame_under r.frames number ≡ Some picture
   pub bytes_are : bytes ≡ piece at (length bytes) picture.bytes
 
+-- what a call answers where no check is due: the disk failed, a read lacks memory, or it is done
+abbrev pub IsGiven : Recording → Call → Type 0
+IsGiven r (appended group (Ok number)) = number ≡ r.next
+IsGiven r (locked span (Ok id)) = id ≡ free_id r
+IsGiven r (unlocked id (Ok x)) = Unit {0}
+IsGiven r (was_read number (Ok x)) = IsHeldFrame r number x.0 x.1
+IsGiven r (was_read_part number at (Ok bytes)) = IsPart r number at bytes
+IsGiven r (was_read number (Err fault)) = (fault ≡ NoMemory) ⊎ (is_disk fault ≡ true)
+IsGiven r (appended group (Err fault)) = is_disk fault ≡ true
+IsGiven r (locked span (Err fault)) = is_disk fault ≡ true
+IsGiven r (unlocked id (Err fault)) = is_disk fault ≡ true
+IsGiven r (was_read_part number at (Err fault)) = is_disk fault ≡ true
+
+-- the answer is the refusal that is due, and where none is, one of these
+abbrev pub AnswersDue : Option StoreFault → Call → Type 0 → Type 0
+AnswersDue (Some fault) call Given = fault_of call ≡ Some fault
+AnswersDue None call Given = Given
+
 -- a call was answered so
 abbrev pub IsAnswered : Geometry → StoreState → Call → Type 0
-IsAnswered g s (appended group (Ok number)) =
-    (s.must_reopen ≡ false) × ((steps (ring_of g) s.recording group ≢ None) × (number ≡ s.recording.next))
-IsAnswered g s (appended group (Err fault)) = RefusesAppend g s group fault
-IsAnswered g s (locked span (Ok id)) =
-    (s.must_reopen ≡ false) × (CanLock g s.recording span × (id ≡ free_id s.recording))
-IsAnswered g s (locked span (Err fault)) = RefusesLock g s span fault
-IsAnswered g s (unlocked id (Ok x)) = (s.must_reopen ≡ false) × (clip_of s.recording id ≢ None)
-IsAnswered g s (unlocked id (Err fault)) = RefusesUnlock s id fault
-IsAnswered g s (was_read number (Ok x)) = (s.must_reopen ≡ false) × IsHeldFrame s.recording number x.0 x.1
-IsAnswered g s (was_read number (Err fault)) = RefusesRead s number fault
-IsAnswered g s (was_read_part number at (Ok bytes)) = (s.must_reopen ≡ false) × IsPart s.recording number at bytes
-IsAnswered g s (was_read_part number at (Err fault)) = RefusesPart s number fault
+IsAnswered g s call = AnswersDue (first_of (checks g s call)) call (IsGiven s.recording call)
 
 -- ---- lists of calls
 
@@ -187,57 +191,56 @@ begun_in g s calls = told_in (after g) (begun g) s calls
 
 -- ---- what is known of every disk, honest or not
 
--- the number that comes next, and whether a call that writes has failed
+-- the number that comes next, the clip of each id, and whether a call that writes has failed
 pub record Progress : Type 0 where
   pub next : ℕ
+  pub clips : List (Option Span)
   pub must_reopen : Bool
 
 -- how many frames were stored
 abbrev pub count_stored : Call → ℕ
 count_stored (appended group (Ok number)) = length group
-count_stored (appended group (Err fault)) = 0
 count_stored _ = 0
 
-abbrev pub progress_after : Progress → Call → Progress
-progress_after o call = record { next = o.next + count_stored call; must_reopen = o.must_reopen || has_failed call }
+-- the clips after a call
+abbrev pub clips_after : List (Option Span) → Call → List (Option Span)
+clips_after clips (locked span (Ok id)) = slice_set clips id (Some span)
+clips_after clips (unlocked id (Ok x)) = slice_set clips id None
+clips_after clips _ = clips
 
--- why a span may be refused, whatever is held
-abbrev pub CanRefuseSpan : Span → StoreFault → Type 0
-CanRefuseSpan span fault =
-    (fault ≡ ClipEmpty) × (span.to < span.from)
-    ⊎ (((n : ℕ) × ((fault ≡ ClipNotHeld n) × ((span.from ≤ n) × (n ≤ span.to))))
-    ⊎ (fault ≡ ClipTableFull) × (span.from ≤ span.to))
+abbrev pub progress_after : Progress → Call → Progress
+progress_after o call = record {
+  next = o.next + count_stored call;
+  clips = clips_after o.clips call;
+  must_reopen = o.must_reopen || has_failed call;
+}
+
+-- the checks that need no more, in their order
+abbrev pub known_checks : Geometry → Progress → Call → List (Option StoreFault)
+known_checks g o (appended group result) =
+    due o.must_reopen MustReopen ∷ due (o.next == last_number (ring_of g)) NumbersSpent ∷ []
+known_checks g o (locked span result) = due o.must_reopen MustReopen ∷ due (nat_lt span.to span.from) ClipEmpty ∷ []
+known_checks g o (unlocked id result) =
+    due o.must_reopen MustReopen ∷ due (not (is_some (slice_index_or o.clips id None))) NoSuchClip ∷ []
+known_checks g o call = due o.must_reopen MustReopen ∷ []
+
+-- what a call may answer where none of these is due
+abbrev pub MayGive : Progress → Call → Type 0
+MayGive o (appended group (Ok number)) = number ≡ o.next
+MayGive o (locked span (Ok id)) = (id < 64) × (id ≡ first_free o.clips)
+MayGive o (unlocked id (Ok x)) = Unit {0}
+MayGive o (was_read number (Ok x)) = Unit {0}
+MayGive o (was_read_part number at (Ok bytes)) = Unit {0}
+MayGive o (appended group (Err fault)) = (fault ≡ AllLocked) ⊎ (is_disk fault ≡ true)
+MayGive o (locked span (Err fault)) =
+    ((n : ℕ) × ((fault ≡ ClipNotHeld n) × ((span.from ≤ n) × (n ≤ span.to))))
+    ⊎ ((fault ≡ ClipTableFull) × (first_free o.clips ≡ 64) ⊎ (is_disk fault ≡ true))
+MayGive o (unlocked id (Err fault)) = is_disk fault ≡ true
+MayGive o (was_read number (Err fault)) =
+    (fault ≡ NotHeld) ⊎ ((fault ≡ NoMemory) ⊎ ((fault ≡ Damaged SlotHead) ⊎ (is_disk fault ≡ true)))
+MayGive o (was_read_part number at (Err fault)) =
+    (fault ≡ NotHeld) ⊎ ((fault ≡ Damaged SlotHead) ⊎ (is_disk fault ≡ true))
 
 -- the answer is one of those that the call may give there
 abbrev pub IsAllowed : Geometry → Progress → Call → Type 0
-IsAllowed g o (appended group (Ok number)) =
-    (o.must_reopen ≡ false) × ((o.next ≢ last_number (ring_of g)) × (number ≡ o.next))
-IsAllowed g o (appended group (Err fault)) =
-    (fault ≡ MustReopen) × (o.must_reopen ≡ true)
-    ⊎ ((fault ≡ NumbersSpent) × ((o.must_reopen ≡ false) × (o.next ≡ last_number (ring_of g)))
-    ⊎ ((fault ≡ AllLocked) ⊎ (is_disk fault ≡ true)) × ((o.must_reopen ≡ false) × (o.next ≢ last_number (ring_of g))))
-IsAllowed g o (locked span (Ok id)) = (o.must_reopen ≡ false) × (span.from ≤ span.to)
-IsAllowed g o (locked span (Err fault)) =
-    (fault ≡ MustReopen) × (o.must_reopen ≡ true)
-    ⊎ (o.must_reopen ≡ false) × (CanRefuseSpan span fault ⊎ (is_disk fault ≡ true) × (span.from ≤ span.to))
-IsAllowed g o (unlocked id (Ok x)) = o.must_reopen ≡ false
-IsAllowed g o (unlocked id (Err fault)) =
-    (fault ≡ MustReopen) × (o.must_reopen ≡ true)
-    ⊎ ((fault ≡ NoSuchClip) ⊎ (is_disk fault ≡ true)) × (o.must_reopen ≡ false)
-IsAllowed g o (was_read number (Ok x)) = o.must_reopen ≡ false
-IsAllowed g o (was_read number (Err fault)) =
-    (fault ≡ MustReopen) × (o.must_reopen ≡ true)
-    ⊎ ((fault ≡ NotHeld) ⊎ ((fault ≡ NoMemory) ⊎ ((fault ≡ Damaged SlotHead) ⊎ (is_disk fault ≡ true))))
-    × (o.must_reopen ≡ false)
-IsAllowed g o (was_read_part number at (Ok bytes)) = o.must_reopen ≡ false
-IsAllowed g o (was_read_part number at (Err fault)) =
-    (fault ≡ MustReopen) × (o.must_reopen ≡ true)
-    ⊎ ((fault ≡ NotHeld) ⊎ ((fault ≡ Damaged SlotHead) ⊎ (is_disk fault ≡ true))) × (o.must_reopen ≡ false)
-
--- the call of the disk that failed, if the answer says that one did
-abbrev pub failed_for : Call → Option DiskFault
-failed_for (appended group result) = failed_in result
-failed_for (locked span result) = failed_in result
-failed_for (unlocked id result) = failed_in result
-failed_for (was_read number result) = failed_in result
-failed_for (was_read_part number at result) = failed_in result
+IsAllowed g o call = AnswersDue (first_of (known_checks g o call)) call (MayGive o call)

@@ -1,5 +1,5 @@
 -- Refusals: their numbers, and what each says of the disk.
-use Rattle.std.specs.Prelude.{ℕ, Bool, true, false, Option, None, Some, Result, Ok, Err, List, codes}
+use Rattle.std.specs.Prelude.{ℕ, Bool, true, false, not, ◌&&◌, Option, None, Some, Result, Ok, Err, List, codes}
 use Rattle.loop_disk.specs.declared.fault.DiskFault.{DiskFault}
 use Rattle.loop_ring.specs.declared.fault.SlotFault.{SlotFault}
 use Rattle.loop_ring.specs.declared.fault.SlotFault.TheVariants as slot
@@ -51,20 +51,41 @@ abbrev pub is_disk : StoreFault → Bool
 is_disk (Disk fault) = true
 is_disk _ = false
 
--- the answer is that a call of the disk has failed
+-- the refusal in an answer
+abbrev pub fault_in : {T : Type 0} → Result T StoreFault → Option StoreFault
+fault_in (Ok x) = None
+fault_in (Err fault) = Some fault
+
+-- it is that a call of the disk has failed
+abbrev pub disk_failed : Option StoreFault → Bool
+disk_failed None = false
+disk_failed (Some fault) = is_disk fault
+
 abbrev pub answers_disk : {T : Type 0} → Result T StoreFault → Bool
-answers_disk (Ok x) = false
-answers_disk (Err fault) = is_disk fault
+answers_disk result = disk_failed (fault_in result)
 
 -- the call of the disk that failed, if a refusal says that one did
 abbrev pub failed_by : StoreFault → Option DiskFault
 failed_by (Disk fault) = Some fault
 failed_by _ = None
 
+abbrev pub failed_with : Option StoreFault → Option DiskFault
+failed_with None = None
+failed_with (Some fault) = failed_by fault
+
 -- and if an answer does
 abbrev pub failed_in : {T : Type 0} → Result T StoreFault → Option DiskFault
-failed_in (Ok x) = None
-failed_in (Err fault) = failed_by fault
+failed_in result = failed_with (fault_in result)
+
+-- the disk isn't honest
+abbrev pub is_damage : StoreFault → Bool
+is_damage (Damaged damage) = true
+is_damage _ = false
+
+-- it came before the disk was called
+abbrev pub is_early : Option StoreFault → Bool
+is_early None = false
+is_early (Some fault) = not (is_disk fault) && not (is_damage fault)
 
 -- the refusal of a slot as a store's
 abbrev pub slot_refusal : SlotFault → StoreFault

@@ -1,11 +1,12 @@
 -- What calls, one after the other, make of a store and leave on its disk.
 use Rattle.std.specs.Prelude.{◌≡◌, ◌↔◌, true, false, Option, List, [], ◌∷◌, map}
+use Rattle.std.specs.List.{list_all}
 use Rattle.loop_disk.specs.declared.fault.DiskFault.{DiskFault}
 use Rattle.loop_disk.specs.declared.fault.Failures.{Failures}
-use Rattle.loop_disk.specs.Calls.{with_failed}
+use Rattle.loop_disk.specs.Calls.{Stays, with_failed}
 use Rattle.loop_disk.specs.Medium.{Medium}
 use Rattle.loop_record.specs.Turns.{after_all, EachIn}
-use Rattle.loop_store.specs.Calls.{AreAnswered, Call, IsAllowed, Progress, StoreState, after_calls, begun_in, failed_for, made_in, progress_after}
+use Rattle.loop_store.specs.Calls.{AreAnswered, Call, IsAllowed, Progress, StoreState, after_calls, begun_in, failed_for, is_look, made_in, progress_after, was_refused}
 use Rattle.loop_store.specs.Seen.{Seen, StandsFor}
 use Rattle.loop_store.specs.Steps.{LeavesSteps}
 
@@ -27,7 +28,7 @@ pub record Stands {D : Type 0} (medium : D → Medium) (store : Seen D) (s : Sto
 
 -- what is known of every disk
 abbrev pub progress_of : {D : Type 0} → Seen D → Progress
-progress_of store = record { next = store.next; must_reopen = store.must_reopen }
+progress_of store = record { next = store.next; clips = store.clips; must_reopen = store.must_reopen }
 
 -- The first three are said of each state that the store stood for, where its disk is honest; the others of every disk.
 pub record Goes {D : Type 0} (medium : D → Medium) (old new : Seen D) (calls : List Call) : Type 0 where
@@ -41,8 +42,10 @@ pub record Goes {D : Type 0} (medium : D → Medium) (old new : Seen D) (calls :
   pub leaves : (s : StoreState) → Stands medium old s → (medium old.disk).honest → s.must_reopen ≡ false
       → LeavesSteps old.geometry s.recording (made_in old.geometry s calls) (begun_in old.geometry s calls)
       (medium old.disk) (medium new.disk)
-  -- where the store must be reopened, nothing is moved
-  pub idle : old.must_reopen ≡ true → new ≡ old
+  -- calls that write nothing leave the disk as it was, and what it may leave
+  pub looks : list_all is_look calls ≡ true → (medium old.disk).honest → Stays (medium old.disk) (medium new.disk)
+  -- where each was refused before the disk was called, or there is none, nothing is moved
+  pub unmoved : list_all was_refused calls ≡ true → new ≡ old
   pub allowed : EachIn progress_after (IsAllowed old.geometry) (progress_of old) calls
   pub progress : progress_of new ≡ after_all progress_after (progress_of old) calls
   pub geometry : new.geometry ≡ old.geometry

@@ -1,10 +1,10 @@
 -- The steps of a call, and what it may leave of them.
-use Rattle.std.specs.Prelude.{Option, Some, None, Result, Ok, Err, List, [], ◌++◌, length, if◌then◌else◌}
+use Rattle.std.specs.Prelude.{Option, Some, None, List, [], ◌++◌, length, if◌then◌else◌}
 use Rattle.loop_disk.specs.Medium.{Medium, LeavesOnly}
 use Rattle.loop_record.specs.declared.geometry.Geometry.{Geometry}
 use Rattle.loop_record.specs.Recording.{Recording, Step}
 use Rattle.loop_store.specs.declared.fault.StoreFault.{StoreFault}
-use Rattle.loop_store.specs.Faults.{answers_disk}
+use Rattle.loop_store.specs.Faults.{disk_failed}
 use Rattle.loop_store.specs.Held.{EachNow, HoldsFrom, HoldsSome}
 
 -- the steps of an append, or none
@@ -12,14 +12,14 @@ abbrev pub steps_or_none : Option (List Step) → List Step
 steps_or_none None = []
 steps_or_none (Some steps) = steps
 
--- steps that were asked for, where they were answered
-abbrev pub if_answered : {T : Type 0} → Result T StoreFault → List Step → List Step
-if_answered (Ok x) asked = asked
-if_answered (Err fault) asked = []
+-- steps that were asked for, where nothing was refused
+abbrev pub if_answered : Option StoreFault → List Step → List Step
+if_answered None asked = asked
+if_answered (Some fault) asked = []
 
 -- steps that were asked for, where the disk failed
-abbrev pub if_failed : {T : Type 0} → Result T StoreFault → List Step → List Step
-if_failed result asked = if answers_disk result then asked else []
+abbrev pub if_failed : Option StoreFault → List Step → List Step
+if_failed fault asked = if disk_failed fault then asked else []
 
 -- Some steps were made, and others begun behind them. Each image of the moments since then reads as the
 -- recording after a beginning of all these steps, and each that a crash now may leave as the recording after

@@ -4,10 +4,10 @@ ghost use Rattle.std.specs.Prelude.{◌≡◌, ◌≢◌, ◌<◌, ◌≤◌, �
 ghost use Rattle.loop_disk.specs.Medium.{IsSettled};
 ghost use Rattle.loop_record.specs.Geometry.{disk_size};
 ghost use Rattle.loop_record.specs.Recording.{Recording, clip_of, first_free, holds, lock, ring_of, unlock};
-ghost use Rattle.loop_store.specs.Calls.{CanRefuseSpan, locked, unlocked};
+ghost use Rattle.loop_store.specs.Calls.{locked, missing, unlocked};
 ghost use Rattle.loop_store.specs.Goes.{Goes};
 ghost use Rattle.loop_store.specs.Held.{Makes};
-ghost use Rattle.loop_store.specs.Locks.{AnswersSpan, AreHeld, EndsRun, IsInSpan, IsMissing, KeepsSegments, CanTake};
+ghost use Rattle.loop_store.specs.Locks.{AnswersSpan, AreHeld, CanRefuseSpan, CanTake, EndsRun, IsInSpan, KeepsSegments};
 ghost use Rattle.loop_store.specs.Recovered.{IsClipNoted, IsIndex, IsIndexOf};
 ghost use Rattle.loop_store.specs.Seen.{IsKept, IsPresent, Refused, seen_with};
 
@@ -46,7 +46,7 @@ fn first_missing<A: Allocator>(index: &Index<A>, span: Span) -> Option<u64>
     requires index { IsIndex index.now }
     requires some { span.from ≤ span.to }
     ensures within { IsInSpan span result }
-    ensures missing { (r : Recording) (image : List ℕ) → IsIndexOf index.now r image → IsMissing r span result }
+    ensures missing { (r : Recording) (image : List ℕ) → IsIndexOf index.now r image → result ≡ missing r span }
 {
     let mut next = span.from;
     while next <= span.to {
@@ -63,9 +63,8 @@ fn first_missing<A: Allocator>(index: &Index<A>, span: Span) -> Option<u64>
 fn id_for<A: Allocator>(index: &Index<A>, span: Span) -> Result<u32, StoreFault>
     requires { IsIndex index.now }
     ensures id { IfOk result (λ id. ((id < 64) × (id ≡ first_free index.now.clips)) × (span.from ≤ span.to)) }
-    ensures refusals { IfErr result (CanRefuseSpan span) }
-    ensures answers { (r : Recording) (image : List ℕ) → IsIndexOf index.now r image
-        → AnswersSpan index.now.ring.geometry r span result }
+    ensures refusals { IfErr result (CanRefuseSpan span index.now.clips) }
+    ensures answers { (r : Recording) (image : List ℕ) → IsIndexOf index.now r image → AnswersSpan r span result }
 {
     if span.to < span.from {
         return Err(StoreFault::ClipEmpty);

@@ -1,8 +1,8 @@
-use Rattle.std.proofs.Common.{◌≡◌, ◌⊎◌, inl, inr, ◌+◌, ◌-◌, ◌<◌, ◌≤◌, ℕ, true, arith}
+use Rattle.std.proofs.Common.{◌≡◌, ◌⊎◌, inl, inr, ◌+◌, ◌<◌, ◌≤◌, ℕ, true, arith}
 use Rattle.std.proofs.lemmas.Bool.{cases_lt}
 use Rattle.loop_record.specs.Recording.{Recording, holds}
-use Rattle.loop_record.proofs.Rising.{each-all_range}
 use Rattle.loop_store.specs.Locks.{AreHeld}
+use Rattle.loop_store.proofs.Missing.{missing-is, missing-none}
 use Rattle.loop_store.proofs.lock.first_missing.Goals as goal
 
 -- two runs, one behind the other
@@ -20,12 +20,8 @@ pub returns-then-end-next-clause-within : goal.returns-then-end-next-clause-with
 returns-then-end-next-clause-within g c = (c.loop-next.invariant.low, c.loop-next-test.true)
 
 pub returns-then-end-next-clause-missing : goal.returns-then-end-next-clause-missing
-returns-then-end-next-clause-missing g c = λ r image known. record {
-  from = c.loop-next.invariant.low;
-  to = c.loop-next-test.true;
-  missing = c.run_end-end.ensures.missing r image known c.if-end-next.true;
-  held = c.loop-next.invariant.held r image known;
-}
+returns-then-end-next-clause-missing g c = λ r image known.
+    missing-is r c.args.span c.loop-next.next c.loop-next.invariant.low c.loop-next-test.true (c.run_end-end.ensures.missing r image known c.if-end-next.true) (c.loop-next.invariant.held r image known)
 
 pub loop-next-preserved : goal.loop-next-preserved
 loop-next-preserved g c = record {
@@ -34,5 +30,5 @@ loop-next-preserved g c = record {
 }
 
 pub returns-clause-missing : goal.returns-clause-missing
-returns-clause-missing g c = λ r image known. each-all_range (holds r) c.args.span.from (c.args.span.to + 1 - c.args.span.from) (λ n low high.
-    c.loop-next.invariant.held r image known n low (omega (arith, high, c.requires.some, c.loop-next-test.false)))
+returns-clause-missing g c = λ r image known. missing-none r c.args.span c.requires.some (λ n low high.
+    c.loop-next.invariant.held r image known n low (omega (arith, high, c.loop-next-test.false)))

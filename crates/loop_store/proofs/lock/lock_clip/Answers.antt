@@ -1,14 +1,23 @@
-use Rattle.std.proofs.Common.{ℕ, Ok, Err, Some, set, inr, refl, sym, ap}
+use Rattle.std.proofs.Common.{◌≡◌, ◌<◌, ℕ, Ok, Err, None, Some, set, inr, refl, sym, ap, subst}
 use Rattle.std.proofs.lemmas.Result.{err_from_is_err_and}
-use Rattle.loop_record.specs.Recording.{lock}
+use Rattle.loop_record.specs.declared.clip.Span.{Span}
+use Rattle.loop_record.specs.declared.geometry.Geometry.{Geometry}
+use Rattle.loop_record.specs.Recording.{Recording, free_id, lock, ring_of}
 use Rattle.loop_record.proofs.Bounds.{limits}
 use Rattle.loop_store.specs.declared.fault.StoreFault.TheVariants.{Disk}
-use Rattle.loop_store.specs.Calls.{locked}
+use Rattle.loop_store.specs.Calls.{first_of, locked, span_checks}
+use Rattle.loop_store.specs.Goes.{progress_of}
 use Rattle.loop_store.specs.Locks.{CanTake}
 use Rattle.loop_store.specs.Seen.{seen_with}
-use Rattle.loop_store.proofs.Locked.{goes-noted, goes-unnoted, kept-noted, lock-refused}
+use Rattle.loop_store.proofs.Checked.{answer-given}
+use Rattle.loop_store.proofs.Locked.{goes-noted, goes-unnoted, kept-noted, lock-allowed, lock-refused}
 use Rattle.loop_store.proofs.Looks.{known-by}
+use Rattle.loop_store.proofs.Missing.{fits-legal}
 use Rattle.loop_store.proofs.lock.lock_clip.Goals as goal
+
+-- the recording takes a clip of the span under this id
+takes : (g : Geometry) (r : Recording) (span : Span) (id : ℕ) → id < 64 → (first_of (span_checks r span) ≡ None) × (id ≡ free_id r) → CanTake g span id r
+takes g r span id low said = record { fits = said.0; legal = fits-legal (ring_of g) r span said.0 (subst (λ (n : ℕ). n < 64) said.1 low); id_is = said.1 }
 
 pub returns-in_err-id-clause-goes : goal.returns-in_err-id-clause-goes
 returns-in_err-id-clause-goes g c =
@@ -28,7 +37,7 @@ returns-in-Ok-clause-kept g c =
     let makes = c.in-Ok.ensures.makes in
     let noted = c.in-Ok.ensures.noted in (
       kept-noted medium c.args.disk.now c.add_clip.new.disk i c.add_clip.new.index id (Some span) (CanTake h span id) (lock span) c.args.must_reopen.now c.requires c.if-must_reopen.false
-          (λ r honest known. let said = c.in_ok-id.ensures.answers r (medium c.args.disk.now).bytes known in record { legal = said.0; id_is = said.1 })
+          (λ r honest known. takes h r span id c.in_ok-id.ensures.id.0.0 (c.in_ok-id.ensures.answers r (medium c.args.disk.now).bytes known))
           (record {
             noted = noted;
             called = makes.called;
@@ -60,8 +69,9 @@ returns-in-Ok-clause-goes g c =
       clips = λ r one. ap (λ (k : ℕ). set r.clips k (Some span)) (sym one.id_is);
     })
     makes.moments
-    (λ r honest known. let said = c.in_ok-id.ensures.answers r (medium c.args.disk.now).bytes known in record { legal = said.0; id_is = said.1 })
-    (record { stored = refl; answers = λ s still one. (still, (one.legal, one.id_is)) }) refl refl (λ s. refl) (λ s. refl) (c.if-must_reopen.false, c.in_ok-id.ensures.id.1)
+    (λ r honest known. takes h r span id c.in_ok-id.ensures.id.0.0 (c.in_ok-id.ensures.answers r (medium c.args.disk.now).bytes known))
+    (record { writes = refl; late = refl; stored = refl; answers = λ s still one. answer-given h s (locked span (Ok id)) still one.fits one.id_is }) refl refl refl (λ s. refl) (λ s. refl)
+    (lock-allowed h (progress_of (seen_with c.args.disk.now i c.args.must_reopen.now)) span (Ok id) c.if-must_reopen.false c.in_ok-id.ensures.id.1 c.in_ok-id.ensures.id.0)
 
 pub returns-in-Err-clause-goes : goal.returns-in-Err-clause-goes
 returns-in-Err-clause-goes g c =
@@ -73,5 +83,6 @@ returns-in-Err-clause-goes g c =
     let makes = c.in-Err.ensures.makes in
     goes-unnoted medium c.args.disk.now c.add_clip.new.disk i c.add_clip.new.index c.args.must_reopen.now (CanTake h span id) (lock span) (locked span (Err (Disk c.in-Err.fault))) c.in-Err.fault c.requires c.if-must_reopen.false c.in-Err.ensures.same
     (λ honest. g.met.D.Disk.sound c.add_clip.new.disk honest) makes.called makes.moments
-    (λ r honest known. let said = c.in_ok-id.ensures.answers r (medium c.args.disk.now).bytes known in record { legal = said.0; id_is = said.1 })
-    (record { stored = refl; answers = λ s still one. inr (inr (refl, (still, one.legal))) }) refl refl (λ s. refl) (λ s. refl) (inr (c.if-must_reopen.false, inr (refl, c.in_ok-id.ensures.id.1)))
+    (λ r honest known. takes h r span id c.in_ok-id.ensures.id.0.0 (c.in_ok-id.ensures.answers r (medium c.args.disk.now).bytes known))
+    (record { writes = refl; late = refl; stored = refl; answers = λ s still one. answer-given h s (locked span (Err (Disk c.in-Err.fault))) still one.fits refl }) (λ cs. refl) refl refl (λ s. refl) (λ s. refl)
+    (lock-allowed h (progress_of (seen_with c.args.disk.now i c.args.must_reopen.now)) span (Err (Disk c.in-Err.fault)) c.if-must_reopen.false c.in_ok-id.ensures.id.1 (inr (inr refl)))

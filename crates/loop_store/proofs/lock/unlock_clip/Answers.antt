@@ -4,8 +4,9 @@ use Rattle.loop_record.specs.Recording.{clip_of, unlock}
 use Rattle.loop_record.proofs.Bounds.{limits}
 use Rattle.loop_store.specs.declared.fault.StoreFault.TheVariants.{Disk}
 use Rattle.loop_store.specs.Calls.{unlocked}
+use Rattle.loop_store.specs.Goes.{progress_of}
 use Rattle.loop_store.specs.Seen.{seen_with}
-use Rattle.loop_store.proofs.Locked.{clip-known, goes-noted, goes-unnoted, kept-noted, unlock-refused}
+use Rattle.loop_store.proofs.Locked.{clip-known, goes-noted, goes-unnoted, kept-noted, unlock-allowed, unlock-answered, unlock-refused}
 use Rattle.loop_store.proofs.Looks.{known-by}
 use Rattle.loop_store.proofs.lock.unlock_clip.Goals as goal
 
@@ -17,7 +18,7 @@ pub returns-in_default-clause-goes : goal.returns-in_default-clause-goes
 returns-in_default-clause-goes g c =
     let i = c.args.index.now in
     let medium = g.D.Disk.medium in
-    unlock-refused medium (seen_with c.args.disk.now i c.args.must_reopen.now) c.args.id (λ honest. g.met.D.Disk.sound c.args.disk.now honest) c.if-must_reopen.false
+    unlock-refused medium (seen_with c.args.disk.now i c.args.must_reopen.now) c.args.id (λ honest. g.met.D.Disk.sound c.args.disk.now honest) c.if-must_reopen.false (sym c.in_default.ensures.clip)
     (λ r stands honest. clip-known i r (medium c.args.disk.now).bytes c.args.id (known-by medium c.args.disk.now i c.args.must_reopen.now r c.requires stands c.if-must_reopen.false honest) ∙ sym c.in_default.ensures.clip)
 
 pub remove_clip-requires-clause-id : goal.remove_clip-requires-clause-id
@@ -62,7 +63,8 @@ returns-in-Ok-clause-goes g c =
       clips = λ r one. refl;
     }) makes.moments
     (λ r honest known. some _ c.in-Some.field-0 (clip-known i r (medium c.args.disk.now).bytes id known ∙ sym c.in-Some.ensures.clip))
-    (record { stored = refl; answers = λ s still one. (still, one) }) refl refl (λ s. refl) (λ s. refl) c.if-must_reopen.false
+    (record { writes = refl; late = refl; stored = refl; answers = λ s still one. unlock-answered i.ring.geometry s id (Ok tt) still one tt }) refl refl refl (λ s. refl) (λ s. refl)
+    (unlock-allowed i.ring.geometry (progress_of (seen_with c.args.disk.now i c.args.must_reopen.now)) id (Ok tt) c.if-must_reopen.false (some _ c.in-Some.field-0 (sym c.in-Some.ensures.clip)) tt)
 
 pub returns-in-Err-clause-goes : goal.returns-in-Err-clause-goes
 returns-in-Err-clause-goes g c =
@@ -73,4 +75,5 @@ returns-in-Err-clause-goes g c =
     goes-unnoted medium c.args.disk.now c.remove_clip.new.disk i c.remove_clip.new.index c.args.must_reopen.now (λ r. clip_of r id ≢ None) (unlock id) (unlocked id (Err (Disk c.in-Err.fault))) c.in-Err.fault c.requires c.if-must_reopen.false c.in-Err.ensures.same
     (λ honest. g.met.D.Disk.sound c.remove_clip.new.disk honest) makes.called makes.moments
     (λ r honest known. some _ c.in-Some.field-0 (clip-known i r (medium c.args.disk.now).bytes id known ∙ sym c.in-Some.ensures.clip))
-    (record { stored = refl; answers = λ s still one. inr (inr (refl, (still, one))) }) refl refl (λ s. refl) (λ s. refl) (inr (inr refl, c.if-must_reopen.false))
+    (record { writes = refl; late = refl; stored = refl; answers = λ s still one. unlock-answered i.ring.geometry s id (Err (Disk c.in-Err.fault)) still one refl }) (λ cs. refl) refl refl (λ s. refl) (λ s. refl)
+    (unlock-allowed i.ring.geometry (progress_of (seen_with c.args.disk.now i c.args.must_reopen.now)) id (Err (Disk c.in-Err.fault)) c.if-must_reopen.false (some _ c.in-Some.field-0 (sym c.in-Some.ensures.clip)) refl)

@@ -11,7 +11,7 @@ use Rattle.loop_store.specs.declared.place.Place.{Place}
 use Rattle.loop_store.specs.Held.{HoldsSome}
 use Rattle.loop_store.specs.Places.{IsKnown, place_segment}
 use Rattle.loop_store.specs.Seen.{seen_with}
-use Rattle.loop_store.proofs.Appended.{Grew, kept-grown, noted-at, place-known, place-some, stands-grown, steps-are, steps-some}
+use Rattle.loop_store.proofs.Appended.{Grew, kept-grown, noted-at, place-known, place-some, stands-grown, steps-are}
 use Rattle.loop_store.proofs.Looks.{known-by}
 use Rattle.loop_store.proofs.Putting.{place-refused, put-failed, put-stored}
 use Rattle.loop_store.proofs.put.put.Goals as goal
@@ -99,10 +99,11 @@ returns-in-Ok-clause-goes g c =
       next = noted.next ∙ ap (λ (k : ℕ). i.next + k) c.len.ensures.count;
       geometry = ap (λ (x : Ring). x.geometry) noted.ring;
       called = c.in-Ok.ensures.called;
-      some = λ r stands honest.
+      clips = noted.clips;
+      place = λ r stands honest.
           let known = known-by medium c.args.disk.now i must r c.requires.kept stands fine honest in
           let at = c.in_ok-place.ensures.answers r (medium c.args.disk.now).bytes known in
-          steps-some h r ps at.0 (place-some h r (medium c.args.disk.now).bytes c.in_ok-place.place at.1);
+          record { unspent = at.0; some = place-some h r (medium c.args.disk.now).bytes c.in_ok-place.place at.1 };
       moments = λ r stands honest.
           let known = known-by medium c.args.disk.now i must r c.requires.kept stands fine honest in
           let at = c.in_ok-place.ensures.answers r (medium c.args.disk.now).bytes known in
@@ -127,10 +128,10 @@ returns-in-Err-clause-goes g c =
       has_failed = refl;
       called = c.in-Err.ensures.called;
       sound = λ now. g.met.D.Disk.sound c.append_group.new.disk now;
-      some = λ r stands honest.
+      place = λ r stands honest.
           let known = known-by medium c.args.disk.now i must r c.requires.kept stands c.if-must_reopen.false honest in
           let at = c.in_ok-place.ensures.answers r (medium c.args.disk.now).bytes known in
-          steps-some h r ps at.0 (place-some h r (medium c.args.disk.now).bytes c.in_ok-place.place at.1);
+          record { unspent = at.0; some = place-some h r (medium c.args.disk.now).bytes c.in_ok-place.place at.1 };
       moments = λ r stands honest.
           let known = known-by medium c.args.disk.now i must r c.requires.kept stands c.if-must_reopen.false honest in
           let at = c.in_ok-place.ensures.answers r (medium c.args.disk.now).bytes known in

@@ -7,7 +7,7 @@ use Rattle.loop_store.specs.Calls.{read_with, was_read}
 use Rattle.loop_store.specs.Goes.{Goes, progress_of}
 use Rattle.loop_store.specs.Seen.{Seen, seen_with}
 use Rattle.loop_store.proofs.Looks.{known-by, looked-kept}
-use Rattle.loop_store.proofs.Reading.{goes-looked, goes-unread, look-read, read-allowed, read-answered, read-failed}
+use Rattle.loop_store.proofs.Reading.{goes-looked, goes-unread, look-read, read-allowed, read-answered, read-failed, read-late, read-missing, unread-allowed}
 use Rattle.loop_store.proofs.store.Store.read.Goals as goal
 
 pub invariant_of-self : goal.invariant_of-self
@@ -29,7 +29,7 @@ returns-in-Some-clause-goes g c =
       allowed = read-allowed s.index.ring.geometry (progress_of old) c.args.number c.read_held.result c.read_held.new.out c.if-self.false c.read_held.ensures.refusals;
       stays = c.read_held.ensures.stays;
       called = read-failed c.read_held.result c.read_held.new.out _ _ c.read_held.ensures.called;
-      idle = λ must. absurd (clash s.must_reopen must c.if-self.false);
+      unmoved = λ early. absurd (clash _ early (read-late c.args.number c.read_held.result c.read_held.new.out c.read_held.ensures.refusals));
     }))
 
 pub returns-in-None-clause-goes : goal.returns-in-None-clause-goes
@@ -40,5 +40,5 @@ returns-in-None-clause-goes g c =
     (goes-unread medium (seen_with s.disk s.index s.must_reopen) (was_read c.args.number (Err NotHeld)) (look-read c.args.number (Err NotHeld)) (λ honest. g.met.D.Disk.sound s.disk honest) refl
     (λ t stands honest.
     let known = known-by medium s.disk s.index s.must_reopen t.recording c.self.invariant.0 stands.recording c.if-self.false honest in
-    inr (inl (refl, (sym stands.must_reopen ∙ c.if-self.false, c.in-None.ensures.missing t.recording (medium s.disk).bytes known))))
-    (inr (inl refl, c.if-self.false)))
+    read-missing s.index.ring.geometry t c.args.number (sym stands.must_reopen ∙ c.if-self.false) (c.in-None.ensures.missing t.recording (medium s.disk).bytes known))
+    (unread-allowed s.index.ring.geometry (progress_of (seen_with s.disk s.index s.must_reopen)) c.args.number NotHeld c.if-self.false (inl refl)))

@@ -7,7 +7,7 @@ use Rattle.loop_store.specs.Calls.{part_with, was_read_part}
 use Rattle.loop_store.specs.Goes.{Goes, progress_of}
 use Rattle.loop_store.specs.Seen.{Seen, seen_with}
 use Rattle.loop_store.proofs.Looks.{known-by, looked-kept}
-use Rattle.loop_store.proofs.Reading.{goes-looked, goes-unread, look-part, part-allowed, part-answered, part-failed}
+use Rattle.loop_store.proofs.Reading.{goes-looked, goes-unread, look-part, part-allowed, part-answered, part-failed, part-late, part-missing, part-unallowed}
 use Rattle.loop_store.proofs.store.Store.read_part.Goals as goal
 
 pub invariant_of-self : goal.invariant_of-self
@@ -29,7 +29,7 @@ returns-in-Some-clause-goes g c =
       allowed = part-allowed s.index.ring.geometry (progress_of old) c.args.number c.args.at c.read_held_part.result c.read_held_part.new.out c.if-self.false c.read_held_part.ensures.refusals;
       stays = c.read_held_part.ensures.stays;
       called = part-failed c.read_held_part.result c.read_held_part.new.out _ _ c.read_held_part.ensures.called;
-      idle = λ must. absurd (clash s.must_reopen must c.if-self.false);
+      unmoved = λ early. absurd (clash _ early (part-late c.args.number c.args.at c.read_held_part.result c.read_held_part.new.out c.read_held_part.ensures.refusals));
     }))
 
 pub returns-in-None-clause-goes : goal.returns-in-None-clause-goes
@@ -40,5 +40,5 @@ returns-in-None-clause-goes g c =
     (goes-unread medium (seen_with s.disk s.index s.must_reopen) (was_read_part c.args.number c.args.at (Err NotHeld)) (look-part c.args.number c.args.at (Err NotHeld)) (λ honest. g.met.D.Disk.sound s.disk honest) refl
     (λ t stands honest.
     let known = known-by medium s.disk s.index s.must_reopen t.recording c.self.invariant.0 stands.recording c.if-self.false honest in
-    inr (inl (refl, (sym stands.must_reopen ∙ c.if-self.false, c.in-None.ensures.missing t.recording (medium s.disk).bytes known))))
-    (inr (inl refl, c.if-self.false)))
+    part-missing s.index.ring.geometry t c.args.number c.args.at (sym stands.must_reopen ∙ c.if-self.false) (c.in-None.ensures.missing t.recording (medium s.disk).bytes known))
+    (part-unallowed s.index.ring.geometry (progress_of (seen_with s.disk s.index s.must_reopen)) c.args.number c.args.at c.if-self.false))
