@@ -198,18 +198,23 @@ kept-grown medium old new was now n j ps must kept fine noted some unspent room 
     size_is = size ∙ kept.fits.size_is ∙ ap disk_size (sym (ap (λ (x : LoopRing). x.geometry) noted.ring));
     whole = grown-index was now n j noted kept.fits.whole some unspent room;
   };
+  known = λ honest. ((medium new).bytes, recorded honest);
   present = λ f honest.
-      let back = grew.back honest in
-      let there = (kept.present fine back).recorded in
-      let g = was.ring.geometry in record {
-        recorded = record {
-          recording = plain (ring_of g) there.recording (steps_before g there.recording ++ map store ps);
-          known = grown-known medium old new was now n j ps there.recording noted grew back there.known;
-        };
+      let back = grew.back honest in record {
+        recorded = recorded honest;
         settled = grew.settled back;
         unstray = subst (λ (h : Geometry). HasNoneStray h (medium new).bytes) (sym (ap (λ (x : LoopRing). x.geometry) noted.ring)) (grew.grown back).unstray;
       };
 }
+  where
+    recorded : (medium new).honest → IsRecovered now (medium new).bytes
+    recorded honest =
+        let back = grew.back honest in
+        let there = (kept.present fine back).recorded in
+        let g = was.ring.geometry in record {
+          recording = plain (ring_of g) there.recording (steps_before g there.recording ++ map store ps);
+          known = grown-known medium old new was now n j ps there.recording noted grew back there.known;
+        }
 
 -- it stands for the recording with the steps of the append, which are all that it has
 pub stands-grown : {D A : Type 0} (medium : D → Medium) (old new : D) (was now : Index A) (n j : ℕ) (ps : List Picture) (must : Bool) (r : Recording) → (medium old).honest → IsIndexOf was r (medium old).bytes → IsNoted was now j n → IsIndex was → 1 ≤ was.ring.geometry.slots

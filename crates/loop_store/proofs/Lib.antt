@@ -20,6 +20,7 @@ pub mod RecoveredParts
 pub mod RecoveredWhole
 pub mod Leaves
 pub mod Checked
+pub mod Victim
 pub mod Missing
 pub mod Modelled
 pub mod Gone

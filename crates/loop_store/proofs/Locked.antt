@@ -36,7 +36,7 @@ use Rattle.loop_store.specs.Faults.{failed_by, is_disk, is_early}
 use Rattle.loop_store.specs.Goes.{Goes, progress_of}
 use Rattle.loop_store.specs.Held.{HasNoneStray, HoldsSome, Makes}
 use Rattle.loop_store.specs.Locks.{CanRefuseSpan, CanTake, EndsRun, KeepsSegments}
-use Rattle.loop_store.specs.Recovered.{IsClipNoted, IsHeadIn, IsIndex, IsIndexOf}
+use Rattle.loop_store.specs.Recovered.{IsClipNoted, IsHeadIn, IsIndex, IsIndexOf, IsRecovered}
 use Rattle.loop_store.specs.Seen.{IsKept, IsPresent, Seen, StandsFor, seen_with}
 use Rattle.loop_store.proofs.Grown.{held-some}
 use Rattle.loop_store.specs.Numbers.{is_among}
@@ -169,23 +169,28 @@ index-noted was now id clip noted whole =
 
 pub kept-noted : {D A : Type 0} (medium : D → Medium) (old new : D) (was now : Index A) (id : ℕ) (clip : Option Span) (IsOne : Recording → Type 0) (step : Step) (must : Bool) → IsKept medium old was must → must ≡ false
     → ((r : Recording) → (medium old).honest → IsIndexOf was r (medium old).bytes → IsOne r) → Noted medium old new was now id clip IsOne step → IsKept medium new now must
-kept-noted medium old new was now id clip IsOne step must kept fine one n =
+kept-noted {A = A} medium old new was now id clip IsOne step must kept fine one n =
     let same = geometry-same was now id clip n.noted in record {
       fits = record {
         size_is = n.called.size ∙ kept.fits.size_is ∙ ap disk_size (sym same);
         whole = index-noted was now id clip n.noted kept.fits.whole;
       };
+      known = λ honest. ((medium new).bytes, recorded honest);
       present = λ f honest.
-          let back = n.called.honest.1 honest in
-          let there = (kept.present fine back).recorded in record {
-            recorded = record {
-              recording = after (ring_of was.ring.geometry) there.recording step;
-              known = known-noted medium old new was now id clip IsOne step there.recording n (one there.recording back there.known) back there.known;
-            };
+          let back = n.called.honest.1 honest in record {
+            recorded = recorded honest;
             settled = n.settled back;
             unstray = subst (λ (h : Geometry). HasNoneStray h (medium new).bytes) (sym same) (n.segments back).unstray;
           };
     }
+  where
+    recorded : (medium new).honest → IsRecovered now (medium new).bytes
+    recorded honest =
+        let back = n.called.honest.1 honest in
+        let there = (kept.present fine back).recorded in record {
+          recording = after (ring_of was.ring.geometry) there.recording step;
+          known = known-noted medium old new was now id clip IsOne step there.recording n (one there.recording back there.known) back there.known;
+        }
 
 pub stands-noted : {D A : Type 0} (medium : D → Medium) (old new : D) (was now : Index A) (id : ℕ) (clip : Option Span) (IsOne : Recording → Type 0) (step : Step) (must : Bool) (r : Recording) → (medium old).honest → IsIndexOf was r (medium old).bytes → IsOne r → IsIndex was
     → 1 ≤ was.ring.geometry.slots → Noted medium old new was now id clip IsOne step → StandsFor medium (seen_with new now must) (plain (ring_of was.ring.geometry) r (step ∷ []))

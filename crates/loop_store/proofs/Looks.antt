@@ -1,5 +1,5 @@
 -- A call that only looks leaves the store as it was.
-use Rattle.std.proofs.Common.{◌≡◌, ℕ, ◌<◌, ◌≤◌, Bool, true, false, is_some, Option, None, List, get_or, length, sym, ap, ◌∙◌, subst}
+use Rattle.std.proofs.Common.{◌≡◌, ℕ, ◌<◌, ◌≤◌, Bool, true, false, is_some, Option, None, List, get_or, length, refl, sym, ap, ◌∙◌, subst}
 use Rattle.std.specs.List.{All, list_any}
 use Rattle.loop_disk.specs.Calls.{Stays}
 use Rattle.loop_disk.specs.Medium.{Medium, IsSettled}
@@ -7,6 +7,8 @@ use Rattle.loop_record.specs.declared.geometry.Geometry.{Geometry}
 use Rattle.loop_record.specs.declared.segment.SegmentHead.{SegmentHead}
 use Rattle.loop_record.specs.Reading.{Holds}
 use Rattle.loop_record.specs.Recording.{Picture, Recording, holds}
+use Rattle.loop_record.proofs.Decided.{clash}
+use Rattle.loop_record.proofs.Form.{reading-well_formed}
 use Rattle.loop_ring.specs.Heads.{has_number, heads_of}
 use Rattle.loop_ring.proofs.Held.{held-number}
 pub use Rattle.loop_ring.proofs.SlotReads.{stays_on}
@@ -34,12 +36,13 @@ pub looked-kept : {D A : Type 0} (medium : D → Medium) (old new : D) (index : 
     → ((medium old).honest → Stays (medium old) (medium new)) → IsKept medium new index must_reopen
 looked-kept medium old new index must_reopen kept size back stays = record {
   fits = subst (IsFitting index) (sym size) kept.fits;
+  known = λ now. kept.known (back now);
   present = λ fine now. looked-present index (medium old) (medium new) (stays (back now)) (kept.present fine (back now));
 }
 
 pub looked-stands : {D : Type 0} (medium : D → Medium) (old : Seen D) (disk : D) (r : Recording) → StandsFor medium old r → ((medium disk).honest → (medium old.disk).honest) → ((medium old.disk).honest → Stays (medium old.disk) (medium disk)) → StandsFor medium (record old { disk = disk }) r
 looked-stands medium old disk r stands back stays = record {
-  told = λ now. let told = stands.told (back now) in record { next_is = told.next_is; numbers_are = told.numbers_are; count_is = told.count_is; clips_are = told.clips_are };
+  told = λ now. let told = stands.told (back now) in record { formed = told.formed; next_is = told.next_is; numbers_are = told.numbers_are; count_is = told.count_is; clips_are = told.clips_are };
   settled = λ fine now. stays-settled (medium old.disk) (medium disk) (stays (back now)) (stands.settled fine (back now));
   held = λ fine now. subst (λ (image : List ℕ). Holds old.geometry r image) (sym (stays (back now)).bytes) (stands.held fine (back now));
 }
@@ -54,6 +57,7 @@ there-held g r image heads j n held same l has =
 pub told-by : {D A : Type 0} (disk : D) (index : Index A) (must_reopen : Bool) (r : Recording) (image : List ℕ) → 1 ≤ index.ring.geometry.slots → All (IsHeadIn index.ring.geometry) index.table.heads → IsIndexOf index r image
     → Tells (seen_with disk index must_reopen) r
 told-by disk index must_reopen r image some within known = record {
+  formed = reading-well_formed index.ring.geometry r image known.held;
   next_is = known.next_is;
   numbers_are = λ n. among-under index.ring.geometry n index.table.heads some within ∙ ap (list_any (has_number index.ring.geometry.slots n)) known.heads_are ∙ held-number index.ring.geometry r image n known.held;
   count_is = ap (λ (hs : List (Option SegmentHead)). length (numbers_under index.ring.geometry.slots hs)) known.heads_are ∙ count-held index.ring.geometry r image known.held;
@@ -67,3 +71,11 @@ known-by medium disk index must_reopen r kept stands fine now =
     let there = (kept.present fine now).recorded in
     let image = (medium disk).bytes in
     subst (λ (t : Recording). IsIndexOf index t image) (one-recording index.ring.geometry there.recording r image there.known.held (stands.held fine now)) there.known
+
+-- after a failed call the index is as it was
+pub failed-kept : {D A : Type 0} (medium : D → Medium) (old new : D) (was now : Index A) (must : Bool) → IsKept medium old was must → now ≡ was → (medium new).size ≡ (medium old).size → ((medium new).honest → (medium old).honest) → IsKept medium new now true
+failed-kept medium old new was now must kept same size back = record {
+  fits = subst (λ (i : Index _). IsFitting i (medium new).size) (sym same) (subst (IsFitting was) (sym size) kept.fits);
+  known = λ honest. let k = kept.known (back honest) in (k.0, subst (λ (i : Index _). IsRecovered i k.0) (sym same) k.1);
+  present = λ fine honest. absurd (clash true refl fine);
+}

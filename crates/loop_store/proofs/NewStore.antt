@@ -11,6 +11,7 @@ use Rattle.loop_record.specs.Layout.{header_at, open_gates}
 use Rattle.loop_record.specs.Reading.{Holds, IsFreshImage}
 use Rattle.loop_record.specs.Recording.{empty, ring_of}
 use Rattle.loop_record.proofs.Fresh.{reading-fresh}
+use Rattle.loop_record.proofs.WellFormed.{empty-well_formed}
 use Rattle.loop_ring.specs.Heads.{clip_counts, heads_of}
 use Rattle.loop_ring.proofs.Bytes.{closed_none}
 use Rattle.loop_ring.proofs.Counted.{counts-closed}
@@ -60,6 +61,7 @@ fresh-kept medium g disk index new good size settled fresh = record {
       counted = new.counts ∙ counts-closed (ring_of index.ring.geometry) index.clips g.segments ∙ ap (clip_counts (ring_of index.ring.geometry) index.clips) (sym new.closed);
     };
   };
+  known = λ now. ((medium disk).bytes, record { recording = empty; known = fresh-known index g (medium disk).bytes new good (fresh now) });
   present = λ fine now. record {
     recorded = record { recording = empty; known = fresh-known index g (medium disk).bytes new good (fresh now) };
     settled = settled now;
@@ -75,6 +77,7 @@ none-under slots (suc count) = none-under slots count
 -- what its store tells
 pub fresh-tells : {D A : Type 0} (g : Geometry) (disk : D) (index : Index A) → IsNew index g → Tells (seen_with disk index false) empty
 fresh-tells g disk index new = record {
+  formed = empty-well_formed;
   next_is = new.next;
   numbers_are = λ n. ap (λ (ns : List ℕ). is_among ns n) (ap (numbers_under index.ring.geometry.slots) new.closed ∙ none-under index.ring.geometry.slots g.segments);
   count_is = ap length (ap (numbers_under index.ring.geometry.slots) new.closed ∙ none-under index.ring.geometry.slots g.segments);

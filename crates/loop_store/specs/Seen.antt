@@ -4,7 +4,7 @@ use Rattle.loop_disk.specs.Medium.{Medium, IsSettled}
 use Rattle.loop_record.specs.declared.clip.Span.{Span}
 use Rattle.loop_record.specs.declared.geometry.Geometry.{Geometry}
 use Rattle.loop_record.specs.Geometry.{frame_bytes}
-use Rattle.loop_record.specs.Recording.{Recording, holds}
+use Rattle.loop_record.specs.Recording.{IsWellFormed, Recording, holds}
 use Rattle.loop_record.specs.Reading.{Holds}
 use Rattle.loop_ring.specs.Groups.{Grouped}
 use Rattle.loop_store.specs.declared.fault.StoreFault.{StoreFault}
@@ -35,8 +35,9 @@ seen_with disk index must_reopen = record {
   must_reopen = must_reopen;
 }
 
--- What a store tells is what the recording says.
+-- What a store tells is what the recording says, one that the recorder may come to.
 pub record Tells {D : Type 0} (s : Seen D) (r : Recording) : Type 0 where
+  pub formed : IsWellFormed r
   pub next_is : s.next ≡ r.next
   pub numbers_are : (n : ℕ) → is_among s.numbers n ≡ holds r n
   pub count_is : length s.numbers ≡ length r.frames
@@ -70,9 +71,10 @@ pub record IsPresent {A : Type 0} (index : Index A) (m : Medium) : Type 0 where
   pub settled : IsSettled m
   pub unstray : HasNoneStray index.ring.geometry m.bytes
 
--- the index fits the disk, and where the store needn't be reopened, says what an honest disk holds
+-- the index fits the disk, says what an image held, and where the store needn't be reopened, what an honest disk holds
 pub record IsKept {D A : Type 0} (medium : D → Medium) (disk : D) (index : Index A) (must_reopen : Bool) : Type 0 where
   pub fits : IsFitting index (medium disk).size
+  pub known : (medium disk).honest → (image : List ℕ) × IsRecovered index image
   pub present : must_reopen ≡ false → (medium disk).honest → IsPresent index (medium disk)
 
 -- the group is for frames of the index's geometry, with memory for as many as may be stored at once

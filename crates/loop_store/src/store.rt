@@ -115,7 +115,7 @@ impl<D: Disk + Drop, A: Allocator> Store<D, A> {
     /// before the call that failed.
     pub fn victim(&self) -> Option<u64>
         ensures { (r : Recording) → StandsFor D.medium self.now r → (D.medium self.now.disk).honest
-            → self.now.must_reopen ≡ false → result ≡ victim (ring_of self.now.geometry) r }
+            → result ≡ victim (ring_of self.now.geometry) r }
     {
         self.index.table.victim()
     }

@@ -8,10 +8,11 @@ use Rattle.loop_store.specs.declared.fault.StoreFault.TheVariants.{Disk}
 use Rattle.loop_store.specs.Calls.{first_of, locked, span_checks}
 use Rattle.loop_store.specs.Goes.{progress_of}
 use Rattle.loop_store.specs.Locks.{CanTake}
+use Rattle.loop_store.specs.declared.index.Index.{Index}
 use Rattle.loop_store.specs.Seen.{seen_with}
 use Rattle.loop_store.proofs.Checked.{answer-given}
 use Rattle.loop_store.proofs.Locked.{goes-noted, goes-unnoted, kept-noted, lock-allowed, lock-refused}
-use Rattle.loop_store.proofs.Looks.{known-by}
+use Rattle.loop_store.proofs.Looks.{failed-kept, known-by}
 use Rattle.loop_store.proofs.Missing.{fits-legal}
 use Rattle.loop_store.proofs.lock.lock_clip.Goals as goal
 
@@ -72,6 +73,10 @@ returns-in-Ok-clause-goes g c =
     (λ r honest known. takes h r span id c.in_ok-id.ensures.id.0.0 (c.in_ok-id.ensures.answers r (medium c.args.disk.now).bytes known))
     (record { writes = refl; late = refl; stored = refl; answers = λ s still one. answer-given h s (locked span (Ok id)) still one.fits one.id_is }) refl refl refl (λ s. refl) (λ s. refl)
     (lock-allowed h (progress_of (seen_with c.args.disk.now i c.args.must_reopen.now)) span (Ok id) c.if-must_reopen.false c.in_ok-id.ensures.id.1 c.in_ok-id.ensures.id.0)
+
+pub returns-in-Err-clause-kept : goal.returns-in-Err-clause-kept
+returns-in-Err-clause-kept g c =
+    (failed-kept g.D.Disk.medium c.args.disk.now c.add_clip.new.disk c.args.index.now c.add_clip.new.index c.args.must_reopen.now c.requires c.in-Err.ensures.same c.in-Err.ensures.makes.called.size c.in-Err.ensures.makes.called.honest.1, ap (λ (i : Index _). i.ring) c.in-Err.ensures.same)
 
 pub returns-in-Err-clause-goes : goal.returns-in-Err-clause-goes
 returns-in-Err-clause-goes g c =

@@ -1,13 +1,14 @@
-use Rattle.std.proofs.Common.{◌≡◌, ◌≢◌, Option, Ok, Err, None, Some, inr, refl, sym, ◌∙◌}
+use Rattle.std.proofs.Common.{◌≡◌, ◌≢◌, Option, Ok, Err, None, Some, inr, refl, sym, ap, ◌∙◌}
 use Rattle.loop_record.specs.declared.clip.Span.{Span}
 use Rattle.loop_record.specs.Recording.{clip_of, unlock}
 use Rattle.loop_record.proofs.Bounds.{limits}
 use Rattle.loop_store.specs.declared.fault.StoreFault.TheVariants.{Disk}
 use Rattle.loop_store.specs.Calls.{unlocked}
 use Rattle.loop_store.specs.Goes.{progress_of}
+use Rattle.loop_store.specs.declared.index.Index.{Index}
 use Rattle.loop_store.specs.Seen.{seen_with}
 use Rattle.loop_store.proofs.Locked.{clip-known, goes-noted, goes-unnoted, kept-noted, unlock-allowed, unlock-answered, unlock-refused}
-use Rattle.loop_store.proofs.Looks.{known-by}
+use Rattle.loop_store.proofs.Looks.{failed-kept, known-by}
 use Rattle.loop_store.proofs.lock.unlock_clip.Goals as goal
 
 some : (o : Option Span) (s : Span) → o ≡ Some s → o ≢ None
@@ -65,6 +66,10 @@ returns-in-Ok-clause-goes g c =
     (λ r honest known. some _ c.in-Some.field-0 (clip-known i r (medium c.args.disk.now).bytes id known ∙ sym c.in-Some.ensures.clip))
     (record { writes = refl; late = refl; stored = refl; answers = λ s still one. unlock-answered i.ring.geometry s id (Ok tt) still one tt }) refl refl refl (λ s. refl) (λ s. refl)
     (unlock-allowed i.ring.geometry (progress_of (seen_with c.args.disk.now i c.args.must_reopen.now)) id (Ok tt) c.if-must_reopen.false (some _ c.in-Some.field-0 (sym c.in-Some.ensures.clip)) tt)
+
+pub returns-in-Err-clause-kept : goal.returns-in-Err-clause-kept
+returns-in-Err-clause-kept g c =
+    (failed-kept g.D.Disk.medium c.args.disk.now c.remove_clip.new.disk c.args.index.now c.remove_clip.new.index c.args.must_reopen.now c.requires c.in-Err.ensures.same c.in-Err.ensures.makes.called.size c.in-Err.ensures.makes.called.honest.1, ap (λ (i : Index _). i.ring) c.in-Err.ensures.same)
 
 pub returns-in-Err-clause-goes : goal.returns-in-Err-clause-goes
 returns-in-Err-clause-goes g c =

@@ -12,7 +12,7 @@ use Rattle.loop_store.specs.Held.{HoldsSome}
 use Rattle.loop_store.specs.Places.{IsKnown, place_segment}
 use Rattle.loop_store.specs.Seen.{seen_with}
 use Rattle.loop_store.proofs.Appended.{Grew, kept-grown, noted-at, place-known, place-some, stands-grown, steps-are}
-use Rattle.loop_store.proofs.Looks.{known-by}
+use Rattle.loop_store.proofs.Looks.{failed-kept, known-by}
 use Rattle.loop_store.proofs.Putting.{place-refused, put-failed, put-stored}
 use Rattle.loop_store.proofs.put.put.Goals as goal
 
@@ -114,6 +114,11 @@ returns-in-Ok-clause-goes g c =
           let at = c.in_ok-place.ensures.answers r (medium c.args.disk.now).bytes known in
           stands-grown medium c.args.disk.now c.append_group.new.disk i c.note.new.self n j ps must r honest known noted c.requires.kept.fits.whole some unspent room grew at.0 (place-some h r (medium c.args.disk.now).bytes c.in_ok-place.place at.1);
     })
+
+pub returns-in-Err-clause-kept : goal.returns-in-Err-clause-kept
+returns-in-Err-clause-kept g c =
+    let i = c.args.index.now in
+    failed-kept g.D.Disk.medium c.args.disk.now c.append_group.new.disk i i c.args.must_reopen.now c.requires.kept refl c.in-Err.ensures.called.size c.in-Err.ensures.called.honest.1
 
 pub returns-in-Err-clause-goes : goal.returns-in-Err-clause-goes
 returns-in-Err-clause-goes g c =

@@ -6,6 +6,7 @@ pub invariant_of-result : goal.invariant_of-result
 invariant_of-result g c = (
   record {
     fits = c.in-Ok.ensures.fits.0;
+    known = λ honest. (_, (c.in-Ok.ensures.present (c.reopen.ensures.called.honest.1 honest)).recorded);
     present = λ fine honest. c.in-Ok.ensures.present (c.reopen.ensures.called.honest.1 honest);
   },
   c.in-Ok.ensures.fits.1,
