@@ -1,17 +1,17 @@
 -- Nothing in the model of a desk looks at pixels.
-use Rattle.std.proofs.Common.{◌≡◌, ◌≢◌, inl, inr, ℕ, ◌+◌, ◌-◌, ◌%◌, Bool, true, false, not, min, if◌then◌else◌, is_some, IsTrue, Option, Some, None, Result, Ok, Err, List, [], ◌∷◌, length, take, map, refl, sym, ap, ◌∙◌, subst}
+use Rattle.std.proofs.Common.{◌≡◌, ℕ, ◌+◌, ◌-◌, ◌%◌, Bool, true, false, not, min, if◌then◌else◌, is_some, Option, Some, None, Result, Ok, Err, List, [], ◌∷◌, length, take, map, refl, sym, ap, ◌∙◌, subst}
 use Rattle.std.proofs.lemmas.List.{drop-map, length-map, map-append, take-map}
-use Rattle.std.specs.Prelude.{◌==◌, ◌&&◌, ◌||◌, nat_le, nat_lt}
-use Rattle.std.specs.List.{filter, find, list_all, range_with_len}
+use Rattle.std.specs.Prelude.{◌==◌, ◌&&◌, ◌||◌, nat_lt}
+use Rattle.std.specs.List.{filter, find, range_with_len}
 use Rattle.std.specs.Option.{option_map}
 use Rattle.loop_clips.specs.Table.{listed}
 use Rattle.loop_disk.specs.Medium.{Medium}
 use Rattle.loop_record.specs.declared.clip.Span.{Span}
 use Rattle.loop_record.specs.declared.geometry.Geometry.{Geometry}
 use Rattle.loop_record.specs.Geometry.{frame_bytes}
-use Rattle.loop_record.specs.Recording.{Picture, Recording, Ring, Step, after as stepped, block, blocks_of, frame_under, free_id, holds, holds_all, is_locked, last_number, lock, needs_recycling, plain, recycle, recycling_first, ring_of, steps, store, stores_after, unlock, victim, with_block}
+use Rattle.loop_record.specs.Recording.{Picture, Recording, Ring, Step, after as stepped, block, blocks_of, frame_under, free_id, holds, is_locked, last_number, lock, needs_recycling, plain, recycle, recycling_first, ring_of, steps, store, stores_after, unlock, victim, with_block}
 use Rattle.loop_store.specs.declared.fault.StoreFault.{StoreFault}
-use Rattle.loop_store.specs.Calls.{AreAnswered, CanLock, Call, IsAnswered, IsFirstMissing, RefusesAppend, RefusesLock, RefusesRead, RefusesSpan, StoreState, after as stored, after_calls, appended, asked, has_failed, locked, made, unlocked, was_read, was_read_part}
+use Rattle.loop_store.specs.Calls.{AnswersDue, AreAnswered, Call, IsAnswered, IsGiven, StoreState, after as stored, after_calls, appended, asked, checks, due, fault_of, first_of, has_failed, lacks_victim, locked, made, steps_of, unlocked, was_read, was_read_part}
 use Rattle.loop_store.specs.Steps.{if_answered, steps_or_none}
 use Rattle.loop_desk.specs.declared.limits.Flushed.{Flushed}
 use Rattle.loop_desk.specs.declared.limits.Outline.{Outline}
@@ -58,13 +58,6 @@ some-under (Some p) = refl
 holds-bare : (r : Recording) (number : ℕ) → holds (bare_recording r) number ≡ holds r number
 holds-bare r number = ap is_some (under-bare r.frames number) ∙ some-under (frame_under r.frames number)
 
-holds-all-bare : (r : Recording) (span : Span) → holds_all (bare_recording r) span ≡ holds_all r span
-holds-all-bare r span = each (range_with_len span.from (span.to + 1 - span.from))
-  where
-    each : (ns : List ℕ) → list_all (holds (bare_recording r)) ns ≡ list_all (holds r) ns
-    each [] = refl
-    each (n ∷ ns) = λ i. holds-bare r n i && each ns i
-
 filter-bare : (q : ℕ → Bool) (fs : List (ℕ × Picture)) → filter (λ f. q f.0) (map bare_frame fs) ≡ map bare_frame (filter (λ f. q f.0) fs)
 filter-bare q [] = refl
 filter-bare q (f ∷ fs) = go (q f.0) (filter-bare q fs)
@@ -108,75 +101,71 @@ or-none-bare (Some l) = refl
 asked-bare : (g : Geometry) (r : Recording) (ps : List Picture) → asked g (bare_recording r) (map bare ps) ≡ map bare_step (asked g r ps)
 asked-bare g r ps = ap steps_or_none (steps-bare (ring_of g) r ps) ∙ or-none-bare (steps (ring_of g) r ps)
 
-none-bare : (o : Option (List Step)) → option_map (map bare_step) o ≡ None → o ≡ None
-none-bare None e = refl
-none-bare (Some l) e = absurd cc
-
-some-bare : (ring : Ring) (r : Recording) (ps : List Picture) → steps ring r ps ≢ None → steps ring (bare_recording r) (map bare ps) ≢ None
-some-bare ring r ps some none = some (none-bare (steps ring r ps) (sym (steps-bare ring r ps) ∙ none))
-
 -- ---- the answers of the store
 
-missing-bare : (r : Recording) (span : Span) (n : ℕ) → IsFirstMissing r span n → IsFirstMissing (bare_recording r) span n
-missing-bare r span n first = record {
-  from = first.from;
-  to = first.to;
-  missing = holds-bare r n ∙ first.missing;
-  held = λ m from below. holds-bare r m ∙ first.held m from below;
-}
+victim-bare : (ring : Ring) (r : Recording) → lacks_victim ring (bare_recording r) ≡ lacks_victim ring r
+victim-bare ring r =
+    let same = blocks-bare ring r.frames in
+    λ i. (r.next % ring.slots == 0 && length (same i) == ring.segments) && not (is_some (find (λ b. not (is_locked ring r b)) (take (length (same i) - 1) (same i))))
 
-can-bare : (g : Geometry) (r : Recording) (span : Span) → CanLock g r span → CanLock g (bare_recording r) span
-can-bare g r span can = subst (λ (b : Bool). IsTrue (nat_le span.from span.to && b && nat_lt (free_id r) 64)) (sym (holds-all-bare r span)) can
+checks-bare : (g : Geometry) (s : StoreState) (c : Call) → checks g (bare_store s) (bare_stored c) ≡ checks g s c
+checks-bare g s (appended ps result) =
+    let same = victim-bare (ring_of g) s.recording in
+    λ i. due s.must_reopen StoreFault.MustReopen ∷ due (s.recording.next == last_number (ring_of g)) StoreFault.NumbersSpent ∷ due (same i) StoreFault.AllLocked ∷ []
+checks-bare g s (locked span result) =
+    λ i. due s.must_reopen StoreFault.MustReopen ∷ due (nat_lt span.to span.from) StoreFault.ClipEmpty
+    ∷ option_map StoreFault.ClipNotHeld (find (λ n. not (holds-bare s.recording n i)) (range_with_len span.from (span.to + 1 - span.from))) ∷ due (free_id s.recording == 64) StoreFault.ClipTableFull ∷ []
+checks-bare g s (unlocked id result) = refl
+checks-bare g s (was_read number result) = λ i. due s.must_reopen StoreFault.MustReopen ∷ due (not (holds-bare s.recording number i)) StoreFault.NotHeld ∷ []
+checks-bare g s (was_read_part number at result) = λ i. due s.must_reopen StoreFault.MustReopen ∷ due (not (holds-bare s.recording number i)) StoreFault.NotHeld ∷ []
 
-span-bare : (r : Recording) (span : Span) (fault : StoreFault) → RefusesSpan r span fault → RefusesSpan (bare_recording r) span fault
-span-bare r span fault (inl x) = inl x
-span-bare r span fault (inr (inl x)) = inr (inl (x.0, (x.1.0, missing-bare r span x.0 x.1.1)))
-span-bare r span fault (inr (inr x)) = inr (inr (x.0, (x.1.0, (holds-all-bare r span ∙ x.1.1.0, x.1.1.1))))
+fault-bare : (c : Call) → fault_of (bare_stored c) ≡ fault_of c
+fault-bare (appended ps result) = refl
+fault-bare (locked span result) = refl
+fault-bare (unlocked id result) = refl
+fault-bare (was_read number (Ok x)) = refl
+fault-bare (was_read number (Err fault)) = refl
+fault-bare (was_read_part number at (Ok bytes)) = refl
+fault-bare (was_read_part number at (Err fault)) = refl
 
-append-bare : (g : Geometry) (s : StoreState) (ps : List Picture) (fault : StoreFault) → RefusesAppend g s ps fault → RefusesAppend g (bare_store s) (map bare ps) fault
-append-bare g s ps fault (inl x) = inl x
-append-bare g s ps fault (inr (inl x)) = inr (inl x)
-append-bare g s ps fault (inr (inr (inl x))) = inr (inr (inl (x.0, (x.1.0, (x.1.1.0, steps-bare (ring_of g) s.recording ps ∙ ap (option_map (map bare_step)) x.1.1.1)))))
-append-bare g s ps fault (inr (inr (inr x))) = inr (inr (inr (x.0, (x.1.0, some-bare (ring_of g) s.recording ps x.1.1))))
-
-lock-bare : (g : Geometry) (s : StoreState) (span : Span) (fault : StoreFault) → RefusesLock g s span fault → RefusesLock g (bare_store s) span fault
-lock-bare g s span fault (inl x) = inl x
-lock-bare g s span fault (inr (inl x)) = inr (inl (x.0, span-bare s.recording span fault x.1))
-lock-bare g s span fault (inr (inr x)) = inr (inr (x.0, (x.1.0, can-bare g s.recording span x.1.1)))
-
-read-refused : (s : StoreState) (number : ℕ) (fault : StoreFault) → RefusesRead s number fault → RefusesRead (bare_store s) number fault
-read-refused s number fault (inl x) = inl x
-read-refused s number fault (inr (inl x)) = inr (inl (x.0, (x.1.0, holds-bare s.recording number ∙ x.1.1)))
-read-refused s number fault (inr (inr x)) = inr (inr (x.0, (x.1.0, holds-bare s.recording number ∙ x.1.1)))
+given-bare : (r : Recording) (c : Call) → IsGiven r c → IsGiven (bare_recording r) (bare_stored c)
+given-bare r (appended ps (Ok number)) is = is
+given-bare r (appended ps (Err fault)) is = is
+given-bare r (locked span (Ok id)) is = is
+given-bare r (locked span (Err fault)) is = is
+given-bare r (unlocked id (Ok x)) is = is
+given-bare r (unlocked id (Err fault)) is = is
+given-bare r (was_read number (Ok x)) is = record { picture = bare is.picture; there = under-bare r.frames number ∙ ap (option_map bare) is.there; head_is = is.head_is; bytes_are = refl }
+given-bare r (was_read number (Err fault)) is = is
+given-bare r (was_read_part number at (Ok bytes)) is = record { picture = bare is.picture; there = under-bare r.frames number ∙ ap (option_map bare) is.there; bytes_are = refl }
+given-bare r (was_read_part number at (Err fault)) is = is
 
 stored-answer : (g : Geometry) (s : StoreState) (c : Call) → IsAnswered g s c → IsAnswered g (bare_store s) (bare_stored c)
-stored-answer g s (appended ps (Ok number)) said = (said.0, (some-bare (ring_of g) s.recording ps said.1.0, said.1.1))
-stored-answer g s (appended ps (Err fault)) said = append-bare g s ps fault said
-stored-answer g s (locked span (Ok id)) said = (said.0, (can-bare g s.recording span said.1.0, said.1.1))
-stored-answer g s (locked span (Err fault)) said = lock-bare g s span fault said
-stored-answer g s (unlocked id (Ok x)) said = said
-stored-answer g s (unlocked id (Err fault)) said = said
-stored-answer g s (was_read number (Ok x)) said = (said.0, record { picture = bare said.1.picture; there = under-bare s.recording.frames number ∙ ap (option_map bare) said.1.there; head_is = said.1.head_is; bytes_are = refl })
-stored-answer g s (was_read number (Err fault)) said = read-refused s number fault said
-stored-answer g s (was_read_part number at (Ok bytes)) said = (said.0, record { picture = bare said.1.picture; there = under-bare s.recording.frames number ∙ ap (option_map bare) said.1.there; bytes_are = refl })
-stored-answer g s (was_read_part number at (Err fault)) (inl x) = inl x
-stored-answer g s (was_read_part number at (Err fault)) (inr (inl x)) = inr (inl (x.0, (x.1.0, holds-bare s.recording number ∙ x.1.1)))
-stored-answer g s (was_read_part number at (Err fault)) (inr (inr x)) = inr (inr (x.0, (x.1.0, holds-bare s.recording number ∙ x.1.1)))
+stored-answer g s c said =
+    subst (λ (l : List (Option StoreFault)). AnswersDue (first_of l) (bare_stored c) (IsGiven (bare_recording s.recording) (bare_stored c))) (sym (checks-bare g s c)) (go (first_of (checks g s c)) said)
+  where
+    go : (o : Option StoreFault) → AnswersDue o c (IsGiven s.recording c) → AnswersDue o (bare_stored c) (IsGiven (bare_recording s.recording) (bare_stored c))
+    go None is = given-bare s.recording c is
+    go (Some fault) is = fault-bare c ∙ is
 
 -- ---- the state of the store after a call
 
-answered-bare : {T : Type 0} (result : Result T StoreFault) (l : List Step) → if_answered result (map bare_step l) ≡ map bare_step (if_answered result l)
-answered-bare (Ok x) l = refl
-answered-bare (Err fault) l = refl
+answered-bare : (o : Option StoreFault) (l : List Step) → if_answered o (map bare_step l) ≡ map bare_step (if_answered o l)
+answered-bare None l = refl
+answered-bare (Some fault) l = refl
+
+steps-of-bare : (g : Geometry) (s : StoreState) (c : Call) → steps_of g (bare_store s) (bare_stored c) ≡ map bare_step (steps_of g s c)
+steps-of-bare g s (appended ps result) = asked-bare g s.recording ps
+steps-of-bare g s (locked span result) = refl
+steps-of-bare g s (unlocked id result) = refl
+steps-of-bare g s (was_read number result) = refl
+steps-of-bare g s (was_read_part number at result) = refl
 
 made-bare : (g : Geometry) (s : StoreState) (c : Call) → made g (bare_store s) (bare_stored c) ≡ map bare_step (made g s c)
-made-bare g s (appended ps result) = ap (if_answered result) (asked-bare g s.recording ps) ∙ answered-bare result (asked g s.recording ps)
-made-bare g s (locked span (Ok id)) = refl
-made-bare g s (locked span (Err fault)) = refl
-made-bare g s (unlocked id (Ok x)) = refl
-made-bare g s (unlocked id (Err fault)) = refl
-made-bare g s (was_read number result) = refl
-made-bare g s (was_read_part number at result) = refl
+made-bare g s c =
+    let same = fault-bare c in
+    let steps = steps-of-bare g s c in
+    (λ i. if_answered (same i) (steps i)) ∙ answered-bare (fault_of c) (steps_of g s c)
 
 failed-bare : (c : Call) → has_failed (bare_stored c) ≡ has_failed c
 failed-bare (appended ps result) = refl

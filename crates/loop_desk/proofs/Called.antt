@@ -11,9 +11,10 @@ use Rattle.loop_record.specs.Recording.{Picture, last_number, ring_of}
 use Rattle.loop_store.specs.declared.fault.StoreFault.{StoreFault}
 use Rattle.loop_store.specs.declared.fault.StoreFault.TheVariants.{MustReopen, NumbersSpent, PendingFull, WrongSize}
 use Rattle.loop_store.specs.Calls.{Call, appended, locked, unlocked, was_read}
-use Rattle.loop_store.specs.Goes.{Goes}
+use Rattle.loop_store.specs.Goes.{Goes, progress_of}
 use Rattle.loop_store.specs.Seen.{Seen}
 use Rattle.loop_store.proofs.Gone.{goes-none}
+use Rattle.loop_store.proofs.Putting.{allowed-number}
 use Rattle.loop_desk.specs.declared.limits.Flushed.{Flushed}
 use Rattle.loop_desk.specs.Desk.{DeskCall, DeskState, IsCounted, IsFlush, IsDeskTold, Rules, Waiting, append_of, appended_as, clip_locked, clip_unlocked, flushed, flushed_of, frame_read, group_of, pending_after, status_told, store_calls, submit_answer, submitted}
 use Rattle.loop_desk.specs.declared.limits.Status.{Status}
@@ -116,10 +117,11 @@ module _ {D : Type 0} (medium : D → Medium) (d : SeenDesk D) where
       → DeskGoes medium d (with_store d new (drop count d.pending)) (flushed (Ok (record { first = first; stored = count; left = waiting - count })) ∷ [])
   flush-stored new most count first waiting group waits goes =
       let f : Flushed = record { first = first; stored = count; left = waiting - count } in
-      let allowed = goes.allowed.0 in
+      let allowed = allowed-number d.store.geometry (progress_of d.store) (take count d.pending) first goes.allowed.0 in
       let size : count ≡ length (group_of (rules_of d) (waiting_of d)) = sym (ap length (group-is most count group) ∙ group-size most count group) in
-      let is : f ≡ flushed_of (waiting_of d) (length (group_of (rules_of d) (waiting_of d))) = λ i. record { first = allowed.1.1 i; stored = size i; left = waits i - size i } in
-      called new (drop count d.pending) (flushed (Ok f)) (appended (take count d.pending) (Ok first) ∷ []) goes (flush-calls most count (Ok f) group) (allowed.0, is) refl (λ s stands now. tt)
+      let number = allowed.number_is in
+      let is : f ≡ flushed_of (waiting_of d) (length (group_of (rules_of d) (waiting_of d))) = λ i. record { first = number i; stored = size i; left = waits i - size i } in
+      called new (drop count d.pending) (flushed (Ok f)) (appended (take count d.pending) (Ok first) ∷ []) goes (flush-calls most count (Ok f) group) (allowed.fine, is) refl (λ s stands now. tt)
 
 -- ---- the answer to a submit, case by case
 

@@ -10,6 +10,7 @@ use Rattle.loop_record.proofs.Turned.{told-behind}
 use Rattle.loop_store.specs.declared.fault.StoreFault.{StoreFault}
 use Rattle.loop_store.specs.Calls.{AreAnswered, IsAnswered, StoreState, after, after_calls, made, made_in}
 use Rattle.loop_store.specs.Steps.{steps_or_none}
+use Rattle.loop_store.proofs.Putting.{answered-some}
 use Rattle.loop_desk.specs.declared.limits.Flushed.{Flushed}
 use Rattle.loop_desk.specs.Desk.{AreTold, DeskCall, IsFlush, IsDeskTold, Rules, Waiting, accepted, accepted_in, append_of, clip_locked, clip_unlocked, flushed, frame_read, frames_stored, group_of, pending_after, status_told, store_calls, store_calls_in, stored_by, submitted, waiting_after, waiting_after_calls}
 
@@ -46,7 +47,7 @@ flush-frames : (g : Geometry) (w : Waiting) (s : StoreState) (group : List Pictu
 flush-frames g w s [] f told said whole = (λ i. drop (told.1 i).stored w.pending) ∙ whole
 flush-frames g w s (p ∷ ps) f told said whole =
     let list = steps_or_none (steps (ring_of g) s.recording (p ∷ ps)) in
-    let frames : frames_stored (list ++ []) ≡ p ∷ ps = ap frames_stored (append-nil list) ∙ frames-steps (ring_of g) s.recording (p ∷ ps) said.0.1.0 in
+    let frames : frames_stored (list ++ []) ≡ p ∷ ps = ap frames_stored (append-nil list) ∙ frames-steps (ring_of g) s.recording (p ∷ ps) (answered-some g s (p ∷ ps) f.first said.0) in
     let count = told.1 in
     (λ i. frames i ++ drop (count i).stored w.pending) ∙ whole
 
@@ -64,7 +65,8 @@ call-frames k w s (clip_locked span (Ok id)) told said = append-nil w.pending
 call-frames k w s (clip_locked span (Err fault)) told said = append-nil w.pending
 call-frames k w s (clip_unlocked id (Ok x)) told said = append-nil w.pending
 call-frames k w s (clip_unlocked id (Err fault)) told said = append-nil w.pending
-call-frames k w s (frame_read number result) told said = append-nil w.pending
+call-frames k w s (frame_read number (Ok x)) told said = append-nil w.pending
+call-frames k w s (frame_read number (Err fault)) told said = append-nil w.pending
 call-frames k w s (status_told status) told said = append-nil w.pending
 
 -- what waited, and then what was accepted, is what was stored, and then what waits

@@ -1,15 +1,17 @@
 -- What calls make of a desk is what the model makes of its state.
-use Rattle.std.proofs.Common.{◌≡◌, ◌≢◌, ℕ, ◌+◌, Bool, if◌then◌else◌, true, false, Option, Some, None, Ok, Err, List, [], ◌∷◌, length, refl, sym, ap, ◌∙◌, subst, arith}
-use Rattle.std.specs.Prelude.{◌==◌, ◌||◌}
+use Rattle.std.proofs.Common.{◌≡◌, ◌≢◌, ℕ, ◌+◌, Bool, if◌then◌else◌, true, false, Option, Some, None, Ok, Err, List, [], ◌∷◌, length, map, refl, sym, ap, ◌∙◌, subst, arith}
+use Rattle.std.specs.Prelude.{◌==◌, ◌||◌, slice_set}
 use Rattle.loop_disk.specs.Medium.{Medium}
 use Rattle.loop_record.specs.declared.geometry.Geometry.{Geometry}
-use Rattle.loop_record.specs.Recording.{Picture, Recording, Ring, after, last_number, needs_recycling, plain, recycle, recycling_first, ring_of, steps, stores_after, victim}
+use Rattle.loop_record.specs.Recording.{Picture, Recording, Ring, after, last_number, needs_recycling, plain, recycle, recycling_first, ring_of, steps, store, stores_after, victim}
 use Rattle.loop_record.specs.Turns.{EachIn, after_all}
 use Rattle.loop_record.proofs.Steps.{plain-stores}
 use Rattle.loop_record.proofs.Turned.{after-behind}
 use Rattle.loop_store.specs.Calls.{AreAnswered, Call, IsAnswered, Progress, StoreState, after_calls, appended, has_failed, locked, progress_after, unlocked, was_read, was_read_part}
 use Rattle.loop_store.specs.Calls as calls
 use Rattle.loop_store.specs.Goes.{Stands}
+use Rattle.loop_store.proofs.Locked.{answered-id}
+use Rattle.loop_store.proofs.Putting.{answered-some}
 use Rattle.loop_store.specs.Steps.{steps_or_none}
 use Rattle.loop_desk.specs.Desk.{AreDeskAnswers, AreTold, DeskCall, DeskState, IsCounted, Rules, Waiting, desk_after, desk_after_calls, pending_after, store_calls, store_calls_in, waiting_after, waiting_after_calls, waiting_at}
 use Rattle.loop_desk.specs.Seen.{DeskGoes, SeenDesk, StandsAt, rules_of, waiting_of}
@@ -17,36 +19,52 @@ use Rattle.loop_desk.proofs.Frames.{each-parts}
 
 -- how far a store is in a state
 abbrev pub progress_at : StoreState → Progress
-progress_at s = record { next = s.recording.next; must_reopen = s.must_reopen }
+progress_at s = record { next = s.recording.next; clips = s.recording.clips; must_reopen = s.must_reopen }
 
 none-more : (n : ℕ) → n ≡ n + 0
 none-more n = omega arith
 
--- the steps of an append raise the next number by its frames
-appended-raises : (ring : Ring) (r : Recording) (group : List Picture) → steps ring r group ≢ None → (plain ring r (steps_or_none (steps ring r group))).next ≡ r.next + length group
+-- the steps of an append raise the next number by its frames, and leave the clips
+record Raises (r s : Recording) (count : ℕ) : Type 0 where
+  next : s.next ≡ r.next + count
+  clips : s.clips ≡ r.clips
+
+raised : (ring : Ring) (r : Recording) (group : List Picture) → Raises r (plain ring r (map store group)) (length group)
+raised ring r group = let is = plain-stores ring r group in record { next = ap (λ (q : Recording). q.next) is; clips = ap (λ (q : Recording). q.clips) is }
+
+appended-raises : (ring : Ring) (r : Recording) (group : List Picture) → steps ring r group ≢ None → Raises r (plain ring r (steps_or_none (steps ring r group))) (length group)
 appended-raises ring r group some = go (r.next == last_number ring) (needs_recycling ring r) (victim ring r) some
   where
-    go : (b n : Bool) (v : Option ℕ) → (if b then None else stores_after (recycling_first n v) group) ≢ None → (plain ring r (steps_or_none (if b then None else stores_after (recycling_first n v) group))).next ≡ r.next + length group
+    go : (b n : Bool) (v : Option ℕ) → (if b then None else stores_after (recycling_first n v) group) ≢ None → Raises r (plain ring r (steps_or_none (if b then None else stores_after (recycling_first n v) group))) (length group)
     go true n v some = absurd (some refl)
-    go false false v some = ap (λ (q : Recording). q.next) (plain-stores ring r group)
+    go false false v some = raised ring r group
     go false true None some = absurd (some refl)
-    go false true (Some b) some = ap (λ (q : Recording). q.next) (plain-stores ring (after ring r (recycle b)) group)
+    go false true (Some b) some = let more = raised ring (after ring r (recycle b)) group in record { next = more.next; clips = more.clips }
 
-next-after : (g : Geometry) (s : StoreState) (c : Call) → IsAnswered g s c → (calls.after g s c).recording.next ≡ (progress_after (progress_at s) c).next
-next-after g s (appended group (Ok number)) said = appended-raises (ring_of g) s.recording group said.1.0
-next-after g s (appended group (Err fault)) said = none-more s.recording.next
-next-after g s (locked span (Ok id)) said = none-more s.recording.next
-next-after g s (locked span (Err fault)) said = none-more s.recording.next
-next-after g s (unlocked id (Ok x)) said = none-more s.recording.next
-next-after g s (unlocked id (Err fault)) said = none-more s.recording.next
-next-after g s (was_read number result) said = none-more s.recording.next
-next-after g s (was_read_part number at result) said = none-more s.recording.next
+record Leads (g : Geometry) (s : StoreState) (c : Call) : Type 0 where
+  next : (calls.after g s c).recording.next ≡ (progress_after (progress_at s) c).next
+  clips : (calls.after g s c).recording.clips ≡ (progress_after (progress_at s) c).clips
+
+leads : (g : Geometry) (s : StoreState) (c : Call) → IsAnswered g s c → Leads g s c
+leads g s (appended group (Ok number)) said = let up = appended-raises (ring_of g) s.recording group (answered-some g s group number said) in record { next = up.next; clips = up.clips }
+leads g s (appended group (Err fault)) said = record { next = none-more s.recording.next; clips = refl }
+leads g s (locked span (Ok id)) said = record { next = none-more s.recording.next; clips = let is = answered-id g s span id said in λ i. slice_set s.recording.clips (sym is i) (Some span) }
+leads g s (locked span (Err fault)) said = record { next = none-more s.recording.next; clips = refl }
+leads g s (unlocked id (Ok x)) said = record { next = none-more s.recording.next; clips = refl }
+leads g s (unlocked id (Err fault)) said = record { next = none-more s.recording.next; clips = refl }
+leads g s (was_read number (Ok x)) said = record { next = none-more s.recording.next; clips = refl }
+leads g s (was_read number (Err fault)) said = record { next = none-more s.recording.next; clips = refl }
+leads g s (was_read_part number at (Ok bytes)) said = record { next = none-more s.recording.next; clips = refl }
+leads g s (was_read_part number at (Err fault)) said = record { next = none-more s.recording.next; clips = refl }
 
 -- the model's state is as far as its calls bring it
 progress-after : (g : Geometry) (s : StoreState) (list : List Call) → AreAnswered g s list → progress_at (after_calls g s list) ≡ after_all progress_after (progress_at s) list
 progress-after g s [] said = refl
 progress-after g s (c ∷ list) said =
-    let one : progress_at (calls.after g s c) ≡ progress_after (progress_at s) c = λ i. record { next = next-after g s c said.0 i; must_reopen = s.must_reopen || has_failed c } in
+    let there = leads g s c said.0 in
+    let next = there.next in
+    let clips = there.clips in
+    let one : progress_at (calls.after g s c) ≡ progress_after (progress_at s) c = λ i. record { next = next i; clips = clips i; must_reopen = s.must_reopen || has_failed c } in
     progress-after g (calls.after g s c) list said.1 ∙ ap (λ (o : Progress). after_all progress_after o list) one
 
 -- what decides on the next call is what the state after one shows
@@ -83,9 +101,10 @@ modelled k s (c ∷ list) told said held =
 shown : {D : Type 0} (medium : D → Medium) (d : SeenDesk D) (s : DeskState) → StandsAt medium d s → (medium d.store.disk).honest → waiting_of d ≡ waiting_at s
 shown medium d s stands now =
     let next = (stands.store.recording.told now).next_is in
+    let clips = (stands.store.recording.told now).clips_are in
     let must = stands.store.must_reopen in
     let pending = stands.pending in
-    λ i. record { store = record { next = next i; must_reopen = must i }; pending = pending i }
+    λ i. record { store = record { next = next i; clips = clips i; must_reopen = must i }; pending = pending i }
 
 pub answers-are : {D : Type 0} (medium : D → Medium) (old new : SeenDesk D) (list : List DeskCall) (s : DeskState) → DeskGoes medium old new list → StandsAt medium old s → (medium old.store.disk).honest
     → AreDeskAnswers (rules_of old) s list × StandsAt medium new (desk_after_calls (rules_of old) s list)

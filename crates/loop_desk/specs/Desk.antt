@@ -44,7 +44,7 @@ pub record DeskState : Type 0 where
 
 abbrev pub waiting_at : DeskState → Waiting
 waiting_at s = record {
-  store = record { next = s.store.recording.next; must_reopen = s.store.must_reopen };
+  store = record { next = s.store.recording.next; clips = s.store.recording.clips; must_reopen = s.store.must_reopen };
   pending = s.pending;
 }
 

@@ -18,7 +18,7 @@ use Rattle.loop_record.specs.Change.{ShowsClip}
 use Rattle.loop_record.specs.Geometry.{clip_at, disk_size, gate_at, segment_at, segment_size}
 use Rattle.loop_record.specs.Layout.{clip_in}
 use Rattle.loop_record.specs.Reading.{Holds, Parts, parts_of, shown}
-use Rattle.loop_record.specs.Recording.{Recording, Step, after, clip_of, first_free, holds, last_number, lock, plain, ring_of, unlock}
+use Rattle.loop_record.specs.Recording.{Recording, Step, after, clip_of, first_free, free_id, holds, last_number, lock, plain, ring_of, unlock}
 use Rattle.loop_record.proofs.Clips.{clip_of-entry, clips-are, parts-clip, reading-clip, reading-lock, reading-unlock}
 use Rattle.loop_record.proofs.Decided.{at_most, at_most_test, both, equal, not_below_test}
 use Rattle.loop_record.proofs.Framing.{same_open, same_segment, same_whole_frames}
@@ -31,7 +31,7 @@ use Rattle.loop_ring.proofs.Heads.{head_of, heads-are, heads-length}
 use Rattle.loop_store.specs.declared.index.Index.{Index}
 use Rattle.loop_store.specs.declared.fault.StoreFault.{StoreFault}
 use Rattle.loop_store.specs.declared.fault.StoreFault.TheVariants.{ClipEmpty, MustReopen, NoSuchClip}
-use Rattle.loop_store.specs.Calls.{Call, IsAllowed, IsAnswered, IsGiven, MayGive, Progress, StoreState, begun, clips_after, count_stored, failed_for, first_of, has_failed, is_look, known_checks, locked, made, span_checks, unlocked, was_refused}
+use Rattle.loop_store.specs.Calls.{Call, IsAllowed, IsAnswered, IsGiven, MayGive, Progress, StoreState, begun, checks, clips_after, count_stored, failed_for, first_of, has_failed, is_look, known_checks, locked, made, span_checks, unlocked, was_refused}
 use Rattle.loop_store.specs.Faults.{failed_by, is_disk, is_early}
 use Rattle.loop_store.specs.Goes.{Goes, progress_of}
 use Rattle.loop_store.specs.Held.{HasNoneStray, HoldsSome, Makes}
@@ -42,7 +42,7 @@ use Rattle.loop_store.proofs.Grown.{held-some}
 use Rattle.loop_store.specs.Numbers.{is_among}
 use Rattle.loop_store.proofs.Looked.{missing-behind}
 use Rattle.loop_store.proofs.Looks.{known-by, there-held, told-by}
-use Rattle.loop_store.proofs.Checked.{answer-due, answer-given, failed, given, passed, refused}
+use Rattle.loop_store.proofs.Checked.{answer-due, answer-given, due-none, failed, given, passed, refused}
 use Rattle.loop_store.proofs.Once.{goes-done, goes-failed, goes-refused}
 use Rattle.loop_store.proofs.Numbers.{among-block, among-range}
 
@@ -336,6 +336,10 @@ lock-refused medium s span fault sound fine can first =
       made_none = λ g t. refl;
       begun_none = λ g t. ap (λ (b : Bool). if b then lock span ∷ [] else []) quiet.unfailed;
     }) (λ t stands honest. answer-due s.geometry t (locked span (Err fault)) fault (sym stands.must_reopen ∙ fine) (first t.recording stands.recording honest) refl) (span-allowed s.geometry (progress_of s) span fault fine can)
+
+-- the id that was answered is the least free one
+pub answered-id : (g : Geometry) (s : StoreState) (span : Span) (id : ℕ) → IsAnswered g s (locked span (Ok id)) → id ≡ free_id s.recording
+answered-id g s span id said = (due-none (first_of (checks g s (locked span (Ok id)))) (locked span (Ok id)) (id ≡ free_id s.recording) said refl).1
 
 -- ---- an unlock
 

@@ -4,17 +4,18 @@ use Rattle.loop_disk.specs.declared.fault.DiskFault.{DiskFault}
 use Rattle.loop_disk.specs.Calls.{Called}
 use Rattle.loop_disk.specs.Medium.{Medium, IsSound, LeavesOnly}
 use Rattle.loop_record.specs.declared.geometry.Geometry.{Geometry}
-use Rattle.loop_record.specs.Recording.{Picture, Recording, last_number, needs_recycling, plain, recycling_first, ring_of, victim}
-use Rattle.loop_record.proofs.Decided.{differ_test, equal_test}
+use Rattle.loop_record.specs.Recording.{Picture, Recording, last_number, needs_recycling, plain, recycling_first, ring_of, steps, victim}
+use Rattle.loop_record.proofs.Decided.{differ, differ_test, equal_test}
 use Rattle.loop_store.specs.declared.fault.StoreFault.{StoreFault}
 use Rattle.loop_store.specs.declared.fault.StoreFault.TheVariants.{AllLocked, Disk, MustReopen, NumbersSpent}
-use Rattle.loop_store.specs.Calls.{Call, IsAllowed, IsAnswered, IsGiven, MayGive, Progress, StoreState, appended, asked, checks_on, first_of, known_checks, lacks_victim, was_refused}
+use Rattle.loop_store.specs.Calls.{Call, IsAllowed, IsAnswered, IsGiven, MayGive, Progress, StoreState, appended, asked, checks, checks_on, first_of, known_checks, lacks_victim, was_refused}
 use Rattle.loop_store.specs.Faults.{failed_by, is_disk, is_early}
 use Rattle.loop_store.specs.Goes.{Goes, Stands, progress_of}
 use Rattle.loop_store.specs.Held.{HoldsSome}
 use Rattle.loop_store.specs.Places.{RefusesPlace}
 use Rattle.loop_store.specs.Seen.{HasFailed, Seen, StandsFor}
-use Rattle.loop_store.proofs.Checked.{answer-due, answer-given, failed, given, passed, refused}
+use Rattle.loop_store.proofs.Appended.{steps-some}
+use Rattle.loop_store.proofs.Checked.{answer-due, answer-given, due-none, failed, given, passed, passes, refused}
 use Rattle.loop_store.proofs.Once.{goes-done, goes-failed, goes-refused}
 
 -- ---- the checks
@@ -48,8 +49,36 @@ first-none g r ps result unspent some =
 known-spent : (g : Geometry) (o : Progress) (ps : List Picture) (result : Result ℕ StoreFault) → o.must_reopen ≡ false → o.next ≡ last_number (ring_of g) → first_of (known_checks g o (appended ps result)) ≡ Some NumbersSpent
 known-spent g o ps result fine spent = passed o.must_reopen MustReopen _ fine ∙ failed (eqb o.next (last_number (ring_of g))) NumbersSpent [] (equal_test o.next (last_number (ring_of g)) spent)
 
-known-none : (g : Geometry) (o : Progress) (ps : List Picture) (result : Result ℕ StoreFault) → o.must_reopen ≡ false → o.next ≢ last_number (ring_of g) → first_of (known_checks g o (appended ps result)) ≡ None
+pub known-none : (g : Geometry) (o : Progress) (ps : List Picture) (result : Result ℕ StoreFault) → o.must_reopen ≡ false → o.next ≢ last_number (ring_of g) → first_of (known_checks g o (appended ps result)) ≡ None
 known-none g o ps result fine unspent = passed o.must_reopen MustReopen _ fine ∙ passed (eqb o.next (last_number (ring_of g))) NumbersSpent [] (differ_test o.next (last_number (ring_of g)) unspent)
+
+some-first : (recycles : Bool) (v : Option ℕ) → (recycles && not (is_some v)) ≡ false → recycling_first recycles v ≢ None
+some-first false v e none = absurd cc
+some-first true None e none = absurd cc
+some-first true (Some b) e none = absurd cc
+
+-- a group that was appended has steps
+pub answered-some : (g : Geometry) (s : StoreState) (ps : List Picture) (number : ℕ) → IsAnswered g s (appended ps (Ok number)) → steps (ring_of g) s.recording ps ≢ None
+answered-some g s ps number said =
+    let none = (due-none (first_of (checks g s (appended ps (Ok number)))) (appended ps (Ok number)) (IsGiven s.recording (appended ps (Ok number))) said refl).0 in
+    let a = passes s.must_reopen MustReopen _ none in
+    let b = passes (eqb s.recording.next (last_number (ring_of g))) NumbersSpent _ a.1 in
+    let c = passes (lacks_victim (ring_of g) s.recording) AllLocked [] b.1 in
+    steps-some g s.recording ps (differ s.recording.next (last_number (ring_of g)) b.0) (some-first (needs_recycling (ring_of g) s.recording) (victim (ring_of g) s.recording) c.0)
+
+-- and its number is the next one
+pub answered-number : (g : Geometry) (s : StoreState) (ps : List Picture) (number : ℕ) → IsAnswered g s (appended ps (Ok number)) → number ≡ s.recording.next
+answered-number g s ps number said = (due-none (first_of (checks g s (appended ps (Ok number)))) (appended ps (Ok number)) (number ≡ s.recording.next) said refl).1
+
+-- of every disk
+pub record IsNumbered (o : Progress) (number : ℕ) : Type 0 where
+  pub fine : o.must_reopen ≡ false
+  pub number_is : number ≡ o.next
+
+pub allowed-number : (g : Geometry) (o : Progress) (ps : List Picture) (number : ℕ) → IsAllowed g o (appended ps (Ok number)) → IsNumbered o number
+allowed-number g o ps number said =
+    let x = due-none (first_of (known_checks g o (appended ps (Ok number)))) (appended ps (Ok number)) (number ≡ o.next) said refl in
+    record { fine = (passes o.must_reopen MustReopen _ x.0).0; number_is = x.1 }
 
 -- ---- refused before the disk was called
 
