@@ -14,9 +14,11 @@ use Rattle.loop_record.specs.Geometry.{frame_bytes, is_good}
 use Rattle.loop_record.specs.Recording.{Picture, last_number, ring_of}
 use Rattle.loop_store.specs.declared.fault.StoreFault.{StoreFault}
 use Rattle.loop_store.specs.declared.fault.StoreFault.TheVariants.{AllLocked, Disk, MustReopen, NoMemory, NumbersSpent, PendingFull, WrongSize}
-use Rattle.loop_store.specs.Calls.{Call, Progress, appended, count_stored, failed_for, has_failed, locked, unlocked, was_read, was_read_part}
+use Rattle.loop_store.specs.Calls.{Call, MayGive, Progress, appended, count_stored, failed_for, first_of, has_failed, known_checks, locked, unlocked, was_read, was_read_part}
 use Rattle.loop_store.specs.Faults.{answers_disk, failed_by, failed_in, is_disk}
-use Rattle.loop_store.specs.Goes.{Goes}
+use Rattle.loop_store.specs.Goes.{Goes, progress_of}
+use Rattle.loop_store.proofs.Checked.{due-some}
+use Rattle.loop_store.proofs.Putting.{known-none}
 use Rattle.loop_store.specs.Seen.{Refused, Seen}
 use Rattle.loop_desk.specs.declared.limits.Flushed.{Flushed}
 use Rattle.loop_desk.specs.Desk.{IsFlush, append_of, flushed, group_of, submitted}
@@ -153,6 +155,9 @@ few-taken n xs = omega (arith, length-take n xs)
 few-of : (group slots next : ℕ) (xs : List Picture) → length (take (min group (slots - next % slots)) xs) ≤ length xs
 few-of group slots next xs = few-taken (min group (slots - next % slots)) xs
 
+no-refusal : (fault : StoreFault) → ◌≡◌ {A = Option StoreFault} None (Some fault) → ⊥
+no-refusal fault e = absurd cc
+
 module _ {D : Type 0} {medium : D → Medium} (never : (d : D) → (medium d).failures ≡ no_failures) where
   -- the store after a flush of this group
   flush-next : (old new : Seen D) (group : List Picture) (result : Result Flushed StoreFault) → Goes medium old new (append_of group result ++ []) → new.next ≡ old.next + stored-by group result
@@ -184,15 +189,14 @@ module _ {D : Type 0} {medium : D → Medium} (never : (d : D) → (medium d).fa
   flush-refusal : (old new : SeenDesk D) (group : List Picture) (fault : StoreFault) → Goes medium old.store new.store (append_of group (Err fault) ++ []) → IsFlush (waiting_of old) group (Err fault) → (0 < length group → 0 < length old.pending) → IsSession old → fault ≡ AllLocked
   flush-refusal old new [] fault goes told some kept = absurd (false≢true (sym kept.fine ∙ told.1))
   flush-refusal old new (p ∷ ps) fault goes told some kept =
+      let call = appended (p ∷ ps) (Err fault) in
       let spent : old.store.next ≢ last_number (ring_of old.store.geometry) = λ e. kept.numbers 0 (some (omega arith)) (add-zero old.store.next ∙ e) in
-      elim goes.allowed.0 [
-        | inl must ↦ absurd (false≢true (sym kept.fine ∙ must.1))
-        | inr other ↦ elim other [
-          | inl last ↦ absurd (spent last.1.1)
-          | inr more ↦ elim more.0 [
-            | inl is ↦ is
-            | inr disk ↦ absurd (false≢true (sym (fine-fault fault (none-failed old.store new.store (appended (p ∷ ps) (Err fault)) goes never)) ∙ disk))
-          ]
+      let none = known-none old.store.geometry (progress_of old.store) (p ∷ ps) (Err fault) kept.fine spent in
+      elim due-some (first_of (known_checks old.store.geometry (progress_of old.store) call)) call (MayGive (progress_of old.store) call) goes.allowed.0 [
+        | inl due ↦ absurd (no-refusal fault (sym none ∙ due))
+        | inr given ↦ elim given.1 [
+          | inl is ↦ is
+          | inr disk ↦ absurd (false≢true (sym (fine-fault fault (none-failed old.store new.store call goes never)) ∙ disk))
         ]
       ]
 

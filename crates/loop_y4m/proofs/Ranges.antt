@@ -1,5 +1,5 @@
 -- The frames of a range of numbers, and what is written of them.
-use Rattle.std.proofs.Common.{◌≡◌, inl, inr, ℕ, ◌+◌, ◌-◌, ◌^◌, ◌<◌, ◌≤◌, Bool, true, false, ◌&&◌, cond, eqb, leb, Option, Some, None, Result, Ok, Err, List, [], ◌∷◌, ◌++◌, length, map, is_some, refl, sym, ap, ◌∙◌, subst, arith}
+use Rattle.std.proofs.Common.{◌≡◌, inl, inr, ℕ, ◌+◌, ◌-◌, ◌^◌, ◌<◌, ◌≤◌, ◌⊎◌, Bool, true, false, not, ◌&&◌, cond, eqb, leb, Option, Some, None, Result, Ok, Err, List, [], ◌∷◌, ◌++◌, length, map, is_some, refl, sym, ap, ◌∙◌, subst, arith}
 use Rattle.std.proofs.lemmas.Bool.Decides.{nat_tests}
 use Rattle.std.proofs.KnownBytes.{Appends-nil, Appends-trans}
 use Rattle.std.proofs.lemmas.List.{append-nil, append_assoc, length-append}
@@ -15,8 +15,11 @@ use Rattle.loop_record.proofs.Decided.{clash, equal, equal_test}
 use Rattle.loop_record.proofs.Rising.{among-range, held-among}
 use Rattle.loop_store.specs.declared.fault.StoreFault.{StoreFault}
 use Rattle.loop_store.specs.declared.fault.StoreFault.TheVariants as store
-use Rattle.loop_store.specs.Calls.{IsAnswered, IsPart, StoreState, was_read_part}
+use Rattle.loop_store.specs.Calls.{IsAnswered, IsPart, StoreState, checks, first_of, was_read_part}
+use Rattle.loop_store.specs.Faults.{is_disk}
 use Rattle.loop_store.specs.Numbers.{IsLeastFrom}
+use Rattle.loop_store.specs.declared.fault.StoreFault.TheVariants.{NotHeld}
+use Rattle.loop_store.proofs.Checked.{due-none, due-some, passed}
 use Rattle.loop_y4m.specs.declared.fault.ExportFault.{ExportFault}
 use Rattle.loop_y4m.specs.declared.fault.ExportFault.TheVariants.{Write}
 use Rattle.loop_y4m.specs.Export.{Stopped, frames_between}
@@ -176,12 +179,31 @@ given_rest r first to count n high p old mid inner rise there before =
 nothing_yet : (held : Option (List ℕ)) (bytes : List ℕ) → AppendsSome held held bytes
 nothing_yet held bytes = ([], bytes, refl, Appends-nil held)
 
+-- the state of a store that needn't be reopened
+abbrev pub running : Recording → StoreState
+running r = record { recording = r; must_reopen = false }
+
 -- a read of a held frame is refused only where the disk failed
-pub part_refused : (g : Geometry) (r : Recording) (number at : ℕ) (p : Picture) (fault : StoreFault) (held : Option (List ℕ)) (bytes : List ℕ) → frame_under r.frames number ≡ Some p → IsAnswered g (record { recording = r; must_reopen = false }) (was_read_part number at (Err fault)) → Stopped (fault_of fault) held held bytes
-part_refused g r number at p fault held bytes there (inl x) = absurd cc
-part_refused g r number at p fault held bytes there (inr (inl x)) = absurd (clash (holds r number) (ap (λ (o : Option Picture). is_some o) there) x.1.1)
-part_refused g r number at p (store.Disk fault) held bytes there (inr (inr x)) = nothing_yet held bytes
-part_refused g r number at p fault held bytes there (inr (inr x)) = absurd cc
+pub part_refused : (g : Geometry) (r : Recording) (number at : ℕ) (p : Picture) (fault : StoreFault) (held : Option (List ℕ)) (bytes : List ℕ) → frame_under r.frames number ≡ Some p → IsAnswered g (running r) (was_read_part number at (Err fault)) → Stopped (fault_of fault) held held bytes
+part_refused g r number at p fault held bytes there said = go fault (due-some (first_of (checks g (running r) (was_read_part number at (Err fault)))) (was_read_part number at (Err fault)) (is_disk fault ≡ true) said)
+  where
+    none : first_of (checks g (running r) (was_read_part number at (Err fault))) ≡ None
+    none = passed (not (holds r number)) NotHeld [] (ap (λ (o : Option Picture). not (is_some o)) there)
+
+    apart : (f : StoreFault) → let x : Option StoreFault = None in x ≡ Some f → ⊥
+    apart f e = absurd cc
+
+    failed : (f : StoreFault) → is_disk f ≡ true → Stopped (fault_of f) held held bytes
+    failed (store.Disk f) e = nothing_yet held bytes
+    failed f e = absurd cc
+
+    go : (f : StoreFault) → (first_of (checks g (running r) (was_read_part number at (Err fault))) ≡ Some f) ⊎ ((first_of (checks g (running r) (was_read_part number at (Err fault))) ≡ None) × (is_disk f ≡ true)) → Stopped (fault_of f) held held bytes
+    go f (inl e) = absurd (apart f (sym none ∙ e))
+    go f (inr x) = failed f x.1
+
+-- a part that was read is one of the frame
+pub part_given : (g : Geometry) (r : Recording) (number at : ℕ) (bytes : List ℕ) → IsAnswered g (running r) (was_read_part number at (Ok bytes)) → IsPart r number at bytes
+part_given g r number at bytes said = (due-none (first_of (checks g (running r) (was_read_part number at (Ok bytes)))) (was_read_part number at (Ok bytes)) (IsPart r number at bytes) said refl).1
 
 -- the bytes that were read are those of the frame
 pub part_is : (r : Recording) (number at : ℕ) (p : Picture) (bytes : List ℕ) (m : ℕ) → frame_under r.frames number ≡ Some p → IsPart r number at bytes → length bytes ≡ m → bytes ≡ piece at m p.bytes
@@ -195,9 +217,6 @@ pub writer_failed : {T : Type 0} (old new : Option (List ℕ)) (result : Result 
 writer_failed old new (Ok x) bytes text failed some is = absurd failed
 writer_failed old new (Err fault) bytes text failed some is = subst (λ (f : ExportFault). Stopped f old new text) (sym failed) (subst (AppendsSome old new) is some)
 
--- the state of a store that needn't be reopened
-abbrev pub running : Recording → StoreState
-running r = record { recording = r; must_reopen = false }
 
 -- how many numbers there are from one on
 abbrev pub numbers_left : Option ℕ → ℕ
