@@ -192,7 +192,7 @@ module _ {D : Type 0} {medium : D → Medium} (never : (d : D) → (medium d).fa
       let call = appended (p ∷ ps) (Err fault) in
       let spent : old.store.next ≢ last_number (ring_of old.store.geometry) = λ e. kept.numbers 0 (some (omega arith)) (add-zero old.store.next ∙ e) in
       let none = known-none old.store.geometry (progress_of old.store) (p ∷ ps) (Err fault) kept.fine spent in
-      elim due-some (first_of (known_checks old.store.geometry (progress_of old.store) call)) call (MayGive (progress_of old.store) call) goes.allowed.0 [
+      elim (due-some (first_of (known_checks old.store.geometry (progress_of old.store) call)) call (MayGive (progress_of old.store) call) goes.allowed.0) [
         | inl due ↦ absurd (no-refusal fault (sym none ∙ due))
         | inr given ↦ elim given.1 [
           | inl is ↦ is
