@@ -14,7 +14,7 @@ ghost use Rattle.loop_record.specs.Recording.{meets, ring_of};
 
 use crate::Clip;
 use loop_disk::{Disk, DiskFault, store, store_in_turn};
-use loop_record::{CLIP_SIZE, Geometry, OPEN, SUPER_SIZE, Span, is_locked, put_u64, u64_at};
+use loop_record::{CLIP_SIZE, Geometry, OPEN, SUPER_SIZE, Span, encode_clip, is_locked, u64_at};
 use std::alloc::{AllocError, Allocator};
 use std::marker::Model;
 
@@ -110,7 +110,10 @@ impl ClipTable {
             Changes (ShowsClipOrNot id (Some span) old.bytes) (ShowsClip id (Some span) old.bytes) old
             (D.medium disk.new) result }
     {
-        write_entry(disk, id, span.from, span.to)
+        let mut entry = [0; CLIP_SIZE];
+        encode_clip(span, &mut entry);
+        let at = entry_place(id);
+        store_in_turn(disk, at + 1, &entry[1..], at, &entry[..1])
     }
 
     /// Takes away the clip of an id: the entry's gate is closed, and a sync. At Ok it is gone; after a failure, as
@@ -173,23 +176,6 @@ fn entry_place(id: u32) -> u64
     ensures { result ≡ clip_at id }
 {
     SUPER_SIZE as u64 + u64::from(id) * CLIP_SIZE as u64
-}
-
-// Writes the entry of a clip and, once it is on the disk, opens its gate.
-fn write_entry<D: Disk>(disk: &mut D, id: u32, from: u64, to: u64) -> Result<(), DiskFault>
-    requires extent { 2560 ≤ (D.medium disk.old).size }
-    requires id { id < 64 }
-    requires settled { (D.medium disk.old).honest → IsSettled (D.medium disk.old) }
-    requires closed { (D.medium disk.old).honest → clip_in (D.medium disk.old).bytes id ≡ None }
-    ensures { let old = D.medium disk.old in let clip = Some (record { from = from; to = to }) in
-        Changes (ShowsClipOrNot id clip old.bytes) (ShowsClip id clip old.bytes) old (D.medium disk.new) result }
-{
-    // Everything behind the gate: zeros, the first number and the last one.
-    let mut entry = [0; CLIP_SIZE - 1];
-    put_u64(&mut entry, 7, from);
-    put_u64(&mut entry, 15, to);
-    let at = entry_place(id);
-    store_in_turn(disk, at + 1, &entry, at, &[OPEN])
 }
 
 // The clips in entries that lie one behind the other.
