@@ -18,9 +18,9 @@ use Rattle.loop_store.specs.declared.fault.StoreFault.TheVariants as store
 use Rattle.loop_store.specs.Calls.{IsAnswered, IsPart, StoreState, was_read_part}
 use Rattle.loop_store.specs.Numbers.{IsLeastFrom}
 use Rattle.loop_y4m.specs.declared.fault.ExportFault.{ExportFault}
-use Rattle.loop_y4m.specs.declared.fault.ExportFault.TheVariants.{Write}
+use Rattle.loop_y4m.specs.declared.fault.ExportFault.TheVariants.{Store, Write}
 use Rattle.loop_y4m.specs.Export.{Stopped, frames_between}
-use Rattle.loop_y4m.specs.Steps.{IsFirstBetween, Moved, MovedAll, fault_of, frames_left}
+use Rattle.loop_y4m.specs.Steps.{IsFirstBetween, Moved, MovedAll, frames_left}
 use Rattle.loop_y4m.specs.Text.{AppendsSome, frame}
 
 -- ---- the frames of a range
@@ -177,7 +177,7 @@ nothing_yet : (held : Option (List ℕ)) (bytes : List ℕ) → AppendsSome held
 nothing_yet held bytes = ([], bytes, refl, Appends-nil held)
 
 -- a read of a held frame is refused only where the disk failed
-pub part_refused : (g : Geometry) (r : Recording) (number at : ℕ) (p : Picture) (fault : StoreFault) (held : Option (List ℕ)) (bytes : List ℕ) → frame_under r.frames number ≡ Some p → IsAnswered g (record { recording = r; must_reopen = false }) (was_read_part number at (Err fault)) → Stopped (fault_of fault) held held bytes
+pub part_refused : (g : Geometry) (r : Recording) (number at : ℕ) (p : Picture) (fault : StoreFault) (held : Option (List ℕ)) (bytes : List ℕ) → frame_under r.frames number ≡ Some p → IsAnswered g (record { recording = r; must_reopen = false }) (was_read_part number at (Err fault)) → Stopped (Store fault) held held bytes
 part_refused g r number at p fault held bytes there (inl x) = absurd cc
 part_refused g r number at p fault held bytes there (inr (inl x)) = absurd (clash (holds r number) (ap (λ (o : Option Picture). is_some o) there) x.1.1)
 part_refused g r number at p (store.Disk fault) held bytes there (inr (inr x)) = nothing_yet held bytes
