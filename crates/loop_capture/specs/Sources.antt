@@ -27,8 +27,8 @@ over_by More = false
 over_by End = true
 over_by Bad = true
 
--- a source that is over answers End; else an `out` of another length than a frame is Bad, and one of a frame's length gets
--- what the reader gives
+-- a source that is over answers End; else an `out` of another length than a frame is Bad, and one of a frame's length
+-- gets what the reader gives
 abbrev pub GivesBy : (over fits : Bool) → Footage → Next → List ℕ → Footage → Type 0
 GivesBy true fits s answer out t = (answer ≡ End) × (t ≡ s)
 GivesBy false false s answer out t = (answer ≡ Bad) × (t ≡ record s { over = true })
