@@ -1,15 +1,11 @@
 -- What the sources give.
-use Rattle.std.specs.Prelude.{◌≡◌, ℕ, ◌+◌, ◌%◌, Bool, true, false, ◌==◌, List, length, map, IfSome, Result, Ok, Err}
-use Rattle.std.specs.List.{range_with_len}
+use Rattle.std.specs.Prelude.{◌≡◌, ℕ, ◌+◌, ◌%◌, Bool, true, false, ◌==◌, List, length, IfSome, Result, Ok, Err}
 use Rattle.loop_capture.specs.declared.source.Next.{Next}
 use Rattle.loop_capture.specs.declared.source.Next.TheVariants.{More, End, Bad}
+use Rattle.loop_record.specs.Pattern.{pattern_bytes}
 use Rattle.loop_y4m.specs.declared.fault.Y4mFault.{Y4mFault}
 use Rattle.loop_y4m.specs.Header.{size_of_frame}
 use Rattle.loop_y4m.specs.Reader.{GivesNext, Opened}
-
--- the first bytes of frame n of the pattern: byte i is n + i, modulo 256
-abbrev pub pattern_bytes : ℕ → ℕ → List ℕ
-pattern_bytes n size = map (λ i. (n + i) % 256) (range_with_len 0 size)
 
 -- the pattern gives its next frame
 abbrev pub GivesPattern : ℕ → Next → List ℕ → ℕ → Type 0
@@ -31,8 +27,8 @@ over_by More = false
 over_by End = true
 over_by Bad = true
 
--- a source that is over answers End; else an `out` of another length than a frame is Bad, and one of a frame's length gets
--- what the reader gives
+-- a source that is over answers End; else an `out` of another length than a frame is Bad, and one of a frame's length
+-- gets what the reader gives
 abbrev pub GivesBy : (over fits : Bool) → Footage → Next → List ℕ → Footage → Type 0
 GivesBy true fits s answer out t = (answer ≡ End) × (t ≡ s)
 GivesBy false false s answer out t = (answer ≡ Bad) × (t ≡ record s { over = true })

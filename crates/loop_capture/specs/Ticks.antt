@@ -54,7 +54,8 @@ Ends meaning answer stamp bytes tick before after =
     (s : QueueState) → StandsFor meaning before s
     → (tick ≡ tick_of answer (longest_active s)) × StandsFor meaning after (after_tick tick stamp bytes s)
 
--- a tick for which the source was asked: the device had a frame's length and had started, the start is noticed, and the frame is ended
+-- a tick for which the source was asked: the device had a frame's length and had started, the start is noticed, and the
+-- frame is ended
 pub record Took {S P : Type 0} (gives : S → Next → List ℕ → S → Type 0) (meaning : P → Plane) (now : ℕ) (tick : Tick)
     (d e : SeenDevice S) (before after : Lined P) (s : QueueState) : Type 0 where
   pub fits : length d.frame ≡ frame_size s.body.shape

@@ -1,20 +1,19 @@
 -- What a lock and an unlock make of the clip table.
-use Rattle.std.proofs.Common.{◌≡◌, ◌≢◌, ◌⊎◌, inl, inr, ℕ, ◌+◌, ◌*◌, ◌<◌, ◌≤◌, Bool, true, false, not, suc, cond, eqb, ltb, is_some, Option, None, Some, Result, OnOk, List, [], ◌∷◌, ◌++◌, length, take, drop, get_or, replicate, refl, sym, ap, ◌∙◌, subst, arith}
-use Rattle.std.proofs.lemmas.List.{append-nil}
+use Rattle.std.proofs.Common.{◌≡◌, ◌≢◌, inl, inr, ℕ, ◌+◌, ◌<◌, ◌≤◌, Bool, true, false, not, suc, cond, eqb, ltb, is_some, Option, None, Some, Result, OnOk, List, [], ◌∷◌, length, drop, get_or, refl, sym, ap, ◌∙◌, subst, arith}
 use Rattle.std.proofs.lemmas.List.Sums.{prefix_len-le-length}
 use Rattle.std.specs.List.{position}
 use Rattle.std.proofs.lemmas.Result.{on_ok_weaker}
-use Rattle.byteorder.specs.Endian.{little_bytes, little_from}
+use Rattle.byteorder.specs.Endian.{little_from}
 use Rattle.byteorder.specs.Numbers.{little_number-reads_back}
 use Rattle.loop_disk.specs.declared.fault.DiskFault.{DiskFault}
 use Rattle.loop_disk.specs.Medium.{Medium, written, SameOutside, IsSettled, LeavesOnly}
 use Rattle.loop_disk.specs.Steps.{Stores, StoresInTurn, TornInTurn}
 use Rattle.loop_disk.proofs.Moments.{stored, weaker}
-use Rattle.loop_disk.proofs.Images.{both, get_or-written_before, get_or-written_there, length-written, widened, written_outside}
+use Rattle.loop_disk.proofs.Images.{both, get_or-written_there, length-written, widened, written_outside}
 use Rattle.loop_record.specs.declared.clip.Span.{Span}
 use Rattle.loop_record.specs.Change.{ShowsClip}
 use Rattle.loop_record.specs.Geometry.{clip_at}
-use Rattle.loop_record.specs.Layout.{clip_in, entry_at, is_open}
+use Rattle.loop_record.specs.Layout.{clip_in, entry_bytes, is_open}
 use Rattle.loop_record.specs.Recording.{first_free}
 use Rattle.loop_record.proofs.Decided.{at_most, not_below}
 use Rattle.loop_record.proofs.Fields.{moved_number}
@@ -26,21 +25,12 @@ pub record IsEntry (s : Span) (entry : List ℕ) : Type 0 where
   pub from : little_from 7 8 entry ≡ s.from
   pub to : little_from 15 8 entry ≡ s.to
 
--- zeros but for the two numbers
-pub is_entry : (s : Span) (first entry : List ℕ) → s.from < 18446744073709551616 → s.to < 18446744073709551616
-    → first ≡ written 7 (little_bytes 8 s.from) (replicate 31 0) → entry ≡ written 15 (little_bytes 8 s.to) first → IsEntry s entry
-is_entry s first entry from to was is =
-    let size : length first ≡ 31 = ap length was ∙ length-written 7 (little_bytes 8 s.from) (replicate 31 0) (omega arith) in record {
-      size = ap length is ∙ length-written 15 (little_bytes 8 s.to) first (omega (arith, size)) ∙ size;
-      from =
-          moved_number 8 7 7 entry first (λ k l. ap (λ (e : List ℕ). get_or e (7 + k) 0) is ∙ get_or-written_before 15 (little_bytes 8 s.to) first (7 + k) (omega (arith, size)) (omega (arith, l)))
-          ∙ ap (little_from 7 8) was ∙ little_number-reads_back 8 s.from [] from;
-      to =
-          moved_number 8 15 0 entry (little_bytes 8 s.to ++ []) (λ k l.
-          let here : k ≡ 0 + k = omega arith in
-          ap (λ (e : List ℕ). get_or e (15 + k) 0) is ∙ get_or-written_there 15 (little_bytes 8 s.to) first k (omega (arith, size)) l ∙ (λ i. get_or (sym (append-nil (little_bytes 8 s.to)) i) (here i) 0))
-          ∙ little_number-reads_back 8 s.to [] to;
-    }
+pub is_entry : (s : Span) (entry : List ℕ) → s.from < 18446744073709551616 → s.to < 18446744073709551616 → entry ≡ drop 1 (entry_bytes s) → IsEntry s entry
+is_entry s entry from to is = record {
+  size = ap length is;
+  from = ap (little_from 7 8) is ∙ little_number-reads_back 8 s.from [] from;
+  to = ap (little_from 15 8) is ∙ little_number-reads_back 8 s.to [] to;
+}
 
 -- an entry is open where its gate is
 closed_none : (c : List ℕ) (id : ℕ) → is_open c (clip_at id) ≡ false → clip_in c id ≡ None
@@ -104,17 +94,21 @@ lock_done id s entry old e fits =
       holds = locked_there id s entry old _ e fits torn (ap (λ (k : ℕ). eqb k 0xA5) gate);
     }
 
-pub lock_moments : {T : Type 0} (id : ℕ) (s : Span) (at : ℕ) (entry : List ℕ) (old new : Medium) (r : Result T DiskFault) → at ≡ clip_at id → IsEntry s entry → clip_at id + 32 ≤ length old.bytes → clip_in old.bytes id ≡ None
-    → StoresInTurn (at + 1) entry at (165 ∷ []) old new r → LeavesOnly old new (ShowsClipOrNot id (Some s) old.bytes)
-lock_moments {T} id s at entry old new r is e fits closed stores =
-    let here : StoresInTurn {T = T} (clip_at id + 1) entry (clip_at id) (165 ∷ []) old new r = subst (λ (k : ℕ). StoresInTurn (k + 1) entry k (165 ∷ []) old new r) is stores in
-    weaker old new _ _ here.moments (λ c torn. lock_torn id s entry old.bytes c e fits closed torn)
+-- the gate behind its entry
+stores_there : {T : Type 0} (id at : ℕ) (entry gate : List ℕ) (old new : Medium) (r : Result T DiskFault) → at ≡ clip_at id → gate ≡ 165 ∷ []
+    → StoresInTurn (at + 1) entry at gate old new r → StoresInTurn (clip_at id + 1) entry (clip_at id) (165 ∷ []) old new r
+stores_there id at entry gate old new r is opens stores =
+    subst (λ (k : ℕ). StoresInTurn (k + 1) entry k (165 ∷ []) old new r) is (subst (λ (bytes : List ℕ). StoresInTurn (at + 1) entry at bytes old new r) opens stores)
 
-pub lock_ok : {T : Type 0} (id : ℕ) (s : Span) (at : ℕ) (entry : List ℕ) (old new : Medium) (r : Result T DiskFault) → at ≡ clip_at id → IsEntry s entry → clip_at id + 32 ≤ length old.bytes
-    → StoresInTurn (at + 1) entry at (165 ∷ []) old new r → OnOk r (ShowsClip id (Some s) old.bytes new.bytes)
-lock_ok {T} id s at entry old new r is e fits stores =
-    let here : StoresInTurn {T = T} (clip_at id + 1) entry (clip_at id) (165 ∷ []) old new r = subst (λ (k : ℕ). StoresInTurn (k + 1) entry k (165 ∷ []) old new r) is stores in
-    on_ok_weaker r (λ (d : new.bytes ≡ written (clip_at id) (165 ∷ []) (written (clip_at id + 1) entry old.bytes)). subst (ShowsClip id (Some s) old.bytes) (sym d) (lock_done id s entry old.bytes e fits)) here.done
+pub lock_moments : {T : Type 0} (id : ℕ) (s : Span) (at : ℕ) (entry gate : List ℕ) (old new : Medium) (r : Result T DiskFault) → at ≡ clip_at id → gate ≡ 165 ∷ [] → IsEntry s entry → clip_at id + 32 ≤ length old.bytes → clip_in old.bytes id ≡ None
+    → StoresInTurn (at + 1) entry at gate old new r → LeavesOnly old new (ShowsClipOrNot id (Some s) old.bytes)
+lock_moments id s at entry gate old new r is opens e fits closed stores =
+    weaker old new _ _ (stores_there id at entry gate old new r is opens stores).moments (λ c torn. lock_torn id s entry old.bytes c e fits closed torn)
+
+pub lock_ok : {T : Type 0} (id : ℕ) (s : Span) (at : ℕ) (entry gate : List ℕ) (old new : Medium) (r : Result T DiskFault) → at ≡ clip_at id → gate ≡ 165 ∷ [] → IsEntry s entry → clip_at id + 32 ≤ length old.bytes
+    → StoresInTurn (at + 1) entry at gate old new r → OnOk r (ShowsClip id (Some s) old.bytes new.bytes)
+lock_ok id s at entry gate old new r is opens e fits stores =
+    on_ok_weaker r (λ (d : new.bytes ≡ written (clip_at id) (165 ∷ []) (written (clip_at id + 1) entry old.bytes)). subst (ShowsClip id (Some s) old.bytes) (sym d) (lock_done id s entry old.bytes e fits)) (stores_there id at entry gate old new r is opens stores).done
 
 -- ---- an unlock
 

@@ -1,20 +1,18 @@
 // The clips of a store in memory: the place of a clip is its id.
-ghost use Rattle.std.specs.Prelude.{◌≡◌, ◌≢◌, ◌+◌, ◌*◌, ◌≤◌, ◌<◌, IfOk, IfSome, IsTrue, List, None, OnOk, Option, Some, is_some, length, map, not, position, replicate, slice_index_or, slice_set};
-ghost use Rattle.std.specs.List.{list_any, range_with_len};
+ghost use Rattle.std.specs.Prelude.{◌≡◌, ◌≢◌, ◌≤◌, ◌<◌, IfOk, IfSome, IsTrue, List, None, Option, Some, is_some, length, not, position, replicate, slice_index_or, slice_set};
+ghost use Rattle.std.specs.List.{list_any};
 ghost use Rattle.loop_clips.specs.Table.{IsFirstFree, ShowsClipOrNot, listed};
-ghost use Rattle.loop_disk.specs.Calls.{Called, Stays, failed_call};
 ghost use Rattle.loop_disk.specs.Medium.{IsSettled};
 ghost use Rattle.loop_disk.specs.Steps.{Changes};
 ghost use Rattle.loop_record.specs.Change.{ShowsClip};
-ghost use Rattle.loop_disk.specs.declared.fault.DiskFault.TheVariants.{Read};
 ghost use Rattle.loop_record.specs.declared.clip.Span.{Span};
 ghost use Rattle.loop_record.specs.Geometry.{clip_at, is_good};
-ghost use Rattle.loop_record.specs.Layout.{clip_in, entry_at};
+ghost use Rattle.loop_record.specs.Layout.{clip_in};
 ghost use Rattle.loop_record.specs.Recording.{meets, ring_of};
 
 use crate::Clip;
 use loop_disk::{Disk, DiskFault, store, store_in_turn};
-use loop_record::{CLIP_SIZE, Geometry, OPEN, SUPER_SIZE, Span, is_locked, put_u64, u64_at};
+use loop_record::{CLIP_SIZE, Geometry, SUPER_SIZE, Span, encode_clip, is_locked};
 use std::alloc::{AllocError, Allocator};
 use std::marker::Model;
 
@@ -50,22 +48,6 @@ impl ClipTable {
         ensures { result ≡ clips }
     {
         ClipTable { clips }
-    }
-
-    /// The clips whose entries are open on a disk of at least 2,560 bytes, as they stand there, sound or not:
-    /// one read, and no memory. Its only refusal is that the read fails.
-    pub fn read<D: Disk>(disk: &mut D) -> Result<ClipTable, DiskFault>
-        requires extent { 2560 ≤ (D.medium disk.old).size }
-        ensures clips { (D.medium disk.old).honest
-            → IfOk result (λ table. table ≡ map (clip_in (D.medium disk.old).bytes) (range_with_len 0 64)) }
-        ensures disk { (D.medium disk.old).honest → Stays (D.medium disk.old) (D.medium disk.new) }
-        ensures called { Called (D.medium disk.old) (D.medium disk.new) (failed_call result) }
-    {
-        let mut entries = [0; CLIPS * CLIP_SIZE];
-        disk.read(SUPER_SIZE as u64, &mut entries)?;
-        Ok(ClipTable {
-            clips: clips_of(&entries),
-        })
     }
 
     /// What stands under each id.
@@ -110,7 +92,10 @@ impl ClipTable {
             Changes (ShowsClipOrNot id (Some span) old.bytes) (ShowsClip id (Some span) old.bytes) old
             (D.medium disk.new) result }
     {
-        write_entry(disk, id, span.from, span.to)
+        let mut entry = [0; CLIP_SIZE];
+        encode_clip(span, &mut entry);
+        let at = entry_place(id);
+        store_in_turn(disk, at + 1, &entry[1..], at, &entry[..1])
     }
 
     /// Takes away the clip of an id: the entry's gate is closed, and a sync. At Ok it is gone; after a failure, as
@@ -173,47 +158,4 @@ fn entry_place(id: u32) -> u64
     ensures { result ≡ clip_at id }
 {
     SUPER_SIZE as u64 + u64::from(id) * CLIP_SIZE as u64
-}
-
-// Writes the entry of a clip and, once it is on the disk, opens its gate.
-fn write_entry<D: Disk>(disk: &mut D, id: u32, from: u64, to: u64) -> Result<(), DiskFault>
-    requires extent { 2560 ≤ (D.medium disk.old).size }
-    requires id { id < 64 }
-    requires settled { (D.medium disk.old).honest → IsSettled (D.medium disk.old) }
-    requires closed { (D.medium disk.old).honest → clip_in (D.medium disk.old).bytes id ≡ None }
-    ensures { let old = D.medium disk.old in let clip = Some (record { from = from; to = to }) in
-        Changes (ShowsClipOrNot id clip old.bytes) (ShowsClip id clip old.bytes) old (D.medium disk.new) result }
-{
-    // Everything behind the gate: zeros, the first number and the last one.
-    let mut entry = [0; CLIP_SIZE - 1];
-    put_u64(&mut entry, 7, from);
-    put_u64(&mut entry, 15, to);
-    let at = entry_place(id);
-    store_in_turn(disk, at + 1, &entry, at, &[OPEN])
-}
-
-// The clips in entries that lie one behind the other.
-fn clips_of(entries: &[u8]) -> [Option<Span>; CLIPS]
-    requires { length entries.now ≡ 2048 }
-    ensures { result ≡ map (λ id. entry_at entries.now (id * 32)) (range_with_len 0 64) }
-{
-    let mut clips = [None; CLIPS];
-    for id in 0..CLIPS {
-        clips[id] = clip_at(entries, id * CLIP_SIZE);
-    }
-    clips
-}
-
-// The clip in the entry at a place, if it is open.
-fn clip_at(bytes: &[u8], at: usize) -> Option<Span>
-    requires { at + 32 ≤ length bytes.now }
-    ensures { result ≡ entry_at bytes.now at }
-{
-    if bytes[at] != OPEN {
-        return None;
-    }
-    Some(Span {
-        from: u64_at(bytes, at + 8),
-        to: u64_at(bytes, at + 16),
-    })
 }

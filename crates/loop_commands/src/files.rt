@@ -204,9 +204,9 @@ fn is_exported<'a>(
         printed?;
         return Ok(());
     };
-    match fault.refusal() {
-        Some(refusal) => Err(Undone::Refused(refusal)),
-        None => Err(Undone::CannotWrite(target)),
+    match fault {
+        ExportFault::Store(refusal) => Err(Undone::Refused(refusal)),
+        ExportFault::Write => Err(Undone::CannotWrite(target)),
     }
 }
 

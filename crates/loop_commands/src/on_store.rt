@@ -138,16 +138,16 @@ fn refused_before<D: Disk + Drop, A: Allocator>(
     store: &Store<D, A>,
     from: u64,
     to: u64,
-) -> Option<ExportFault>
+) -> Option<StoreFault>
     ensures none { HoldsNone store.now.numbers from to → IsSome result }
-    ensures refused { IfSome result (λ fault. (fault ≡ ExportFault.MustReopen) ⊎ (fault ≡ ExportFault.NotHeld)) }
+    ensures refused { IfSome result (λ fault. (fault ≡ StoreFault.MustReopen) ⊎ (fault ≡ StoreFault.NotHeld)) }
 {
     if store.must_reopen() {
-        return Some(ExportFault::MustReopen);
+        return Some(StoreFault::MustReopen);
     }
     match store.next_held(from) {
         Some(number) if number <= to => None,
-        _ => Some(ExportFault::NotHeld),
+        _ => Some(StoreFault::NotHeld),
     }
 }
 
@@ -167,7 +167,7 @@ pub fn export_text<D: Disk + Drop, A: Allocator + Copy, W: Write + Drop>(
     ensures store { OnlyRead D.medium store.old store.new (failed_export result) }
 {
     let Ok(gathered) = BufWriter::with_capacity(alloc, TEXT_AT_ONCE, out) else {
-        return Err(ExportFault::NoMemory);
+        return Err(ExportFault::Store(StoreFault::NoMemory));
     };
     let mut text = EvenWriter::new(gathered, TEXT_AT_ONCE);
     let count = export(alloc, store, from, to, &mut text)?;
@@ -204,7 +204,7 @@ fn export_into<D: Disk + Drop, A: Allocator + Copy, T: Target + Drop>(
 {
     if let Some(fault) = refused_before(store, from, to) {
         return Err(NotExported {
-            fault,
+            fault: ExportFault::Store(fault),
             target: Some(target),
         });
     }

@@ -11,14 +11,13 @@ use Rattle.loop_record.specs.declared.damage.LayoutFault.TheVariants.{NotFormatt
 use Rattle.loop_record.specs.declared.geometry.PixelFormat.{PixelFormat}
 use Rattle.loop_record.specs.declared.geometry.PixelFormat.TheVariants.{Grey, Ym12, Ym16, Ym24}
 use Rattle.loop_record.specs.declared.geometry.Geometry.{Geometry}
-use Rattle.loop_record.specs.Geometry.{frame_bytes, is_good, segment_at, slot_at, clip_at}
+use Rattle.loop_record.specs.Geometry.{format_named, frame_bytes, is_good, segment_at, slot_at, clip_at}
 use Rattle.loop_record.specs.Recording.{Picture, empty, head}
-use Rattle.loop_record.specs.Layout.{magic, format_bytes, has_bytes, format_at, geometry_fields, checked_geometry, is_open, open_gates, whole_frames, segment_in, entry_at, clip_in, header_at, super_bytes, header_bytes, entry_bytes, geometry_in, slot_in, slot_bytes, slot_head}
+use Rattle.loop_record.specs.Layout.{magic, has_bytes, format_at, geometry_fields, checked_geometry, is_open, open_gates, whole_frames, segment_in, entry_at, clip_in, header_at, super_bytes, header_bytes, entry_bytes, geometry_in, slot_in, slot_bytes, slot_head}
 use Rattle.loop_record.specs.Reading.{checked, by_block, opened, begun, Holds, IsFreshImage}
 use Rattle.loop_record.specs.Laws.{FitsSlot, WrittenIsRead}
 use Rattle.loop_record.proofs.Bounds.{limits}
 use Rattle.loop_record.proofs.Decided.{equal_test, at_most_test}
-use Rattle.loop_record.proofs.Fields.{length-format_bytes}
 use Rattle.loop_record.proofs.Framing.{map_range, prefix_range}
 use Rattle.loop_record.proofs.Gates.{open_gates-are}
 use Rattle.loop_record.proofs.Parts.{stages-reading}
@@ -114,9 +113,7 @@ geometry_in-slice image room = λ i. cond (whole i && gate i && name i) (geometr
     name = bytes-slice 0 512 image 1 magic (omega arith)
 
     format : format_at cut 20 ≡ format_at image 20
-    format =
-        let named : (f : PixelFormat) → has_bytes cut 20 (format_bytes f) ≡ has_bytes image 20 (format_bytes f) = λ f. bytes-slice 0 512 image 20 (format_bytes f) (omega (arith, length-format_bytes f)) in
-        λ i. cond (named Grey i) (Some Grey) (cond (named Ym12 i) (Some Ym12) (cond (named Ym16 i) (Some Ym16) (cond (named Ym24 i) (Some Ym24) None)))
+    format = ap format_named (ap (take 4) (drop-take 20 492 image) ∙ take-take 4 492 (drop 20 image) (omega arith))
 
     field : (at : ℕ) → at + 4 ≤ 512 → little_from at 4 cut ≡ little_from at 4 image
     field at h =

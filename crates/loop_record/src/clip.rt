@@ -1,10 +1,10 @@
 //! Clips, and the entries of the clip table.
 
 ghost use Rattle.std.specs.Prelude.{◌≡◌, ◌≤◌, length};
-ghost use Rattle.loop_record.specs.Layout.{entry_at, checked_clip};
+ghost use Rattle.loop_record.specs.Layout.{entry_at, entry_bytes, checked_clip};
 
 use crate::Damage;
-use crate::numbers::{OPEN, u64_at};
+use crate::numbers::{OPEN, put, put_u64, u64_at};
 
 /// The bytes of an entry of the clip table.
 pub const CLIP_SIZE: usize = 32;
@@ -19,6 +19,18 @@ pub struct Span {
     pub from: u64,
     /// The last number.
     pub to: u64,
+}
+
+/// Writes the open entry of a clip into 32 bytes.
+pub fn encode_clip(span: Span, out: &mut [u8])
+    requires { length out.old ≡ 32 }
+    ensures { out.new ≡ entry_bytes span }
+{
+    put(out, 0, &[OPEN]);
+    put(out, 1, &[0; 7]);
+    put_u64(out, 8, span.from);
+    put_u64(out, 16, span.to);
+    put(out, 24, &[0; 8]);
 }
 
 /// The clip in an entry, of which the first 32 bytes are looked at: nothing where its gate is closed, `ClipRange`

@@ -1,6 +1,6 @@
-//! Which blocks clips lock, and which may go.
+//! Which blocks clips lock.
 
-ghost use Rattle.std.specs.Prelude.{◌≡◌, ◌==◌, ◌&&◌, not, IsTrue};
+ghost use Rattle.std.specs.Prelude.{◌≡◌, IsTrue};
 ghost use Rattle.std.specs.List.{list_any};
 ghost use Rattle.loop_record.specs.Geometry.{is_good};
 ghost use Rattle.loop_record.specs.Recording.{block, meets, ring_of};
@@ -36,12 +36,4 @@ pub fn is_locked(geometry: &Geometry, wanted: u64, clips: &[Option<Span>]) -> bo
     ensures { result ≡ list_any (meets (ring_of geometry.now) wanted) clips.now }
 {
     clips.iter().any(|clip| meets(geometry, wanted, *clip))
-}
-
-/// Whether a block isn't the newest, and no clip meets it.
-pub fn may_go(geometry: &Geometry, clips: &[Option<Span>], newest: u64, wanted: u64) -> bool
-    requires { IsTrue (is_good geometry.now) }
-    ensures { result ≡ (not (wanted == newest) && not (list_any (meets (ring_of geometry.now) wanted) clips.now)) }
-{
-    wanted != newest && !is_locked(geometry, wanted, clips)
 }

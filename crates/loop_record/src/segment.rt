@@ -2,9 +2,9 @@
 
 ghost use Rattle.std.specs.Prelude.{◌≡◌, ◌+◌, ◌≤◌, IsTrue, length};
 ghost use Rattle.loop_record.specs.Geometry.{is_good};
-ghost use Rattle.loop_record.specs.Layout.{header_at, checked_header, open_gates};
+ghost use Rattle.loop_record.specs.Layout.{header_at, header_bytes, checked_header, open_gates};
 
-use crate::numbers::{OPEN, u64_at};
+use crate::numbers::{OPEN, put, put_u64, u64_at};
 use crate::{Damage, Geometry};
 
 /// The bytes of a segment before its first slot.
@@ -23,6 +23,17 @@ pub struct SegmentHead {
     pub block: u64,
     /// How many frames are whole: the open frame gates before the first closed one.
     pub frames: u32,
+}
+
+/// Writes the open header of a segment that holds this block, without a frame yet, into 512 bytes.
+pub fn encode_header(block: u64, out: &mut [u8])
+    requires { length out.old ≡ 512 }
+    ensures { out.new ≡ header_bytes block }
+{
+    put(out, 0, &[OPEN]);
+    put(out, 1, &[0; 7]);
+    put_u64(out, 8, block);
+    put(out, 16, &[0; 496]);
 }
 
 /// What the header of a segment says, of which the first 512 bytes are looked at: nothing where its gate is closed,

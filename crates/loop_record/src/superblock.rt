@@ -3,7 +3,7 @@
 ghost use Rattle.std.specs.Prelude.{◌==◌, ◌≡◌, ◌+◌, ◌≤◌, IsTrue, length};
 ghost use Rattle.std.specs.List.{list_all};
 ghost use Rattle.loop_record.specs.Geometry.{is_good};
-ghost use Rattle.loop_record.specs.Layout.{super_bytes, geometry_in, format_bytes, format_at, geometry_fields, is_super_of};
+ghost use Rattle.loop_record.specs.Layout.{super_bytes, geometry_in, geometry_fields, is_super_of};
 
 use crate::numbers::{OPEN, has_bytes, put, put_u32, u32_at};
 use crate::{Damage, Geometry, LayoutFault, PixelFormat};
@@ -16,38 +16,6 @@ const VERSION: u32 = 1;
 
 /// The bytes behind the superblock's gate.
 const MAGIC: [u8; 7] = *b"LOOPREC";
-
-impl PixelFormat {
-    /// The name in the superblock.
-    fn name(self) -> [u8; 4]
-        ensures { result ≡ format_bytes self }
-    {
-        match self {
-            PixelFormat::Grey => *b"GREY",
-            PixelFormat::Ym12 => *b"YM12",
-            PixelFormat::Ym16 => *b"YM16",
-            PixelFormat::Ym24 => *b"YM24",
-        }
-    }
-
-    /// The format whose name stands at a place.
-    fn named(bytes: &[u8], at: usize) -> Option<PixelFormat>
-        requires { at + 4 ≤ length bytes.now }
-        ensures { result ≡ format_at bytes.now at }
-    {
-        if has_bytes(bytes, at, &PixelFormat::Grey.name()) {
-            Some(PixelFormat::Grey)
-        } else if has_bytes(bytes, at, &PixelFormat::Ym12.name()) {
-            Some(PixelFormat::Ym12)
-        } else if has_bytes(bytes, at, &PixelFormat::Ym16.name()) {
-            Some(PixelFormat::Ym16)
-        } else if has_bytes(bytes, at, &PixelFormat::Ym24.name()) {
-            Some(PixelFormat::Ym24)
-        } else {
-            None
-        }
-    }
-}
 
 /// Writes an open superblock into 512 bytes.
 pub fn encode_super(geometry: &Geometry, out: &mut [u8])
@@ -79,7 +47,7 @@ pub fn decode_super(bytes: &[u8]) -> Result<Geometry, LayoutFault>
     if bytes.len() < SUPER_SIZE || bytes[0] != OPEN || !has_bytes(bytes, 1, &MAGIC) {
         return Err(LayoutFault::NotFormatted);
     }
-    let Some(format) = PixelFormat::named(bytes, 20) else {
+    let Some(format) = PixelFormat::named(&bytes[20..24]) else {
         return Err(LayoutFault::Damaged(Damage::Superblock));
     };
     let geometry = geometry_fields(bytes, format);

@@ -1,8 +1,10 @@
 -- What opening a segment for a block makes of it.
-use Rattle.std.proofs.Common.{◌≡◌, inl, inr, ℕ, zero, suc, ◌+◌, ◌≤◌, ◌<◌, Bool, true, false, cond, eqb, Some, None, Result, OnOk, List, [], ◌∷◌, length, get_or, map, refl, sym, ap, ◌∙◌, subst, arith}
+use Rattle.std.proofs.Common.{◌≡◌, inl, inr, ℕ, zero, suc, ◌+◌, ◌≤◌, ◌<◌, Bool, true, false, cond, eqb, Some, None, Result, OnOk, List, [], ◌∷◌, length, drop, get_or, map, refl, sym, ap, ◌∙◌, subst, arith}
+use Rattle.std.proofs.lemmas.List.{get_or-drop, get_or-replicate}
 use Rattle.std.proofs.lemmas.Result.{on_ok_weaker}
 use Rattle.std.specs.List.{range_with_len, prefix_len}
 use Rattle.byteorder.specs.Endian.{little_from}
+use Rattle.byteorder.specs.Numbers.{little_number-reads_back}
 use Rattle.loop_disk.specs.declared.fault.DiskFault.{DiskFault}
 use Rattle.loop_disk.specs.Medium.{Medium, written, SameOutside, LeavesOnly}
 use Rattle.loop_disk.specs.Steps.{TornInTurn, StoresInTurn}
@@ -11,7 +13,7 @@ use Rattle.loop_disk.proofs.Images.{length-written, get_or-written_there, writte
 use Rattle.loop_record.specs.declared.geometry.Geometry.{Geometry}
 use Rattle.loop_record.specs.Change.{ShowsSegment}
 use Rattle.loop_record.specs.Geometry.{frame_bytes, segment_size, segment_at, gate_at, slot_at}
-use Rattle.loop_record.specs.Layout.{is_open, slot_in, whole_frames, segment_in}
+use Rattle.loop_record.specs.Layout.{header_bytes, is_open, slot_in, whole_frames, segment_in}
 use Rattle.loop_record.specs.Reading.{begun}
 use Rattle.loop_record.proofs.Fields.{moved_number}
 use Rattle.loop_ring.specs.Writes.{ShowsOrNot, HasNoStray}
@@ -22,6 +24,13 @@ pub record IsHeader (block : ℕ) (header : List ℕ) : Type 0 where
   pub size : length header ≡ 511
   pub number : little_from 7 8 header ≡ block
   pub gates : (i : ℕ) → i < 256 → get_or header (255 + i) 0 ≡ 0
+
+pub is_header : (block : ℕ) (header : List ℕ) → block < 18446744073709551616 → header ≡ drop 1 (header_bytes block) → IsHeader block header
+is_header block header fits is = record {
+  size = ap length is;
+  number = ap (little_from 7 8) is ∙ little_number-reads_back 8 block [] fits;
+  gates = λ i l. ap (λ h. get_or h (255 + i) 0) is ∙ sym (get_or-drop 255 (drop 1 (header_bytes block)) i 0) ∙ get_or-replicate 256 i 0 0 l;
+}
 
 whole_none : (g : Geometry) (c : List ℕ) (j : ℕ) → ((i : ℕ) → i < g.slots → is_open c (gate_at g j i) ≡ false) → whole_frames g c j ≡ 0
 whole_none g c j closed = go g.slots (λ i. is_open c (gate_at g j i)) closed
@@ -95,20 +104,25 @@ begin_stray g j block header old h few fits i low l = gates_closed g j block hea
 
 -- ---- what the call says
 
-pub begin_moments : {T : Type 0} (g : Geometry) (j block at : ℕ) (header : List ℕ) (old new : Medium) (r : Result T DiskFault) → at ≡ segment_at g j → IsHeader block header → g.slots ≤ 256 → segment_at g j + 512 ≤ length old.bytes → segment_in g old.bytes j ≡ None
-    → StoresInTurn (at + 1) header at (165 ∷ []) old new r → LeavesOnly old new (ShowsOrNot g j (Some (begun block)) old.bytes)
-begin_moments g j block at header old new r is h few fits closed stores =
-    weaker old new _ _ stores.moments (λ c torn. begin_torn g j block header old.bytes c h few fits closed (torn_at (at + 1) at (segment_at g j + 1) (segment_at g j) 1 1 header old.bytes c (ap (λ (k : ℕ). k + 1) is) is refl torn))
+-- the gate behind its header
+stores_open : {T : Type 0} (at : ℕ) (header gate : List ℕ) (old new : Medium) (r : Result T DiskFault) → gate ≡ 165 ∷ []
+    → StoresInTurn (at + 1) header at gate old new r → StoresInTurn (at + 1) header at (165 ∷ []) old new r
+stores_open at header gate old new r opens stores = subst (λ (bytes : List ℕ). StoresInTurn (at + 1) header at bytes old new r) opens stores
+
+pub begin_moments : {T : Type 0} (g : Geometry) (j block at : ℕ) (header gate : List ℕ) (old new : Medium) (r : Result T DiskFault) → at ≡ segment_at g j → gate ≡ 165 ∷ [] → IsHeader block header → g.slots ≤ 256 → segment_at g j + 512 ≤ length old.bytes → segment_in g old.bytes j ≡ None
+    → StoresInTurn (at + 1) header at gate old new r → LeavesOnly old new (ShowsOrNot g j (Some (begun block)) old.bytes)
+begin_moments g j block at header gate old new r is opens h few fits closed stores =
+    weaker old new _ _ (stores_open at header gate old new r opens stores).moments (λ c torn. begin_torn g j block header old.bytes c h few fits closed (torn_at (at + 1) at (segment_at g j + 1) (segment_at g j) 1 1 header old.bytes c (ap (λ (k : ℕ). k + 1) is) is refl torn))
 
 begin_is : (g : Geometry) (j at : ℕ) (header old new : List ℕ) → at ≡ segment_at g j → new ≡ written at (165 ∷ []) (written (at + 1) header old) → written (segment_at g j) (165 ∷ []) (written (segment_at g j + 1) header old) ≡ new
 begin_is g j at header old new is e = sym (e ∙ ap (λ (k : ℕ). written k (165 ∷ []) (written (k + 1) header old)) is)
 
-pub begin_ok : {T : Type 0} (g : Geometry) (j block at : ℕ) (header : List ℕ) (old new : Medium) (r : Result T DiskFault) → at ≡ segment_at g j → IsHeader block header → g.slots ≤ 256 → segment_at g j + 512 ≤ length old.bytes
-    → StoresInTurn (at + 1) header at (165 ∷ []) old new r → OnOk r (ShowsSegment g j (Some (begun block)) old.bytes new.bytes)
-begin_ok g j block at header old new r is h few fits stores =
-    on_ok_weaker r (λ (e : new.bytes ≡ written at (165 ∷ []) (written (at + 1) header old.bytes)). subst (ShowsSegment g j (Some (begun block)) old.bytes) (begin_is g j at header old.bytes new.bytes is e) (begin_done g j block header old.bytes h few fits)) stores.done
+pub begin_ok : {T : Type 0} (g : Geometry) (j block at : ℕ) (header gate : List ℕ) (old new : Medium) (r : Result T DiskFault) → at ≡ segment_at g j → gate ≡ 165 ∷ [] → IsHeader block header → g.slots ≤ 256 → segment_at g j + 512 ≤ length old.bytes
+    → StoresInTurn (at + 1) header at gate old new r → OnOk r (ShowsSegment g j (Some (begun block)) old.bytes new.bytes)
+begin_ok g j block at header gate old new r is opens h few fits stores =
+    on_ok_weaker r (λ (e : new.bytes ≡ written at (165 ∷ []) (written (at + 1) header old.bytes)). subst (ShowsSegment g j (Some (begun block)) old.bytes) (begin_is g j at header old.bytes new.bytes is e) (begin_done g j block header old.bytes h few fits)) (stores_open at header gate old new r opens stores).done
 
-pub begin_stray_ok : {T : Type 0} (g : Geometry) (j block at : ℕ) (header : List ℕ) (old new : Medium) (r : Result T DiskFault) → at ≡ segment_at g j → IsHeader block header → g.slots ≤ 256 → segment_at g j + 512 ≤ length old.bytes
-    → StoresInTurn (at + 1) header at (165 ∷ []) old new r → OnOk r (HasNoStray g j new.bytes)
-begin_stray_ok g j block at header old new r is h few fits stores =
-    on_ok_weaker r (λ (e : new.bytes ≡ written at (165 ∷ []) (written (at + 1) header old.bytes)). subst (HasNoStray g j) (begin_is g j at header old.bytes new.bytes is e) (begin_stray g j block header old.bytes h few fits)) stores.done
+pub begin_stray_ok : {T : Type 0} (g : Geometry) (j block at : ℕ) (header gate : List ℕ) (old new : Medium) (r : Result T DiskFault) → at ≡ segment_at g j → gate ≡ 165 ∷ [] → IsHeader block header → g.slots ≤ 256 → segment_at g j + 512 ≤ length old.bytes
+    → StoresInTurn (at + 1) header at gate old new r → OnOk r (HasNoStray g j new.bytes)
+begin_stray_ok g j block at header gate old new r is opens h few fits stores =
+    on_ok_weaker r (λ (e : new.bytes ≡ written at (165 ∷ []) (written (at + 1) header old.bytes)). subst (HasNoStray g j) (begin_is g j at header old.bytes new.bytes is e) (begin_stray g j block header old.bytes h few fits)) (stores_open at header gate old new r opens stores).done

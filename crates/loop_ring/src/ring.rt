@@ -14,7 +14,9 @@ ghost use Rattle.loop_ring.specs.Writes.{HasNoStray, ShowsBeginning, ShowsFrames
 use crate::group::MAX_GROUP;
 use crate::{Group, SlotFault};
 use loop_disk::{Disk, DiskFault, store, store_in_turn};
-use loop_record::{Damage, FrameHead, Geometry, HEAD_SIZE, OPEN, decode_head, put_u64};
+use loop_record::{
+    Damage, FrameHead, Geometry, HEAD_SIZE, HEADER_SIZE, OPEN, decode_head, encode_header,
+};
 use std::alloc::Allocator;
 
 /// The segments of a store's ring.
@@ -65,12 +67,11 @@ impl Ring {
             (λ image. ShowsSegment g segment (Some (begun block)) old.bytes image × HasNoStray g segment image)
             old (D.medium disk.new) result }
     {
-        // Everything behind the gate: zeros, so that no frame gate stays open from an earlier block, and the
-        // block's number.
-        let mut header = [0; 511];
-        put_u64(&mut header, 7, block);
+        // Whole, with its closed frame gates, so that none stays open from an earlier block.
+        let mut header = [0; HEADER_SIZE];
+        encode_header(block, &mut header);
         let at = self.geometry.segment_at(segment);
-        store_in_turn(disk, at + 1, &header, at, &[OPEN])
+        store_in_turn(disk, at + 1, &header[1..], at, &header[..1])
     }
 
     /// Adds the frames of a group to a segment, behind its whole frames, of which there are as many as

@@ -1,13 +1,9 @@
 -- The frames of the pattern.
-use Rattle.std.specs.Prelude.{ℕ, ◌+◌, ◌-◌, ◌*◌, ◌/◌, ◌%◌, ◌^◌, min, List, map}
-use Rattle.std.specs.List.{range_with_len}
+use Rattle.std.specs.Prelude.{ℕ, ◌-◌, ◌*◌, ◌/◌, ◌%◌, ◌^◌, min}
 use Rattle.loop_record.specs.declared.geometry.Geometry.{Geometry}
 use Rattle.loop_record.specs.Geometry.{frame_bytes}
+use Rattle.loop_record.specs.Pattern.{pattern_bytes}
 use Rattle.loop_record.specs.Recording.{Picture}
-
--- the first bytes of frame n: byte i is n + i, modulo 256
-abbrev pub pattern_bytes : ℕ → ℕ → List ℕ
-pattern_bytes n size = map (λ i. (n + i) % 256) (range_with_len 0 size)
 
 -- when frame n is taken, in microseconds, at num / den frames a second: rounded down, and at most 2^64 - 1
 abbrev pub timestamp_of : ℕ → ℕ → ℕ → ℕ

@@ -10,7 +10,7 @@ use Rattle.loop_script.specs.declared.command.Command.{Command}
 use Rattle.loop_script.specs.declared.command.Command.TheVariants.{Format, Store, Submit, Flush, Read, Lock, Unlock, List as ListAll, Reopen}
 use Rattle.loop_record.specs.declared.geometry.Geometry.{Geometry}
 use Rattle.loop_record.specs.declared.geometry.PixelFormat.{PixelFormat}
-use Rattle.loop_record.specs.declared.geometry.PixelFormat.TheVariants.{Grey, Ym12, Ym16, Ym24}
+use Rattle.loop_record.specs.Geometry.{format_named}
 
 -- 1 to 20 decimal digits
 abbrev pub is_numeral : List ℕ → Bool
@@ -38,29 +38,30 @@ abbrev pub behind : Option (Bor (List ℕ)) → List (List ℕ)
 behind None = []
 behind (Some rest) = words rest.now
 
--- the pixel format of this name
-abbrev pub format_named : List ℕ → Option PixelFormat
-format_named name =
-    if bytes_eq name (codes "GREY") then Some Grey
-    else if bytes_eq name (codes "YM12") then Some Ym12
-    else if bytes_eq name (codes "YM16") then Some Ym16
-    else if bytes_eq name (codes "YM24") then Some Ym24 else None
-
 -- a rate: the numbers before and behind the colon
 abbrev pub rate_said : List ℕ → Option (ℕ × ℕ)
 rate_said word =
     option_zip (small_number (before_first (λ b. b == 58) word)) (small_number (after_first (λ b. b == 58) word))
 
 -- the geometry of these parts, where there is each of them
-abbrev pub geometry_of : Option ℕ → Option ℕ → Option PixelFormat → Option (ℕ × ℕ) → Option ℕ → Option ℕ → Option Geometry
-geometry_of (Some width) (Some height) (Some format) (Some rate) (Some segments) (Some slots) =
-    Some (record { width = width; height = height; format = format; rate_num = rate.0; rate_den = rate.1; segments = segments; slots = slots })
+abbrev pub geometry_of
+    : Option ℕ → Option ℕ → Option PixelFormat → Option (ℕ × ℕ) → Option ℕ → Option ℕ → Option Geometry
+geometry_of (Some width) (Some height) (Some format) (Some rate) (Some segments) (Some slots) = Some (record {
+  width = width;
+  height = height;
+  format = format;
+  rate_num = rate.0;
+  rate_den = rate.1;
+  segments = segments;
+  slots = slots;
+})
 geometry_of _ _ _ _ _ _ = None
 
 -- the geometry that six words name: width, height, pixel format, rate, segments, slots
 abbrev pub geometry_said : List (List ℕ) → Option Geometry
 geometry_said (width ∷ height ∷ format ∷ rate ∷ segments ∷ slots ∷ []) =
-    geometry_of (small_number width) (small_number height) (format_named format) (rate_said rate) (small_number segments) (small_number slots)
+    geometry_of (small_number width) (small_number height) (format_named format) (rate_said rate)
+    (small_number segments) (small_number slots)
 geometry_said _ = None
 
 -- what two words ask for: a name and a number

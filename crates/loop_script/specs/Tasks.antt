@@ -7,7 +7,8 @@ use Rattle.loop_script.specs.declared.task.FileCommand.{FileCommand}
 use Rattle.loop_script.specs.declared.task.FileCommand.TheVariants.{Export, Format, List as ListAll, Lock, Unlock}
 use Rattle.loop_script.specs.declared.task.Task.{Task}
 use Rattle.loop_script.specs.declared.task.Task.TheVariants.{OnFile, Record, Simulate}
-use Rattle.loop_script.specs.Script.{format_named, geometry_of, number, rate_said, small_number}
+use Rattle.loop_record.specs.Geometry.{format_named}
+use Rattle.loop_script.specs.Script.{geometry_of, number, rate_said, small_number}
 
 -- what a name and the words behind the path of a file ask for
 abbrev pub on_file_said : List ℕ → List (Bor (List ℕ)) → Option FileCommand

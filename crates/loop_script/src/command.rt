@@ -1,6 +1,7 @@
 // The lines of a script.
 ghost use Rattle.std.specs.Prelude.{◌≡◌, ◌∷◌};
-ghost use Rattle.loop_script.specs.Script.{behind, counted_said, format_named, geometry_of, geometry_said, lock_said, named_said, rate_said, said, small_number as said_number, words};
+ghost use Rattle.loop_record.specs.Geometry.{format_named};
+ghost use Rattle.loop_script.specs.Script.{behind, counted_said, geometry_of, geometry_said, lock_said, named_said, rate_said, said, small_number as said_number, words};
 
 use crate::number::{number, small_number};
 use loop_record::{Geometry, PixelFormat};
@@ -123,7 +124,7 @@ pub fn geometry_in(
 {
     let width = small_number(width)?;
     let height = small_number(height)?;
-    let format = pixel_format(format)?;
+    let format = PixelFormat::named(format.as_bytes())?;
     let (rate_num, rate_den) = frame_rate(rate)?;
     Some(Geometry {
         width,
@@ -142,16 +143,4 @@ fn frame_rate(word: &str) -> Option<(u32, u32)>
 {
     let (num, den) = word.split_once(':')?;
     Some((small_number(num)?, small_number(den)?))
-}
-
-fn pixel_format(word: &str) -> Option<PixelFormat>
-    ensures { result ≡ format_named word.now }
-{
-    match word {
-        "GREY" => Some(PixelFormat::Grey),
-        "YM12" => Some(PixelFormat::Ym12),
-        "YM16" => Some(PixelFormat::Ym16),
-        "YM24" => Some(PixelFormat::Ym24),
-        _ => None,
-    }
 }

@@ -25,9 +25,7 @@ pub use command::{Command, read_command};
 pub use lines::{BadLine, MAX_LINE, next_line};
 pub use listing::Listing;
 pub use number::small_number;
-pub use pattern::{
-    PATTERN_FLAGS, fill_pattern, pattern_frame, pattern_sequence, pattern_timestamp,
-};
+pub use pattern::{PATTERN_FLAGS, pattern_frame, pattern_sequence, pattern_timestamp};
 pub use print::{print_line, print_parts};
 pub use refusal::{RefusalWords, print_refusal};
 pub use runs::run_length;

@@ -2,26 +2,15 @@
 ghost use Rattle.std.specs.Prelude.{◌≡◌, ◌<◌, ◌%◌, ◌^◌, IfOk, IsTrue, length};
 ghost use Rattle.loop_record.specs.Geometry.{frame_bytes, is_good};
 ghost use Rattle.loop_record.specs.Recording.{picture};
-ghost use Rattle.loop_script.specs.Pattern.{pattern_bytes, pattern_picture, timestamp_of};
+ghost use Rattle.loop_script.specs.Pattern.{pattern_picture, timestamp_of};
 
 use loop_desk::frame_memory;
-use loop_record::{Frame, Geometry};
+use loop_record::{Frame, Geometry, fill_pattern};
 use std::alloc::{AllocError, Allocator};
 
 /// The flags of each frame of the pattern: a monotonic timestamp, taken at the end of the frame, as the V4L2 userspace
 /// API has it.
 pub const PATTERN_FLAGS: u32 = 0x2000;
-
-/// Makes a row of bytes those of frame `n`: byte i is `n + i`, modulo 256.
-pub fn fill_pattern(bytes: &mut [u8], n: u64)
-    ensures { bytes.new ≡ pattern_bytes n (length bytes.old) }
-{
-    let mut value = (n % 256) as u8;
-    for byte in bytes {
-        *byte = value;
-        value = value.wrapping_add(1);
-    }
-}
 
 /// The sequence of frame `n`, modulo 2^32.
 pub fn pattern_sequence(n: u64) -> u32

@@ -73,9 +73,9 @@ impl<A: Allocator + Copy> Session<A> {
         }
     }
 
-    /// Makes the next frame of the pattern, in memory that the desk kept or new, and submits it; answers the number that
-    /// it will have. It answers NoMemory, PendingFull or NumbersSpent; then nothing is changed, and the frame isn't
-    /// accepted, so the next call makes it again.
+    /// Makes the next frame of the pattern, in memory that the desk kept or new, and submits it; answers the number
+    /// that it will have. It answers NoMemory, PendingFull or NumbersSpent; then nothing is changed, and the frame
+    /// isn't accepted, so the next call makes it again.
     pub fn submit_next(&mut self, alloc: A) -> Result<u64, StoreFault>
         ensures goes { DeskGoes ⟦<MemDisk<A> as Disk>⟧.medium self.old.desk self.new.desk
             (calls_of_submit self.old.desk.store.geometry self.old.accepted result) }

@@ -13,6 +13,7 @@ use Rattle.loop_record.specs.declared.geometry.Geometry.{Geometry}
 use Rattle.loop_store.specs.Seen.{Seen, StandsFor}
 use Rattle.loop_store.proofs.Looks.{looked-stands, stays_on}
 use Rattle.loop_y4m.specs.declared.fault.ExportFault.{ExportFault}
+use Rattle.loop_store.specs.declared.fault.StoreFault.TheVariants as store
 use Rattle.loop_y4m.specs.declared.fault.ExportFault.TheVariants as export
 use Rattle.loop_y4m.specs.Export.{IsExport, OnlyRead, Stopped, frames_between}
 use Rattle.loop_y4m.specs.Steps.{IsFirstBetween, Moved, MovedAll}
@@ -48,12 +49,9 @@ some_later old mid new done more rest whole first some is =
     (done ++ some.0, some.1 ++ rest, is ∙ ap (λ (m : List ℕ). done ++ (m ++ rest)) some.2 ∙ four done some.0 some.1 rest, Appends-trans old mid new done some.0 first some.3)
 
 pub stopped_later : (old mid new : Option (List ℕ)) (fault : ExportFault) (done more rest whole : List ℕ) → Appends old mid done → Stopped fault mid new more → whole ≡ done ++ (more ++ rest) → Stopped fault old new whole
-stopped_later old mid new (export.Disk fault) done more rest whole first some is = some_later old mid new done more rest whole first some is
+stopped_later old mid new (export.Store (store.Disk fault)) done more rest whole first some is = some_later old mid new done more rest whole first some is
 stopped_later old mid new export.Write done more rest whole first some is = some_later old mid new done more rest whole first some is
-stopped_later old mid new export.MustReopen done more rest whole first some is = elim some [ ]
-stopped_later old mid new export.NotHeld done more rest whole first some is = elim some [ ]
-stopped_later old mid new export.NoMemory done more rest whole first some is = elim some [ ]
-stopped_later old mid new (export.Damaged damage) done more rest whole first some is = elim some [ ]
+stopped_later old mid new _ done more rest whole first some is = elim some [ ]
 
 -- a fault that was handed on
 pub stopped_on : {T : Type 0} (old new : Option (List ℕ)) (result : Result T ExportFault) (fault : ExportFault) (bytes : List ℕ) → IsErrAnd result (λ made. made ≡ fault) → Stopped fault old new bytes → Moved old new result bytes
@@ -80,7 +78,7 @@ some_frames r from first to inner rise is none =
     never x xs e = absurd cc
 
 -- memory was refused
-pub unwritten : (g : Geometry) (must_reopen : Bool) (frames : List (List ℕ)) (held : Option (List ℕ)) (result : Result ℕ ExportFault) → must_reopen ≡ false → frames ≢ [] → IsErrAnd result (λ made. made ≡ export.NoMemory) → IsExport g must_reopen frames held held result
+pub unwritten : (g : Geometry) (must_reopen : Bool) (frames : List (List ℕ)) (held : Option (List ℕ)) (result : Result ℕ ExportFault) → must_reopen ≡ false → frames ≢ [] → IsErrAnd result (λ made. made ≡ export.Store store.NoMemory) → IsExport g must_reopen frames held held result
 unwritten g must_reopen frames held (Ok count) fine some failed = absurd failed
 unwritten g must_reopen frames held (Err fault) fine some failed = subst (λ (f : ExportFault). IsExport g must_reopen frames held held (Err f)) (sym failed) (fine, (some, refl))
 
@@ -95,9 +93,6 @@ unheaded g must_reopen frames old new (Err fault) fine some failed given =
 pub headed : (g : Geometry) (must_reopen : Bool) (frames : List (List ℕ)) (old mid new : Option (List ℕ)) (result : Result ℕ ExportFault) → must_reopen ≡ false → frames ≢ [] → Appends old mid (header g) → MovedAll mid new result frames
     → IsExport g must_reopen frames old new result
 headed g must_reopen frames old mid new (Ok count) fine some first moved = (fine, (some, (Appends-trans old mid new (header g) (flat_map frame frames) first moved.0, moved.1)))
-headed g must_reopen frames old mid new (Err (export.Disk fault)) fine some first moved = (fine, (some, some_later old mid new (header g) (flat_map frame frames) [] (text g frames) first moved.0 (ap (λ (l : List ℕ). header g ++ l) (sym (append-nil (flat_map frame frames))))))
+headed g must_reopen frames old mid new (Err (export.Store (store.Disk fault))) fine some first moved = (fine, (some, some_later old mid new (header g) (flat_map frame frames) [] (text g frames) first moved.0 (ap (λ (l : List ℕ). header g ++ l) (sym (append-nil (flat_map frame frames))))))
 headed g must_reopen frames old mid new (Err export.Write) fine some first moved = (fine, (some, some_later old mid new (header g) (flat_map frame frames) [] (text g frames) first moved.0 (ap (λ (l : List ℕ). header g ++ l) (sym (append-nil (flat_map frame frames))))))
-headed g must_reopen frames old mid new (Err export.MustReopen) fine some first moved = elim moved.0 [ ]
-headed g must_reopen frames old mid new (Err export.NotHeld) fine some first moved = elim moved.0 [ ]
-headed g must_reopen frames old mid new (Err export.NoMemory) fine some first moved = elim moved.0 [ ]
-headed g must_reopen frames old mid new (Err (export.Damaged damage)) fine some first moved = elim moved.0 [ ]
+headed g must_reopen frames old mid new (Err _) fine some first moved = elim moved.0 [ ]

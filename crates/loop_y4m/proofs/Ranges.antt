@@ -21,9 +21,9 @@ use Rattle.loop_store.specs.Numbers.{IsLeastFrom}
 use Rattle.loop_store.specs.declared.fault.StoreFault.TheVariants.{NotHeld}
 use Rattle.loop_store.proofs.Checked.{due-none, due-some, passed}
 use Rattle.loop_y4m.specs.declared.fault.ExportFault.{ExportFault}
-use Rattle.loop_y4m.specs.declared.fault.ExportFault.TheVariants.{Write}
+use Rattle.loop_y4m.specs.declared.fault.ExportFault.TheVariants.{Store, Write}
 use Rattle.loop_y4m.specs.Export.{Stopped, frames_between}
-use Rattle.loop_y4m.specs.Steps.{IsFirstBetween, Moved, MovedAll, fault_of, frames_left}
+use Rattle.loop_y4m.specs.Steps.{IsFirstBetween, Moved, MovedAll, frames_left}
 use Rattle.loop_y4m.specs.Text.{AppendsSome, frame}
 
 -- ---- the frames of a range
@@ -184,7 +184,7 @@ abbrev pub running : Recording → StoreState
 running r = record { recording = r; must_reopen = false }
 
 -- a read of a held frame is refused only where the disk failed
-pub part_refused : (g : Geometry) (r : Recording) (number at : ℕ) (p : Picture) (fault : StoreFault) (held : Option (List ℕ)) (bytes : List ℕ) → frame_under r.frames number ≡ Some p → IsAnswered g (running r) (was_read_part number at (Err fault)) → Stopped (fault_of fault) held held bytes
+pub part_refused : (g : Geometry) (r : Recording) (number at : ℕ) (p : Picture) (fault : StoreFault) (held : Option (List ℕ)) (bytes : List ℕ) → frame_under r.frames number ≡ Some p → IsAnswered g (running r) (was_read_part number at (Err fault)) → Stopped (Store fault) held held bytes
 part_refused g r number at p fault held bytes there said = go fault (due-some (first_of (checks g (running r) (was_read_part number at (Err fault)))) (was_read_part number at (Err fault)) (is_disk fault ≡ true) said)
   where
     none : first_of (checks g (running r) (was_read_part number at (Err fault))) ≡ None
@@ -193,11 +193,11 @@ part_refused g r number at p fault held bytes there said = go fault (due-some (f
     apart : (f : StoreFault) → let x : Option StoreFault = None in x ≡ Some f → ⊥
     apart f e = absurd cc
 
-    failed : (f : StoreFault) → is_disk f ≡ true → Stopped (fault_of f) held held bytes
+    failed : (f : StoreFault) → is_disk f ≡ true → Stopped (Store f) held held bytes
     failed (store.Disk f) e = nothing_yet held bytes
     failed f e = absurd cc
 
-    go : (f : StoreFault) → (first_of (checks g (running r) (was_read_part number at (Err fault))) ≡ Some f) ⊎ ((first_of (checks g (running r) (was_read_part number at (Err fault))) ≡ None) × (is_disk f ≡ true)) → Stopped (fault_of f) held held bytes
+    go : (f : StoreFault) → (first_of (checks g (running r) (was_read_part number at (Err fault))) ≡ Some f) ⊎ ((first_of (checks g (running r) (was_read_part number at (Err fault))) ≡ None) × (is_disk f ≡ true)) → Stopped (Store f) held held bytes
     go f (inl e) = absurd (apart f (sym none ∙ e))
     go f (inr x) = failed f x.1
 

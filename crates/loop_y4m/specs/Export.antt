@@ -7,10 +7,10 @@ use Rattle.loop_disk.specs.Calls.{Called, Stays}
 use Rattle.loop_disk.specs.Medium.{Medium}
 use Rattle.loop_record.specs.declared.geometry.Geometry.{Geometry}
 use Rattle.loop_record.specs.Recording.{Picture}
-use Rattle.loop_store.specs.declared.fault.StoreFault.{StoreFault}
+use Rattle.loop_store.specs.declared.fault.StoreFault.TheVariants.{Disk, MustReopen, NoMemory, NotHeld}
 use Rattle.loop_store.specs.Seen.{Seen}
 use Rattle.loop_y4m.specs.declared.fault.ExportFault.{ExportFault}
-use Rattle.loop_y4m.specs.declared.fault.ExportFault.TheVariants.{Damaged, Disk, MustReopen, NoMemory, NotHeld, Write}
+use Rattle.loop_y4m.specs.declared.fault.ExportFault.TheVariants.{Store, Write}
 use Rattle.loop_y4m.specs.Text.{AppendsSome, text}
 
 -- the bytes of the frames whose numbers are from one to another, in their order
@@ -19,7 +19,7 @@ frames_between from to frames = map (λ f. f.1.bytes) (filter (λ f. nat_le from
 
 -- a read or the writer failed, when a beginning of these bytes was written
 abbrev pub Stopped : ExportFault → Option (List ℕ) → Option (List ℕ) → List ℕ → Type 0
-Stopped (Disk fault) old new bytes = AppendsSome old new bytes
+Stopped (Store (Disk fault)) old new bytes = AppendsSome old new bytes
 Stopped Write old new bytes = AppendsSome old new bytes
 Stopped _ old new bytes = ⊥
 
@@ -28,9 +28,9 @@ Stopped _ old new bytes = ⊥
 -- counted.
 abbrev pub IsExport : Geometry → Bool → List (List ℕ) → Option (List ℕ) → Option (List ℕ)
     → Result ℕ ExportFault → Type 0
-IsExport g must_reopen frames old new (Err MustReopen) = (must_reopen ≡ true) × (new ≡ old)
-IsExport g must_reopen frames old new (Err NotHeld) = (must_reopen ≡ false) × ((frames ≡ []) × (new ≡ old))
-IsExport g must_reopen frames old new (Err NoMemory) = (must_reopen ≡ false) × ((frames ≢ []) × (new ≡ old))
+IsExport g must_reopen frames old new (Err (Store MustReopen)) = (must_reopen ≡ true) × (new ≡ old)
+IsExport g must_reopen frames old new (Err (Store NotHeld)) = (must_reopen ≡ false) × ((frames ≡ []) × (new ≡ old))
+IsExport g must_reopen frames old new (Err (Store NoMemory)) = (must_reopen ≡ false) × ((frames ≢ []) × (new ≡ old))
 IsExport g must_reopen frames old new (Err fault) =
     (must_reopen ≡ false) × ((frames ≢ []) × Stopped fault old new (text g frames))
 IsExport g must_reopen frames old new (Ok count) =
@@ -38,17 +38,8 @@ IsExport g must_reopen frames old new (Ok count) =
 
 -- the call of the disk that failed, if the answer is that one did
 abbrev pub failed_export : {T : Type 0} → Result T ExportFault → Option DiskFault
-failed_export (Err (Disk fault)) = Some fault
+failed_export (Err (Store (Disk fault))) = Some fault
 failed_export _ = None
-
--- the store's refusal that a fault is
-abbrev pub store_refusal : ExportFault → Option StoreFault
-store_refusal MustReopen = Some StoreFault.MustReopen
-store_refusal NotHeld = Some StoreFault.NotHeld
-store_refusal NoMemory = Some StoreFault.NoMemory
-store_refusal (Damaged damage) = Some (StoreFault.Damaged damage)
-store_refusal (Disk fault) = Some (StoreFault.Disk fault)
-store_refusal Write = None
 
 -- the store is as it was but for its disk, which was only read, and of whose calls this one failed, or none did
 pub record OnlyRead {D : Type 0} (medium : D → Medium) (old new : Seen D) (failed : Option DiskFault) : Type 0 where

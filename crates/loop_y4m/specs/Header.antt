@@ -33,10 +33,15 @@ abbrev pub rate : List ℕ → Option (ℕ × ℕ)
 rate text = option_and_then (λ n. option_map (λ d. (n, d)) (number 4294967295 (after_first is_colon text)))
     (number 4294967295 (before_first is_colon text))
 
+-- halved in both directions, wherever the samples of chroma lie
+abbrev pub is_420 : List ℕ → Bool
+is_420 text = bytes_eq text (codes "420") || bytes_eq text (codes "420jpeg") || bytes_eq text (codes "420mpeg2")
+    || bytes_eq text (codes "420paldv")
+
 -- the planar formats of 8 bits a sample
 abbrev pub colour : List ℕ → Option PixelFormat
 colour text = if bytes_eq text (codes "mono") then Some Grey
-    else if bytes_eq text (codes "420") || bytes_eq text (codes "420jpeg") || bytes_eq text (codes "420mpeg2") || bytes_eq text (codes "420paldv") then Some Ym12
+    else if is_420 text then Some Ym12
     else if bytes_eq text (codes "422") then Some Ym16
     else if bytes_eq text (codes "444") then Some Ym24 else None
 
@@ -54,7 +59,8 @@ nothing_given = record { width = None; height = None; rate_num = 0; rate_den = 0
 -- progressive frames, or unknown ones; interlaced and mixed frames aren't supported
 abbrev pub interlace : List ℕ → Result (Unit {0}) Y4mFault
 interlace text = if bytes_eq text (codes "p") || bytes_eq text (codes "?") then Ok tt
-    else if bytes_eq text (codes "t") || bytes_eq text (codes "b") || bytes_eq text (codes "m") then Err UnsupportedInterlace
+    else if bytes_eq text (codes "t") || bytes_eq text (codes "b") || bytes_eq text (codes "m")
+    then Err UnsupportedInterlace
     else Err BadHeader
 
 -- what was given, and one parameter more: W, H, F, I or C; another letter, and an empty parameter, changes nothing

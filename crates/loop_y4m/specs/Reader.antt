@@ -24,8 +24,8 @@ OpensAs bytes (Err Read) = ⊤
 OpensAs bytes (Err fault) = parse bytes ≡ Err fault
 OpensAs bytes (Ok r) = (rest : Frames) × (parse bytes ≡ Ok (r.header, rest)) × (r.rest ≡ Some rest)
 
--- what is answered to the call for a frame, and what is left to be read: the first of the frames and those behind it, the end,
--- or the fault, but where the reader failed
+-- what is answered to the call for a frame, and what is left to be read: the first of the frames and those behind it,
+-- the end, or the fault, but where the reader failed
 abbrev pub GivesNext : Frames → Result Bool Y4mFault → List ℕ → Option Frames → Type 0
 GivesNext frames (Err Read) out left = ⊤
 GivesNext frames (Err fault) out left = frames ≡ ends (Some fault)

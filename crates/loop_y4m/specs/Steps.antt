@@ -3,7 +3,6 @@ use Rattle.std.specs.Prelude.{◌≡◌, ◌≤◌, ◌<◌, ℕ, Bool, Option, 
 use Rattle.std.specs.Io.KnownBytes.{Appends}
 use Rattle.std.specs.List.{position_or_len}
 use Rattle.loop_record.specs.Recording.{Picture, Recording, holds}
-use Rattle.loop_store.specs.declared.fault.StoreFault.{StoreFault}
 use Rattle.loop_y4m.specs.declared.fault.ExportFault.{ExportFault}
 use Rattle.loop_y4m.specs.declared.fault.Y4mFault.{Y4mFault}
 use Rattle.loop_y4m.specs.declared.fault.Y4mFault.TheVariants.{Read}
@@ -33,7 +32,8 @@ abbrev pub IsBegun : List ℕ → List ℕ → Option (List ℕ) → Type 0
 IsBegun bytes seen left =
     (rest : List ℕ) × (bytes ≡ seen ++ rest) × (left ≡ Some rest) × (position_or_len is_newline seen ≡ length seen)
 
--- the bytes are what the input begins with, or it is too short, which this fault answers; a reader that failed may have lost bytes
+-- the bytes are what the input begins with, or it is too short, which this fault answers; a reader that failed may have
+-- lost bytes
 abbrev pub FillsWith : Y4mFault → List ℕ → Result (Unit {0}) Y4mFault → List ℕ → Option (List ℕ) → Type 0
 FillsWith cut bytes (Err Read) out left = ⊤
 FillsWith cut bytes (Err fault) out left = (fault ≡ cut) × (length bytes < length out)
@@ -78,19 +78,3 @@ frames_left (Some n) to frames = frames_between n to frames
 abbrev pub IsFirstBetween : Recording → ℕ → ℕ → Option ℕ → Type 0
 IsFirstBetween r from to first =
     IfSome first (λ n. holds r n ≡ true) × (frames_between from to r.frames ≡ frames_left first to r.frames)
-
--- a read of a part is refused so
-abbrev pub is_of_read : StoreFault → Bool
-is_of_read StoreFault.MustReopen = true
-is_of_read StoreFault.NotHeld = true
-is_of_read (StoreFault.Damaged damage) = true
-is_of_read (StoreFault.Disk fault) = true
-is_of_read _ = false
-
--- the export's fault that such a refusal is
-abbrev pub fault_of : StoreFault → ExportFault
-fault_of StoreFault.MustReopen = ExportFault.MustReopen
-fault_of StoreFault.NotHeld = ExportFault.NotHeld
-fault_of (StoreFault.Damaged damage) = ExportFault.Damaged damage
-fault_of (StoreFault.Disk fault) = ExportFault.Disk fault
-fault_of _ = ExportFault.NoMemory

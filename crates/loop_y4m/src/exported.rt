@@ -1,12 +1,12 @@
 //! The held frames of a store, written as a text.
 
-ghost use Rattle.std.specs.Prelude.{◌≡◌, ◌+◌, ◌<◌, ◌≤◌, ◌^◌, IfSome, IsTrue, Some, false, length, true};
+ghost use Rattle.std.specs.Prelude.{◌≡◌, ◌+◌, ◌<◌, ◌≤◌, ◌^◌, IfSome, Some, false, length, true};
 ghost use Rattle.loop_disk.specs.Medium.{piece};
 ghost use Rattle.loop_record.specs.Geometry.{frame_bytes};
 ghost use Rattle.loop_record.specs.Recording.{Picture, Recording, frame_under, holds};
 ghost use Rattle.loop_store.specs.Seen.{StandsFor};
 ghost use Rattle.loop_y4m.specs.Export.{IsExport, OnlyRead, failed_export, frames_between};
-ghost use Rattle.loop_y4m.specs.Steps.{IsFirstBetween, Moved, MovedAll, fault_of, is_of_read};
+ghost use Rattle.loop_y4m.specs.Steps.{IsFirstBetween, Moved, MovedAll};
 ghost use Rattle.loop_y4m.specs.Text.{frame};
 
 use crate::ExportFault;
@@ -42,9 +42,9 @@ pub fn export<D: Disk + Drop, A: Allocator + Copy, W: Write>(
     ensures store { OnlyRead D.medium store.old store.new (failed_export result) }
 {
     if store.must_reopen() {
-        return Err(ExportFault::MustReopen);
+        return Err(ExportFault::Store(StoreFault::MustReopen));
     }
-    let first = held_between(store, from, to).ok_or(ExportFault::NotHeld)?;
+    let first = held_between(store, from, to).ok_or(StoreFault::NotHeld)?;
     let geometry = store.geometry();
     let size = geometry.frame_bytes().min(MAX_PIECE);
     let mut piece = vec![in alloc; 0; size as usize]?;
@@ -134,23 +134,7 @@ fn move_part<D: Disk + Drop, A: Allocator, W: Write>(
         → Moved (W.contents out.old) (W.contents out.new) result (piece at (length part.old) p.bytes) }
     ensures store { OnlyRead D.medium store.old store.new (failed_export result) }
 {
-    if let Err(fault) = store.read_part(number, at, part) {
-        return Err(of_read(fault));
-    }
+    store.read_part(number, at, part)?;
     write_pixels(part, out)?;
     Ok(())
-}
-
-/// The fault that a refused read of a part is.
-fn of_read(fault: StoreFault) -> ExportFault
-    requires { IsTrue (is_of_read fault) }
-    ensures { result ≡ fault_of fault }
-{
-    match fault {
-        StoreFault::MustReopen => ExportFault::MustReopen,
-        StoreFault::NotHeld => ExportFault::NotHeld,
-        StoreFault::Damaged(damage) => ExportFault::Damaged(damage),
-        StoreFault::Disk(fault) => ExportFault::Disk(fault),
-        _ => unreachable!(),
-    }
 }

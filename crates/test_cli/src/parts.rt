@@ -4,10 +4,10 @@ use crate::ends::Broken;
 use crate::ran::text;
 use crate::told::{holds, same};
 use loop_disk::DiskFault;
-use loop_record::Damage;
+use loop_record::{Damage, fill_pattern};
 use loop_script::{
-    BadLine, Command, fill_pattern, next_line, pattern_sequence, pattern_timestamp, print_refusal,
-    read_command, small_number,
+    BadLine, Command, next_line, pattern_sequence, pattern_timestamp, print_refusal, read_command,
+    small_number,
 };
 use loop_store::StoreFault;
 use std::alloc::Global;

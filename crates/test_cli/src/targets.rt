@@ -65,7 +65,13 @@ impl Target for Fake<'_> {
 static ROWS: [((u64, u64), Fails, Option<ExportFault>, &str, usize); 6] = [
     ((2, 3), Fails::Nothing, None, "exported 2\n", 75),
     ((0, u64::MAX), Fails::Nothing, None, "exported 5\n", 129),
-    ((0, 1), Fails::Nothing, Some(ExportFault::NotHeld), "", 100),
+    (
+        (0, 1),
+        Fails::Nothing,
+        Some(ExportFault::Store(StoreFault::NotHeld)),
+        "",
+        100,
+    ),
     ((2, 3), Fails::Empty, Some(ExportFault::Write), "", 100),
     ((2, 3), Fails::Write, Some(ExportFault::Write), "", 0),
     ((2, 3), Fails::Flush, Some(ExportFault::Write), "", 75),
@@ -149,8 +155,16 @@ fn writes_along<'a>(
 // Then why there is no text, and how many bytes a target has that had a hundred, where nothing is told, where it was
 // emptied, and where it is told there.
 static GRANTED: [(u64, Option<ExportFault>, [usize; 3]); 3] = [
-    (0, Some(ExportFault::NoMemory), [100, 0, 100]),
-    (1, Some(ExportFault::NoMemory), [100, 0, 100]),
+    (
+        0,
+        Some(ExportFault::Store(StoreFault::NoMemory)),
+        [100, 0, 100],
+    ),
+    (
+        1,
+        Some(ExportFault::Store(StoreFault::NoMemory)),
+        [100, 0, 100],
+    ),
     (2, None, [175, 75, 186]),
 ];
 

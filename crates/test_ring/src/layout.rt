@@ -4,8 +4,8 @@ use crate::told::{holds, same};
 use loop_record::{
     CLIP_SIZE, Damage, Found, Frame, FrameHead, Geometry, HEAD_SIZE, OPEN, PixelFormat,
     SegmentHead, Span, TABLE_SIZE, decode_clip, decode_head, decode_header, decode_slot,
-    decode_super, encode_head, encode_slot, encode_super, is_locked, lacks_frame, may_go,
-    next_after, put_in_place, put_u32, put_u64, read_clips, repeats, u32_at, u64_at,
+    decode_super, encode_head, encode_slot, encode_super, is_locked, lacks_frame, next_after,
+    put_in_place, put_u32, put_u64, read_clips, repeats, u32_at, u64_at,
 };
 use std::process::Abort;
 use std::test::Fail;
@@ -206,17 +206,16 @@ fn the_next_number_and_the_clips_are_found(rt: HostRuntime) {
     clips(&rt, &open, 9, Err(Damage::ClipRange));
 }
 
-// Of each block whether a clip locks it, and whether it may go where 5 is the newest.
+// Of each block whether a clip locks it.
 fn locks(rt: &impl Abort, clips: &[Option<Span>], rows: &[(u64, bool)]) {
     assert!(rt; SMALL.check().is_ok());
     for (block, locked) in rows {
         same!(rt; is_locked(&SMALL, *block, clips), *locked, *block);
-        same!(rt; may_go(&SMALL, clips, 5, *block), !*locked && *block != 5, *block);
     }
 }
 
 #[test]
-fn a_locked_block_and_the_newest_stay(rt: HostRuntime) {
+fn a_clip_locks_the_blocks_of_its_frames(rt: HostRuntime) {
     // The clip has the second frame of block 2 and the first of block 3.
     let clips = [None, Some(Span { from: 5, to: 6 })];
     locks(

@@ -1,12 +1,11 @@
 //! The segments and the clips in memory.
 
-ghost use Rattle.std.specs.Prelude.{◌≡◌, ◌<◌, All, IfOk, length, vec_len};
+ghost use Rattle.std.specs.Prelude.{◌≡◌, ◌<◌, All, IfOk, length};
 
 use crate::told::{holds, same};
 use loop_budget::Budget;
 use loop_clips::{CLIPS, Clip, ClipTable};
-use loop_disk::{DiskFault, FuseDisk, MemDisk};
-use loop_record::{Geometry, OPEN, PixelFormat, SegmentHead, Span};
+use loop_record::{Geometry, PixelFormat, SegmentHead, Span};
 use loop_ring::{SegmentIndex, clips_on};
 use std::alloc::{AllocError, Allocator, Global};
 use std::process::Abort;
@@ -237,26 +236,6 @@ fn the_victim_follows_locks_and_appends(rt: HostRuntime) -> Result<(), Fail> {
     Ok(())
 }
 
-// A disk's first bytes, 0x5A but for four entries: clip 0 of the frames from 2 to 5, a closed entry 1, clip 2
-// whose first number is above its last, and clip 63 of the greatest number.
-fn image(alloc: Global) -> Result<Vec<u8>, AllocError>
-    ensures { IfOk result (λ image. vec_len image ≡ 2560) }
-{
-    let mut image = vec![in alloc; 0x5A; 2560]?;
-    image[512..544].copy_from_slice(
-        b"\xa5\0\0\0\0\0\0\0\x02\0\0\0\0\0\0\0\x05\0\0\0\0\0\0\0\0\0\0\0\0\0\0\0",
-    );
-    image[544..576].copy_from_slice(
-        b"\0\0\0\0\0\0\0\0\x08\0\0\0\0\0\0\0\x08\0\0\0\0\0\0\0\0\0\0\0\0\0\0\0",
-    );
-    image[576..608].copy_from_slice(
-        b"\xa5\0\0\0\0\0\0\0\x00\x01\0\0\0\0\0\0\xff\0\0\0\0\0\0\0\0\0\0\0\0\0\0\0",
-    );
-    image[2528] = OPEN;
-    image[2536..2552].fill(0xFF);
-    Ok(image)
-}
-
 // The clip of an id.
 fn listed(id: u32, from: u64, to: u64) -> Clip {
     Clip { id, from, to }
@@ -292,11 +271,15 @@ fn lists(
 }
 
 #[test]
-fn the_open_entries_are_read_as_they_stand(rt: HostRuntime) -> Result<(), Fail> {
-    let mut disk = FuseDisk::new(MemDisk::of(image(rt.alloc())?), 1);
-    let table = ClipTable::read(&mut disk)?;
-    holds!(rt; matches!(ClipTable::read(&mut disk), Err(DiskFault::Read)));
+fn clips_are_kept_as_they_were_read(rt: HostRuntime) -> Result<(), Fail> {
     let two_to_five = Some(Span { from: 2, to: 5 });
+    let mut clips = [None; CLIPS];
+    clips[0] = two_to_five;
+    // One that is empty.
+    clips[2] = Some(Span { from: 256, to: 255 });
+    clips[63] = clip(u64::MAX);
+    let table = ClipTable::of(clips);
+    same!(rt; table.as_slice(), clips.as_slice());
     let ids = [
         (0, two_to_five),
         (1, None),
@@ -325,12 +308,7 @@ fn the_open_entries_are_read_as_they_stand(rt: HostRuntime) -> Result<(), Fail> 
 }
 
 #[test]
-fn a_table_has_the_clips_that_were_read(rt: HostRuntime) -> Result<(), Fail> {
-    let mut clips = [None; CLIPS];
-    clips[2] = Some(Span { from: 4, to: 9 });
-    let table = ClipTable::of(clips);
-    same!(rt; table.as_slice(), clips.as_slice());
-    holds!(rt; table.meets(&SMALL, 4) && !table.meets(&SMALL, 5));
+fn an_empty_table_has_no_clip(rt: HostRuntime) -> Result<(), Fail> {
     holds!(rt; ClipTable::empty().list(rt.alloc())?.is_empty());
     Ok(())
 }

@@ -274,7 +274,7 @@ fn exports_clipped(rt: &impl Abort, alloc: Global, rows: &[Range]) -> Result<(),
     let mut store = clipped(rt, alloc)?;
     are_exported(rt, alloc, &mut store, rows)?;
     let (answer, text) = exported(alloc, &mut store, 2, 3);
-    same!(rt; (answer, text.len()), (Err(ExportFault::NotHeld), 0));
+    same!(rt; (answer, text.len()), (Err(ExportFault::Store(StoreFault::NotHeld)), 0));
     Ok(())
 }
 
@@ -331,7 +331,7 @@ fn exported_once(
 
 // An export whose read failed answers so, with these bytes of the text; it is read through a second time.
 fn fails(rt: &impl Abort, told: &(Answer, Vec<u8>, Answer), written: &[u8], call: u64) {
-    same!(rt; told.0, Err(ExportFault::Disk(DiskFault::Read)), call);
+    same!(rt; told.0, Err(ExportFault::Store(StoreFault::Disk(DiskFault::Read))), call);
     same!(rt; told.1.len(), written.len(), call);
     holds!(rt; told.1.as_slice() == written, call);
     same!(rt; told.2, Ok(1), call);
@@ -402,9 +402,9 @@ fn grows(rt: &impl Abort, alloc: Global, rows: &[Growth]) -> Result<(), Fail> {
 #[test]
 fn an_export_takes_memory_once_before_it_writes(rt: HostRuntime) -> Result<(), Fail> {
     let rows = [
-        (0, 2, (Err(ExportFault::NoMemory), 0)),
+        (0, 2, (Err(ExportFault::Store(StoreFault::NoMemory)), 0)),
         (1, 2, (Ok(1), 57)),
-        (0, 1, (Err(ExportFault::NotHeld), 0)),
+        (0, 1, (Err(ExportFault::Store(StoreFault::NotHeld)), 0)),
     ];
     grows(&rt, rt.alloc(), &rows)
 }
@@ -438,7 +438,7 @@ fn is_broken(
     };
     for to in &[1, 2] {
         let told = granted(alloc, memory, &mut store, 0, *to);
-        same!(rt; told, (Err(ExportFault::MustReopen), 0), *to);
+        same!(rt; told, (Err(ExportFault::Store(StoreFault::MustReopen)), 0), *to);
     }
     Ok(true)
 }

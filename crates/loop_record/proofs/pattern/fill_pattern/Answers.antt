@@ -1,6 +1,6 @@
 use Rattle.std.proofs.Common.{◌+◌, ◌%◌, length, arith, rules}
 use Rattle.std.proofs.lemmas.List.FromFn.{fill_by_all}
-use Rattle.loop_script.proofs.pattern.fill_pattern.Goals as goal
+use Rattle.loop_record.proofs.pattern.fill_pattern.Goals as goal
 
 pub returns : goal.returns
 returns c =

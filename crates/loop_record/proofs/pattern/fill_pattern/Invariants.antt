@@ -1,5 +1,5 @@
 use Rattle.std.proofs.Common.{◌≡◌, ◌<◌, ◌+◌, ◌%◌, ℕ, get_or}
-use Rattle.loop_script.proofs.pattern.fill_pattern.Given as goal
+use Rattle.loop_record.proofs.pattern.fill_pattern.Given as goal
 
 abbrev pub invariant-loop-byte : goal.invariant-loop-byte
 invariant-loop-byte l =
