@@ -1,2 +1,3 @@
+mod Ticked
 mod Active
 pub mod Crossing

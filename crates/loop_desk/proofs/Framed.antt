@@ -21,7 +21,7 @@ use Rattle.loop_vb2.specs.Errnos.{errno}
 use Rattle.loop_vb2.specs.Owner.{is_dequeued}
 use Rattle.loop_vb2.specs.Planes.{number_at, bytes_in, plane_in, plane_of_set, read_set, frame_size}
 use Rattle.loop_vb2.specs.State.{Body, QueueState, Lined}
-use Rattle.loop_vb2.specs.Steps.{Steps, Copies}
+use Rattle.loop_vb2.specs.Events.{Happens, copy_plane}
 use Rattle.loop_desk.specs.Front.{part, taken_bytes}
 use Rattle.loop_desk.specs.Parts.{Appends, begin_of, begin_at, begins_of, begins_at, count_of, IsOwn, StaysIn, CopiesFrame, AppendsOwn, AppendsAllOwn}
 
@@ -181,13 +181,13 @@ short_at : (at most n : ℕ) → at + most ≤ n → at ≤ n
 short_at at most n e = omega (arith, e)
 
 module _ {P : Type 0} (m : P → Plane) where
-  pub nothing_copied : (U : Type 0) (e : Errno) (q : Lined P) (index plane most at k : ℕ) (before after out : List ℕ) → Steps m (Copies {U = U} index plane 0 before after) (Err e) q q → length before ≡ most → k ≡ most → at + most ≤ length out → AppendsOwn m q index plane most at out at (put_mid at k out after)
-  nothing_copied U e q index plane most at k before after out step long is room s stands own =
+  pub nothing_copied : (e : Errno) (q : Lined P) (index plane most at k : ℕ) (before after out : List ℕ) → Happens m q q (copy_plane index plane 0 (length before) (Err e)) → after ≡ before → length before ≡ most → k ≡ most → at + most ≤ length out → AppendsOwn m q index plane most at out at (put_mid at k out after)
+  nothing_copied e q index plane most at k before after out step same long is room s stands own =
       let t = step s stands in
-      let fails : option_map errno (copy_refusal index plane 0 most s.body) ≡ Some e = subst (λ n. option_map errno (copy_refusal index plane 0 n s.body) ≡ Some e) long t.1.0 in
+      let fails : option_map errno (copy_refusal index plane 0 most s.body) ≡ Some e = subst (λ n. option_map errno (copy_refusal index plane 0 n s.body) ≡ Some e) long t.0 in
       let none : bytes_at s.body.buffers index plane ≡ [] = no_bytes s.body.buffers index plane (no_plane index plane most s.body own (some_reason e (copy_refusal index plane 0 most s.body) fails)) in
       let begin : begin_at s.body.buffers index most plane ≡ [] = ap (take most) none ∙ take_nothing most in
-      let size : length after ≡ k = ap length t.1.1 ∙ (long ∙ sym is) in
+      let size : length after ≡ k = ap length same ∙ (long ∙ sym is) in
       subst (λ l. Appends l at out at (put_mid at k out after)) (sym begin) (record {
         ends = nothing_more at;
         text = take-put_mid_below at k out after at (same_at at) (short_at at most (length out) room) ∙ sym (append-nil (take at out));

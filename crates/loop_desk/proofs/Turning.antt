@@ -16,7 +16,10 @@ use Rattle.loop_vb2.specs.Buffers.{changed, handed, dequeued_from}
 use Rattle.loop_vb2.specs.Checks.{queue_refusal}
 use Rattle.loop_vb2.specs.Effects as effect
 use Rattle.loop_vb2.specs.State.{Body, QueueState, Lined, StandsFor}
-use Rattle.loop_vb2.specs.Steps.{Steps, Fails, Dequeues, Queues, read_given}
+use Rattle.loop_vb2.specs.Answers.{Fails}
+use Rattle.loop_vb2.specs.Planes.{read_given}
+use Rattle.loop_vb2.specs.Events.{Happens, read_frame, qbuf, dqbuf}
+use Rattle.loop_vb2.proofs.Ordered.{not_refused}
 use Rattle.loop_record.specs.declared.frame.Frame.{Frame}
 use Rattle.loop_ioctl.specs.declared.call.Ioctl.TheVariants as call
 use Rattle.loop_ioctl.specs.declared.events.QueueEvent.{QueueEvent}
@@ -150,24 +153,24 @@ module _ {P A : Type 0} (m : P → Plane) where
   pub no_room : (q : Lined P) → TurnsBeside {A = A} m q hand.Empty (dequeued (Err (Store NoMemory))) q hand.Empty
   no_room q table f stands = (subst (λ x. IsDequeue f.queue x (Err (Store NoMemory))) stands.hand refl, stands)
 
-  pub took_none : (e : Errno) (q q' : Lined P) → Steps m (Dequeues m) (Err e) q q' → TurnsBeside {A = A} m q hand.Empty (dequeued (Err (Queue e))) q' hand.Empty
+  pub took_none : (e : Errno) (q q' : Lined P) → Happens m q q' (dqbuf (Err e)) → TurnsBeside {A = A} m q hand.Empty (dequeued (Err (Queue e))) q' hand.Empty
   took_none e q q' step table f stands =
       let t = step f.queue.queue stands.queue.queue in (
-        subst (λ x. IsDequeue f.queue x (Err (Queue e))) stands.hand t.1.0,
-        record { queue = stays m q q' table f.queue t.0 stands.queue t.2 t.1.1; hand = stands.hand; out = stands.out },
+        subst (λ x. IsDequeue f.queue x (Err (Queue e))) stands.hand t.0,
+        record { queue = stays m q q' table f.queue stands.queue t.1; hand = stands.hand; out = stands.out },
       )
 
-  pub took : (d : Dequeued P) (index : ℕ) (q q' : Lined P) (h : Hand P A) → index ≡ d.index → Steps m (Dequeues m) (Ok d) q q' → GetsBuffer m q' d h → TurnsBeside m q hand.Empty (dequeued (Ok index)) q' h
+  pub took : (d : Dequeued P) (index : ℕ) (q q' : Lined P) (h : Hand P A) → index ≡ d.index → Happens m q q' (dqbuf (read_frame m (Ok d))) → GetsBuffer m q' d h → TurnsBeside m q hand.Empty (dequeued (Ok index)) q' h
   took d index q q' h is step holds table f stands =
       let j = f.queue in
       let s = j.queue in
       let body = s.body in
       let t = step s stands.queue.queue in
-      let b = t.1.2.0 in
-      let get : slice_get body.buffers d.index ≡ Some b = t.1.2.1 in
-      let now : StandsFor m q' (effect.dequeued d.index s) = subst (λ x. StandsFor m q' x) t.1.3 t.2 in
+      let b = t.0.2.0 in
+      let get : slice_get body.buffers d.index ≡ Some b = t.0.2.1 in
+      let now : StandsFor m q' (effect.dequeued d.index s) = t.1 in
       let left : StaysIn (effect.dequeued d.index s).body d.index b = left_there (dequeued_from body.kind) body.buffers d.index b get in
-      let held : hand_state m h ≡ hand_of body d.index b = holds (effect.dequeued d.index s) b now left t.1.2.2 in
+      let held : hand_state m h ≡ hand_of body d.index b = holds (effect.dequeued d.index s) b now left t.0.2.2 in
       let with_it : hand_with body d.index (slice_get body.buffers d.index) ≡ hand_of body d.index b = ap (hand_with body d.index) get in
       let none : j.out ≡ [] = stands.out ∙ (ap (λ x. values_by_fd body.kind (option_to_list (planes_held x))) (sym stands.hand) ∙ none_by_fd body.kind) in
       let linked = took_linked s d.index b (hand_with body d.index (slice_get body.buffers d.index)) j.out j.names get (ap planes_held with_it ∙ hand_planes body d.index b) none stands.queue.linked in
@@ -177,7 +180,7 @@ module _ {P A : Type 0} (m : P → Plane) where
         hand = held ∙ sym with_it;
         out = refl;
       } in (
-        subst (λ x. IsDequeue j x (Ok index)) stands.hand (t.1.0, t.1.1 ∙ ap Some (sym is)),
+        subst (λ x. IsDequeue j x (Ok index)) stands.hand (t.0.0, t.0.1 ∙ ap Some (sym is)),
         subst (λ i. StandsFront m q' table h (taken i j (hand_with body i (slice_get body.buffers i)))) (sym is) front,
       )
 
@@ -220,32 +223,32 @@ module _ {P A : Type 0} (m : P → Plane) where
   pub not_spent : (q : Lined P) (i : ℕ) (frame : Frame A) (planes : Option (PlaneSet P)) → TurnsBeside m q (hand.Frame i frame planes) (requeued (Err (Store HandFull))) q (hand.Frame i frame planes)
   not_spent q i frame planes table f stands = (subst (λ x. IsRequeue f.queue x (Err (Store HandFull))) stands.hand refl, stands)
 
-  pub put_none : (r : Refused P A) (kind : Memory) (i : ℕ) (planes : Option (PlaneSet P)) (q q' : Lined P) → kind ≡ q.body.kind → r.planes ≡ planes → Steps m (Queues {U = Unit {0}} i kind (read_given m planes)) (Err r) q q' → TurnsBeside {A = A} m q (hand.Spent i planes) (requeued (Err (Queue r.errno))) q' (hand.Spent i r.planes)
+  pub put_none : (r : Refused P A) (kind : Memory) (i : ℕ) (planes : Option (PlaneSet P)) (q q' : Lined P) → kind ≡ q.body.kind → r.planes ≡ planes → Happens m q q' (qbuf i kind (read_given m planes) (Some r.errno)) → TurnsBeside {A = A} m q (hand.Spent i planes) (requeued (Err (Queue r.errno))) q' (hand.Spent i r.planes)
   put_none r kind i planes q q' is back step table f stands =
       let j = f.queue in
       let t = step j.queue stands.queue.queue in
-      let fails = subst (λ k. Fails (queue_refusal i k (read_given m planes) j.queue.body) r.errno) (own_kind m kind q table j is stands.queue) t.1.0 in (
+      let fails = subst (λ k. Fails (queue_refusal i k (read_given m planes) j.queue.body) r.errno) (own_kind m kind q table j is stands.queue) t.0 in (
         subst (λ x. IsRequeue j x (Err (Queue r.errno))) stands.hand fails,
         record {
-          queue = stays m q q' table j t.0 stands.queue t.2 t.1.1;
+          queue = stays m q q' table j stands.queue t.1;
           hand = ap (λ p. spent i (read_given m p)) back ∙ stands.hand;
           out = stands.out;
         },
       )
 
-  pub put_in_queue : (A' : Type 0) (u : Unit {0}) (kind : Memory) (i : ℕ) (planes : Option (PlaneSet P)) (q q' : Lined P) → kind ≡ q.body.kind → Steps m (Queues {P = P} {U = Unit {0}} {A = A'} i kind (read_given m planes)) (Ok u) q q' → TurnsBeside {A = A} m q (hand.Spent i planes) (requeued (Ok i)) q' hand.Empty
-  put_in_queue A' u kind i planes q q' is step table f stands =
+  pub put_in_queue : (kind : Memory) (i : ℕ) (planes : Option (PlaneSet P)) (q q' : Lined P) → kind ≡ q.body.kind → Happens m q q' (qbuf i kind (read_given m planes) None) → TurnsBeside {A = A} m q (hand.Spent i planes) (requeued (Ok i)) q' hand.Empty
+  put_in_queue kind i planes q q' is step table f stands =
       let j = f.queue in
       let s = j.queue in
       let given = read_given m planes in
       let t = step s stands.queue.queue in
       let k : kind ≡ kind_of j = own_kind m kind q table j is stands.queue in
-      let passes : queue_refusal i (kind_of j) given s.body ≡ None = subst (λ x. queue_refusal i x given s.body ≡ None) k t.1.0 in
+      let passes : queue_refusal i (kind_of j) given s.body ≡ None = subst (λ x. queue_refusal i x given s.body ≡ None) k (not_refused (queue_refusal i kind given s.body) t.0) in
       let out : j.out ≡ values_by_fd (kind_of j) (option_to_list given) = stands.out ∙ ap (λ x. values_by_fd (kind_of j) (option_to_list (planes_held x))) (sym stands.hand) in
       let front : StandsFront {A = A} m q' table hand.Empty (put_back j (spent i given)) =
       record {
         queue = record {
-          queue = subst (λ x. StandsFor m q' x) t.1.1 t.2;
+          queue = t.1;
           names = stands.queue.names;
           linked = back_linked s i given j.out j.names out passes stands.queue.linked;
         };

@@ -17,9 +17,9 @@ use Rattle.loop_vb2.specs.Checks.{dequeue_refusal, queue_refusal}
 use Rattle.loop_vb2.specs.Effects as effect
 use Rattle.loop_vb2.specs.Errnos.{errno}
 use Rattle.loop_vb2.specs.Flags.{dequeue_bits}
-use Rattle.loop_vb2.specs.Planes.{number_at, bytes_in, plane_in}
+use Rattle.loop_vb2.specs.Planes.{number_at, bytes_in, plane_in, read_given}
 use Rattle.loop_vb2.specs.State.{Body, Lined}
-use Rattle.loop_vb2.specs.Steps.{Passes, Fails, read_given}
+use Rattle.loop_vb2.specs.Answers.{Passes, Fails}
 use Rattle.loop_ioctl.specs.declared.call.Ioctl.TheVariants as call
 use Rattle.loop_ioctl.specs.declared.events.QueueEvent.{QueueEvent}
 use Rattle.loop_ioctl.specs.declared.events.QueueEvent.TheVariants as event

@@ -4,12 +4,11 @@ use Rattle.loop_plane.specs.Plane.{Plane}
 use Rattle.loop_vb2.specs.declared.buffer.Buffer.{Buffer}
 use Rattle.loop_vb2.specs.declared.buffer.Dequeued.{Dequeued}
 use Rattle.loop_vb2.specs.declared.planes.PlaneSet.{PlaneSet}
-use Rattle.loop_vb2.specs.Answers.{IsAnswer}
+use Rattle.loop_vb2.specs.Answers.{IsAnswer, read_answer}
 use Rattle.loop_vb2.specs.Buffers.{bytes_at, used_at, state_at, dequeued_from, handed}
 use Rattle.loop_vb2.specs.Owner.{is_dequeued}
-use Rattle.loop_vb2.specs.Planes.{number_at, bytes_in, plane_of_set}
+use Rattle.loop_vb2.specs.Planes.{number_at, bytes_in, plane_of_set, read_given}
 use Rattle.loop_vb2.specs.State.{Body, QueueState, Lined, StandsFor}
-use Rattle.loop_vb2.specs.Steps.{read_answer, read_given}
 use Rattle.loop_ioctl.specs.declared.events.QueueEvent.{QueueEvent}
 use Rattle.loop_ioctl.specs.declared.events.QueueEvent.TheVariants as event
 use Rattle.loop_desk.specs.declared.hand.Hand.{Hand}

@@ -16,7 +16,8 @@ use Rattle.loop_vb2.specs.Effects.{streaming, stopped_state, touched, body_strea
 use Rattle.loop_vb2.specs.Errnos.{errno}
 use Rattle.loop_vb2.specs.Planes.{read_set}
 use Rattle.loop_vb2.specs.State.{Body, QueueState, Lined, StandsFor}
-use Rattle.loop_vb2.specs.Steps.{Steps}
+use Rattle.loop_vb2.specs.Events.{Event, IsAnswered as IsEvent, IsRefusal, Happens, after as then_event, unless, refusal_in, streamon, streamoff, mmap, munmap}
+use Rattle.loop_vb2.proofs.Ordered.{not_refused}
 use Rattle.loop_ioctl.specs.declared.call.BufferMemory.{BufferMemory}
 use Rattle.loop_ioctl.specs.declared.call.BufferType.{BufferType}
 use Rattle.loop_ioctl.specs.declared.call.Ioctl.{Ioctl}
@@ -28,7 +29,7 @@ use Rattle.loop_ioctl.specs.Types.{named_type, type_of, same_type}
 use Rattle.loop_ioctl.specs.Names.{Names, or_else}
 use Rattle.loop_ioctl.specs.Attached.{IsLinked}
 use Rattle.loop_ioctl.specs.Calls.{IoctlState, Stands, planes_of, HandsBack, planes_given, supply_given, call_refusal, type_refusal, done, IsReply, IsAnsweredFor, after, Applies}
-use Rattle.loop_ioctl.specs.Parts.{Puts, Plain, TurnsOn, TurnsOff, MapsAt, UnmapsAt, Asks, LetsOneOut, Replaces, AppliesTyped}
+use Rattle.loop_ioctl.specs.Parts.{Puts, Asks, LetsOneOut, Replaces, AppliesTyped}
 use Rattle.loop_ioctl.proofs.Attached.{kept_changed, kept_mapped, in_buffers}
 use Rattle.loop_ioctl.proofs.Putting.{settled_fds, settled_kind, still_linked, moves, stays}
 
@@ -54,6 +55,11 @@ wants : (why : Option Reason) (e : Errno) → (option_map errno why ≡ Some e) 
 wants why e (inl h) = inl h
 wants why e (inr h) = inr (h.0, (tt, h.1))
 
+-- STREAMOFF is never refused
+pub stream_off_applies : {P : Type 0} (A : Type 0) (m : P → Plane) (type : BufferType) (q q' : Lined P) (table : Fds P) → Happens m q q' streamoff → AppliesTyped {A = A} m (call.StreamOff type) (Ok reply.Done) q table q' table
+stream_off_applies A m type q q' table step j stands =
+    let t = step j.queue stands.queue in ((refl, tt), moves m q q' table j (stopped_state j.queue) stands t.1 (off_linked j.queue j.out j.names stands.linked))
+
 module _ {P A : Type 0} (m : P → Plane) where
   -- the buffer type is the queue's
   pub of_type : (c : Ioctl P A) (result : Result (IoctlReply P A) (Refused P A)) (q q' : Lined P) (t t' : Fds P) → same_type (named_type c) (type_of q.body.format) ≡ true → AppliesTyped m c result q t q' t' → Applies m c result q t q' t'
@@ -73,7 +79,9 @@ module _ {P A : Type 0} (m : P → Plane) where
   -- ---- calls that answer nothing
 
   -- what such a call is, in the model
-  pub record IsPlain (c : Ioctl P A) (why : QueueState → Option Reason) (effect : QueueState → QueueState) : Type 0 where
+  pub record IsPlain (c : Ioctl P A) (event : Option Errno → Event) (why : QueueState → Option Reason) (effect : QueueState → QueueState) : Type 0 where
+    pub answered : (s : QueueState) (r : Option Errno) → IsEvent s (event r) → IsRefusal (why s) r
+    pub turned : (s : QueueState) (r : Option Errno) → then_event s (event r) ≡ unless r s (effect s)
     pub judged : (j : IoctlState) → call_refusal m c j ≡ why j.queue
     pub makes : (j : IoctlState) → done m c j ≡ record j { queue = effect j.queue }
     pub tells : (j : IoctlState) → IsReply m c j reply.Done
@@ -84,39 +92,41 @@ module _ {P A : Type 0} (m : P → Plane) where
   back_of : (c : Ioctl P A) (planes : Option (PlaneSet P)) (supply : List (PlaneSet P)) (r : Refused P A) → planes_given c ≡ planes → supply_given c ≡ supply → HandsBack planes supply r → HandsBack (planes_given c) (supply_given c) r
   back_of c planes supply r e f back = (back.0 ∙ sym e, back.1 ∙ sym f)
 
-  plain_step : (c : Ioctl P A) (why : QueueState → Option Reason) (effect : QueueState → QueueState) → IsPlain c why effect → (result : Result (IoctlReply P A) (Refused P A)) (q q' : Lined P) (table : Fds P) → Steps m (Plain why effect) result q q' → IfErr result (HandsBack None []) → (j : IoctlState) → Stands m q table j → IsAnsweredFor m c j (call_refusal m c j) result × Stands m q' table (after m c j result)
-  plain_step c why effect is (Ok reply.Done) q q' table step back j stands =
+  plain_step : (c : Ioctl P A) (event : Option Errno → Event) (why : QueueState → Option Reason) (effect : QueueState → QueueState) → IsPlain c event why effect → (result : Result (IoctlReply P A) (Refused P A)) (q q' : Lined P) (table : Fds P) → Happens m q q' (event (refusal_in result)) → IfOk result (λ r. r ≡ reply.Done) → IfErr result (HandsBack None []) → (j : IoctlState) → Stands m q table j → IsAnsweredFor m c j (call_refusal m c j) result × Stands m q' table (after m c j result)
+  plain_step c event why effect is (Ok r) q q' table step done back j stands =
       let t = step j.queue stands.queue in
-      ((is.judged j ∙ t.1.0, is.tells j), subst (λ k. Stands m q' table k) (sym (is.makes j)) (moves m q q' table j (effect j.queue) stands (subst (λ s. StandsFor m q' s) t.1.1 t.2) (is.links j.queue j.out j.names stands.linked)))
-  plain_step c why effect is (Ok (reply.Granted g)) q q' table step back j stands = let t = step j.queue stands.queue in absurd t.1
-  plain_step c why effect is (Ok (reply.Info info)) q q' table step back j stands = let t = step j.queue stands.queue in absurd t.1
-  plain_step c why effect is (Ok (reply.Dequeued d)) q q' table step back j stands = let t = step j.queue stands.queue in absurd t.1
-  plain_step c why effect is (Err r) q q' table step back j stands =
+      let passes : why j.queue ≡ None = not_refused (why j.queue) (is.answered j.queue None t.0) in
+      let new : StandsFor m q' (effect j.queue) = subst (λ s. StandsFor m q' s) (is.turned j.queue None) t.1 in
+      ((is.judged j ∙ passes, subst (λ x. IsReply m c j x) (sym done) (is.tells j)), subst (λ k. Stands m q' table k) (sym (is.makes j)) (moves m q q' table j (effect j.queue) stands new (is.links j.queue j.out j.names stands.linked)))
+  plain_step c event why effect is (Err r) q q' table step done back j stands =
       let t = step j.queue stands.queue in
-      ((inl (ap (option_map errno) (is.judged j) ∙ t.1.0), back_of c None [] r is.planes is.supply back), stays m q q' table j t.0 stands t.2 t.1.1)
+      let new : StandsFor m q' j.queue = subst (λ s. StandsFor m q' s) (is.turned j.queue (Some r.errno)) t.1 in
+      ((inl (ap (option_map errno) (is.judged j) ∙ is.answered j.queue (Some r.errno) t.0), back_of c None [] r is.planes is.supply back), stays m q q' table j stands new)
 
-  pub stream_on_applies : (type : BufferType) (result : Result (IoctlReply P A) (Refused P A)) (q q' : Lined P) (table : Fds P) → Steps m TurnsOn result q q' → IfErr result (HandsBack None []) → AppliesTyped m (call.StreamOn type) result q table q' table
-  stream_on_applies type result q q' table step back = plain_step (call.StreamOn type) (λ s. stream_on_refusal s.body) streaming (record { judged = λ j. refl; makes = λ j. refl; tells = λ j. tt; planes = refl; supply = refl; links = on_linked }) result q q' table step back
+  pub stream_on_applies : (type : BufferType) (result : Result (IoctlReply P A) (Refused P A)) (q q' : Lined P) (table : Fds P) → Happens m q q' (streamon (refusal_in result)) → IfOk result (λ r. r ≡ reply.Done) → IfErr result (HandsBack None []) → AppliesTyped m (call.StreamOn type) result q table q' table
+  stream_on_applies type result q q' table step done back =
+      plain_step (call.StreamOn type) streamon (λ s. stream_on_refusal s.body) streaming (record { answered = λ s r h. h; turned = λ s r. refl; judged = λ j. refl; makes = λ j. refl; tells = λ j. tt; planes = refl; supply = refl; links = on_linked }) result q q' table step done back
 
-  pub stream_off_applies : (type : BufferType) (result : Result (IoctlReply P A) (Refused P A)) (q q' : Lined P) (table : Fds P) → Steps m TurnsOff result q q' → IfErr result (HandsBack None []) → AppliesTyped m (call.StreamOff type) result q table q' table
-  stream_off_applies type result q q' table step back = plain_step (call.StreamOff type) (λ s. None) stopped_state (record { judged = λ j. refl; makes = λ j. refl; tells = λ j. tt; planes = refl; supply = refl; links = off_linked }) result q q' table step back
+  pub map_applies : (type : BufferType) (index : ℕ) (result : Result (IoctlReply P A) (Refused P A)) (q q' : Lined P) (table : Fds P) → Happens m q q' (mmap index (refusal_in result)) → IfOk result (λ r. r ≡ reply.Done) → IfErr result (HandsBack None []) → AppliesTyped m (call.Mmap type index) result q table q' table
+  map_applies type index result q q' table step done back =
+      plain_step (call.Mmap type index) (mmap index) (λ s. map_refusal index s.body) (touched (mapped_as true) index)
+      (record { answered = λ s r h. h; turned = λ s r. refl; judged = λ j. refl; makes = λ j. refl; tells = λ j. tt; planes = refl; supply = refl; links = mapped_linked true index }) result q q' table step done back
 
-  pub map_applies : (type : BufferType) (index : ℕ) (result : Result (IoctlReply P A) (Refused P A)) (q q' : Lined P) (table : Fds P) → Steps m (MapsAt index) result q q' → IfErr result (HandsBack None []) → AppliesTyped m (call.Mmap type index) result q table q' table
-  map_applies type index result q q' table step back = plain_step (call.Mmap type index) (λ s. map_refusal index s.body) (touched (mapped_as true) index) (record { judged = λ j. refl; makes = λ j. refl; tells = λ j. tt; planes = refl; supply = refl; links = mapped_linked true index }) result q q' table step back
-
-  pub unmap_applies : (type : BufferType) (index : ℕ) (result : Result (IoctlReply P A) (Refused P A)) (q q' : Lined P) (table : Fds P) → Steps m (UnmapsAt index) result q q' → IfErr result (HandsBack None []) → AppliesTyped m (call.Munmap type index) result q table q' table
-  unmap_applies type index result q q' table step back = plain_step (call.Munmap type index) (λ s. unmap_refusal index s.body) (touched (mapped_as false) index) (record { judged = λ j. refl; makes = λ j. refl; tells = λ j. tt; planes = refl; supply = refl; links = mapped_linked false index }) result q q' table step back
+  pub unmap_applies : (type : BufferType) (index : ℕ) (result : Result (IoctlReply P A) (Refused P A)) (q q' : Lined P) (table : Fds P) → Happens m q q' (munmap index (refusal_in result)) → IfOk result (λ r. r ≡ reply.Done) → IfErr result (HandsBack None []) → AppliesTyped m (call.Munmap type index) result q table q' table
+  unmap_applies type index result q q' table step done back =
+      plain_step (call.Munmap type index) (munmap index) (λ s. unmap_refusal index s.body) (touched (mapped_as false) index)
+      (record { answered = λ s r h. h; turned = λ s r. refl; judged = λ j. refl; makes = λ j. refl; tells = λ j. tt; planes = refl; supply = refl; links = mapped_linked false index }) result q q' table step done back
 
   -- ---- QUERYBUF
 
-  query_step : (type : BufferType) (index : ℕ) (result : Result (IoctlReply P A) (Refused P A)) (q : Lined P) (table : Fds P) → Steps m (Asks index) result q q → IfErr result (HandsBack None []) → (j : IoctlState) → Stands m q table j → IsAnsweredFor m (call.QueryBuf type index) j (call_refusal {A = A} m (call.QueryBuf type index) j) result × Stands m q table (after m (call.QueryBuf type index) j result)
-  query_step type index (Ok (reply.Info info)) q table step back j stands = let t = step j.queue stands.queue in ((t.1.0, t.1.1), stands)
-  query_step type index (Ok (reply.Granted g)) q table step back j stands = let t = step j.queue stands.queue in absurd t.1
-  query_step type index (Ok (reply.Dequeued d)) q table step back j stands = let t = step j.queue stands.queue in absurd t.1
-  query_step type index (Ok reply.Done) q table step back j stands = let t = step j.queue stands.queue in absurd t.1
-  query_step type index (Err r) q table step back j stands = let t = step j.queue stands.queue in ((inl t.1.0, back), stands)
+  query_step : (type : BufferType) (index : ℕ) (result : Result (IoctlReply P A) (Refused P A)) (q : Lined P) (table : Fds P) → Asks m index q result → IfErr result (HandsBack None []) → (j : IoctlState) → Stands m q table j → IsAnsweredFor m (call.QueryBuf type index) j (call_refusal {A = A} m (call.QueryBuf type index) j) result × Stands m q table (after m (call.QueryBuf type index) j result)
+  query_step type index (Ok (reply.Info info)) q table step back j stands = let t = step j.queue stands.queue in (t.0, stands)
+  query_step type index (Ok (reply.Granted g)) q table step back j stands = absurd step
+  query_step type index (Ok (reply.Dequeued d)) q table step back j stands = absurd step
+  query_step type index (Ok reply.Done) q table step back j stands = absurd step
+  query_step type index (Err r) q table step back j stands = let t = step j.queue stands.queue in ((inl t.0, back), stands)
 
-  pub query_applies : (type : BufferType) (index : ℕ) (result : Result (IoctlReply P A) (Refused P A)) (q : Lined P) (table : Fds P) → Steps m (Asks index) result q q → IfErr result (HandsBack None []) → AppliesTyped m (call.QueryBuf type index) result q table q table
+  pub query_applies : (type : BufferType) (index : ℕ) (result : Result (IoctlReply P A) (Refused P A)) (q : Lined P) (table : Fds P) → Asks m index q result → IfErr result (HandsBack None []) → AppliesTyped m (call.QueryBuf type index) result q table q table
   query_applies type index result q table step back = query_step type index result q table step back
 
   -- ---- QBUF and PREPARE_BUF

@@ -10,7 +10,7 @@ use Rattle.loop_vb2.specs.declared.reason.Refused.{Refused}
 use Rattle.loop_vb2.specs.Checks.{queue_refusal}
 use Rattle.loop_vb2.specs.Effects.{queued, first_ended}
 use Rattle.loop_vb2.specs.State.{Body, QueueState}
-use Rattle.loop_vb2.specs.Steps.{read_given}
+use Rattle.loop_vb2.specs.Planes.{read_given}
 use Rattle.loop_ioctl.specs.declared.call.BufferMemory.{BufferMemory}
 use Rattle.loop_ioctl.specs.declared.call.BufferMemory.TheVariants as memory
 use Rattle.loop_ioctl.specs.declared.call.BufferType.{BufferType}

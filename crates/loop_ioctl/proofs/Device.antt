@@ -1,5 +1,5 @@
 -- The device's calls, of queue and table.
-use Rattle.std.proofs.Common.{◌≡◌, ℕ, ◌+◌, true, length, List, ◌++◌, Option, Some, None, option_map, take, drop, Ok, Err, refl, sym, ◌∙◌, ap, subst, arith}
+use Rattle.std.proofs.Common.{◌≡◌, ℕ, ◌+◌, true, length, List, ◌++◌, Option, Some, None, option_map, take, drop, Ok, Err, refl, sym, ◌∙◌, ap, arith}
 use Rattle.std.specs.Prelude.{Result, Vec}
 use Rattle.loop_plane.specs.Plane.{Plane}
 use Rattle.loop_plane.specs.Fds.{Fds}
@@ -7,20 +7,18 @@ use Rattle.loop_vb2.specs.declared.buffer.Stamp.{Stamp}
 use Rattle.loop_vb2.specs.declared.planes.PlaneSet.{PlaneSet}
 use Rattle.loop_vb2.specs.declared.planes.Shape.{Shape}
 use Rattle.loop_vb2.specs.declared.reason.Errno.{Errno}
-use Rattle.loop_vb2.specs.declared.reason.Reason.{Reason}
 use Rattle.loop_vb2.specs.Buffers.{completed_with, failed_with}
 use Rattle.loop_vb2.specs.Checks.{end_refusal}
 use Rattle.loop_vb2.specs.Effects.{completed, failed, fatal_state}
 use Rattle.loop_vb2.specs.Planes.{number_at, slot_filled, set_by, frame_size}
-use Rattle.loop_vb2.specs.State.{QueueState, Lined, StandsFor}
-use Rattle.loop_vb2.specs.Steps.{Steps, Does, Completes, FailsFrame, EndsFatally}
+use Rattle.loop_vb2.specs.State.{QueueState, Lined}
+use Rattle.loop_vb2.specs.Events.{Happens, refusal_of, complete, fail, fatal}
+use Rattle.loop_vb2.proofs.Ordered.{not_refused}
 use Rattle.loop_ioctl.specs.declared.events.QueueEvent.TheVariants as event
 use Rattle.loop_ioctl.specs.declared.events.QueueReply.TheVariants as answer
 use Rattle.loop_ioctl.specs.Names.{Names, in_place, values_in}
 use Rattle.loop_ioctl.specs.Attached.{times, IsLinked}
-use Rattle.loop_ioctl.specs.Calls.{IoctlState, Stands}
-use Rattle.loop_ioctl.specs.Parts.{Judged, either}
-use Rattle.loop_ioctl.specs.Events.{with_queue, is_whole, Reacts}
+use Rattle.loop_ioctl.specs.Events.{is_whole, Reacts}
 use Rattle.loop_ioctl.specs.declared.events.QueueEvent.{QueueEvent}
 use Rattle.std.proofs.lemmas.Bool.{eqb-true}
 use Rattle.loop_ioctl.proofs.Attached.{in_buffer, kept_changed, last_none}
@@ -57,24 +55,20 @@ pub failed_linked : (index : ℕ) (stamp : Stamp) (s : QueueState) (out : List (
 failed_linked index stamp s out n linked = still_linked s.body (failed index stamp s).body out n refl (λ (fd : ℕ). kept_changed (failed_with stamp) index s.body.buffers fd (λ b d. refl)) linked
 
 module _ {P : Type 0} (m : P → Plane) where
-  ends : {U : Type 0} (why : QueueState → Option Reason) (effect : QueueState → QueueState) (result : Result U Errno) (q q' : Lined P) (table : Fds P) → Steps m (Does why effect) result q q' → ((s : QueueState) (out : List (ℕ × Plane)) (n : Names Plane) → IsLinked s.body out n → IsLinked (effect s).body out n) → (j : IoctlState) → Stands m q table j → Judged (why j.queue) result × Stands m q' table (either result (with_queue effect j) j)
-  ends why effect (Ok u) q q' table step links j stands =
+  pub complete_reacts : {A : Type 0} (index : ℕ) (stamp : Stamp) (bytes : Vec ℕ A) (result : Result (Unit {0}) Errno) (q q' : Lined P) (table : Fds P) → Happens m q q' (complete index stamp bytes.items (refusal_of result)) → Reacts m (event.Complete index stamp bytes) (answer.Ended result) q table q' table
+  complete_reacts index stamp bytes (Ok u) q q' table step j stands =
       let t = step j.queue stands.queue in
-      (t.1.0, moves m q q' table j (effect j.queue) stands (subst (λ s. StandsFor m q' s) t.1.1 t.2) (links j.queue j.out j.names stands.linked))
-  ends why effect (Err e) q q' table step links j stands =
+      (not_refused (end_refusal index j.queue.body) t.0, moves m q q' table j (completed index stamp bytes.items j.queue) stands t.1 (completed_linked index stamp bytes.items j.queue j.out j.names stands.linked))
+  complete_reacts index stamp bytes (Err e) q q' table step j stands = let t = step j.queue stands.queue in (t.0, stays m q q' table j stands t.1)
+
+  pub fail_reacts : (A : Type 0) (index : ℕ) (stamp : Stamp) (result : Result (Unit {0}) Errno) (q q' : Lined P) (table : Fds P) → Happens m q q' (fail index stamp (refusal_of result)) → Reacts {A = A} m (event.Fail index stamp) (answer.Ended result) q table q' table
+  fail_reacts A index stamp (Ok u) q q' table step j stands =
       let t = step j.queue stands.queue in
-      (t.1.0, stays m q q' table j t.0 stands t.2 t.1.1)
+      (not_refused (end_refusal index j.queue.body) t.0, moves m q q' table j (failed index stamp j.queue) stands t.1 (failed_linked index stamp j.queue j.out j.names stands.linked))
+  fail_reacts A index stamp (Err e) q q' table step j stands = let t = step j.queue stands.queue in (t.0, stays m q q' table j stands t.1)
 
-  pub complete_reacts : {A : Type 0} (index : ℕ) (stamp : Stamp) (bytes : Vec ℕ A) (result : Result (Unit {0}) Errno) (q q' : Lined P) (table : Fds P) → Steps m (Completes index stamp bytes.items) result q q' → Reacts m (event.Complete index stamp bytes) (answer.Ended result) q table q' table
-  complete_reacts index stamp bytes result q q' table step = ends (λ s. end_refusal index s.body) (completed index stamp bytes.items) result q q' table step (completed_linked index stamp bytes.items)
-
-  pub fail_reacts : (A : Type 0) (index : ℕ) (stamp : Stamp) (result : Result (Unit {0}) Errno) (q q' : Lined P) (table : Fds P) → Steps m (FailsFrame index stamp) result q q' → Reacts {A = A} m (event.Fail index stamp) (answer.Ended result) q table q' table
-  fail_reacts A index stamp result q q' table step = ends (λ s. end_refusal index s.body) (failed index stamp) result q q' table step (failed_linked index stamp)
-
-  pub fatal_reacts : (A : Type 0) {U : Type 0} (u : U) (q q' : Lined P) (table : Fds P) → Steps m EndsFatally u q q' → Reacts {A = A} m event.Fatal answer.Fatal q table q' table
-  fatal_reacts A u q q' table step j stands =
-      let t = step j.queue stands.queue in
-      (tt, moves m q q' table j (fatal_state j.queue) stands (subst (λ s. StandsFor m q' s) t.1 t.2) stands.linked)
+  pub fatal_reacts : (A : Type 0) (q q' : Lined P) (table : Fds P) → Happens m q q' fatal → Reacts {A = A} m event.Fatal answer.Fatal q table q' table
+  fatal_reacts A q q' table step j stands = let t = step j.queue stands.queue in (tt, moves m q q' table j (fatal_state j.queue) stands t.1 stands.linked)
 
 pub whole_bytes : {P A : Type 0} (shape : Shape) (e : QueueEvent P A) (index : ℕ) (stamp : Stamp) (bytes : Vec ℕ A) → is_whole shape e ≡ true → e ≡ event.Complete index stamp bytes → length bytes.items ≡ frame_size shape
 whole_bytes shape e index stamp bytes whole is = eqb-true (length bytes.items) (frame_size shape) (sym (ap (is_whole shape) is) ∙ whole)

@@ -14,12 +14,13 @@ use Rattle.loop_vb2.specs.declared.reason.Reason.{Reason}
 use Rattle.loop_vb2.specs.declared.reason.Reason.TheVariants.{BadIndex, BadMemory, BadPlanes}
 use Rattle.loop_vb2.specs.declared.reason.Refused.{Refused}
 use Rattle.loop_vb2.specs.Errnos.{errno}
-use Rattle.loop_vb2.specs.Planes.{read_set, same_memory, are_kind, has_count}
+use Rattle.loop_vb2.specs.Planes.{read_set, read_given, same_memory, are_kind, has_count}
 use Rattle.loop_vb2.specs.Buffers.{holds_at, woken, queued_with, prepared_with, read_buffer}
 use Rattle.loop_vb2.specs.Checks.{first_of, prepare_late_checks, queue_late_checks}
 use Rattle.loop_vb2.specs.Effects.{device_runs, awake, settled, with_buffer}
 use Rattle.loop_vb2.specs.State.{Body, QueueState, Lined, StandsFor}
-use Rattle.loop_vb2.specs.Steps.{Steps, read_given}
+use Rattle.loop_vb2.specs.Events.{IsAnswered, Happens, after, refusal_of, refusal_in}
+use Rattle.loop_vb2.proofs.Ordered.{not_refused}
 use Rattle.loop_ioctl.specs.declared.call.BufferMemory.TheVariants as memory
 use Rattle.loop_ioctl.specs.declared.call.PlaneFds.{PlaneFds}
 use Rattle.loop_ioctl.specs.declared.put.Use.{Use}
@@ -27,7 +28,7 @@ use Rattle.loop_ioctl.specs.declared.put.Use.TheVariants.{Prepare, Queue}
 use Rattle.loop_ioctl.specs.Names.{Names, names_in, or_else, set_refusal, set_named, set_taken, values_in, GivesIfRefused, TakesSet}
 use Rattle.loop_ioctl.specs.Attached.{times, values_held, IsOnce, IsLinked}
 use Rattle.loop_ioctl.specs.Calls.{IoctlState, Stands, read_names, early_refusal, use_refusal, used, put_refusal}
-use Rattle.loop_ioctl.specs.Parts.{Uses, UsesSet, either, JudgedBack, PutsNamed, Puts}
+use Rattle.loop_ioctl.specs.Parts.{use_event, either, JudgedBack, PutsNamed, Puts}
 use Rattle.loop_ioctl.proofs.Names.{same_names, same_values, set_undone}
 use Rattle.loop_ioctl.proofs.Attached.{in_buffer, in_buffers, kept_changed, kept_mapped, added, AreOnce, once_same, set_once, last_none}
 use Rattle.loop_ioctl.proofs.Read.{set_refusal_read, set_named_read, set_taken_read}
@@ -154,38 +155,42 @@ module _ {P : Type 0} (m : P → Plane) where
   pub moves : (q q' : Lined P) (table : Fds P) (j : IoctlState) (t : QueueState) → Stands m q table j → StandsFor m q' t → IsLinked t.body j.out j.names → Stands m q' table (record j { queue = t })
   moves q q' table j t stands new linked = record { queue = new; names = stands.names; linked = linked }
 
-  pub stays : (q q' : Lined P) (table : Fds P) (j : IoctlState) (t : QueueState) → Stands m q table j → StandsFor m q' t → t ≡ j.queue → Stands m q' table j
-  stays q q' table j t stands new e = record { queue = subst (λ s. StandsFor m q' s) e new; names = stands.names; linked = stands.linked }
+  pub stays : (q q' : Lined P) (table : Fds P) (j : IoctlState) → Stands m q table j → StandsFor m q' j.queue → Stands m q' table j
+  stays q q' table j stands new = record { queue = new; names = stands.names; linked = stands.linked }
 
   pub same_table : (q : Lined P) (table table' : Fds P) (j : IoctlState) → names_in table' ≡ names_in table → Stands m q table j → Stands m q table' j
   same_table q table table' j e stands = record { queue = stands.queue; names = stands.names ∙ ap (read_names m) (sym e); linked = stands.linked }
 
-  uses_done : {U : Type 0} (A : Type 0) (u : U) (way : Use) (index : ℕ) (kind : Memory) (given : Option (PlaneSet Plane)) (s t : QueueState) → Uses {P = P} {U = U} {A = A} way index kind given s (Ok u) t → (use_refusal way index kind given s.body ≡ None) × (t ≡ used way index given s)
-  uses_done A u Prepare index kind given s t h = h
-  uses_done A u Queue index kind given s t h = h
+  -- what such an event says
+  judged_by : (way : Use) (index : ℕ) (kind : Memory) (given : Option (PlaneSet Plane)) (r : Option Errno) (s : QueueState) → IsAnswered s (use_event way index kind given r) → option_map errno (use_refusal way index kind given s.body) ≡ r
+  judged_by Prepare index kind given r s h = h
+  judged_by Queue index kind given r s h = h
 
-  uses_refused : (U : Type 0) {A : Type 0} (r : Refused P A) (way : Use) (index : ℕ) (kind : Memory) (given : Option (PlaneSet Plane)) (s t : QueueState) → Uses {P = P} {U = U} {A = A} way index kind given s (Err r) t → (option_map errno (use_refusal way index kind given s.body) ≡ Some r.errno) × (t ≡ s)
-  uses_refused U r Prepare index kind given s t h = h
-  uses_refused U r Queue index kind given s t h = h
+  used_by : (way : Use) (index : ℕ) (kind : Memory) (given : Option (PlaneSet Plane)) (q : Lined P) (s : QueueState) → StandsFor m q (after s (use_event way index kind given None)) → StandsFor m q (used way index given s)
+  used_by Prepare index kind given q s h = h
+  used_by Queue index kind given q s h = h
+
+  left_by : (way : Use) (index : ℕ) (kind : Memory) (given : Option (PlaneSet Plane)) (e : Errno) (q : Lined P) (s : QueueState) → StandsFor m q (after s (use_event way index kind given (Some e))) → StandsFor m q s
+  left_by Prepare index kind given e q s h = h
+  left_by Queue index kind given e q s h = h
 
   -- a call that leaves the table
-  pub puts_plain : {U A : Type 0} (result : Result U (Refused P A)) (way : Use) (index : ℕ) (kind : Memory) (given : Option (PlaneSet Plane)) (q q' : Lined P) (table : Fds P) → Steps m (Uses way index kind given) result q q' → ((s : QueueState) (out : List (ℕ × Plane)) (n : Names Plane) → use_refusal way index kind given s.body ≡ None → IsLinked s.body out n → IsLinked (used way index given s).body out n) → (j : IoctlState) → Stands m q table j → JudgedBack (use_refusal way index kind given j.queue.body) result × Stands m q' table (either result (record j { queue = used way index given j.queue }) j)
-  puts_plain {U} {A} (Ok u) way index kind given q q' table step links j stands =
+  pub puts_plain : {U A : Type 0} (result : Result U (Refused P A)) (way : Use) (index : ℕ) (kind : Memory) (given : Option (PlaneSet Plane)) (q q' : Lined P) (table : Fds P) → Happens m q q' (use_event way index kind given (refusal_in result)) → ((s : QueueState) (out : List (ℕ × Plane)) (n : Names Plane) → use_refusal way index kind given s.body ≡ None → IsLinked s.body out n → IsLinked (used way index given s).body out n) → (j : IoctlState) → Stands m q table j → JudgedBack (use_refusal way index kind given j.queue.body) result × Stands m q' table (either result (record j { queue = used way index given j.queue }) j)
+  puts_plain (Ok u) way index kind given q q' table step links j stands =
       let t = step j.queue stands.queue in
-      let d = uses_done A u way index kind given j.queue t.0 t.1 in
-      (d.0, moves q q' table j (used way index given j.queue) stands (subst (λ s. StandsFor m q' s) d.1 t.2) (links j.queue j.out j.names d.0 stands.linked))
-  puts_plain {U} {A} (Err r) way index kind given q q' table step links j stands =
+      let passes = not_refused (use_refusal way index kind given j.queue.body) (judged_by way index kind given None j.queue t.0) in
+      (passes, moves q q' table j (used way index given j.queue) stands (used_by way index kind given q' j.queue t.1) (links j.queue j.out j.names passes stands.linked))
+  puts_plain (Err r) way index kind given q q' table step links j stands =
       let t = step j.queue stands.queue in
-      let d = uses_refused U r way index kind given j.queue t.0 t.1 in
-      (d.0, stays q q' table j t.0 stands t.2 d.1)
+      (judged_by way index kind given (Some r.errno) j.queue t.0, stays q q' table j stands (left_by way index kind given r.errno q' j.queue t.1))
 
-  pub puts_mmap : {U A : Type 0} (result : Result U (Refused P A)) (way : Use) (index : ℕ) (q q' : Lined P) (table : Fds P) → Steps m (Uses way index Mmap None) result q q' → Puts m way index memory.Mmap result q table q' table
+  pub puts_mmap : {U A : Type 0} (result : Result U (Refused P A)) (way : Use) (index : ℕ) (q q' : Lined P) (table : Fds P) → Happens m q q' (use_event way index Mmap None (refusal_in result)) → Puts m way index memory.Mmap result q table q' table
   puts_mmap result way index q q' table step = puts_plain result way index Mmap None q q' table step (none_links way index Mmap)
 
-  pub puts_user : {U A : Type 0} (result : Result U (Refused P A)) (way : Use) (index : ℕ) (given : Option (PlaneSet P)) (q q' : Lined P) (table : Fds P) → Steps m (Uses way index UserPtr (read_given m given)) result q q' → Puts m way index (memory.UserPtr given) result q table q' table
+  pub puts_user : {U A : Type 0} (result : Result U (Refused P A)) (way : Use) (index : ℕ) (given : Option (PlaneSet P)) (q q' : Lined P) (table : Fds P) → Happens m q q' (use_event way index UserPtr (read_given m given) (refusal_in result)) → Puts m way index (memory.UserPtr given) result q table q' table
   puts_user result way index given q q' table step = puts_plain result way index UserPtr (read_given m given) q q' table step (user_links way index (read_given m given))
 
-  pub puts_held : {U A : Type 0} (result : Result U (Refused P A)) (way : Use) (index : ℕ) (q q' : Lined P) (table : Fds P) → Steps m (Uses way index DmaBuf None) result q q' → Puts m way index (memory.DmaBuf None) result q table q' table
+  pub puts_held : {U A : Type 0} (result : Result U (Refused P A)) (way : Use) (index : ℕ) (q q' : Lined P) (table : Fds P) → Happens m q q' (use_event way index DmaBuf None (refusal_in result)) → Puts m way index (memory.DmaBuf None) result q table q' table
   puts_held result way index q q' table step = puts_plain result way index DmaBuf None q q' table step (none_links way index DmaBuf)
 
   -- ---- planes by fd
@@ -226,23 +231,24 @@ module _ {P : Type 0} (m : P → Plane) where
       ∙ (ap (λ r. or_else r last) (set_read q table named j stands ∙ taken)
       ∙ ap (λ x. use_refusal way index DmaBuf (Some x) j.queue.body) (set_is named set q table j stands is))
 
-  pub named_puts : {U : Type 0} (result : Result U Errno) (way : Use) (index : ℕ) (named : PlaneFds) (set : PlaneSet P) (q q' : Lined P) (a b c : Fds P) → early_refusal index q.body ≡ None → TakesSet named (Ok set) a b → Steps m (UsesSet way index (read_set m set)) result q q' → GivesIfRefused (values_in set) result b c → PutsNamed m way index named result q a q' c
+  pub named_puts : {U : Type 0} (result : Result U Errno) (way : Use) (index : ℕ) (named : PlaneFds) (set : PlaneSet P) (q q' : Lined P) (a b c : Fds P) → early_refusal index q.body ≡ None → TakesSet named (Ok set) a b → Happens m q q' (use_event way index DmaBuf (Some (read_set m set)) (refusal_of result)) → GivesIfRefused (values_in set) result b c → PutsNamed m way index named result q a q' c
   named_puts (Ok u) way index named set q q' a b c early took step gives j stands =
       let t = step j.queue stands.queue in
       let e : set_named named j.names ≡ read_set m set = set_is named set q a j stands took.1 in
       let why : put_refusal m way index (memory.DmaBuf (Some named)) j ≡ use_refusal way index DmaBuf (Some (read_set m set)) j.queue.body = put_read way index named set q a j stands early took.0 took.1 in
-      let passes : use_refusal way index DmaBuf (Some (set_named named j.names)) j.queue.body ≡ None = ap (λ x. use_refusal way index DmaBuf (Some x) j.queue.body) e ∙ t.1.0 in (
-        why ∙ t.1.0,
+      let passed : use_refusal way index DmaBuf (Some (read_set m set)) j.queue.body ≡ None = not_refused (use_refusal way index DmaBuf (Some (read_set m set)) j.queue.body) (judged_by way index DmaBuf (Some (read_set m set)) None j.queue t.0) in
+      let passes : use_refusal way index DmaBuf (Some (set_named named j.names)) j.queue.body ≡ None = ap (λ x. use_refusal way index DmaBuf (Some x) j.queue.body) e ∙ passed in (
+        why ∙ passed,
         record {
-          queue = subst (λ s. StandsFor m q' s) (t.1.1 ∙ ap (λ x. used way index (Some x) j.queue) (sym e)) t.2;
+          queue = subst (λ s. StandsFor m q' s) (ap (λ x. used way index (Some x) j.queue) (sym e)) (used_by way index DmaBuf (Some (read_set m set)) q' j.queue t.1);
           names = ap (set_taken named) stands.names ∙ (set_taken_read m named (names_in a) ∙ ap (read_names m) (sym (ap names_in gives ∙ took.2)));
           linked = fds_linked way index named j.queue j.out j.names (set_read q a named j stands ∙ took.0) passes stands.linked;
         },
       )
   named_puts (Err e) way index named set q q' a b c early took step gives j stands =
       let t = step j.queue stands.queue in (
-        ap (option_map errno) (put_read way index named set q a j stands early took.0 took.1) ∙ t.1.0,
-        stays q q' c j t.0 (same_table q a c j (set_undone named set a b c took gives) stands) t.2 t.1.1,
+        ap (option_map errno) (put_read way index named set q a j stands early took.0 took.1) ∙ judged_by way index DmaBuf (Some (read_set m set)) (Some e) j.queue t.0,
+        stays q q' c j (same_table q a c j (set_undone named set a b c took gives) stands) (left_by way index DmaBuf (Some (read_set m set)) e q' j.queue t.1),
       )
 
   pub named_still : {U : Type 0} (result : Result U Errno) (named : PlaneFds) (set : PlaneSet P) (a b c : Fds P) → TakesSet named (Ok set) a b → GivesIfRefused (values_in set) result b c → OnErr result (SameValues a c)

@@ -12,15 +12,14 @@ use Rattle.loop_vb2.specs.declared.reason.Reason.{Reason}
 use Rattle.loop_vb2.specs.declared.reason.Reason.TheVariants.{BadType, BadIndex, BadMemory, NoMemory}
 use Rattle.loop_vb2.specs.declared.reason.Refused.{Refused}
 use Rattle.loop_vb2.specs.declared.request.Granted.{Granted}
-use Rattle.loop_vb2.specs.Planes.{read_set, same_memory}
-use Rattle.loop_vb2.specs.Answers.{IsAnswer, IsInfo}
+use Rattle.loop_vb2.specs.Planes.{read_set, read_given, same_memory}
+use Rattle.loop_vb2.specs.Answers.{IsAnswer, IsInfo, read_answer}
 use Rattle.loop_vb2.specs.Buffers.{handed, mapped_as}
 use Rattle.loop_vb2.specs.Checks.{first_of, queue_refusal, prepare_refusal, dequeue_refusal, stream_on_refusal, query_refusal, map_refusal, unmap_refusal, request_refusal}
 use Rattle.loop_vb2.specs.Effects.{queued, prepared, dequeued, first_ended, streaming, stopped_state, touched}
 use Rattle.loop_vb2.specs.Errnos.{errno}
 use Rattle.loop_vb2.specs.Requests.{grants_or_none, held, requested}
 use Rattle.loop_vb2.specs.State.{Body, QueueState, Lined, StandsFor}
-use Rattle.loop_vb2.specs.Steps.{read_given, read_answer}
 use Rattle.loop_ioctl.specs.declared.call.BufferMemory.{BufferMemory}
 use Rattle.loop_ioctl.specs.declared.call.BufferMemory.TheVariants as memory
 use Rattle.loop_ioctl.specs.declared.call.Ioctl.{Ioctl}

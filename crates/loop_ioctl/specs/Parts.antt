@@ -1,5 +1,5 @@
 -- What the parts of an ioctl do. Only private functions say it.
-use Rattle.std.specs.Prelude.{◌≡◌, ◌⊎◌, ℕ, true, false, map, slice_get, List, Option, Some, None, option_map, Result, Ok, Err}
+use Rattle.std.specs.Prelude.{◌≡◌, ◌⊎◌, ℕ, map, List, Option, Some, None, option_map, Result, Ok, Err}
 use Rattle.loop_plane.specs.Plane.{Plane}
 use Rattle.loop_plane.specs.Fds.{Fds}
 use Rattle.loop_plane.specs.declared.memory.Memory.{Memory}
@@ -8,32 +8,29 @@ use Rattle.loop_vb2.specs.declared.planes.PlaneSet.{PlaneSet}
 use Rattle.loop_vb2.specs.declared.reason.Errno.{Errno}
 use Rattle.loop_vb2.specs.declared.reason.Reason.{Reason}
 use Rattle.loop_vb2.specs.declared.reason.Refused.{Refused}
-use Rattle.loop_vb2.specs.declared.buffer.Buffer.{Buffer}
 use Rattle.loop_vb2.specs.declared.reason.Reason.TheVariants.{NoMemory}
-use Rattle.loop_vb2.specs.Answers.{IsInfo}
-use Rattle.loop_vb2.specs.Buffers.{mapped_as}
-use Rattle.loop_vb2.specs.Checks.{dequeue_refusal, stream_on_refusal, query_refusal, map_refusal, unmap_refusal, request_refusal}
-use Rattle.loop_vb2.specs.Effects.{first_ended, streaming, stopped_state, touched}
+use Rattle.loop_vb2.specs.Answers.{Passes, Fails}
+use Rattle.loop_vb2.specs.Checks.{dequeue_refusal, request_refusal}
+use Rattle.loop_vb2.specs.Effects.{first_ended}
 use Rattle.loop_vb2.specs.Errnos.{errno}
 use Rattle.loop_vb2.specs.Planes.{read_set}
-use Rattle.loop_vb2.specs.State.{QueueState, Lined}
-use Rattle.loop_vb2.specs.Steps.{Passes, Fails, Prepares, Queues}
+use Rattle.loop_vb2.specs.State.{Lined}
+use Rattle.loop_vb2.specs.Events.{Event, Happens, prepare_buf, qbuf, querybuf}
 use Rattle.loop_ioctl.specs.declared.call.BufferMemory.{BufferMemory}
 use Rattle.loop_ioctl.specs.declared.call.BufferMemory.TheVariants as memory
 use Rattle.loop_ioctl.specs.declared.call.PlaneFds.{PlaneFds}
 use Rattle.loop_ioctl.specs.declared.put.Use.{Use}
 use Rattle.loop_ioctl.specs.declared.put.Use.TheVariants.{Prepare, Queue}
 use Rattle.loop_ioctl.specs.Names.{values_of, GivesBack}
-use Rattle.loop_ioctl.specs.Calls.{IoctlState, Stands, use_refusal, used, put_refusal, put_in, TellsFrame, TellsGrant, taken_out, replaced, call_refusal, IsAnsweredFor, after}
+use Rattle.loop_ioctl.specs.Calls.{IoctlState, Stands, put_refusal, put_in, TellsFrame, TellsGrant, taken_out, replaced, call_refusal, IsAnsweredFor, after}
 use Rattle.loop_ioctl.specs.declared.call.Ioctl.{Ioctl}
 use Rattle.loop_ioctl.specs.declared.call.IoctlReply.{IoctlReply}
 use Rattle.loop_ioctl.specs.declared.call.IoctlReply.TheVariants as reply
 
 -- PREPARE_BUF or QBUF of the queue
-abbrev pub Uses : {P U A : Type 0} → Use → ℕ → Memory → Option (PlaneSet Plane) → QueueState → Result U (Refused P A)
-    → QueueState → Type 0
-Uses Prepare index kind given = Prepares index kind given
-Uses Queue index kind given = Queues index kind given
+abbrev pub use_event : Use → ℕ → Memory → Option (PlaneSet Plane) → Option Errno → Event
+use_event Prepare index kind given refusal = prepare_buf index kind given refusal
+use_event Queue index kind given refusal = qbuf index kind given refusal
 
 -- one state where a call is answered, another where it is refused
 abbrev pub either : {U E S : Type 0} → Result U E → S → S → S
@@ -48,11 +45,6 @@ Judged why (Err e) = option_map errno why ≡ Some e
 abbrev pub JudgedBack : {U P A : Type 0} → Option Reason → Result U (Refused P A) → Type 0
 JudgedBack why (Ok _) = why ≡ None
 JudgedBack why (Err r) = option_map errno why ≡ Some r.errno
-
--- the same of the queue, with planes that were taken by fd
-abbrev pub UsesSet : {U : Type 0} → Use → ℕ → PlaneSet Plane → QueueState → Result U Errno → QueueState → Type 0
-UsesSet way index set s result t =
-    Judged (use_refusal way index DmaBuf (Some set) s.body) result × (t ≡ either result (used way index (Some set) s) s)
 
 module _ {P : Type 0} (meaning : P → Plane) where
   -- of queue and table, with planes by fd
@@ -76,37 +68,11 @@ LetsOut UserPtr sets before after = after ≡ before
 LetsOut DmaBuf sets before after = GivesBack (values_of sets) before after
 
 module _ {P A : Type 0} where
-  -- a call that answers nothing but its refusal: where it passes, the queue is in this state
-  abbrev pub Plain : (QueueState → Option Reason) → (QueueState → QueueState) → QueueState
-      → Result (IoctlReply P A) (Refused P A) → QueueState → Type 0
-  Plain why effect s (Ok reply.Done) t = Passes (why s) × (t ≡ effect s)
-  Plain why effect s (Ok (reply.Granted g)) t = ⊥
-  Plain why effect s (Ok (reply.Info info)) t = ⊥
-  Plain why effect s (Ok (reply.Dequeued d)) t = ⊥
-  Plain why effect s (Err r) t = Fails (why s) r.errno × (t ≡ s)
-
-  -- STREAMON, STREAMOFF, mmap, munmap
-  abbrev pub TurnsOn : QueueState → Result (IoctlReply P A) (Refused P A) → QueueState → Type 0
-  TurnsOn = Plain (λ s. stream_on_refusal s.body) streaming
-
-  abbrev pub TurnsOff : QueueState → Result (IoctlReply P A) (Refused P A) → QueueState → Type 0
-  TurnsOff = Plain (λ s. None) stopped_state
-
-  abbrev pub MapsAt : ℕ → QueueState → Result (IoctlReply P A) (Refused P A) → QueueState → Type 0
-  MapsAt index = Plain (λ s. map_refusal index s.body) (touched (mapped_as true) index)
-
-  abbrev pub UnmapsAt : ℕ → QueueState → Result (IoctlReply P A) (Refused P A) → QueueState → Type 0
-  UnmapsAt index = Plain (λ s. unmap_refusal index s.body) (touched (mapped_as false) index)
-
   -- QUERYBUF
-  abbrev pub Asks : ℕ → QueueState → Result (IoctlReply P A) (Refused P A) → QueueState → Type 0
-  Asks index s (Ok (reply.Info info)) t =
-      Passes (query_refusal index s.body)
-      × ((b : Buffer Plane) × (slice_get s.body.buffers index ≡ Some b) × IsInfo b info) × (t ≡ s)
-  Asks index s (Ok (reply.Granted g)) t = ⊥
-  Asks index s (Ok (reply.Dequeued d)) t = ⊥
-  Asks index s (Ok reply.Done) t = ⊥
-  Asks index s (Err r) t = Fails (query_refusal index s.body) r.errno × (t ≡ s)
+  abbrev pub Asks : (P → Plane) → ℕ → Lined P → Result (IoctlReply P A) (Refused P A) → Type 0
+  Asks meaning index now (Ok (reply.Info info)) = Happens meaning now now (querybuf index (Ok info))
+  Asks meaning index now (Ok r) = ⊥
+  Asks meaning index now (Err r) = Happens meaning now now (querybuf index (Err r.errno))
 
   -- DQBUF
   abbrev pub IsTakenOut : (P → Plane) → IoctlState → Result (IoctlReply P A) (Refused P A) → Type 0

@@ -1,11 +1,12 @@
 // One ioctl.
-ghost use Rattle.std.specs.Prelude.{◌≡◌, None, [], option_to_list, IfErr, OnErr};
+ghost use Rattle.std.specs.Prelude.{◌≡◌, None, [], option_to_list, Ok, IfOk, IfErr, OnErr};
 ghost use Rattle.slab.specs.Slab.{SameValues};
 ghost use Rattle.loop_vb2.specs.Errnos.{errno};
-ghost use Rattle.loop_vb2.specs.Steps.{Steps};
+ghost use Rattle.loop_vb2.specs.Events.{Happens, refusal_in, streamon, streamoff, mmap, munmap};
 ghost use Rattle.loop_ioctl.specs.Types.{same_type, named_type, type_of};
 ghost use Rattle.loop_ioctl.specs.Calls.{HandsBack, planes_of, planes_given, supply_given, handed_out, Applies};
-ghost use Rattle.loop_ioctl.specs.Parts.{LetsOut, TurnsOn, TurnsOff, MapsAt, UnmapsAt, Asks, LetsOneOut, Replaces, AppliesTyped};
+ghost use Rattle.loop_ioctl.specs.declared.call.IoctlReply.TheVariants.{Done};
+ghost use Rattle.loop_ioctl.specs.Parts.{LetsOut, Asks, LetsOneOut, Replaces, AppliesTyped};
 
 use crate::call::{BufferMemory, BufferType, Ioctl, IoctlReply};
 use crate::fds::{give_all, give_set};
@@ -19,7 +20,8 @@ use std::alloc::Allocator;
 fn stream_on<P: PlaneMemory, A: Allocator + Copy>(
     queue: &mut Queue<P, A>,
 ) -> Result<IoctlReply<P, A>, Refused<P, A>>
-    ensures step { Steps P.plane TurnsOn result queue.old queue.new }
+    ensures step { Happens P.plane queue.old queue.new (streamon (refusal_in result)) }
+    ensures done { IfOk result (λ reply. reply ≡ Done) }
     ensures back { IfErr result (λ refused. HandsBack None [] refused) }
     ensures same { OnErr result (queue.new ≡ queue.old) }
     ensures shape { queue.new.body.shape ≡ queue.old.body.shape }
@@ -34,8 +36,8 @@ fn stream_on<P: PlaneMemory, A: Allocator + Copy>(
 fn stream_off<P: PlaneMemory, A: Allocator + Copy>(
     queue: &mut Queue<P, A>,
 ) -> Result<IoctlReply<P, A>, Refused<P, A>>
-    ensures step { Steps P.plane TurnsOff result queue.old queue.new }
-    ensures back { IfErr result (λ refused. HandsBack None [] refused) }
+    ensures step { Happens P.plane queue.old queue.new streamoff }
+    ensures done { result ≡ Ok Done }
     ensures same { OnErr result (queue.new ≡ queue.old) }
     ensures shape { queue.new.body.shape ≡ queue.old.body.shape }
 {
@@ -48,7 +50,7 @@ fn query<P: PlaneMemory, A: Allocator + Copy>(
     queue: &Queue<P, A>,
     index: u32,
 ) -> Result<IoctlReply<P, A>, Refused<P, A>>
-    ensures step { Steps P.plane (Asks index) result queue.now queue.now }
+    ensures step { Asks P.plane index queue.now result }
     ensures back { IfErr result (λ refused. HandsBack None [] refused) }
 {
     match queue.query(index) {
@@ -62,7 +64,8 @@ fn map<P: PlaneMemory, A: Allocator + Copy>(
     queue: &mut Queue<P, A>,
     index: u32,
 ) -> Result<IoctlReply<P, A>, Refused<P, A>>
-    ensures step { Steps P.plane (MapsAt index) result queue.old queue.new }
+    ensures step { Happens P.plane queue.old queue.new (mmap index (refusal_in result)) }
+    ensures done { IfOk result (λ reply. reply ≡ Done) }
     ensures back { IfErr result (λ refused. HandsBack None [] refused) }
     ensures same { OnErr result (queue.new ≡ queue.old) }
     ensures shape { queue.new.body.shape ≡ queue.old.body.shape }
@@ -78,7 +81,8 @@ fn unmap<P: PlaneMemory, A: Allocator + Copy>(
     queue: &mut Queue<P, A>,
     index: u32,
 ) -> Result<IoctlReply<P, A>, Refused<P, A>>
-    ensures step { Steps P.plane (UnmapsAt index) result queue.old queue.new }
+    ensures step { Happens P.plane queue.old queue.new (munmap index (refusal_in result)) }
+    ensures done { IfOk result (λ reply. reply ≡ Done) }
     ensures back { IfErr result (λ refused. HandsBack None [] refused) }
     ensures same { OnErr result (queue.new ≡ queue.old) }
     ensures shape { queue.new.body.shape ≡ queue.old.body.shape }

@@ -1,12 +1,13 @@
 // QBUF and PREPARE_BUF, which are given memory.
 ghost use Rattle.std.specs.Prelude.{◌≡◌, Some, None, [], IfOk, IfErr, OnErr};
 ghost use Rattle.slab.specs.Slab.{SameValues};
-ghost use Rattle.loop_vb2.specs.Planes.{read_set};
-ghost use Rattle.loop_vb2.specs.Steps.{Steps, read_given};
+ghost use Rattle.loop_plane.specs.declared.memory.Memory.TheVariants.{DmaBuf};
+ghost use Rattle.loop_vb2.specs.Planes.{read_set, read_given};
+ghost use Rattle.loop_vb2.specs.Events.{Happens, refusal_of, refusal_in};
 ghost use Rattle.loop_ioctl.specs.declared.call.IoctlReply.TheVariants.{Done};
 ghost use Rattle.loop_ioctl.specs.Names.{values_in, GivesIfRefused};
 ghost use Rattle.loop_ioctl.specs.Calls.{HandsBack, planes_of, early_refusal};
-ghost use Rattle.loop_ioctl.specs.Parts.{Uses, UsesSet, PutsNamed, Puts};
+ghost use Rattle.loop_ioctl.specs.Parts.{use_event, PutsNamed, Puts};
 
 use crate::call::{BufferMemory, IoctlReply, PlaneFds};
 use crate::fds::{give_set, take_set};
@@ -45,7 +46,8 @@ fn put<P: PlaneMemory, A: Allocator + Copy>(
     kind: Memory,
     planes: Option<PlaneSet<P>>,
 ) -> Result<(), Refused<P, A>>
-    ensures step { Steps P.plane (Uses way index kind (read_given P.plane planes)) result queue.old queue.new }
+    ensures step { Happens P.plane queue.old queue.new
+        (use_event way index kind (read_given P.plane planes) (refusal_in result)) }
     ensures back { IfErr result (λ refused. refused.planes ≡ planes) }
     ensures same { OnErr result (queue.new ≡ queue.old) }
     ensures shape { queue.new.body.shape ≡ queue.old.body.shape }
@@ -80,7 +82,8 @@ fn put_taken<P: PlaneMemory, A: Allocator + Copy>(
     index: u32,
     set: PlaneSet<P>,
 ) -> Result<(), Errno>
-    ensures step { Steps P.plane (UsesSet way index (read_set P.plane set)) result queue.old queue.new }
+    ensures step { Happens P.plane queue.old queue.new
+        (use_event way index DmaBuf (Some (read_set P.plane set)) (refusal_of result)) }
     ensures gives { GivesIfRefused (values_in set) result table.old table.new }
     ensures same { OnErr result (queue.new ≡ queue.old) }
     ensures shape { queue.new.body.shape ≡ queue.old.body.shape }

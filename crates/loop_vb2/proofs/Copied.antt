@@ -17,7 +17,7 @@ use Rattle.loop_vb2.specs.Buffers.{state_at, has_plane_at, used_at, bytes_at, re
 use Rattle.loop_vb2.specs.Checks.{first_of, copy_checks, copy_refusal}
 use Rattle.loop_vb2.specs.Copies.{code_refusal}
 use Rattle.loop_vb2.specs.State.{Body, QueueState, Lined, read_body, FitsShape, EachFits, AllFit, StandsFor}
-use Rattle.loop_vb2.specs.Steps.{Steps, Copies}
+use Rattle.loop_vb2.specs.Events.{Happens, copy_plane}
 use Rattle.loop_vb2.proofs.Lines.{same}
 use Rattle.loop_vb2.proofs.Passing.{Passed, all_passed}
 use Rattle.loop_vb2.proofs.Read.{length_read, state_read}
@@ -142,21 +142,19 @@ module _ {P : Type 0} (m : P → Plane) where
       let r : at + count ≤ readable_at (map (read_buffer m) now.buffers) index plane = grind (arith, nat_tests) in
       omega (arith, g, r)
 
-  -- ---- the step
+  -- ---- the event
 
   code_checks : (index plane at count : ℕ) (now : Lined P) (s : QueueState) → StandsFor m now s → copy_refusal index plane at count s.body ≡ code_refusal m index plane at count now.body
   code_checks index plane at count now s h =
       ap (λ (b : Body Plane). copy_refusal index plane at count b) (sym h.shown.body)
       ∙ copy_refusal_read index plane at count now.body (subst (λ (b : Body Plane). AllFit b) (sym h.shown.body) h.fit)
 
-  pub copy_done : {U : Type 0} (u : U) (index plane at : ℕ) (before out : List ℕ) (now : Lined P) (b : Buffer P) → code_refusal m index plane at (length before) now.body ≡ None → b ≡ slice_index_or now.body.buffers index b
-      → out ≡ take (length before) (drop at (bytes_in (plane_in (read_buffer m b).planes plane))) → Steps m (Copies {U = U} index plane at before out) (Ok u) now now
-  copy_done u index plane at before out now b e here is = λ s h.
+  pub copy_done : (index plane at count : ℕ) (out : List ℕ) (now : Lined P) (b : Buffer P) → code_refusal m index plane at count now.body ≡ None → b ≡ slice_index_or now.body.buffers index b
+      → out ≡ take count (drop at (bytes_in (plane_in (read_buffer m b).planes plane))) → Happens m now now (copy_plane index plane at count (Ok out))
+  copy_done index plane at count out now b e here is = λ s h.
       let bytes : bytes_at s.body.buffers index plane ≡ bytes_in (plane_in (read_buffer m b).planes plane) =
-      ap (λ (x : Body Plane). bytes_at x.buffers index plane) (sym h.shown.body) ∙ bytes_here now.body.buffers index plane b (copy_within index plane at (length before) now.body e) here in
-      (s, (code_checks index plane at (length before) now s h ∙ e, is ∙ ap (λ bs. take (length before) (drop at bs)) (sym bytes), refl), h)
+      ap (λ (x : Body Plane). bytes_at x.buffers index plane) (sym h.shown.body) ∙ bytes_here now.body.buffers index plane b (copy_within index plane at count now.body e) here in
+      ((code_checks index plane at count now s h ∙ e, is ∙ ap (λ bs. take count (drop at bs)) (sym bytes)), h)
 
-  pub copy_refused : (U : Type 0) (index plane at : ℕ) (before out : List ℕ) (reason : Reason) (e : Errno) (now : Lined P) → code_refusal m index plane at (length before) now.body ≡ Some reason → e ≡ errno reason → out ≡ before
-      → Steps m (Copies {U = U} index plane at before out) (Err e) now now
-  copy_refused U index plane at before out reason e now r is same = λ s h.
-      (s, (ap (λ o. option_map errno o) (code_checks index plane at (length before) now s h ∙ r) ∙ ap (λ x. Some x) (sym is), same, refl), h)
+  pub copy_refused : (index plane at count : ℕ) (reason : Reason) (e : Errno) (now : Lined P) → code_refusal m index plane at count now.body ≡ Some reason → e ≡ errno reason → Happens m now now (copy_plane index plane at count (Err e))
+  copy_refused index plane at count reason e now r is = λ s h. (ap (λ o. option_map errno o) (code_checks index plane at count now s h ∙ r) ∙ ap (λ x. Some x) (sym is), h)

@@ -40,7 +40,7 @@ record Runs (s : QueueState) (line : List ℕ) : Type 0 where
 
 -- ---- what follows from an answer
 
-not_refused : (r : Option Reason) → IsRefusal r None → r ≡ None
+pub not_refused : (r : Option Reason) → IsRefusal r None → r ≡ None
 not_refused None e = refl
 not_refused (Some r) e = absurd (cc)
 

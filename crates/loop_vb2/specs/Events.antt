@@ -13,14 +13,13 @@ use Rattle.loop_vb2.specs.declared.reason.Reason.{Reason}
 use Rattle.loop_vb2.specs.declared.reason.Reason.TheVariants.{NoMemory}
 use Rattle.loop_vb2.specs.declared.reason.Refused.{Refused}
 use Rattle.loop_vb2.specs.declared.request.Granted.{Granted}
-use Rattle.loop_vb2.specs.Answers.{IsAnswer, IsInfo}
+use Rattle.loop_vb2.specs.Answers.{Passes, Fails, IsAnswer, IsInfo, read_answer}
 use Rattle.loop_vb2.specs.Buffers.{mapped_as, emptied, bytes_at}
 use Rattle.loop_vb2.specs.Checks.{queue_refusal, prepare_refusal, dequeue_refusal, stream_on_refusal, query_refusal, map_refusal, unmap_refusal, take_refusal, copy_refusal, end_refusal, request_refusal}
 use Rattle.loop_vb2.specs.Effects.{queued, prepared, dequeued, first_ended, streaming, stopped_state, completed, failed, touched, fatal_state, seen_state}
 use Rattle.loop_vb2.specs.Errnos.{errno}
 use Rattle.loop_vb2.specs.Requests.{grants_or_none, left_in, requested}
 use Rattle.loop_vb2.specs.State.{QueueState, Lined, StandsFor}
-use Rattle.loop_vb2.specs.Steps.{Passes, Fails, read_answer}
 use Rattle.loop_vb2.specs.Planes.{read_set}
 
 -- what a request is granted: a number of buffers, and the planes that lay in the old ones
@@ -114,7 +113,12 @@ IsAnswered s (fail index stamp refusal) = IsRefusal (end_refusal index s.body) r
 IsAnswered s fatal = Unit {0}
 IsAnswered s (take_fresh fresh) = fresh ≡ s.body.fresh
 
--- from each state that the queue stands for, each event is answered so, and the queue stands for the state after them
+-- from each state that the queue stands for, the event is answered so, and the queue stands for the state after it
+abbrev pub Happens : {P : Type 0} → (P → Plane) → Lined P → Lined P → Event → Type 0
+Happens meaning before now event =
+    (s : QueueState) → StandsFor meaning before s → IsAnswered s event × StandsFor meaning now (after s event)
+
+-- the same of a list of events, one after the other
 abbrev pub Goes : {P : Type 0} → (P → Plane) → Lined P → Lined P → List Event → Type 0
 Goes meaning before now events =
     (s : QueueState) → StandsFor meaning before s

@@ -1,18 +1,55 @@
 -- What follows from the definitions, about every state and every list of events.
-use Rattle.std.specs.Prelude.{◌≡◌, ℕ, true, false, List, ◌∷◌, ◌++◌}
+use Rattle.std.specs.Prelude.{◌≡◌, ◌⊎◌, ℕ, Bool, true, false, ◌==◌, cond, List, ◌∷◌, ◌++◌, None, Ok}
 use Rattle.std.specs.List.{flat_map, list_any}
 use Rattle.loop_record.specs.Turns.{EachIn}
-use Rattle.loop_vb2.specs.declared.state.Owner.{Owner}
-use Rattle.loop_vb2.specs.Owner.{owner}
+use Rattle.loop_plane.specs.Plane.{Plane}
+use Rattle.loop_vb2.specs.declared.buffer.Buffer.{Buffer}
+use Rattle.loop_vb2.specs.declared.state.BufferState.{BufferState}
+use Rattle.loop_vb2.specs.declared.state.BufferState.TheVariants.{Dequeued, Prepared, Queued, Done, Error}
+use Rattle.loop_vb2.specs.declared.state.Owner.TheVariants.{Application, Device}
+use Rattle.loop_vb2.specs.Owner.{owner, activated}
 use Rattle.loop_vb2.specs.Buffers.{state_at}
-use Rattle.loop_vb2.specs.State.{QueueState}
-use Rattle.loop_vb2.specs.Events.{Event, IsAnswered, after, dequeued_by, ended_by, stops}
+use Rattle.loop_vb2.specs.State.{QueueState, InStep}
+use Rattle.loop_vb2.specs.Events.{Event, IsAnswered, after, dequeued_by, ended_by, stops, reqbufs, prepare_buf, qbuf, dqbuf, streamon, streamoff, take_planes, copy_plane, complete, fail}
 
--- In every state each buffer has just one owner.
-abbrev pub OwnersAreOne : Type 0
-OwnersAreOne = (s : QueueState) (index : ℕ)
-    → (o : Owner) × (owner (state_at s.body.buffers index) ≡ o)
-    × ((other : Owner) → owner (state_at s.body.buffers index) ≡ other → other ≡ o)
+-- an event that is accepted acts for the buffer's owner: PREPARE_BUF, planes taken out and bytes copied for the
+-- application, QBUF for the application too, which may have prepared it, the device's ends for the device, and DQBUF
+-- for the queue, which has it as done or failed
+abbrev pub ActsForOwner : List (Buffer Plane) → Event → Type 0
+ActsForOwner bs (prepare_buf index kind given None) = owner (state_at bs index) ≡ Application
+ActsForOwner bs (qbuf index kind given None) =
+    (owner (state_at bs index) ≡ Application) ⊎ (state_at bs index ≡ Prepared)
+ActsForOwner bs (dqbuf (Ok d)) = (state_at bs d.index ≡ Done) ⊎ (state_at bs d.index ≡ Error)
+ActsForOwner bs (take_planes index (Ok set)) = owner (state_at bs index) ≡ Application
+ActsForOwner bs (copy_plane index plane at count (Ok bytes)) = owner (state_at bs index) ≡ Application
+ActsForOwner bs (complete index stamp bytes None) = owner (state_at bs index) ≡ Device
+ActsForOwner bs (fail index stamp None) = owner (state_at bs index) ≡ Device
+ActsForOwner bs e = Unit {0}
+
+-- while the device runs each queued buffer is the device's
+abbrev pub run_on : Bool → BufferState → BufferState
+run_on started state = cond started (activated state) state
+
+-- what an event makes of the state of the buffer of an index, where this says whether the device runs after it
+abbrev pub turned_to : Event → Bool → ℕ → BufferState → BufferState
+turned_to (prepare_buf index kind given None) started i state = cond (i == index) Prepared state
+turned_to (qbuf index kind given None) started i state = run_on started (cond (i == index) Queued state)
+turned_to (dqbuf (Ok d)) started i state = cond (i == d.index) Dequeued state
+turned_to (streamon None) started i state = run_on started state
+turned_to streamoff started i state = Dequeued
+turned_to (reqbufs count kind sets (Ok g)) started i state = Dequeued
+turned_to (complete index stamp bytes None) started i state = cond (i == index) Done state
+turned_to (fail index stamp None) started i state = cond (i == index) Error state
+turned_to e started i state = state
+
+-- An accepted event acts for the buffer's owner, and the table says whose each buffer is after it: no buffer changes
+-- hands otherwise. The state is one that is in step with the device, as each that a queue stands for is.
+abbrev pub HandedOverByOwners : Type 0
+HandedOverByOwners =
+    (s : QueueState) (event : Event) → InStep s.body → IsAnswered s event
+    → ActsForOwner s.body.buffers event
+    × ((i : ℕ) → state_at (after s event).body.buffers i
+    ≡ turned_to event (after s event).body.started i (state_at s.body.buffers i))
 
 -- Between two events that stop the stream, the buffers dequeued are a beginning of those completed or failed,
 -- in that order.

@@ -1,10 +1,12 @@
 //! What follows from the definitions. Each function does nothing: its contract is the law.
 
-ghost use Rattle.loop_vb2.specs.Laws.{OwnersAreOne, DequeuedInOrder};
+ghost use Rattle.loop_vb2.specs.Laws.{HandedOverByOwners, DequeuedInOrder};
 
-/// In every state each buffer has just one owner.
-pub fn owners_are_one()
-    ensures { OwnersAreOne }
+/// An accepted event acts for the buffer's owner: the application's calls name a buffer that it has, or has prepared,
+/// the device ends a buffer that it has, and DQBUF hands over one that is done or failed. A table says whose each
+/// buffer is after it: no buffer changes hands otherwise.
+pub fn buffers_are_handed_over_by_their_owners()
+    ensures { HandedOverByOwners }
 {}
 
 /// Between two events that stop the stream, the buffers dequeued are a beginning of those completed or failed,

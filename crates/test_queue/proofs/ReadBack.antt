@@ -13,7 +13,8 @@ use Rattle.loop_vb2.specs.Planes.{number_at, bytes_in, plane_in, set_filled, slo
 use Rattle.loop_vb2.specs.Buffers.{changed, completed_with, dequeued_from, kept, has_plane_at, used_at, bytes_at}
 use Rattle.loop_vb2.specs.Checks.{copy_checks}
 use Rattle.loop_vb2.specs.State.{QueueState, Lined, StandsFor}
-use Rattle.loop_vb2.specs.Steps.{Steps, Completes, Dequeues, Copies}
+use Rattle.loop_vb2.specs.Answers.{read_answer}
+use Rattle.loop_vb2.specs.Events.{Happens, complete, dqbuf, copy_plane}
 use Rattle.loop_vb2.specs.Effects.{completed, dequeued}
 use Rattle.loop_vb2.proofs.Passing.{Passed, all_passed, true_of}
 
@@ -34,18 +35,17 @@ part_kept kind shape stamp bytes [] index some = absurd (cc)
 part_kept kind shape stamp bytes (b ∷ bs) zero some = set_kept kind shape bytes b.planes some
 part_kept kind shape stamp bytes (b ∷ bs) (suc index) some = part_kept kind shape stamp bytes bs index some
 
-module _ {P U : Type 0} (m : P → Plane) where
+module _ {P : Type 0} (m : P → Plane) where
   -- the three calls, one after the other
-  pub part_is_read : (index : ℕ) (stamp : Stamp) (bytes old out : List ℕ) (d : Dequeued P) (u v : U) (first second third last : Lined P) → Steps m (Completes index stamp bytes) (Ok u) first second → Steps m (Dequeues m) (Ok d) second third → d.index ≡ index
-      → Steps m (Copies index 0 0 old out) (Ok v) third last → (s : QueueState) → StandsFor m first s → out ≡ take (length old) (take (number_at s.body.shape.sizes 0) bytes)
-  part_is_read index stamp bytes old out d u v first second third last f g same c = λ s h.
-      let x : (t : QueueState) × Completes index stamp bytes s (Ok u) t × StandsFor m second t = f s h in
-      let y : (t : QueueState) × Dequeues m x.0 (Ok d) t × StandsFor m third t = g x.0 x.2 in
-      let z : (t : QueueState) × Copies index 0 0 old out y.0 (Ok v) t × StandsFor m last t = c y.0 y.2 in
-      let after : y.0 ≡ dequeued index (completed index stamp bytes s) = y.1.3 ∙ (ap (λ i. dequeued i x.0) same ∙ ap (λ t. dequeued index t) x.1.1) in
-      let passed : Passed (copy_checks index 0 0 (length old) (used_at y.0.body.buffers index 0) y.0.body) = all_passed (copy_checks index 0 0 (length old) (used_at y.0.body.buffers index 0) y.0.body) z.1.0 in
-      let some : has_plane_at y.0.body.buffers index 0 ≡ true = true_of (has_plane_at y.0.body.buffers index 0) passed.1.0 in
+  pub part_is_read : (index : ℕ) (stamp : Stamp) (bytes old out : List ℕ) (d : Dequeued P) (first second third last : Lined P) → Happens m first second (complete index stamp bytes None) → Happens m second third (dqbuf (Ok (read_answer m d))) → d.index ≡ index
+      → Happens m third last (copy_plane index 0 0 (length old) (Ok out)) → (s : QueueState) → StandsFor m first s → out ≡ take (length old) (take (number_at s.body.shape.sizes 0) bytes)
+  part_is_read index stamp bytes old out d first second third last f g same c = λ s h.
+      let t : QueueState = dequeued d.index (completed index stamp bytes s) in
+      let z = c t (g (completed index stamp bytes s) (f s h).1).1 in
+      let after : t ≡ dequeued index (completed index stamp bytes s) = ap (λ i. dequeued i (completed index stamp bytes s)) same in
+      let passed : Passed (copy_checks index 0 0 (length old) (used_at t.body.buffers index 0) t.body) = all_passed (copy_checks index 0 0 (length old) (used_at t.body.buffers index 0) t.body) z.0.0 in
+      let some : has_plane_at t.body.buffers index 0 ≡ true = true_of (has_plane_at t.body.buffers index 0) passed.1.0 in
       let there : has_plane_at (dequeued index (completed index stamp bytes s)).body.buffers index 0 ≡ true = sym (ap (λ (t : QueueState). has_plane_at t.body.buffers index 0) after) ∙ some in
-      let part : bytes_at y.0.body.buffers index 0 ≡ take (number_at s.body.shape.sizes 0) bytes =
+      let part : bytes_at t.body.buffers index 0 ≡ take (number_at s.body.shape.sizes 0) bytes =
       ap (λ (t : QueueState). bytes_at t.body.buffers index 0) after ∙ part_kept s.body.kind s.body.shape stamp bytes s.body.buffers index there in
-      z.1.1 ∙ ap (λ bs. take (length old) bs) part
+      z.0.1 ∙ ap (λ bs. take (length old) bs) part

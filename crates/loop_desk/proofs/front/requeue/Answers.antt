@@ -11,7 +11,7 @@ returns-in-Ok-clause-turn g c =
     let is : c.args.hand.now ≡ hand.Spent c.in-Spent.index c.in-Spent.planes = sym c.replace.ensures.value ∙ c.in-Spent.is in
     subst (λ h. TurnsBeside m c.args.queue.now h (requeued (Ok c.in-Spent.index)) c.queue.new.self c.replace.new.dest) (sym is)
     (subst (λ h. TurnsBeside m c.args.queue.now (hand.Spent c.in-Spent.index c.in-Spent.planes) (requeued (Ok c.in-Spent.index)) c.queue.new.self h) (sym c.replace.ensures.after)
-    (put_in_queue m g.row.A.Denot c.in-Ok.field-0 c.kind.result c.in-Spent.index c.in-Spent.planes c.args.queue.now c.queue.new.self c.kind.ensures c.in-Ok.ensures.step))
+    (put_in_queue m c.kind.result c.in-Spent.index c.in-Spent.planes c.args.queue.now c.queue.new.self c.kind.ensures c.in-Ok.ensures.step))
 
 pub returns-in-Err-clause-turn : goal.returns-in-Err-clause-turn
 returns-in-Err-clause-turn g c =

@@ -1,4 +1,5 @@
 use Rattle.std.proofs.Common.{sym, subst}
+use Rattle.loop_ioctl.specs.declared.call.Ioctl.TheVariants.{StreamOff}
 use Rattle.loop_ioctl.specs.Parts.{AppliesTyped}
 use Rattle.loop_ioctl.proofs.Applied.{stream_on_applies, stream_off_applies, map_applies, unmap_applies, query_applies, queue_applies, prepare_applies, dequeue_applies, request_applies}
 use Rattle.loop_ioctl.proofs.dispatch.dispatch.Goals as goal
@@ -7,25 +8,26 @@ pub returns-in-StreamOn-clause-step : goal.returns-in-StreamOn-clause-step
 returns-in-StreamOn-clause-step g c =
     let m = g.P.PlaneMemory.plane in
     subst (λ x. AppliesTyped m x c.stream_on.result c.args.queue.now c.args.table.now c.stream_on.new.queue c.args.table.now) (sym c.in-StreamOn.is)
-    (stream_on_applies m c.in-StreamOn.buf_type c.stream_on.result c.args.queue.now c.stream_on.new.queue c.args.table.now c.stream_on.ensures.step c.stream_on.ensures.back)
+    (stream_on_applies m c.in-StreamOn.buf_type c.stream_on.result c.args.queue.now c.stream_on.new.queue c.args.table.now c.stream_on.ensures.step c.stream_on.ensures.done c.stream_on.ensures.back)
 
 pub returns-in-StreamOff-clause-step : goal.returns-in-StreamOff-clause-step
 returns-in-StreamOff-clause-step g c =
     let m = g.P.PlaneMemory.plane in
+    let one = stream_off_applies g.row.A.Denot m c.in-StreamOff.buf_type c.args.queue.now c.stream_off.new.queue c.args.table.now c.stream_off.ensures.step in
     subst (λ x. AppliesTyped m x c.stream_off.result c.args.queue.now c.args.table.now c.stream_off.new.queue c.args.table.now) (sym c.in-StreamOff.is)
-    (stream_off_applies m c.in-StreamOff.buf_type c.stream_off.result c.args.queue.now c.stream_off.new.queue c.args.table.now c.stream_off.ensures.step c.stream_off.ensures.back)
+    (subst (λ r. AppliesTyped m (StreamOff c.in-StreamOff.buf_type) r c.args.queue.now c.args.table.now c.stream_off.new.queue c.args.table.now) (sym c.stream_off.ensures.done) one)
 
 pub returns-in-Mmap-clause-step : goal.returns-in-Mmap-clause-step
 returns-in-Mmap-clause-step g c =
     let m = g.P.PlaneMemory.plane in
     subst (λ x. AppliesTyped m x c.map.result c.args.queue.now c.args.table.now c.map.new.queue c.args.table.now) (sym c.in-Mmap.is)
-    (map_applies m c.in-Mmap.buf_type c.in-Mmap.index c.map.result c.args.queue.now c.map.new.queue c.args.table.now c.map.ensures.step c.map.ensures.back)
+    (map_applies m c.in-Mmap.buf_type c.in-Mmap.index c.map.result c.args.queue.now c.map.new.queue c.args.table.now c.map.ensures.step c.map.ensures.done c.map.ensures.back)
 
 pub returns-in-Munmap-clause-step : goal.returns-in-Munmap-clause-step
 returns-in-Munmap-clause-step g c =
     let m = g.P.PlaneMemory.plane in
     subst (λ x. AppliesTyped m x c.unmap.result c.args.queue.now c.args.table.now c.unmap.new.queue c.args.table.now) (sym c.in-Munmap.is)
-    (unmap_applies m c.in-Munmap.buf_type c.in-Munmap.index c.unmap.result c.args.queue.now c.unmap.new.queue c.args.table.now c.unmap.ensures.step c.unmap.ensures.back)
+    (unmap_applies m c.in-Munmap.buf_type c.in-Munmap.index c.unmap.result c.args.queue.now c.unmap.new.queue c.args.table.now c.unmap.ensures.step c.unmap.ensures.done c.unmap.ensures.back)
 
 pub returns-in-QueryBuf-clause-step : goal.returns-in-QueryBuf-clause-step
 returns-in-QueryBuf-clause-step g c =

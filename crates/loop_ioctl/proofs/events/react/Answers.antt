@@ -1,5 +1,5 @@
 use Rattle.std.proofs.Common.{sym, ap, subst, ◌∙◌, length}
-use Rattle.loop_vb2.specs.Steps.{Steps, Completes}
+use Rattle.loop_vb2.specs.Events.{Happens, refusal_of, complete}
 use Rattle.loop_ioctl.specs.declared.events.QueueReply.TheVariants as answer
 use Rattle.loop_ioctl.specs.Events.{Reacts}
 use Rattle.loop_ioctl.proofs.Device.{complete_reacts, fail_reacts, whole_bytes}
@@ -15,7 +15,7 @@ returns-in-Complete-clause-step g c =
     let m = g.P.PlaneMemory.plane in
     subst (λ e. Reacts m e (answer.Ended c.complete.result) c.args.queue.now c.args.table.now c.complete.new.self c.args.table.now) (sym c.in-Complete.is)
     (complete_reacts m c.in-Complete.index c.in-Complete.stamp c.in-Complete.bytes c.complete.result c.args.queue.now c.complete.new.self c.args.table.now
-    (subst (λ l. Steps m (Completes c.in-Complete.index c.in-Complete.stamp l) c.complete.result c.args.queue.now c.complete.new.self) c.deref.ensures.value c.complete.ensures.step))
+    (subst (λ l. Happens m c.args.queue.now c.complete.new.self (complete c.in-Complete.index c.in-Complete.stamp l (refusal_of c.complete.result))) c.deref.ensures.value c.complete.ensures.step))
 
 pub returns-in-Fail-clause-step : goal.returns-in-Fail-clause-step
 returns-in-Fail-clause-step g c =
