@@ -1,11 +1,11 @@
 -- What follows from the definitions, about every state and every list of events.
-use Rattle.std.specs.Prelude.{◌≡◌, ℕ, true, false, List, ◌∷◌, ◌++◌}
+use Rattle.std.specs.Prelude.{◌≡◌, ℕ, true, false, List, [], ◌∷◌, ◌++◌}
 use Rattle.std.specs.List.{flat_map, list_any}
 use Rattle.loop_record.specs.Turns.{EachIn}
 use Rattle.loop_vb2.specs.declared.state.Owner.{Owner}
 use Rattle.loop_vb2.specs.Owner.{owner}
 use Rattle.loop_vb2.specs.Buffers.{state_at}
-use Rattle.loop_vb2.specs.State.{QueueState}
+use Rattle.loop_vb2.specs.State.{QueueState, Lined}
 use Rattle.loop_vb2.specs.Events.{Event, IsAnswered, after, dequeued_by, ended_by, stops}
 
 -- In every state each buffer has just one owner.
@@ -21,3 +21,21 @@ DequeuedInOrder =
     (s : QueueState) (stop : Event) (events : List Event) → stops stop ≡ true → list_any stops events ≡ false
     → EachIn after IsAnswered s (stop ∷ events)
     → (rest : List ℕ) × (flat_map ended_by events ≡ flat_map dequeued_by events ++ rest)
+
+-- Some events, and those behind them: the buffers that were done before, and then those that the device completed or
+-- failed, are those that were dequeued, in that order, and then others: where nothing is behind, those that are done
+-- now.
+abbrev pub InTurn : List ℕ → List Event → List Event → List ℕ → Type 0
+InTurn done part behind now =
+    (others : List ℕ) × (done ++ flat_map ended_by part ≡ flat_map dequeued_by part ++ others)
+    × (behind ≡ [] → others ≡ now)
+
+-- A queue's events, from this value of the queue to that: buffers are dequeued in the order in which they ended, up
+-- to the next stop of the stream,
+pub record DequeuesInOrder {P : Type 0} (old new : Lined P) (events : List Event) : Type 0 where
+  -- from the start on, if the queue streamed or nothing was done,
+  pub from_start : (part behind : List Event) → events ≡ part ++ behind → list_any stops part ≡ false
+      → (old.body.streaming ≡ false → old.done ≡ []) → InTurn old.done part behind new.done
+  -- and from each stop of the stream on.
+  pub from_stop : (before part behind : List Event) (stop : Event) → events ≡ before ++ stop ∷ (part ++ behind)
+      → stops stop ≡ true → list_any stops part ≡ false → InTurn [] part behind new.done
