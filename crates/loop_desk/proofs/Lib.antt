@@ -7,6 +7,7 @@ pub mod Lasting
 pub mod Modelling
 pub mod Turning
 pub mod Framed
+pub mod Queued
 pub mod Order
 pub mod Ran
 pub mod Told

@@ -12,6 +12,9 @@ use Rattle.loop_store.specs.declared.fault.StoreFault.TheVariants.{HandEmpty}
 use Rattle.loop_store.specs.Calls.{StoreState}
 use Rattle.loop_store.specs.Goes.{Stands}
 use Rattle.loop_store.specs.Runs.{read_of}
+use Rattle.loop_vb2.specs.Events as model
+use Rattle.loop_vb2.specs.Events.{Event}
+use Rattle.loop_vb2.specs.Laws.{DequeuesInOrder}
 use Rattle.loop_ioctl.specs.declared.call.Ioctl.TheVariants as call
 use Rattle.loop_ioctl.specs.declared.events.QueueEvent.{QueueEvent}
 use Rattle.loop_ioctl.specs.declared.events.QueueEvent.TheVariants as queue_event
@@ -24,6 +27,7 @@ use Rattle.loop_desk.specs.declared.lane.Lane.{Lane}
 use Rattle.loop_desk.specs.Desk.{DeskCall, accepted, accepted_in, clip_locked, clip_unlocked, flushed, frame_read, submitted}
 use Rattle.loop_desk.specs.Footage.{KeepsFootage}
 use Rattle.loop_desk.specs.Front.{Front, HandState, IsFrontTurn, StandsFront, Turn, dequeued, empty, front_after, full, hand_state, on_queue, requeued, spent, offered}
+use Rattle.loop_desk.specs.Modelled.{front_event}
 use Rattle.loop_desk.specs.Seen.{DeskGoes}
 
 -- ---- what an event and its reply are
@@ -166,6 +170,30 @@ module _ {P A : Type 0} (meaning : P → Plane) where
   abbrev pub frames_taken : Front → List (LaneEvent P A × LaneReply P A) → List Picture
   frames_taken f turns = told_in (lane_after meaning) frame_at f turns
 
+-- ---- the queue
+
+module _ {P A : Type 0} (meaning : P → Plane) where
+  -- which event of the queue's own model a turn is
+  abbrev pub event_at_turn : Front → LaneTurn P A → List Event
+  event_at_turn f (at_front t) = front_event meaning f t
+  event_at_turn f (at_desk c) = []
+  event_at_turn f mixed = []
+
+  abbrev pub event_at : Front → LaneEvent P A × LaneReply P A → List Event
+  event_at f x = event_at_turn f (turn_at f x)
+
+  -- the queue's events in a list of events and their replies, in order
+  abbrev pub queue_events : Front → List (LaneEvent P A × LaneReply P A) → List Event
+  queue_events f turns = told_in (lane_after meaning) event_at f turns
+
+-- Turns, each told as the front has it, are events of the queue's own model, and leave its state.
+abbrev pub LaneTurnsAreEvents : {P : Type 0} → Type 0 → (P → Plane) → Type 0
+LaneTurnsAreEvents {P} A meaning =
+    (f : Front) (xs : List (LaneEvent P A × LaneReply P A)) → EachIn (lane_after meaning) (IsLaneTurn meaning) f xs
+    → EachIn model.after model.IsAnswered f.queue.queue (queue_events meaning f xs)
+    × ((after_all (lane_after meaning) f xs).queue.queue
+    ≡ after_all model.after f.queue.queue (queue_events meaning f xs))
+
 -- ---- what a list of events keeps
 
 -- The run, and what its calls keep of the footage and of the frames' order.
@@ -179,3 +207,6 @@ pub record LaneKeeps {D P A : Type 0} (meaning : P → Plane) (medium : D → Me
   pub in_order : (f : Front) → StandsLane meaning old f
       → accepted_in ran.calls ++ hand_frame (hand_state meaning new.hand)
       ≡ hand_frame (hand_state meaning old.hand) ++ frames_taken meaning f (zip es ps)
+  -- and buffers are taken from the queue in the order in which they were completed or failed
+  pub dequeues : (f : Front) → StandsLane meaning old f
+      → DequeuesInOrder old.queue new.queue (queue_events meaning f (zip es ps))
