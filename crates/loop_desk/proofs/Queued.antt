@@ -4,8 +4,6 @@ use Rattle.std.specs.Prelude.{slice_get}
 use Rattle.std.specs.List.{zip}
 use Rattle.loop_plane.specs.Plane.{Plane}
 use Rattle.loop_disk.specs.Medium.{Medium}
-use Rattle.loop_record.specs.Turns.{EachIn, after_all}
-use Rattle.loop_store.specs.declared.fault.StoreFault.{StoreFault}
 use Rattle.loop_vb2.specs.declared.buffer.Buffer.{Buffer}
 use Rattle.loop_vb2.specs.Effects as effect
 use Rattle.loop_vb2.specs.Errnos.{errno}
@@ -27,7 +25,7 @@ use Rattle.loop_desk.specs.declared.event.LaneReply.{LaneReply}
 use Rattle.loop_desk.specs.declared.hand.LaneFault.{LaneFault}
 use Rattle.loop_desk.specs.declared.hand.LaneFault.TheVariants.{Queue, Store}
 use Rattle.loop_desk.specs.declared.lane.Lane.{Lane}
-use Rattle.loop_desk.specs.Front.{Front, HandState, IsDequeue, IsFrontTurn, IsRequeue, IsToldIf, Turn, dequeued, empty, front_after, full, kind_of, offered, on_queue, requeued, spent}
+use Rattle.loop_desk.specs.Front.{Front, HandState, IsDequeue, IsRequeue, IsToldIf, dequeued, empty, front_after, full, kind_of, offered, on_queue, requeued, spent}
 use Rattle.loop_desk.specs.Lane.{IsAtFront, IsLaneTurn, LaneRan, LaneTurn, LaneTurnsAreEvents, StandsLane, after_turn, at_desk, at_front, event_at, event_at_turn, lane_after, mixed, queue_events, turn_at}
 use Rattle.loop_desk.specs.Modelled.{dqbuf_event, front_event}
 

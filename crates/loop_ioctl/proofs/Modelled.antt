@@ -1,8 +1,7 @@
 -- Turns of the ioctls as events of the queue's model, and the order of its buffers over a run. Crates above cite it.
-use Rattle.std.proofs.Common.{◌≡◌, ℕ, Bool, true, false, not, ◌||◌, nat_le, cond, List, [], ◌∷◌, ◌++◌, length, map, Option, Some, None, option_map, Ok, Err, refl, sym, ◌∙◌, ap, subst, ◌⊎◌, inl, inr}
+use Rattle.std.proofs.Common.{◌≡◌, ℕ, Bool, true, false, not, ◌||◌, nat_le, cond, List, [], ◌∷◌, length, Option, Some, None, option_map, Ok, Err, refl, sym, ◌∙◌, ap, subst, ◌⊎◌, inl, inr}
 use Rattle.std.specs.Prelude.{Result}
 use Rattle.loop_plane.specs.Plane.{Plane}
-use Rattle.loop_plane.specs.Fds.{Fds}
 use Rattle.loop_plane.specs.declared.memory.Memory.{Memory}
 use Rattle.loop_plane.specs.declared.memory.Memory.TheVariants.{Mmap, UserPtr, DmaBuf}
 use Rattle.loop_record.specs.Turns.{after_all, told_in, EachIn}
@@ -13,12 +12,11 @@ use Rattle.loop_vb2.specs.declared.reason.Reason.{Reason}
 use Rattle.loop_vb2.specs.declared.reason.Reason.TheVariants.{BadIndex, BadMemory, NoMemory}
 use Rattle.loop_vb2.specs.declared.reason.Refused.{Refused}
 use Rattle.loop_vb2.specs.Buffers.{handed}
-use Rattle.loop_vb2.specs.Checks.{first_of, queue_late_checks, prepare_late_checks}
 use Rattle.loop_vb2.specs.Errnos.{errno}
 use Rattle.loop_vb2.specs.Events as model
 use Rattle.loop_vb2.specs.Events.{Event, IsRefusal, unless, refusal_in}
 use Rattle.loop_vb2.specs.Planes.{same_memory, are_kind}
-use Rattle.loop_vb2.specs.State.{Body, QueueState, Lined, StandsFor}
+use Rattle.loop_vb2.specs.State.{Body, QueueState, StandsFor}
 use Rattle.loop_vb2.specs.Steps.{read_given}
 use Rattle.loop_vb2.proofs.Ordered.{dequeues_in_order}
 use Rattle.loop_ioctl.specs.declared.call.BufferMemory.{BufferMemory}
@@ -34,9 +32,9 @@ use Rattle.loop_ioctl.specs.declared.events.QueueReply.TheVariants as answer
 use Rattle.loop_ioctl.specs.declared.put.Use.{Use}
 use Rattle.loop_ioctl.specs.declared.put.Use.TheVariants.{Prepare, Queue}
 use Rattle.loop_ioctl.specs.Names.{or_else, set_named, set_refusal}
-use Rattle.loop_ioctl.specs.Calls.{IoctlState, Stands, IsAnsweredFor, IsErrno, WantsMemory, after, call_refusal, early_refusal, put_in, put_refusal, taken_out, type_refusal, use_refusal, used}
-use Rattle.loop_ioctl.specs.Events.{IsTold, IsTurn, Runs, state_after, turned, turns}
-use Rattle.loop_ioctl.specs.Modelled.{unless_refused, put_events, call_events, event_of, events_of, events_in, RunsInOrder, TurnsAreEvents, RunsAreInOrder}
+use Rattle.loop_ioctl.specs.Calls.{IoctlState, IsAnsweredFor, after, call_refusal, early_refusal, put_in, put_refusal, taken_out, type_refusal, use_refusal, used}
+use Rattle.loop_ioctl.specs.Events.{IsTold, IsTurn, state_after, turned, turns}
+use Rattle.loop_ioctl.specs.Modelled.{unless_refused, put_events, call_events, event_of, events_of, events_in, TurnsAreEvents, RunsAreInOrder}
 use Rattle.loop_ioctl.proofs.Out.{planes_got}
 
 -- ---- machines: a state is looked at as that of another machine, and each turn is told as turns of that one

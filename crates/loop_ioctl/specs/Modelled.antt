@@ -1,12 +1,11 @@
 -- Which event of the queue's own model an ioctl or a call of the device is, and in which order a run's buffers come out.
-use Rattle.std.specs.Prelude.{◌≡◌, ℕ, List, [], ◌∷◌, map, Option, Some, None, Result, Ok, Err}
+use Rattle.std.specs.Prelude.{◌≡◌, List, [], ◌∷◌, map, Option, Some, None, Result, Ok, Err}
 use Rattle.loop_plane.specs.Plane.{Plane}
 use Rattle.loop_plane.specs.Fds.{Fds}
 use Rattle.loop_plane.specs.declared.memory.Memory.{Memory}
 use Rattle.loop_plane.specs.declared.memory.Memory.TheVariants.{Mmap, UserPtr, DmaBuf}
 use Rattle.loop_record.specs.Turns.{after_all, told_in, EachIn}
 use Rattle.loop_vb2.specs.declared.planes.PlaneSet.{PlaneSet}
-use Rattle.loop_vb2.specs.declared.reason.Errno.{Errno}
 use Rattle.loop_vb2.specs.declared.reason.Reason.{Reason}
 use Rattle.loop_vb2.specs.declared.reason.Refused.{Refused}
 use Rattle.loop_vb2.specs.Buffers.{handed}
