@@ -8,10 +8,12 @@ pub mod Modelling
 pub mod Turning
 pub mod Framed
 pub mod Queued
-pub mod Order
 pub mod Ran
 pub mod Told
 pub mod Completed
+pub mod Completing
+pub mod Taking
+pub mod Order
 pub mod Blind
 pub mod Failing
 pub mod Crossing

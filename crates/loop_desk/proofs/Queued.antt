@@ -44,7 +44,7 @@ least-within : (n : ℕ → ℕ) (t : ℕ → Bool) (len x : ℕ) → least n t 
 least-within n t zero x e = absurd (cc)
 least-within n t (suc len) x e = or_least n (t len) (least n t len) len x (λ y is. least-within n t len y is) e
 
-get-within : {X : Type 0} (xs : List X) (i : ℕ) → i < length xs → (x : X) × (slice_get xs i ≡ Some x)
+pub get-within : {X : Type 0} (xs : List X) (i : ℕ) → i < length xs → (x : X) × (slice_get xs i ≡ Some x)
 get-within [] i h = absurd (omega arith)
 get-within (x ∷ xs) zero h = (x, refl)
 get-within (x ∷ xs) (suc i) h = get-within xs i (omega arith)
@@ -81,7 +81,7 @@ module _ {P A : Type 0} (m : P → Plane) where
   on-queue-told true e r j said = (tt, refl)
   on-queue-told false e r j said = turn_told m e r j said
 
-  lane-told : (f : Front) (t : LaneTurn P A) → IsAtFront m f t → AreBetween f.queue.queue (after_turn m f t).queue.queue (event_at_turn m f t)
+  pub lane-told : (f : Front) (t : LaneTurn P A) → IsAtFront m f t → AreBetween f.queue.queue (after_turn m f t).queue.queue (event_at_turn m f t)
   lane-told f (at_front (on_queue e (Ok r))) said = on-queue-told _ e r f.queue said.1
   lane-told f (at_front (on_queue e (Err fault))) said = (tt, refl)
   lane-told f (at_front (dequeued result)) said = dequeue-told A m f.queue f.hand result said

@@ -1,7 +1,8 @@
--- Which event of the queue's own model a turn of the front is.
+-- Which event of the queue's own model a turn of the front is, and the frame that the device completed by an event.
 use Rattle.std.specs.Prelude.{ℕ, cond, List, [], ◌∷◌, slice_get, Option, Some, None, Ok, Err}
 use Rattle.loop_plane.specs.Plane.{Plane}
 use Rattle.loop_plane.specs.declared.memory.Memory.{Memory}
+use Rattle.loop_record.specs.Recording.{Picture}
 use Rattle.loop_vb2.specs.declared.buffer.Buffer.{Buffer}
 use Rattle.loop_vb2.specs.declared.reason.Errno.{Errno}
 use Rattle.loop_vb2.specs.Buffers.{handed}
@@ -41,3 +42,15 @@ module _ {P A : Type 0} (meaning : P → Plane) where
   front_event f (requeued (Ok index)) = qbuf_event (kind_of f.queue) f.hand None
   front_event f (requeued (Err (Queue e))) = qbuf_event (kind_of f.queue) f.hand (Some e)
   front_event f t = []
+
+-- ---- frames
+
+-- a frame but for its flags, which tell whether its buffer was mapped as it was dequeued
+abbrev pub unflagged : Picture → Picture
+unflagged p = record p { flags = 0 }
+
+-- the frame that the device completed by the event
+abbrev pub completed_frame : Event → List Picture
+completed_frame (model.complete index stamp bytes None) =
+    record { sequence = stamp.sequence; flags = 0; timestamp = stamp.timestamp; bytes = bytes } ∷ []
+completed_frame e = []

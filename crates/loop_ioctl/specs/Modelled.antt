@@ -1,4 +1,4 @@
--- Which event of the queue's own model an ioctl or a call of the device is, and in which order a run's buffers come out.
+-- Which event of the queue's own model an ioctl or a call of the device is, and in which order buffers come out.
 use Rattle.std.specs.Prelude.{◌≡◌, List, [], ◌∷◌, map, Option, Some, None, Result, Ok, Err}
 use Rattle.loop_plane.specs.Plane.{Plane}
 use Rattle.loop_plane.specs.Fds.{Fds}

@@ -35,14 +35,14 @@ use Rattle.loop_vb2.proofs.Steps.{queue_within, queue_idle, prepare_within, prep
 use Rattle.loop_vb2.proofs.Passing.{passed_here}
 
 -- a state with the buffers that were ended and not yet dequeued, in their order; while streaming is off there are none
-record Runs (s : QueueState) (line : List ℕ) : Type 0 where
-  incoming : List ℕ
-  shows : Shows s (lined s.body incoming line)
-  still : s.body.streaming ≡ false → line ≡ []
+pub record Runs (s : QueueState) (line : List ℕ) : Type 0 where
+  pub incoming : List ℕ
+  pub shows : Shows s (lined s.body incoming line)
+  pub still : s.body.streaming ≡ false → line ≡ []
 
 -- ---- what follows from an answer
 
-not_refused : (r : Option Reason) → IsRefusal r None → r ≡ None
+pub not_refused : (r : Option Reason) → IsRefusal r None → r ≡ None
 not_refused None e = refl
 not_refused (Some r) e = absurd (cc)
 
@@ -82,7 +82,7 @@ runs_freed s count kind sets none =
       still = λ e. refl;
     }
 
-runs_stopped : (s : QueueState) (stop : Event) → stops stop ≡ true → Runs (after s stop) []
+pub runs_stopped : (s : QueueState) (stop : Event) → stops stop ≡ true → Runs (after s stop) []
 runs_stopped s streamoff e = runs_off s
 runs_stopped s (reqbufs count kind sets (Ok g)) e = runs_freed s count kind sets e
 runs_stopped s (reqbufs count kind sets (Err x)) e = absurd (cc)
@@ -103,10 +103,10 @@ runs_stopped s (take_fresh fresh) e = absurd (cc)
 -- ---- any other event
 
 -- the line after an event: what the device ended joins it behind, and what the application got leaves it in front
-record Next (s : QueueState) (e : Event) (line : List ℕ) : Type 0 where
-  rest : List ℕ
-  runs : Runs (after s e) rest
-  joined : line ++ ended_by e ≡ dequeued_by e ++ rest
+pub record Next (s : QueueState) (e : Event) (line : List ℕ) : Type 0 where
+  pub rest : List ℕ
+  pub runs : Runs (after s e) rest
+  pub joined : line ++ ended_by e ≡ dequeued_by e ++ rest
 
 settled_streaming : (b : Body Plane) → (settled b).streaming ≡ b.streaming
 settled_streaming b = elim (device_runs b) as (λ t. (cond t (awake b) b).streaming ≡ b.streaming) [ true ↦ refl | false ↦ refl ]
@@ -195,7 +195,7 @@ next_requested s count kind sets g line r some passed =
       joined = append-nil line ∙ r.still off;
     }
 
-next : (s : QueueState) (e : Event) (line : List ℕ) → Runs s line → stops e ≡ false → IsAnswered s e → Next s e line
+pub next : (s : QueueState) (e : Event) (line : List ℕ) → Runs s line → stops e ≡ false → IsAnswered s e → Next s e line
 next s (reqbufs count kind sets (Ok g)) line r on a = next_requested s count kind sets g line r on a.0
 next s (reqbufs count kind sets (Err x)) line r on a = record { rest = line; runs = r; joined = append-nil line }
 next s (prepare_buf index kind given None) line r on a = next_prepared s index kind given line r (not_refused (prepare_refusal index kind given s.body) a)
@@ -238,11 +238,11 @@ next s (take_fresh fresh) line r on a = record {
 
 -- ---- a list of events
 
-first_off : (a b : Bool) → (a || b) ≡ false → a ≡ false
+pub first_off : (a b : Bool) → (a || b) ≡ false → a ≡ false
 first_off true b e = e
 first_off false b e = refl
 
-second_off : (a b : Bool) → (a || b) ≡ false → b ≡ false
+pub second_off : (a b : Bool) → (a || b) ≡ false → b ≡ false
 second_off true b e = absurd (cc)
 second_off false b e = e
 
