@@ -8,7 +8,7 @@ use Rattle.loop_vb2.specs.declared.buffer.Buffer.{Buffer}
 use Rattle.loop_vb2.specs.Effects as effect
 use Rattle.loop_vb2.specs.Errnos.{errno}
 use Rattle.loop_vb2.specs.Events as model
-use Rattle.loop_vb2.specs.Laws.{DequeuesInOrder}
+use Rattle.loop_vb2.specs.Laws.{KeepsOrder}
 use Rattle.loop_vb2.specs.Lines.{least, sooner}
 use Rattle.loop_vb2.specs.Owner.{is_ended}
 use Rattle.loop_vb2.specs.Buffers.{state_at}
@@ -96,7 +96,7 @@ pub lane-turns-are-events : {P : Type 0} (A : Type 0) (m : P → Plane) → Lane
 lane-turns-are-events A m f xs each = all_told (lane_after m) (IsLaneTurn m) model.after model.IsAnswered (λ x. x.queue.queue) (event_at m) (λ x t said. lane-told m x (turn_at x t) said) f xs each
 
 pub dequeues : {D P A : Type 0} (m : P → Plane) (medium : D → Medium) (old new : Lane D P A) (es : List (LaneEvent P A)) (ps : List (LaneReply P A)) → LaneRan m medium old new es ps
-    → (f : Front) → StandsLane m old f → DequeuesInOrder old.queue new.queue (queue_events m f (zip es ps))
+    → (f : Front) → StandsLane m old f → KeepsOrder old.queue new.queue (queue_events m f (zip es ps))
 dequeues {D} {P} {A} m medium old new es ps run f stands =
     let ran = run.front f stands in
     let xs = zip es ps in

@@ -15,7 +15,7 @@ use Rattle.loop_store.specs.Runs.{read_of}
 use Rattle.loop_vb2.specs.Events as model
 use Rattle.loop_vb2.specs.Events.{Event, stops}
 use Rattle.loop_vb2.specs.First.{shape_of}
-use Rattle.loop_vb2.specs.Laws.{DequeuesInOrder}
+use Rattle.loop_vb2.specs.Laws.{KeepsOrder}
 use Rattle.loop_ioctl.specs.declared.call.Ioctl.TheVariants as call
 use Rattle.loop_ioctl.specs.declared.events.QueueEvent.{QueueEvent}
 use Rattle.loop_ioctl.specs.declared.events.QueueEvent.TheVariants as queue_event
@@ -238,7 +238,7 @@ pub record LaneKeeps {D P A : Type 0} (meaning : P → Plane) (medium : D → Me
       ≡ hand_frame (hand_state meaning old.hand) ++ frames_taken meaning f (zip es ps)
   -- and buffers are taken from the queue in the order in which they were completed or failed
   pub dequeues : (f : Front) → StandsLane meaning old f
-      → DequeuesInOrder old.queue new.queue (queue_events meaning f (zip es ps))
+      → KeepsOrder old.queue new.queue (queue_events meaning f (zip es ps))
   -- each with the frame that the device completed it with, where the queue's frames are those of a format
   pub completes : (f : Front) → StandsLane meaning old f → (format : PixelFormat) (width height : ℕ)
       → old.queue.body.shape ≡ shape_of format width height → TakesFrames meaning f (zip es ps)

@@ -11,7 +11,7 @@ use Rattle.loop_vb2.specs.declared.reason.Refused.{Refused}
 use Rattle.loop_vb2.specs.Buffers.{handed}
 use Rattle.loop_vb2.specs.Events as model
 use Rattle.loop_vb2.specs.Events.{Event, refusal_in, refusal_of}
-use Rattle.loop_vb2.specs.Laws.{DequeuesInOrder}
+use Rattle.loop_vb2.specs.Laws.{KeepsOrder}
 use Rattle.loop_vb2.specs.Planes.{read_set}
 use Rattle.loop_vb2.specs.Requests.{left_in}
 use Rattle.loop_vb2.specs.State.{Lined}
@@ -91,7 +91,7 @@ module _ {P A : Type 0} (meaning : P → Plane) where
   abbrev pub RunsInOrder : List (QueueEvent P A) → List (QueueReply P A) → Lined P → Fds P → Lined P → Type 0
   RunsInOrder events replies queue table new_queue =
       (j : IoctlState) → Stands meaning queue table j
-      → DequeuesInOrder queue new_queue (events_in j (turns events replies))
+      → KeepsOrder queue new_queue (events_in j (turns events replies))
 
 -- Turns, each told as the model of the ioctls has it, are events of the queue's model, and leave its state.
 abbrev pub TurnsAreEvents : {P : Type 0} → Type 0 → (P → Plane) → Type 0

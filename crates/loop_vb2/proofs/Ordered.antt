@@ -23,7 +23,7 @@ use Rattle.loop_vb2.specs.Effects.{awake, device_runs, settled, with_buffer, bod
 use Rattle.loop_vb2.specs.Requests.{grants_or_none, requested}
 use Rattle.loop_vb2.specs.State.{Body, QueueState, Lined, lined, in_step, InStep, Shows, StandsFor}
 use Rattle.loop_vb2.specs.Events.{Event, Grant, IsAnswered, IsRefusal, after, dequeued_by, ended_by, stops, reqbufs, prepare_buf, qbuf, dqbuf, streamon, streamoff, querybuf, mmap, munmap, take_planes, copy_plane, complete, fail, fatal, take_fresh}
-use Rattle.loop_vb2.specs.Laws.{DequeuedInOrder, DequeuesInOrder, InTurn}
+use Rattle.loop_vb2.specs.Laws.{DequeuedInOrder, KeepsOrder, InTurn}
 use Rattle.loop_vb2.proofs.InStep.{step_stopped, idle_fits, none_are_active}
 use Rattle.loop_vb2.proofs.Kept.{dequeued_idle, prepared_state}
 use Rattle.loop_vb2.proofs.Lines.{InOrder-none, InOrder-pop, differ, empty_line, not_both, tested}
@@ -316,7 +316,7 @@ in_turn m new s done part behind a last =
     let t : QueueState = after_all after s part in
     (a.rest, a.joined, λ none. same_line t.end_number t.end_count (λ i. is_ended (state_at t.body.buffers i)) a.rest new.done a.runs.shows.done (last none).shown.done)
 
-pub dequeues_in_order : {P : Type 0} (m : P → Plane) (old new : Lined P) (s : QueueState) (events : List Event) → StandsFor m old s → EachIn after IsAnswered s events → StandsFor m new (after_all after s events) → DequeuesInOrder old new events
+pub dequeues_in_order : {P : Type 0} (m : P → Plane) (old new : Lined P) (s : QueueState) (events : List Event) → StandsFor m old s → EachIn after IsAnswered s events → StandsFor m new (after_all after s events) → KeepsOrder old new events
 dequeues_in_order m old new s events first answered last = record {
   from_start = λ (part behind : List Event) is on idle.
       let each : EachIn after IsAnswered s (part ++ behind) = subst (λ (l : List Event). EachIn after IsAnswered s l) is answered in

@@ -32,7 +32,7 @@ InTurn done part behind now =
 
 -- A queue's events, from this value of the queue to that: buffers are dequeued in the order in which they ended, up
 -- to the next stop of the stream,
-pub record DequeuesInOrder {P : Type 0} (old new : Lined P) (events : List Event) : Type 0 where
+pub record KeepsOrder {P : Type 0} (old new : Lined P) (events : List Event) : Type 0 where
   -- from the start on, if the queue streamed or nothing was done,
   pub from_start : (part behind : List Event) → events ≡ part ++ behind → list_any stops part ≡ false
       → (old.body.streaming ≡ false → old.done ≡ []) → InTurn old.done part behind new.done
