@@ -23,7 +23,7 @@ use Rattle.loop_vb2.specs.Effects.{awake, device_runs, settled, with_buffer, bod
 use Rattle.loop_vb2.specs.Requests.{grants_or_none, requested}
 use Rattle.loop_vb2.specs.State.{Body, QueueState, Lined, lined, in_step, InStep, Shows, StandsFor}
 use Rattle.loop_vb2.specs.Events.{Event, Grant, IsAnswered, IsRefusal, after, dequeued_by, ended_by, stops, reqbufs, prepare_buf, qbuf, dqbuf, streamon, streamoff, querybuf, mmap, munmap, take_planes, copy_plane, complete, fail, fatal, take_fresh}
-use Rattle.loop_vb2.specs.Laws.{DequeuedInOrder, KeepsOrder, InTurn}
+use Rattle.loop_vb2.specs.Laws.{DequeuedInOrder, InTurn, IsStill, KeepsOrder, NewQueuesAreStill}
 use Rattle.loop_vb2.proofs.InStep.{step_stopped, idle_fits, none_are_active}
 use Rattle.loop_vb2.proofs.Kept.{dequeued_idle, prepared_state}
 use Rattle.loop_vb2.proofs.Lines.{InOrder-none, InOrder-pop, differ, empty_line, not_both, tested}
@@ -316,16 +316,38 @@ in_turn m new s done part behind a last =
     let t : QueueState = after_all after s part in
     (a.rest, a.joined, λ none. same_line t.end_number t.end_count (λ i. is_ended (state_at t.body.buffers i)) a.rest new.done a.runs.shows.done (last none).shown.done)
 
+-- a queue's start
+started : {P : Type 0} (m : P → Plane) (code : Lined P) (s : QueueState) → StandsFor m code s → IsStill code → Runs s code.done
+started m code s h still = record {
+  incoming = code.incoming;
+  shows = record { body = refl; incoming = h.shown.incoming; done = h.shown.done; in_step = h.shown.in_step };
+  still = λ off. still (ap (λ (b : Body Plane). b.streaming) h.shown.body ∙ off);
+}
+
+-- stops or not, what is done is a line
+run_one : (s : QueueState) (e : Event) (line : List ℕ) → Runs s line → IsAnswered s e → (rest : List ℕ) × Runs (after s e) rest
+run_one s e line r a = by (stops e) refl
+  where
+    by : (t : Bool) → stops e ≡ t → (rest : List ℕ) × Runs (after s e) rest
+    by true is = ([], runs_stopped s e is)
+    by false is = let n : Next s e line = next s e line r is a in (n.rest, n.runs)
+
+run_all : (s : QueueState) (events : List Event) (line : List ℕ) → Runs s line → EachIn after IsAnswered s events → (rest : List ℕ) × Runs (after_all after s events) rest
+run_all s [] line r each = (line, r)
+run_all s (e ∷ es) line r each = let one = run_one s e line r each.0 in run_all (after s e) es one.0 one.1 each.1
+
+none_listed : (line : List ℕ) → ((i : ℕ) → lists line i ≡ false) → line ≡ []
+none_listed [] h = refl
+none_listed (k ∷ ks) h = absurd (not_both (lists (k ∷ ks) k) (ap (λ e. e || lists ks k) (tested k k refl)) (h k))
+
+pub new_queues_are_still : {P : Type 0} (m : P → Plane) → NewQueuesAreStill m
+new_queues_are_still m code s h none = λ off. none_listed code.done (λ (i : ℕ). h.shown.done.listed i ∙ ap (λ bs. is_ended (state_at bs i)) none)
+
 pub dequeues_in_order : {P : Type 0} (m : P → Plane) (old new : Lined P) (s : QueueState) (events : List Event) → StandsFor m old s → EachIn after IsAnswered s events → StandsFor m new (after_all after s events) → KeepsOrder old new events
 dequeues_in_order m old new s events first answered last = record {
   from_start = λ (part behind : List Event) is on idle.
       let each : EachIn after IsAnswered s (part ++ behind) = subst (λ (l : List Event). EachIn after IsAnswered s l) is answered in
-      let start : Runs s old.done = record {
-        incoming = old.incoming;
-        shows = record { body = refl; incoming = first.shown.incoming; done = first.shown.done; in_step = first.shown.in_step };
-        still = λ off. idle (ap (λ (b : Body Plane). b.streaming) first.shown.body ∙ off);
-      } in
-      in_turn m new s old.done part behind (along s part old.done start on (each_first s part behind each))
+      in_turn m new s old.done part behind (along s part old.done (started m old s first idle) on (each_first s part behind each))
       (λ none. subst (λ (l : List Event). StandsFor m new (after_all after s l)) (is ∙ ap (λ l. part ++ l) none ∙ append-nil part) last);
   from_stop = λ (before part behind : List Event) (stop : Event) is stopped on.
       let each : EachIn after IsAnswered s (before ++ stop ∷ (part ++ behind)) = subst (λ (l : List Event). EachIn after IsAnswered s l) is answered in
@@ -333,4 +355,9 @@ dequeues_in_order m old new s events first answered last = record {
       let now : EachIn after IsAnswered t (stop ∷ (part ++ behind)) = each_second s before (stop ∷ (part ++ behind)) each in
       in_turn m new (after t stop) [] part behind (along (after t stop) part [] (runs_stopped t stop stopped) on (each_first (after t stop) part behind now.1))
       (λ none. subst (λ (x : QueueState). StandsFor m new x) (ap (after_all after s) (is ∙ ap (λ l. before ++ stop ∷ (part ++ l)) none ∙ ap (λ l. before ++ stop ∷ l) (append-nil part)) ∙ after-behind after s before (stop ∷ part)) last);
+  still = λ idle off.
+      let t : QueueState = after_all after s events in
+      let end : (rest : List ℕ) × Runs t rest = run_all s events old.done (started m old s first idle) answered in
+      sym (same_line t.end_number t.end_count (λ i. is_ended (state_at t.body.buffers i)) end.0 new.done end.1.shows.done last.shown.done)
+      ∙ end.1.still (sym (ap (λ (b : Body Plane). b.streaming) last.shown.body) ∙ off);
 }

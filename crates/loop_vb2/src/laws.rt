@@ -1,6 +1,8 @@
 //! What follows from the definitions. Each function does nothing: its contract is the law.
 
-ghost use Rattle.loop_vb2.specs.Laws.{OwnersAreOne, DequeuedInOrder};
+ghost use Rattle.loop_vb2.specs.Laws.{OwnersAreOne, DequeuedInOrder, NewQueuesAreStill};
+
+use loop_plane::PlaneMemory;
 
 /// In every state each buffer has just one owner.
 pub fn owners_are_one()
@@ -11,4 +13,9 @@ pub fn owners_are_one()
 /// in the order of their ends.
 pub fn buffers_are_dequeued_in_order()
     ensures { DequeuedInOrder }
+{}
+
+/// A queue without buffers has nothing done: with it a run begins from which on buffers come in order.
+pub fn new_queues_are_still<P: PlaneMemory>()
+    ensures { NewQueuesAreStill P.plane }
 {}
