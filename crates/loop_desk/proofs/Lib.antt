@@ -7,10 +7,13 @@ pub mod Lasting
 pub mod Modelling
 pub mod Turning
 pub mod Framed
-pub mod Order
+pub mod Queued
 pub mod Ran
 pub mod Told
 pub mod Completed
+pub mod Completing
+pub mod Taking
+pub mod Order
 pub mod Blind
 pub mod Failing
 pub mod Crossing

@@ -17,6 +17,8 @@ use Rattle.loop_desk.specs.Desk.{DeskCall, accepted, accepted_in}
 use Rattle.loop_desk.specs.Front.{Front, HandState, IsDequeue, IsSubmit, dequeued, empty, front_after, full, offered, hand_given, hand_state, on_queue, put_back, requeued, spent}
 use Rattle.loop_desk.specs.Lane.{IsAtFront, IsLaneTurn, LaneKeeps, LaneRan, LaneTurn, StandsLane, after_turn, at_desk, at_front, calls_at, calls_of_turn, frame_at, frame_of_turn, frames_taken, hand_frame, lane_after, mixed, submit_calls, turn_at}
 use Rattle.loop_desk.proofs.Lasting.{keeps-footage}
+use Rattle.loop_desk.proofs.Queued.{dequeues}
+use Rattle.loop_desk.proofs.Taking.{completes}
 
 submit-frames : (h : HandState) (result : Result ℕ StoreFault) → IsSubmit h result → accepted_in (submit_calls h result) ++ hand_frame (hand_given h result) ≡ hand_frame h ++ []
 submit-frames empty result said = refl
@@ -77,4 +79,6 @@ module _ {D P A : Type 0} (m : P → Plane) (medium : D → Medium) where
     ran = run;
     footage = λ s stands now. keeps-footage medium old.desk new.desk run.calls s run.desk stands now;
     in_order = in-order old new es ps run;
+    dequeues = dequeues m medium old new es ps run;
+    completes = completes m medium old new es ps run;
   }

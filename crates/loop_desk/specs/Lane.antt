@@ -1,7 +1,7 @@
 -- A lane: the front, which is a queue, its table of fds and a hand, and behind it a desk. What the front does never
 -- depends on the desk's state, and what the desk is asked for is said by the events, the replies and the hand.
-use Rattle.std.specs.Prelude.{◌≡◌, ◌⊎◌, ℕ, Bool, false, if◌then◌else◌, Result, Ok, Err, List, [], ◌∷◌, ◌++◌, length}
-use Rattle.std.specs.List.{zip}
+use Rattle.std.specs.Prelude.{◌≡◌, ◌⊎◌, ℕ, Bool, true, false, if◌then◌else◌, Result, Ok, Err, List, [], ◌∷◌, ◌++◌, length, map}
+use Rattle.std.specs.List.{flat_map, list_any, zip}
 use Rattle.loop_plane.specs.Plane.{Plane}
 use Rattle.loop_disk.specs.Medium.{Medium}
 use Rattle.loop_record.specs.declared.geometry.PixelFormat.{PixelFormat}
@@ -12,6 +12,10 @@ use Rattle.loop_store.specs.declared.fault.StoreFault.TheVariants.{HandEmpty}
 use Rattle.loop_store.specs.Calls.{StoreState}
 use Rattle.loop_store.specs.Goes.{Stands}
 use Rattle.loop_store.specs.Runs.{read_of}
+use Rattle.loop_vb2.specs.Events as model
+use Rattle.loop_vb2.specs.Events.{Event, stops}
+use Rattle.loop_vb2.specs.First.{shape_of}
+use Rattle.loop_vb2.specs.Laws.{KeepsOrder}
 use Rattle.loop_ioctl.specs.declared.call.Ioctl.TheVariants as call
 use Rattle.loop_ioctl.specs.declared.events.QueueEvent.{QueueEvent}
 use Rattle.loop_ioctl.specs.declared.events.QueueEvent.TheVariants as queue_event
@@ -24,6 +28,7 @@ use Rattle.loop_desk.specs.declared.lane.Lane.{Lane}
 use Rattle.loop_desk.specs.Desk.{DeskCall, accepted, accepted_in, clip_locked, clip_unlocked, flushed, frame_read, submitted}
 use Rattle.loop_desk.specs.Footage.{KeepsFootage}
 use Rattle.loop_desk.specs.Front.{Front, HandState, IsFrontTurn, StandsFront, Turn, dequeued, empty, front_after, full, hand_state, on_queue, requeued, spent, offered}
+use Rattle.loop_desk.specs.Modelled.{completed_frame, front_event, unflagged}
 use Rattle.loop_desk.specs.Seen.{DeskGoes}
 
 -- ---- what an event and its reply are
@@ -166,6 +171,58 @@ module _ {P A : Type 0} (meaning : P → Plane) where
   abbrev pub frames_taken : Front → List (LaneEvent P A × LaneReply P A) → List Picture
   frames_taken f turns = told_in (lane_after meaning) frame_at f turns
 
+-- ---- the queue
+
+module _ {P A : Type 0} (meaning : P → Plane) where
+  -- which event of the queue's own model a turn is
+  abbrev pub event_at_turn : Front → LaneTurn P A → List Event
+  event_at_turn f (at_front t) = front_event meaning f t
+  event_at_turn f (at_desk c) = []
+  event_at_turn f mixed = []
+
+  abbrev pub event_at : Front → LaneEvent P A × LaneReply P A → List Event
+  event_at f x = event_at_turn f (turn_at f x)
+
+  -- the queue's events in a list of events and their replies, in order
+  abbrev pub queue_events : Front → List (LaneEvent P A × LaneReply P A) → List Event
+  queue_events f turns = told_in (lane_after meaning) event_at f turns
+
+-- Turns, each told as the front has it, are events of the queue's own model, and leave its state.
+abbrev pub LaneTurnsAreEvents : {P : Type 0} → Type 0 → (P → Plane) → Type 0
+LaneTurnsAreEvents {P} A meaning =
+    (f : Front) (xs : List (LaneEvent P A × LaneReply P A)) → EachIn (lane_after meaning) (IsLaneTurn meaning) f xs
+    → EachIn model.after model.IsAnswered f.queue.queue (queue_events meaning f xs)
+    × ((after_all (lane_after meaning) f xs).queue.queue
+    ≡ after_all model.after f.queue.queue (queue_events meaning f xs))
+
+-- ---- the device's frames
+
+module _ {P A : Type 0} (meaning : P → Plane) where
+  -- the front behind turns
+  abbrev pub front_behind : Front → List (LaneEvent P A × LaneReply P A) → Front
+  front_behind f turns = after_all (lane_after meaning) f turns
+
+  -- Some turns from a front on: the frames that were taken are a beginning of those that the device completed, each
+  -- with its bytes.
+  abbrev pub TakesCompleted : Front → List (LaneEvent P A × LaneReply P A) → Type 0
+  TakesCompleted f part =
+      (others : List Picture)
+      × (flat_map completed_frame (queue_events meaning f part)
+      ≡ map unflagged (frames_taken meaning f part) ++ others)
+
+  -- So it is in a list of turns up to the next stop of the stream,
+  pub record TakesFrames (f : Front) (turns : List (LaneEvent P A × LaneReply P A)) : Type 0 where
+    -- from the start on, if the queue had no buffers,
+    pub from_start : (part behind : List (LaneEvent P A × LaneReply P A)) → turns ≡ part ++ behind
+        → list_any stops (queue_events meaning f part) ≡ false → f.queue.queue.body.buffers ≡ []
+        → TakesCompleted f part
+    -- and from each stop on.
+    pub from_stop : (before part behind : List (LaneEvent P A × LaneReply P A)) (stop : LaneEvent P A × LaneReply P A)
+        (e : Event) → turns ≡ before ++ stop ∷ (part ++ behind)
+        → event_at meaning (front_behind f before) stop ≡ e ∷ [] → stops e ≡ true
+        → list_any stops (queue_events meaning (front_behind f (before ++ stop ∷ [])) part) ≡ false
+        → TakesCompleted (front_behind f (before ++ stop ∷ [])) part
+
 -- ---- what a list of events keeps
 
 -- The run, and what its calls keep of the footage and of the frames' order.
@@ -179,3 +236,9 @@ pub record LaneKeeps {D P A : Type 0} (meaning : P → Plane) (medium : D → Me
   pub in_order : (f : Front) → StandsLane meaning old f
       → accepted_in ran.calls ++ hand_frame (hand_state meaning new.hand)
       ≡ hand_frame (hand_state meaning old.hand) ++ frames_taken meaning f (zip es ps)
+  -- and buffers are taken from the queue in the order in which they were completed or failed
+  pub dequeues : (f : Front) → StandsLane meaning old f
+      → KeepsOrder old.queue new.queue (queue_events meaning f (zip es ps))
+  -- each with the frame that the device completed it with, where the queue's frames are those of a format
+  pub completes : (f : Front) → StandsLane meaning old f → (format : PixelFormat) (width height : ℕ)
+      → old.queue.body.shape ≡ shape_of format width height → TakesFrames meaning f (zip es ps)

@@ -126,7 +126,8 @@ fn answer<D: Disk + Drop, P: PlaneMemory, A: Allocator + Copy>(
 /// calls `headline` says: whenever the power fails in the run, before, between or within any writes, the disk reads
 /// as the recording after a beginning of the steps of the events that were answered Ok, and then of the one that was
 /// under way or failed; at the end it has all steps of those answered Ok; each clip that stands there has all its
-/// frames, each the one that was given; and frames keep their order from the queue to the desk.
+/// frames, each the one that was given; buffers are taken from the queue in the order in which the device ended
+/// them, each with the frame that the device completed; and frames keep their order from the queue to the desk.
 pub fn lane_run<D: Disk + Drop, P: PlaneMemory, A: Allocator + Copy>(
     alloc: A,
     lane: &mut Lane<D, P, A>,

@@ -10,7 +10,7 @@ ghost use Rattle.loop_desk.specs.declared.event.LaneEvent.{LaneEvent};
 ghost use Rattle.loop_desk.specs.declared.event.LaneReply.{LaneReply};
 ghost use Rattle.loop_desk.specs.declared.limits.Outline.{Outline};
 ghost use Rattle.loop_desk.specs.FrontLaws.{NewFrontsStand, WholeFramesAreTaken};
-ghost use Rattle.loop_desk.specs.Lane.{LaneKeeps, LaneRan};
+ghost use Rattle.loop_desk.specs.Lane.{LaneKeeps, LaneRan, LaneTurnsAreEvents};
 ghost use Rattle.loop_desk.specs.Seen.{DeskGoes, StandsAt, TellsOutline, rules_of};
 
 use crate::{Desk, Lane};
@@ -45,6 +45,11 @@ pub fn calls_keep_footage<D: Disk + Drop, A: Allocator>(before: &Desk<D, A>, aft
     ensures { (calls : List DeskCall) (s : StoreState) → DeskGoes D.medium before.now after.now calls
         → Stands D.medium before.now.store s → (D.medium before.now.store.disk).honest
         → KeepsFootage D.medium before.now after.now calls s }
+{}
+
+/// Turns of a lane, each told as its front has it, are events of the queue's own model, and leave its state.
+pub fn turns_are_events<P: PlaneMemory, A: Allocator>()
+    ensures { LaneTurnsAreEvents A P.plane }
 {}
 
 /// Two runs of a lane, one behind the other, are one run of both lists of events, and it keeps what one run does.

@@ -7,3 +7,4 @@ pub mod Applied
 pub mod Ran
 pub mod Device
 pub mod Aside
+pub mod Modelled

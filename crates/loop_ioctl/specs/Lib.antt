@@ -4,3 +4,4 @@ pub mod Attached
 pub mod Calls
 pub mod Parts
 pub mod Events
+pub mod Modelled

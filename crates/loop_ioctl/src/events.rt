@@ -3,6 +3,7 @@ ghost use Rattle.std.specs.Prelude.{◌≡◌, true, IfOk, IfErr, OnErr};
 ghost use Rattle.loop_vb2.specs.Errnos.{errno};
 ghost use Rattle.loop_vb2.specs.declared.reason.Reason.TheVariants.{NoMemory};
 ghost use Rattle.loop_ioctl.specs.Events.{is_whole, are_whole, Reacts, Runs};
+ghost use Rattle.loop_ioctl.specs.Modelled.{RunsInOrder};
 
 use crate::call::{Ioctl, IoctlReply};
 use crate::dispatch::apply;
@@ -96,6 +97,10 @@ pub fn react<P: PlaneMemory, A: Allocator + Copy>(
 /// Each event in turn, with its reply. A refused event changes nothing, and the next one follows. NoMemory,
 /// where there is no room for the replies, comes before the first event: then nothing has changed, and the
 /// events come back.
+///
+/// Buffers are dequeued in the order in which they were completed or failed (`in_order`): from any stop of the stream
+/// on, up to the next, those dequeued are a beginning of those that ended; from the start on, if the queue streamed
+/// then or nothing was done, they are a beginning of those that were done at the start and of those that ended since.
 pub fn run_events<P: PlaneMemory, A: Allocator + Copy>(
     queue: &mut Queue<P, A>,
     table: &mut FdTable<P, A>,
@@ -104,6 +109,8 @@ pub fn run_events<P: PlaneMemory, A: Allocator + Copy>(
     requires whole { are_whole queue.old.body.shape events.items ≡ true }
     ensures runs { IfOk result (λ replies.
         Runs P.plane events.items replies.items queue.old table.old queue.new table.new) }
+    ensures in_order { IfOk result (λ replies.
+        RunsInOrder P.plane events.items replies.items queue.old table.old queue.new) }
     ensures memory { IfErr result (λ e. (e.0 ≡ errno NoMemory) × (e.1 ≡ events)) }
     ensures same { OnErr result ((queue.new ≡ queue.old) × (table.new ≡ table.old)) }
     ensures shape { queue.new.body.shape ≡ queue.old.body.shape }

@@ -2,6 +2,7 @@
 
 ghost use Rattle.loop_ioctl.specs.Calls.{NewQueuesStand};
 ghost use Rattle.loop_ioctl.specs.Events.{RunsJoin};
+ghost use Rattle.loop_ioctl.specs.Modelled.{RunsAreInOrder, TurnsAreEvents};
 
 use loop_plane::PlaneMemory;
 use std::alloc::Allocator;
@@ -14,4 +15,15 @@ pub fn runs_join<P: PlaneMemory, A: Allocator>()
 /// A queue without buffers and any table stand for a state: no fd is attached by it.
 pub fn new_queues_stand<P: PlaneMemory>()
     ensures { NewQueuesStand P.plane }
+{}
+
+/// Turns, each told as the model of the ioctls has it, are events of the queue's own model, and leave its state.
+pub fn turns_are_events<P: PlaneMemory, A: Allocator>()
+    ensures { TurnsAreEvents A P.plane }
+{}
+
+/// The buffers of any run are dequeued in the order in which they were completed or failed: also of two runs, one
+/// after the other.
+pub fn runs_are_in_order<P: PlaneMemory, A: Allocator>()
+    ensures { RunsAreInOrder A P.plane }
 {}

@@ -7,8 +7,8 @@
 //! - `laws` has what follows from the definitions.
 //!
 //! Of `specs/`, `Calls` has the model of an ioctl, `Names` that of the fds, `Attached` what holds of both (each
-//! fd of a plane that a queue holds is attached, and no two are the same), and `Events` that of a list. Only
-//! private functions speak of `Parts`.
+//! fd of a plane that a queue holds is attached, and no two are the same), `Events` that of a list, and `Modelled`
+//! which event of the queue's own model an ioctl or a call of the device is. Only private functions speak of `Parts`.
 #![tactic(auto)]
 
 mod call;

@@ -1,11 +1,13 @@
 -- The order of frames: the buffers that the application gets are a beginning of those that the device ended.
-use Rattle.std.proofs.Common.{◌≡◌, ℕ, Bool, true, false, ◌||◌, ◌&&◌, ◌==◌, nat_lt, cond, List, [], ◌∷◌, ◌++◌, length, Option, Some, None, Ok, Err, refl, sym, ◌∙◌, ap, subst, append_assoc, arith}
+use Rattle.std.proofs.Common.{◌≡◌, ℕ, Bool, true, false, ◌<◌, ◌||◌, ◌&&◌, ◌==◌, nat_lt, cond, List, [], ◌∷◌, ◌++◌, length, Option, Some, None, Ok, Err, refl, sym, ◌∙◌, ap, subst, append_assoc, arith, inl, inr}
 use Rattle.std.specs.List.{flat_map, list_any}
 use Rattle.std.proofs.lemmas.List.{append-nil}
+use Rattle.std.proofs.lemmas.Bool.{cases_eq}
 use Rattle.std.proofs.lemmas.Bool.Decides.{nat_tests}
 use Rattle.loop_plane.specs.Plane.{Plane}
 use Rattle.loop_plane.specs.declared.memory.Memory.{Memory}
-use Rattle.loop_record.specs.Turns.{EachIn}
+use Rattle.loop_record.specs.Turns.{after_all, EachIn}
+use Rattle.loop_record.proofs.Turned.{after-behind}
 use Rattle.loop_vb2.specs.declared.buffer.Buffer.{Buffer}
 use Rattle.loop_vb2.specs.declared.planes.PlaneSet.{PlaneSet}
 use Rattle.loop_vb2.specs.declared.buffer.Dequeued.{Dequeued as Answer}
@@ -15,16 +17,16 @@ use Rattle.loop_vb2.specs.declared.state.BufferState.{BufferState}
 use Rattle.loop_vb2.specs.declared.state.BufferState.TheVariants.{Dequeued, Prepared, Done, Error}
 use Rattle.loop_vb2.specs.Owner.{waits, is_ended, is_active}
 use Rattle.loop_vb2.specs.Buffers.{state_at, stopped, queued_with, prepared_with, completed_with, failed_with, mapped_as, emptied}
-use Rattle.loop_vb2.specs.Lines.{without}
+use Rattle.loop_vb2.specs.Lines.{lists, without, InOrder}
 use Rattle.loop_vb2.specs.Checks.{queue_refusal, prepare_refusal, end_refusal, request_refusal}
 use Rattle.loop_vb2.specs.Effects.{awake, device_runs, settled, with_buffer, body_streaming, body_stopped, first_ended, ended, dequeued, touched}
 use Rattle.loop_vb2.specs.Requests.{grants_or_none, requested}
-use Rattle.loop_vb2.specs.State.{Body, QueueState, Lined, lined, in_step, InStep, Shows}
+use Rattle.loop_vb2.specs.State.{Body, QueueState, Lined, lined, in_step, InStep, Shows, StandsFor}
 use Rattle.loop_vb2.specs.Events.{Event, Grant, IsAnswered, IsRefusal, after, dequeued_by, ended_by, stops, reqbufs, prepare_buf, qbuf, dqbuf, streamon, streamoff, querybuf, mmap, munmap, take_planes, copy_plane, complete, fail, fatal, take_fresh}
-use Rattle.loop_vb2.specs.Laws.{DequeuedInOrder}
+use Rattle.loop_vb2.specs.Laws.{DequeuedInOrder, InTurn, IsStill, KeepsOrder, NewQueuesAreStill}
 use Rattle.loop_vb2.proofs.InStep.{step_stopped, idle_fits, none_are_active}
 use Rattle.loop_vb2.proofs.Kept.{dequeued_idle, prepared_state}
-use Rattle.loop_vb2.proofs.Lines.{InOrder-none, empty_line, not_both}
+use Rattle.loop_vb2.proofs.Lines.{InOrder-none, InOrder-pop, differ, empty_line, not_both, tested}
 use Rattle.loop_vb2.proofs.RequestSteps.{shows_requested}
 use Rattle.loop_vb2.proofs.Requested.{new_state}
 use Rattle.loop_vb2.proofs.Shown.{shows_queued, shows_ended, shows_touched, shows_kept, shows_dequeued, shows_streaming, first_is_taken}
@@ -33,10 +35,10 @@ use Rattle.loop_vb2.proofs.Steps.{queue_within, queue_idle, prepare_within, prep
 use Rattle.loop_vb2.proofs.Passing.{passed_here}
 
 -- a state with the buffers that were ended and not yet dequeued, in their order; while streaming is off there are none
-record Runs (s : QueueState) (line : List ℕ) : Type 0 where
-  incoming : List ℕ
-  shows : Shows s (lined s.body incoming line)
-  still : s.body.streaming ≡ false → line ≡ []
+pub record Runs (s : QueueState) (line : List ℕ) : Type 0 where
+  pub incoming : List ℕ
+  pub shows : Shows s (lined s.body incoming line)
+  pub still : s.body.streaming ≡ false → line ≡ []
 
 -- ---- what follows from an answer
 
@@ -80,7 +82,7 @@ runs_freed s count kind sets none =
       still = λ e. refl;
     }
 
-runs_stopped : (s : QueueState) (stop : Event) → stops stop ≡ true → Runs (after s stop) []
+pub runs_stopped : (s : QueueState) (stop : Event) → stops stop ≡ true → Runs (after s stop) []
 runs_stopped s streamoff e = runs_off s
 runs_stopped s (reqbufs count kind sets (Ok g)) e = runs_freed s count kind sets e
 runs_stopped s (reqbufs count kind sets (Err x)) e = absurd (cc)
@@ -101,10 +103,10 @@ runs_stopped s (take_fresh fresh) e = absurd (cc)
 -- ---- any other event
 
 -- the line after an event: what the device ended joins it behind, and what the application got leaves it in front
-record Next (s : QueueState) (e : Event) (line : List ℕ) : Type 0 where
-  rest : List ℕ
-  runs : Runs (after s e) rest
-  joined : line ++ ended_by e ≡ dequeued_by e ++ rest
+pub record Next (s : QueueState) (e : Event) (line : List ℕ) : Type 0 where
+  pub rest : List ℕ
+  pub runs : Runs (after s e) rest
+  pub joined : line ++ ended_by e ≡ dequeued_by e ++ rest
 
 settled_streaming : (b : Body Plane) → (settled b).streaming ≡ b.streaming
 settled_streaming b = elim (device_runs b) as (λ t. (cond t (awake b) b).streaming ≡ b.streaming) [ true ↦ refl | false ↦ refl ]
@@ -193,7 +195,7 @@ next_requested s count kind sets g line r some passed =
       joined = append-nil line ∙ r.still off;
     }
 
-next : (s : QueueState) (e : Event) (line : List ℕ) → Runs s line → stops e ≡ false → IsAnswered s e → Next s e line
+pub next : (s : QueueState) (e : Event) (line : List ℕ) → Runs s line → stops e ≡ false → IsAnswered s e → Next s e line
 next s (reqbufs count kind sets (Ok g)) line r on a = next_requested s count kind sets g line r on a.0
 next s (reqbufs count kind sets (Err x)) line r on a = record { rest = line; runs = r; joined = append-nil line }
 next s (prepare_buf index kind given None) line r on a = next_prepared s index kind given line r (not_refused (prepare_refusal index kind given s.body) a)
@@ -236,11 +238,11 @@ next s (take_fresh fresh) line r on a = record {
 
 -- ---- a list of events
 
-first_off : (a b : Bool) → (a || b) ≡ false → a ≡ false
+pub first_off : (a b : Bool) → (a || b) ≡ false → a ≡ false
 first_off true b e = e
 first_off false b e = refl
 
-second_off : (a b : Bool) → (a || b) ≡ false → b ≡ false
+pub second_off : (a b : Bool) → (a || b) ≡ false → b ≡ false
 second_off true b e = absurd (cc)
 second_off false b e = e
 
@@ -249,12 +251,113 @@ rejoined line ended taken next all_ended all_taken rest e f =
     sym (append_assoc line ended all_ended)
     ∙ (ap (λ l. l ++ all_ended) e ∙ (append_assoc taken next all_ended ∙ (ap (λ l. taken ++ l) f ∙ sym (append_assoc taken all_taken rest))))
 
-in_order : (s : QueueState) (events : List Event) (line : List ℕ) → Runs s line → list_any stops events ≡ false → EachIn after IsAnswered s events → (rest : List ℕ) × (line ++ flat_map ended_by events ≡ flat_map dequeued_by events ++ rest)
-in_order s [] line r on a = (line, append-nil line)
-in_order s (e ∷ es) line r on a =
+-- the line after events
+record Along (s : QueueState) (events : List Event) (line : List ℕ) : Type 0 where
+  rest : List ℕ
+  runs : Runs (after_all after s events) rest
+  joined : line ++ flat_map ended_by events ≡ flat_map dequeued_by events ++ rest
+
+along : (s : QueueState) (events : List Event) (line : List ℕ) → Runs s line → list_any stops events ≡ false → EachIn after IsAnswered s events → Along s events line
+along s [] line r on a = record { rest = line; runs = r; joined = append-nil line }
+along s (e ∷ es) line r on a =
     let n : Next s e line = next s e line r (first_off (stops e) (list_any stops es) on) a.0 in
-    let more : (rest : List ℕ) × (n.rest ++ flat_map ended_by es ≡ flat_map dequeued_by es ++ rest) = in_order (after s e) es n.rest n.runs (second_off (stops e) (list_any stops es) on) a.1 in
-    (more.0, rejoined line (ended_by e) (dequeued_by e) n.rest (flat_map ended_by es) (flat_map dequeued_by es) more.0 n.joined more.1)
+    let more : Along (after s e) es n.rest = along (after s e) es n.rest n.runs (second_off (stops e) (list_any stops es) on) a.1 in
+    record { rest = more.rest; runs = more.runs; joined = rejoined line (ended_by e) (dequeued_by e) n.rest (flat_map ended_by es) (flat_map dequeued_by es) more.rest n.joined more.joined }
 
 pub dequeued_in_order : DequeuedInOrder
-dequeued_in_order = λ s stop events stopped on a. in_order (after s stop) events [] (runs_stopped s stop stopped) on a.1
+dequeued_in_order = λ s stop events stopped on a.
+    let all : Along (after s stop) events [] = along (after s stop) events [] (runs_stopped s stop stopped) on a.1 in
+    (all.rest, all.joined)
+
+-- ---- two lines in the same order
+
+neither : (n : ℕ → ℕ) (x y : ℕ) → n x < n y → n y < n x → ⊥
+neither n x y h k = omega arith
+
+-- who heads one line and stands behind another's head comes after it
+behind_head : (n : ℕ → ℕ) (c : ℕ) (t : ℕ → Bool) (x y : ℕ) (xs ys : List ℕ) → InOrder n c t (x ∷ xs) → InOrder n c t (y ∷ ys) → (x ≡ y → ⊥) → n y < n x
+behind_head n c t x y xs ys a b apart =
+    let head : lists (x ∷ xs) x ≡ true = ap (λ e. e || lists xs x) (tested x x refl) in
+    let there : lists (y ∷ ys) x ≡ true = b.listed x ∙ (sym (a.listed x) ∙ head) in
+    b.rising.0 x (sym (ap (λ e. e || lists ys x) (differ y x (λ e. apart (sym e)))) ∙ there)
+
+same_head : (n : ℕ → ℕ) (c : ℕ) (t : ℕ → Bool) (x y : ℕ) (xs ys : List ℕ) → InOrder n c t (x ∷ xs) → InOrder n c t (y ∷ ys) → x ≡ y
+same_head n c t x y xs ys a b = elim (cases_eq x y) [
+  | inl e ↦ e
+  | inr apart ↦ absurd (neither n x y (behind_head n c t y x ys xs b a (λ e. apart (sym e))) (behind_head n c t x y xs ys a b apart))
+]
+
+no_head : (n : ℕ → ℕ) (c : ℕ) (t : ℕ → Bool) (x : ℕ) (xs : List ℕ) → InOrder n c t (x ∷ xs) → InOrder n c t [] → ⊥
+no_head n c t x xs a b = not_both (lists (x ∷ xs) x) (ap (λ e. e || lists xs x) (tested x x refl)) (a.listed x ∙ sym (b.listed x))
+
+same_line : (n : ℕ → ℕ) (c : ℕ) (t : ℕ → Bool) (xs ys : List ℕ) → InOrder n c t xs → InOrder n c t ys → xs ≡ ys
+same_line n c t [] [] a b = refl
+same_line n c t (x ∷ xs) [] a b = absurd (no_head n c t x xs a b)
+same_line n c t [] (y ∷ ys) a b = absurd (no_head n c t y ys b a)
+same_line n c t (x ∷ xs) (y ∷ ys) a b =
+    let e : x ≡ y = same_head n c t x y xs ys a b in
+    let u : ℕ → Bool = λ i. cond (i == x) false (t i) in
+    let rest : xs ≡ ys = same_line n c u xs ys (InOrder-pop n c t u x xs a (λ i. refl)) (InOrder-pop n c t u x ys (subst (λ (k : ℕ). InOrder n c t (k ∷ ys)) (sym e) b) (λ i. refl)) in
+    ap (λ k. k ∷ xs) e ∙ ap (λ l. y ∷ l) rest
+
+-- ---- a queue's events
+
+each_first : (s : QueueState) (xs ys : List Event) → EachIn after IsAnswered s (xs ++ ys) → EachIn after IsAnswered s xs
+each_first s [] ys each = tt
+each_first s (x ∷ xs) ys each = (each.0, each_first (after s x) xs ys each.1)
+
+each_second : (s : QueueState) (xs ys : List Event) → EachIn after IsAnswered s (xs ++ ys) → EachIn after IsAnswered (after_all after s xs) ys
+each_second s [] ys each = each
+each_second s (x ∷ xs) ys each = each_second (after s x) xs ys each.1
+
+-- the others of a part, where its last state is one that the queue stands for
+in_turn : {P : Type 0} (m : P → Plane) (new : Lined P) (s : QueueState) (done : List ℕ) (part behind : List Event) → Along s part done → (behind ≡ [] → StandsFor m new (after_all after s part)) → InTurn done part behind new.done
+in_turn m new s done part behind a last =
+    let t : QueueState = after_all after s part in
+    (a.rest, a.joined, λ none. same_line t.end_number t.end_count (λ i. is_ended (state_at t.body.buffers i)) a.rest new.done a.runs.shows.done (last none).shown.done)
+
+-- a queue's start
+started : {P : Type 0} (m : P → Plane) (code : Lined P) (s : QueueState) → StandsFor m code s → IsStill code → Runs s code.done
+started m code s h still = record {
+  incoming = code.incoming;
+  shows = record { body = refl; incoming = h.shown.incoming; done = h.shown.done; in_step = h.shown.in_step };
+  still = λ off. still (ap (λ (b : Body Plane). b.streaming) h.shown.body ∙ off);
+}
+
+-- stops or not, what is done is a line
+run_one : (s : QueueState) (e : Event) (line : List ℕ) → Runs s line → IsAnswered s e → (rest : List ℕ) × Runs (after s e) rest
+run_one s e line r a = by (stops e) refl
+  where
+    by : (t : Bool) → stops e ≡ t → (rest : List ℕ) × Runs (after s e) rest
+    by true is = ([], runs_stopped s e is)
+    by false is = let n : Next s e line = next s e line r is a in (n.rest, n.runs)
+
+run_all : (s : QueueState) (events : List Event) (line : List ℕ) → Runs s line → EachIn after IsAnswered s events → (rest : List ℕ) × Runs (after_all after s events) rest
+run_all s [] line r each = (line, r)
+run_all s (e ∷ es) line r each = let one = run_one s e line r each.0 in run_all (after s e) es one.0 one.1 each.1
+
+none_listed : (line : List ℕ) → ((i : ℕ) → lists line i ≡ false) → line ≡ []
+none_listed [] h = refl
+none_listed (k ∷ ks) h = absurd (not_both (lists (k ∷ ks) k) (ap (λ e. e || lists ks k) (tested k k refl)) (h k))
+
+pub new_queues_are_still : {P : Type 0} (m : P → Plane) → NewQueuesAreStill m
+new_queues_are_still m code s h none = λ off. none_listed code.done (λ (i : ℕ). h.shown.done.listed i ∙ ap (λ bs. is_ended (state_at bs i)) none)
+
+pub dequeues_in_order : {P : Type 0} (m : P → Plane) (old new : Lined P) (s : QueueState) (events : List Event) → StandsFor m old s → EachIn after IsAnswered s events → StandsFor m new (after_all after s events) → KeepsOrder old new events
+dequeues_in_order m old new s events first answered last = record {
+  from_start = λ (part behind : List Event) is on idle.
+      let each : EachIn after IsAnswered s (part ++ behind) = subst (λ (l : List Event). EachIn after IsAnswered s l) is answered in
+      in_turn m new s old.done part behind (along s part old.done (started m old s first idle) on (each_first s part behind each))
+      (λ none. subst (λ (l : List Event). StandsFor m new (after_all after s l)) (is ∙ ap (λ l. part ++ l) none ∙ append-nil part) last);
+  from_stop = λ (before part behind : List Event) (stop : Event) is stopped on.
+      let each : EachIn after IsAnswered s (before ++ stop ∷ (part ++ behind)) = subst (λ (l : List Event). EachIn after IsAnswered s l) is answered in
+      let t : QueueState = after_all after s before in
+      let now : EachIn after IsAnswered t (stop ∷ (part ++ behind)) = each_second s before (stop ∷ (part ++ behind)) each in
+      in_turn m new (after t stop) [] part behind (along (after t stop) part [] (runs_stopped t stop stopped) on (each_first (after t stop) part behind now.1))
+      (λ none. subst (λ (x : QueueState). StandsFor m new x) (ap (after_all after s) (is ∙ ap (λ l. before ++ stop ∷ (part ++ l)) none ∙ ap (λ l. before ++ stop ∷ l) (append-nil part)) ∙ after-behind after s before (stop ∷ part)) last);
+  still = λ idle off.
+      let t : QueueState = after_all after s events in
+      let end : (rest : List ℕ) × Runs t rest = run_all s events old.done (started m old s first idle) answered in
+      sym (same_line t.end_number t.end_count (λ i. is_ended (state_at t.body.buffers i)) end.0 new.done end.1.shows.done last.shown.done)
+      ∙ end.1.still (sym (ap (λ (b : Body Plane). b.streaming) last.shown.body) ∙ off);
+}

@@ -1,6 +1,8 @@
 //! What follows from the definitions. Each function does nothing: its contract is the law.
 
-ghost use Rattle.loop_vb2.specs.Laws.{HandedOverByOwners, DequeuedInOrder};
+ghost use Rattle.loop_vb2.specs.Laws.{HandedOverByOwners, DequeuedInOrder, NewQueuesAreStill};
+
+use loop_plane::PlaneMemory;
 
 /// An accepted event acts for the buffer's owner: the application's calls name a buffer that it has, or has prepared,
 /// the device ends a buffer that it has, and DQBUF hands over one that is done or failed. A table says whose each
@@ -13,4 +15,9 @@ pub fn buffers_are_handed_over_by_their_owners()
 /// in the order of their ends.
 pub fn buffers_are_dequeued_in_order()
     ensures { DequeuedInOrder }
+{}
+
+/// A queue without buffers has nothing done: with it a run begins from which on buffers come in order.
+pub fn new_queues_are_still<P: PlaneMemory>()
+    ensures { NewQueuesAreStill P.plane }
 {}

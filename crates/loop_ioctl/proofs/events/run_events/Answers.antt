@@ -2,6 +2,7 @@ use Rattle.std.proofs.Common.{◌≡◌, true, [], ◌∷◌, length, refl, sym,
 use Rattle.std.specs.Vec.Iter.{into_iter_items}
 use Rattle.loop_ioctl.specs.Events.{Runs, is_whole, are_whole}
 use Rattle.loop_ioctl.proofs.Ran.{first_true, second_true, nothing_left, runs_none, runs_more}
+use Rattle.loop_ioctl.proofs.Modelled.{runs_are_in_order}
 use Rattle.loop_ioctl.proofs.events.run_events.Goals as goal
 
 pub loop-event-init : goal.loop-event-init
@@ -58,3 +59,7 @@ returns-clause-runs g c =
     let empty : into_iter_items at.event-iterator ≡ [] = nothing_left (into_iter_items at.event-iterator) (sym at.invariant.left ∙ none.0) in
     let all : at.yielded ≡ c.args.events.items = sym (append-nil at.yielded) ∙ rw empty at at.invariant.items in
     subst (λ l. Runs g.P.PlaneMemory.plane l at.replies.items c.args.queue.now c.args.table.now at.queue at.table) all at.invariant.runs
+
+pub returns-clause-in_order : goal.returns-clause-in_order
+returns-clause-in_order g c =
+    runs_are_in_order g.row.A.Denot g.P.PlaneMemory.plane c.args.events.items c.loop-event.replies.items c.args.queue.now c.loop-event.queue c.args.table.now c.loop-event.table (returns-clause-runs g c)

@@ -1,0 +1,259 @@
+-- The frames that a lane takes from its queue are those that the device completed.
+use Rattle.std.proofs.Common.{◌≡◌, ℕ, Bool, true, false, if◌then◌else◌, cond, List, [], ◌∷◌, ◌++◌, length, map, Option, Some, None, Result, Ok, Err, refl, sym, ◌∙◌, ap, subst}
+use Rattle.std.specs.Prelude.{slice_get}
+use Rattle.std.specs.List.{list_any, zip}
+use Rattle.std.proofs.lemmas.Bool.{eqb-true}
+use Rattle.std.proofs.lemmas.List.{map-append}
+use Rattle.loop_plane.specs.Plane.{Plane}
+use Rattle.loop_plane.specs.declared.memory.Memory.{Memory}
+use Rattle.loop_plane.specs.declared.memory.Memory.TheVariants.{Mmap, UserPtr, DmaBuf}
+use Rattle.loop_disk.specs.Medium.{Medium}
+use Rattle.loop_record.specs.declared.geometry.PixelFormat.{PixelFormat}
+use Rattle.loop_record.specs.Turns.{EachIn, after_all, told_in}
+use Rattle.loop_record.proofs.Turned.{after-behind, told-behind}
+use Rattle.loop_vb2.specs.declared.buffer.Buffer.{Buffer}
+use Rattle.loop_vb2.specs.declared.planes.PlaneSet.{PlaneSet}
+use Rattle.loop_vb2.specs.declared.reason.Errno.{Errno}
+use Rattle.loop_vb2.specs.declared.reason.Reason.{Reason}
+use Rattle.loop_vb2.specs.declared.reason.Reason.TheVariants.{BadType}
+use Rattle.loop_vb2.specs.declared.reason.Refused.{Refused}
+use Rattle.loop_vb2.specs.Buffers.{handed, state_at}
+use Rattle.loop_vb2.specs.Events as model
+use Rattle.loop_vb2.specs.Events.{Event, refusal_in, stops}
+use Rattle.loop_vb2.specs.First.{shape_of}
+use Rattle.loop_vb2.specs.Owner.{is_ended, waits}
+use Rattle.loop_vb2.specs.Planes.{frame_size}
+use Rattle.loop_vb2.specs.State.{AllFit, Body, QueueState}
+use Rattle.loop_vb2.specs.Steps.{read_given}
+use Rattle.loop_vb2.proofs.Lines.{InOrder-none}
+use Rattle.loop_vb2.proofs.Ordered.{Runs, runs_stopped}
+use Rattle.loop_ioctl.specs.declared.call.BufferMemory.{BufferMemory}
+use Rattle.loop_ioctl.specs.declared.call.BufferMemory.TheVariants as memory
+use Rattle.loop_ioctl.specs.declared.call.Ioctl.{Ioctl}
+use Rattle.loop_ioctl.specs.declared.call.Ioctl.TheVariants as call
+use Rattle.loop_ioctl.specs.declared.call.IoctlReply.{IoctlReply}
+use Rattle.loop_ioctl.specs.declared.call.IoctlReply.TheVariants as reply_to
+use Rattle.loop_ioctl.specs.declared.events.QueueEvent.{QueueEvent}
+use Rattle.loop_ioctl.specs.declared.events.QueueEvent.TheVariants as queue_event
+use Rattle.loop_ioctl.specs.declared.events.QueueReply.{QueueReply}
+use Rattle.loop_ioctl.specs.declared.events.QueueReply.TheVariants as answer
+use Rattle.loop_ioctl.specs.Calls.{IoctlState, type_refusal}
+use Rattle.loop_ioctl.specs.Events.{is_whole}
+use Rattle.loop_ioctl.specs.Names.{set_named, set_refusal}
+use Rattle.loop_ioctl.specs.Modelled.{call_events, event_of, put_events, unless_refused}
+use Rattle.loop_ioctl.proofs.Modelled.{all_told}
+use Rattle.loop_desk.specs.declared.event.LaneEvent.{LaneEvent}
+use Rattle.loop_desk.specs.declared.event.LaneEvent.TheVariants as event
+use Rattle.loop_desk.specs.declared.event.LaneReply.{LaneReply}
+use Rattle.loop_desk.specs.declared.event.LaneReply.TheVariants as reply
+use Rattle.loop_desk.specs.declared.hand.LaneFault.{LaneFault}
+use Rattle.loop_desk.specs.declared.hand.LaneFault.TheVariants.{Queue, Store}
+use Rattle.loop_desk.specs.declared.lane.Lane.{Lane}
+use Rattle.loop_desk.specs.Front.{Front, HandState, dequeued, empty, forbids, full, hand_with, index_in, kind_of, on_queue, requeued, spent, taken_frame, was_given_up}
+use Rattle.loop_desk.specs.Lane.{IsAtFront, IsLaneTurn, LaneRan, LaneTurn, StandsLane, TakesCompleted, TakesFrames, at_front, event_at, event_at_turn, frame_at, front_behind, frame_of_turn, frames_taken, hand_frame, is_dequeue, lane_after, mixed, queue_events, turn_at, turn_of}
+use Rattle.loop_desk.specs.Modelled.{dqbuf_event, qbuf_event, unflagged}
+use Rattle.loop_desk.proofs.Completing.{IsCounted, IsHolding, IsWhole, all_fit, all_shaped, frames_along, held_none, shot, stopped_waits, taken_by}
+use Rattle.loop_desk.proofs.Queued.{lane-told}
+
+-- ---- lists
+
+each-first : {S X : Type 0} (after : S → X → S) (P : S → X → Type 0) (s : S) (xs ys : List X) → EachIn after P s (xs ++ ys) → EachIn after P s xs
+each-first after P s [] ys each = tt
+each-first after P s (x ∷ xs) ys each = (each.0, each-first after P (after s x) xs ys each.1)
+
+each-second : {S X : Type 0} (after : S → X → S) (P : S → X → Type 0) (s : S) (xs ys : List X) → EachIn after P s (xs ++ ys) → EachIn after P (after_all after s xs) ys
+each-second after P s [] ys each = each
+each-second after P s (x ∷ xs) ys each = each-second after P (after s x) xs ys each.1
+
+each-both : (s : QueueState) (es : List Event) → EachIn model.after model.IsAnswered s es → EachIn model.after IsWhole s es → EachIn model.after IsCounted s es
+each-both s [] first second = tt
+each-both s (e ∷ es) first second = ((first.0, second.0), each-both (model.after s e) es first.1 second.1)
+
+-- ---- an event that takes no frame
+
+abbrev Quiet : QueueState → List Event → Type 0
+Quiet s es = EachIn model.after IsWhole s es × (told_in model.after taken_by s es ≡ [])
+
+quiet-unless : (s : QueueState) (why : Option Reason) (es : List Event) → Quiet s es → Quiet s (unless_refused why es)
+quiet-unless s None es quiet = quiet
+quiet-unless s (Some reason) es quiet = (tt, refl)
+
+quiet-if : (s : QueueState) (b : Bool) (es : List Event) → Quiet s es → Quiet s (cond b [] es)
+quiet-if s true es quiet = (tt, refl)
+quiet-if s false es quiet = quiet
+
+quiet-qbuf : (s : QueueState) (kind : Memory) (h : HandState) (refusal : Option Errno) → Quiet s (qbuf_event kind h refusal)
+quiet-qbuf s kind empty refusal = (tt, refl)
+quiet-qbuf s kind (full i p planes) refusal = (tt, refl)
+quiet-qbuf s kind (spent i planes) refusal = ((tt, tt), refl)
+
+quiet-put : {P : Type 0} (m : P → Plane) (s : QueueState) (put : Memory → Option (PlaneSet Plane) → Event) (given : BufferMemory P) (j : IoctlState) → ((kind : Memory) (planes : Option (PlaneSet Plane)) → Quiet s (put kind planes ∷ [])) → Quiet s (put_events m put given j)
+quiet-put m s put memory.Mmap j quiet = quiet Mmap None
+quiet-put m s put (memory.UserPtr given) j quiet = quiet UserPtr (read_given m given)
+quiet-put m s put (memory.DmaBuf None) j quiet = quiet DmaBuf None
+quiet-put m s put (memory.DmaBuf (Some named)) j quiet = quiet-unless s (set_refusal named j.names) (put DmaBuf (Some (set_named named j.names)) ∷ []) (quiet DmaBuf (Some (set_named named j.names)))
+
+module _ {P A : Type 0} (m : P → Plane) where
+  abbrev is_dqbuf : Ioctl P A → Bool
+  is_dqbuf (call.DqBuf type) = true
+  is_dqbuf c = false
+
+  -- an ioctl of the queue's own type that isn't DQBUF
+  quiet-own : (c : Ioctl P A) (result : Result (IoctlReply P A) (Refused P A)) (j : IoctlState) → is_dqbuf c ≡ false → Quiet j.queue (call_events m c result j)
+  quiet-own (call.ReqBufs type count kind supply) (Ok (reply_to.Granted g)) j other = ((tt, tt), refl)
+  quiet-own (call.ReqBufs type count kind supply) (Ok (reply_to.Info info)) j other = (tt, refl)
+  quiet-own (call.ReqBufs type count kind supply) (Ok (reply_to.Dequeued d)) j other = (tt, refl)
+  quiet-own (call.ReqBufs type count kind supply) (Ok reply_to.Done) j other = (tt, refl)
+  quiet-own (call.ReqBufs type count kind supply) (Err r) j other = ((tt, tt), refl)
+  quiet-own (call.QueryBuf type index) (Ok (reply_to.Info info)) j other = ((tt, tt), refl)
+  quiet-own (call.QueryBuf type index) (Ok (reply_to.Granted g)) j other = (tt, refl)
+  quiet-own (call.QueryBuf type index) (Ok (reply_to.Dequeued d)) j other = (tt, refl)
+  quiet-own (call.QueryBuf type index) (Ok reply_to.Done) j other = (tt, refl)
+  quiet-own (call.QueryBuf type index) (Err r) j other = ((tt, tt), refl)
+  quiet-own (call.PrepareBuf type index given) result j other = quiet-put m j.queue (λ kind planes. model.prepare_buf index kind planes (refusal_in result)) given j (λ kind planes. ((tt, tt), refl))
+  quiet-own (call.QBuf type index given) result j other = quiet-put m j.queue (λ kind planes. model.qbuf index kind planes (refusal_in result)) given j (λ kind planes. ((tt, tt), refl))
+  quiet-own (call.DqBuf type) result j other = absurd (cc)
+  quiet-own (call.StreamOn type) result j other = ((tt, tt), refl)
+  quiet-own (call.StreamOff type) (Ok r) j other = ((tt, tt), refl)
+  quiet-own (call.StreamOff type) (Err r) j other = (tt, refl)
+  quiet-own (call.Mmap type index) result j other = ((tt, tt), refl)
+  quiet-own (call.Munmap type index) result j other = ((tt, tt), refl)
+
+  typed-quiet : (c : Ioctl P A) (result : Result (IoctlReply P A) (Refused P A)) (j : IoctlState) → Quiet j.queue (call_events m c result j) → Quiet j.queue (unless_refused (type_refusal c j) (call_events m c result j))
+  typed-quiet c result j quiet = quiet-unless j.queue (type_refusal c j) (call_events m c result j) quiet
+
+  quiet-call : (c : Ioctl P A) (result : Result (IoctlReply P A) (Refused P A)) (j : IoctlState) → is_dequeue {P = P} {A = A} j.queue.body.format (queue_event.Ioctl c) ≡ false → Quiet j.queue (unless_refused (type_refusal c j) (call_events m c result j))
+  quiet-call (call.DqBuf type) result j other = subst (λ (t : Bool). Quiet j.queue (unless_refused (cond t None (Some BadType)) (call_events m (call.DqBuf type) result j))) (sym other) (tt, refl)
+  quiet-call c result j other = typed-quiet c result j (quiet-own c result j refl)
+
+  quiet-event : (e : QueueEvent P A) (r : QueueReply P A) (j : IoctlState) → is_dequeue j.queue.body.format e ≡ false → is_whole j.queue.body.shape e ≡ true → Quiet j.queue (event_of m e r j)
+  quiet-event (queue_event.Ioctl c) (answer.Ioctl result) j other whole = quiet-call c result j other
+  quiet-event (queue_event.Complete index stamp bytes) (answer.Ended (Ok u)) j other whole = ((eqb-true (length bytes.items) (frame_size j.queue.body.shape) whole, tt), refl)
+  quiet-event (queue_event.Complete index stamp bytes) (answer.Ended (Err e)) j other whole = ((tt, tt), refl)
+  quiet-event (queue_event.Fail index stamp) (answer.Ended result) j other whole = ((tt, tt), refl)
+  quiet-event queue_event.Fatal answer.Fatal j other whole = ((tt, tt), refl)
+  quiet-event e r j other whole = (tt, refl)
+
+-- ---- one turn
+
+taken-tells : (f : Front) (index : ℕ) (o : Option (Buffer Plane)) → slice_get f.queue.queue.body.buffers index ≡ o
+    → EachIn model.after IsWhole f.queue.queue (dqbuf_event (kind_of f.queue) index o) × (map unflagged (hand_frame (hand_with f.queue.queue.body index o)) ≡ told_in model.after taken_by f.queue.queue (dqbuf_event (kind_of f.queue) index o))
+taken-tells f index None got = (tt, refl)
+taken-tells f index (Some b) got =
+    let body : Body Plane = f.queue.queue.body in
+    let planes = handed body.kind b.planes in (
+      (tt, tt),
+      elim (was_given_up b.state) as (λ t. map unflagged (hand_frame (cond t (spent index planes) (full index (taken_frame body.shape b) planes))) ≡ cond t [] (unflagged (taken_frame body.shape b) ∷ []) ++ []) [ true ↦ refl | false ↦ refl ]
+          ∙ sym (ap (λ o. shot body.shape o ++ []) got),
+    )
+
+module _ {P A : Type 0} (m : P → Plane) where
+  -- each completion is whole, and what the hand gets is what the event takes
+  abbrev Tells : Front → LaneTurn P A → Type 0
+  Tells f t = EachIn model.after IsWhole f.queue.queue (event_at_turn m f t) × (map unflagged (frame_of_turn m f t) ≡ told_in model.after taken_by f.queue.queue (event_at_turn m f t))
+
+module _ {P : Type 0} (A : Type 0) (m : P → Plane) where
+  dequeue-tells : (f : Front) (result : Result ℕ LaneFault) → Tells {P = P} {A = A} m f (at_front (dequeued result))
+  dequeue-tells f (Ok index) = taken-tells f index (slice_get f.queue.queue.body.buffers index) refl
+  dequeue-tells f (Err (Queue e)) = ((tt, tt), refl)
+  dequeue-tells f (Err (Store fault)) = (tt, refl)
+
+  dqbuf-tells : (f : Front) (result : Result ℕ LaneFault) (b : Bool) → IsAtFront {P = P} {A = A} m f (if b then at_front (dequeued result) else mixed) → Tells {P = P} {A = A} m f (if b then at_front (dequeued result) else mixed)
+  dqbuf-tells f result true said = dequeue-tells f result
+  dqbuf-tells f result false said = absurd said
+
+  requeue-tells : (f : Front) (result : Result ℕ LaneFault) → Tells {P = P} {A = A} m f (at_front (requeued result))
+  requeue-tells f (Ok index) = let quiet = quiet-qbuf f.queue.queue (kind_of f.queue) f.hand None in (quiet.0, sym quiet.1)
+  requeue-tells f (Err (Queue e)) = let quiet = quiet-qbuf f.queue.queue (kind_of f.queue) f.hand (Some e) in (quiet.0, sym quiet.1)
+  requeue-tells f (Err (Store fault)) = (tt, refl)
+
+module _ {P A : Type 0} (m : P → Plane) where
+  queue-tells : (f : Front) (e : QueueEvent P A) (result : Result (QueueReply P A) LaneFault) (b : Bool) → is_dequeue f.queue.queue.body.format e ≡ b → IsAtFront m f (if b then mixed else at_front (on_queue e result)) → Tells m f (if b then mixed else at_front (on_queue e result))
+  queue-tells f e result true is said = absurd said
+  queue-tells f e (Ok r) false is said =
+      let quiet = quiet-if f.queue.queue (forbids (index_in f.hand) e) (event_of m e r f.queue) (quiet-event m e r f.queue is said.0) in
+      (quiet.0, sym quiet.1)
+  queue-tells f e (Err fault) false is said = (tt, refl)
+
+  lane-tells : (f : Front) (e : LaneEvent P A) (p : LaneReply P A) → IsAtFront m f (turn_of f.queue.queue.body.format e p) → Tells m f (turn_of f.queue.queue.body.format e p)
+  lane-tells f (event.Queue e) (reply.Queue result) said = queue-tells f e result (is_dequeue f.queue.queue.body.format e) refl said
+  lane-tells f (event.Queue e) (reply.Dequeue result) said = dqbuf-tells A m f result (is_dequeue f.queue.queue.body.format e) said
+  lane-tells f event.Dequeue (reply.Dequeue result) said = dequeue-tells A m f result
+  lane-tells f event.Submit (reply.Submit result) said = (tt, refl)
+  lane-tells f event.Requeue (reply.Requeue result) said = requeue-tells A m f result
+  lane-tells f event.Flush (reply.Flush result) said = (tt, refl)
+  lane-tells f (event.Lock span) (reply.Lock result) said = (tt, refl)
+  lane-tells f (event.Unlock id) (reply.Unlock result) said = (tt, refl)
+  lane-tells f (event.Read number) (reply.Read result) said = (tt, refl)
+  lane-tells f e p said = absurd said
+
+-- ---- turns
+
+module _ {P A : Type 0} (m : P → Plane) where
+  counted : (f : Front) (xs : List (LaneEvent P A × LaneReply P A)) → EachIn (lane_after m) (IsLaneTurn m) f xs
+      → EachIn model.after IsCounted f.queue.queue (queue_events m f xs) × ((after_all (lane_after m) f xs).queue.queue ≡ after_all model.after f.queue.queue (queue_events m f xs))
+  counted f xs each = all_told (lane_after m) (IsLaneTurn m) model.after IsCounted (λ x. x.queue.queue) (event_at m)
+      (λ x t said. let told = lane-told m x (turn_at x t) said in (each-both x.queue.queue (event_at m x t) told.0 (lane-tells m x t.0 t.1 said).0, told.1)) f xs each
+
+  frames-told : (f : Front) (xs : List (LaneEvent P A × LaneReply P A)) → EachIn (lane_after m) (IsLaneTurn m) f xs → map unflagged (frames_taken m f xs) ≡ told_in model.after taken_by f.queue.queue (queue_events m f xs)
+  frames-told f [] each = refl
+  frames-told f (x ∷ xs) each =
+      let next = lane_after m f x in
+      let s = f.queue.queue in
+      let here = lane-tells m f x.0 x.1 each.0 in
+      let rest = frames-told next xs each.1 in
+      let moved = (lane-told m f (turn_at f x) each.0).1 in
+      map-append unflagged (frame_at m f x) (frames_taken m next xs)
+      ∙ ((λ i. here.1 i ++ rest i)
+      ∙ (ap (λ (t : QueueState). told_in model.after taken_by s (event_at m f x) ++ told_in model.after taken_by t (queue_events m next xs)) moved
+      ∙ sym (told-behind model.after taken_by s (event_at m f x) (queue_events m next xs))))
+
+  -- from a front whose queue has nothing done
+  from-front : (format : PixelFormat) (width height : ℕ) (f : Front) (part : List (LaneEvent P A × LaneReply P A)) → Runs f.queue.queue [] → IsHolding (shape_of format width height) f.queue.queue → EachIn (lane_after m) (IsLaneTurn m) f part → list_any stops (queue_events m f part) ≡ false
+      → TakesCompleted m f part
+  from-front format width height f part runs holding each on =
+      let all = frames_along format width height f.queue.queue (queue_events m f part) [] runs holding on (counted f part each).0 in
+      (all.0, all.1 ∙ ap (λ l. l ++ all.0) (sym (frames-told f part each)))
+
+pub completes : {D P A : Type 0} (m : P → Plane) (medium : D → Medium) (old new : Lane D P A) (es : List (LaneEvent P A)) (ps : List (LaneReply P A)) → LaneRan m medium old new es ps
+    → (f : Front) → StandsLane m old f → (format : PixelFormat) (width height : ℕ) → old.queue.body.shape ≡ shape_of format width height → TakesFrames m f (zip es ps)
+completes {D} {P} {A} m medium old new es ps run f stands format width height shaped =
+    let told = (run.front f stands).told in
+    let s : QueueState = f.queue.queue in
+    let own : s.body.shape ≡ shape_of format width height = sym (ap (λ (b : Body Plane). b.shape) stands.queue.queue.shown.body) ∙ shaped in
+    record {
+      from_start = λ (part behind : List (LaneEvent P A × LaneReply P A)) is on none.
+          let each = each-first (lane_after m) (IsLaneTurn m) f part behind (subst (λ (l : List (LaneEvent P A × LaneReply P A)). EachIn (lane_after m) (IsLaneTurn m) f l) is told) in
+          let runs : Runs s [] = record {
+            incoming = [];
+            shows = record {
+              body = refl;
+              incoming = InOrder-none s.queue_number s.queue_count _ (λ i. ap (λ bs. waits (state_at bs i)) none);
+              done = InOrder-none s.end_number s.end_count _ (λ i. ap (λ bs. is_ended (state_at bs i)) none);
+              in_step = stands.queue.queue.shown.in_step;
+            };
+            still = λ e. refl;
+          } in
+          from-front m format width height f part runs (record { shaped = own; fit = stands.queue.queue.fit; held = held_none s.body.buffers (λ i. ap (λ bs. waits (state_at bs i)) none) }) each on;
+      from_stop = λ (before part behind : List (LaneEvent P A × LaneReply P A)) (stop : LaneEvent P A × LaneReply P A) (e : Event) is here stopped on.
+          let all = subst (λ (l : List (LaneEvent P A × LaneReply P A)). EachIn (lane_after m) (IsLaneTurn m) f l) is told in
+          let first = counted m f before (each-first (lane_after m) (IsLaneTurn m) f before (stop ∷ (part ++ behind)) all) in
+          let now : Front = front_behind m f before in
+          let next : Front = front_behind m f (before ++ stop ∷ []) in
+          let follows : next ≡ lane_after m now stop = after-behind (lane_after m) f before (stop ∷ []) in
+          let later : EachIn (lane_after m) (IsLaneTurn m) now (stop ∷ (part ++ behind)) = each-second (lane_after m) (IsLaneTurn m) f before (stop ∷ (part ++ behind)) all in
+          let each : EachIn (lane_after m) (IsLaneTurn m) next part = subst (λ (x : Front). EachIn (lane_after m) (IsLaneTurn m) x part) (sym follows) (each-first (lane_after m) (IsLaneTurn m) (lane_after m now stop) part behind later.1) in
+          let n : QueueState = now.queue.queue in
+          let came : n ≡ after_all model.after s (queue_events m f before) = first.1 in
+          let two = counted m now (stop ∷ []) (later.0, tt) in
+          let events = queue_events m now (stop ∷ []) in
+          let went : next.queue.queue ≡ after_all model.after n events = ap (λ (x : Front). x.queue.queue) follows ∙ two.1 in
+          let done : next.queue.queue ≡ model.after n e = went ∙ ap (λ l. after_all model.after n (l ++ [])) here in
+          let fit_now : AllFit n.body = subst (λ (t : QueueState). AllFit t.body) (sym came) (all_fit s (queue_events m f before) first.0 stands.queue.queue.fit) in
+          from-front m format width height next part (subst (λ (t : QueueState). Runs t []) (sym done) (runs_stopped n e stopped))
+          (record {
+            shaped = ap (λ (t : QueueState). t.body.shape) went ∙ (all_shaped n events ∙ (ap (λ (t : QueueState). t.body.shape) came ∙ (all_shaped s (queue_events m f before) ∙ own)));
+            fit = subst (λ (t : QueueState). AllFit t.body) (sym went) (all_fit n events two.0 fit_now);
+            held = held_none next.queue.queue.body.buffers (λ i. ap (λ (t : QueueState). waits (state_at t.body.buffers i)) done ∙ stopped_waits n e stopped i);
+          }) each on;
+    }
