@@ -22,9 +22,8 @@ use Rattle.loop_vb2.specs.Events as model
 use Rattle.loop_vb2.specs.Events.{Event, refusal_in, stops}
 use Rattle.loop_vb2.specs.First.{shape_of}
 use Rattle.loop_vb2.specs.Owner.{is_ended, waits}
-use Rattle.loop_vb2.specs.Planes.{frame_size}
+use Rattle.loop_vb2.specs.Planes.{frame_size, read_given}
 use Rattle.loop_vb2.specs.State.{AllFit, Body, QueueState}
-use Rattle.loop_vb2.specs.Steps.{read_given}
 use Rattle.loop_vb2.proofs.Lines.{InOrder-none}
 use Rattle.loop_vb2.proofs.Ordered.{Runs, runs_stopped}
 use Rattle.loop_ioctl.specs.declared.call.BufferMemory.{BufferMemory}

@@ -15,9 +15,8 @@ use Rattle.loop_vb2.specs.Buffers.{handed}
 use Rattle.loop_vb2.specs.Errnos.{errno}
 use Rattle.loop_vb2.specs.Events as model
 use Rattle.loop_vb2.specs.Events.{Event, IsRefusal, unless, refusal_in}
-use Rattle.loop_vb2.specs.Planes.{same_memory, are_kind}
+use Rattle.loop_vb2.specs.Planes.{same_memory, are_kind, read_given}
 use Rattle.loop_vb2.specs.State.{Body, QueueState, StandsFor}
-use Rattle.loop_vb2.specs.Steps.{read_given}
 use Rattle.loop_vb2.proofs.Ordered.{dequeues_in_order}
 use Rattle.loop_ioctl.specs.declared.call.BufferMemory.{BufferMemory}
 use Rattle.loop_ioctl.specs.declared.call.BufferMemory.TheVariants as memory

@@ -12,10 +12,10 @@ use Rattle.loop_vb2.specs.Buffers.{handed}
 use Rattle.loop_vb2.specs.Events as model
 use Rattle.loop_vb2.specs.Events.{Event, refusal_in, refusal_of}
 use Rattle.loop_vb2.specs.Laws.{KeepsOrder}
-use Rattle.loop_vb2.specs.Planes.{read_set}
+use Rattle.loop_vb2.specs.Planes.{read_set, read_given}
 use Rattle.loop_vb2.specs.Requests.{left_in}
 use Rattle.loop_vb2.specs.State.{Lined}
-use Rattle.loop_vb2.specs.Steps.{read_answer, read_given}
+use Rattle.loop_vb2.specs.Answers.{read_answer}
 use Rattle.loop_ioctl.specs.declared.call.BufferMemory.{BufferMemory}
 use Rattle.loop_ioctl.specs.declared.call.BufferMemory.TheVariants as memory
 use Rattle.loop_ioctl.specs.declared.call.Ioctl.{Ioctl}
