@@ -24,7 +24,7 @@ module _ {D E P A : Type 0} (meaning : P → Plane) (medium : D → Medium) (oth
   left-whole : (keeps : LaneKeeps meaning medium old new events replies) → Stands medium old.desk.store s → s.must_reopen ≡ false
       → IsLeftBehind medium other old.desk new.desk left
       → HoldsWhole old.desk.store.geometry s.recording (steps_made old.desk s keeps.ran.calls ++ steps_begun old.desk s keeps.ran.calls) (other left).bytes
-  left-whole keeps stands fine is = ((keeps.footage s stands is.honest).clips fine).each _ is.since
+  left-whole keeps stands fine is = ((keeps.footage s stands is.honest).moments fine).each _ is.since
 
   pub reopened : (keeps : LaneKeeps meaning medium old new events replies) (store : Seen E) → Stands medium old.desk.store s → s.must_reopen ≡ false
       → IsLeftBehind medium other old.desk new.desk left → IsOpened other (other left).bytes store

@@ -34,8 +34,8 @@ keeps-footage medium old new calls s goes stands now =
     let list = stored_calls old calls in
     let leaves : s.must_reopen ≡ false → LeavesSteps g s.recording (steps_made old s calls) (steps_begun old s calls) (medium old.store.disk) (medium new.store.disk) = λ fine. goes.store.leaves s stands now fine in
     record {
-      images = leaves;
-      clips = λ fine.
+      now = λ fine. (leaves fine).now;
+      moments = λ fine.
           let still : old.store.must_reopen ≡ false = stands.must_reopen ∙ fine in
           weaker (medium old.store.disk) (medium new.store.disk) (HoldsSome g s.recording (steps_made old s calls ++ steps_begun old s calls)) (HoldsWhole g s.recording (steps_made old s calls ++ steps_begun old s calls)) (leaves fine).moments
           (λ image some. reads-whole g s.recording (steps_made old s calls ++ steps_begun old s calls) (medium old.store.disk).bytes image (stands.recording.held still now) some);

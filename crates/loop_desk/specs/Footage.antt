@@ -7,8 +7,8 @@ use Rattle.loop_record.specs.declared.geometry.Geometry.{Geometry}
 use Rattle.loop_record.specs.Reading.{Holds}
 use Rattle.loop_record.specs.Recording.{Picture, Recording, Ring, Step, frame_under, plain, ring_of}
 use Rattle.loop_store.specs.Calls.{Call, StoreState, begun_in, made_in}
+use Rattle.loop_store.specs.Held.{EachNow, HoldsFrom}
 use Rattle.loop_store.specs.Seen.{StandsFor}
-use Rattle.loop_store.specs.Steps.{LeavesSteps}
 use Rattle.loop_desk.specs.Desk.{DeskCall, accepted_in, frames_stored, store_calls_in}
 use Rattle.loop_desk.specs.Seen.{SeenDesk, rules_of, waiting_of}
 
@@ -53,14 +53,14 @@ steps_begun d s calls = begun_in d.store.geometry s (stored_calls d calls)
 -- What calls leave of the footage of a desk whose store stood for a state, with an honest disk.
 pub record KeepsFootage {D : Type 0} (medium : D → Medium) (old new : SeenDesk D) (calls : List DeskCall)
     (s : StoreState) : Type 0 where
-  -- whatever the moment at which the power fails, the image reads as the recording after a beginning of the steps,
-  -- and at the end after all that were answered
-  pub images : s.must_reopen ≡ false
-      → LeavesSteps old.store.geometry s.recording (steps_made old s calls) (steps_begun old s calls)
-      (medium old.store.disk) (medium new.store.disk)
-  -- and there each clip has all its frames, each the one that was given for its number
-  pub clips : s.must_reopen ≡ false → LeavesOnly (medium old.store.disk) (medium new.store.disk)
+  -- whatever the moment at which the power fails, the image reads as the recording after a beginning of the steps, and
+  -- there each clip has all its frames, each the one that was given for its number
+  pub moments : s.must_reopen ≡ false → LeavesOnly (medium old.store.disk) (medium new.store.disk)
       (HoldsWhole old.store.geometry s.recording (steps_made old s calls ++ steps_begun old s calls))
+  -- and at the end it reads as the recording after all that were answered, at least
+  pub now : s.must_reopen ≡ false → EachNow (medium new.store.disk)
+      (HoldsFrom old.store.geometry s.recording (length (steps_made old s calls))
+      (steps_made old s calls ++ steps_begun old s calls))
   -- the recording is the one after all steps that were answered
   pub recording : StandsFor medium new.store
       (plain (ring_of old.store.geometry) s.recording (steps_made old s calls))

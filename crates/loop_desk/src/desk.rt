@@ -1,6 +1,6 @@
 //! A desk: frames that wait, before a store.
 
-ghost use Rattle.std.specs.Prelude.{◌≡◌, ◌≢◌, ◌≤◌, ◌+◌, ◌∷◌, [], Err, IfErr, IfOk, drop, false, length};
+ghost use Rattle.std.specs.Prelude.{◌≡◌, ◌≢◌, ◌≤◌, ◌+◌, ◌∷◌, [], Err, IfErr, IfOk, drop, false, length, true};
 ghost use Rattle.circular_buffer.specs.Buffer.{buffer};
 ghost use Rattle.loop_record.specs.Geometry.{frame_bytes};
 ghost use Rattle.loop_record.specs.Plain.{pictures};
@@ -179,6 +179,7 @@ impl<D: Disk + Drop, A: Allocator> Desk<D, A> {
     pub fn flush(&mut self) -> Result<Flushed, StoreFault>
         ensures goes { DeskGoes D.medium self.old self.new (flushed result ∷ []) }
         ensures refused { Refused self.old.store self.new.store result }
+        ensures idle { self.old.pending ≡ [] → self.new ≡ self.old }
     {
         let waiting = self.pending.len();
         let most = self.limits.group.min(self.store.room()) as usize;
@@ -268,6 +269,7 @@ impl<D: Disk + Drop, A: Allocator + Copy> Desk<D, A> {
     pub fn outline(&self, alloc: A) -> Result<Outline<A>, StoreFault>
         ensures outline { IfOk result (TellsOutline D.medium self.now) }
         ensures refused { IfErr result (λ fault. OutlineRefuses self.now fault) }
+        ensures must_reopen { self.now.store.must_reopen ≡ true → result ≡ Err StoreFault.MustReopen }
     {
         let frames = self.store.frames(alloc)?;
         let clips = self.store.clips(alloc)?;

@@ -1,4 +1,4 @@
-use Rattle.std.proofs.Common.{◌≡◌, ℕ, ◌+◌, ◌-◌, ◌≤◌, min, false, Result, Ok, Err, List, [], ◌∷◌, length, take, drop, sym, ap, ◌∙◌, subst, arith}
+use Rattle.std.proofs.Common.{◌≡◌, ℕ, ◌+◌, ◌-◌, ◌<◌, ◌≤◌, min, false, Result, Ok, Err, List, [], ◌∷◌, length, take, drop, sym, ap, ◌∙◌, subst, arith}
 use Rattle.std.proofs.lemmas.List.{length-map, take-map, drop-map}
 use Rattle.std.specs.List.{refill}
 use Rattle.circular_buffer.specs.Buffer.{Buffer, buffer}
@@ -16,6 +16,10 @@ use Rattle.loop_desk.proofs.Called.{IsGroup, flush-none, flush-refused, flush-st
 use Rattle.loop_desk.proofs.Kept.{kept-flushed, none-of, refused-as, stored-size}
 use Rattle.loop_desk.proofs.desk.Desk.flush.Goals as goal
 
+-- a group that has a frame comes of frames that wait
+some-waits : (most count waiting : ℕ) (pending : List Picture) → 0 < count → count ≡ min most waiting → waiting ≡ length pending → pending ≡ [] → ⊥
+some-waits most count waiting pending some counted waits none = omega (arith, some, counted, waits, ap length none)
+
 pub returns-then-count-eq0 : goal.returns-then-count-eq0
 returns-then-count-eq0 g c =
     let s = c.self.inside in
@@ -27,6 +31,7 @@ returns-then-count-eq0 g c =
       goes = subst (λ (v : SeenDesk g.row.D.Denot). DeskGoes g.D.Disk.medium v v (flushed (Ok (record { first = c.next.result; stored = 0; left = 0 })) ∷ [])) c.self.view_is
           (flush-none g.D.Disk.medium d c.next.result c.next.ensures.next none fine (λ now. g.met.D.Disk.sound s.store.disk now));
       refused = tt;
+      idle = λ none-waits. c.self.view_is;
     }
 
 pub invariant_of-self : goal.invariant_of-self
@@ -69,6 +74,7 @@ returns-in-Ok g c =
           (flush-stored g.D.Disk.medium d c.append_first.new.store c.min-most.result count c.in-Ok.first c.len-waiting.result group waiting
           (subst (λ (l : List Picture). Goes g.D.Disk.medium s.store c.append_first.new.store (appended l (Ok c.in-Ok.first) ∷ [])) first goes)));
       refused = tt;
+      idle = λ none. absurd (some-waits c.min-most.result count c.len-waiting.result c.args.self.now.pending group.some c.min-count.ensures (waiting ∙ ap (λ (v : SeenDesk g.row.D.Denot). length v.pending) c.self.view_is) none);
     }
 
 pub returns-in-Err : goal.returns-in-Err
@@ -94,4 +100,5 @@ returns-in-Err g c =
           (subst (λ (l : List Picture). Goes g.D.Disk.medium s.store c.append_first.new.store (appended l (Err c.in-Err.fault) ∷ [])) first goes)));
       refused = subst (λ (v : SeenDesk g.row.D.Denot). Refused {T = Flushed} v.store c.append_first.new.store (Err c.in-Err.fault)) c.self.view_is
           (refused-as ℕ Flushed s.store c.append_first.new.store c.in-Err.fault (subst (λ (x : Result ℕ StoreFault). Refused s.store c.append_first.new.store x) c.in-Err.is c.append_first.ensures.refused));
+      idle = λ none. absurd (some-waits c.min-most.result count c.len-waiting.result c.args.self.now.pending group.some c.min-count.ensures (waiting ∙ ap (λ (v : SeenDesk g.row.D.Denot). length v.pending) c.self.view_is) none);
     }
