@@ -39,7 +39,7 @@ QUESTIONS = {
 # The clauses that say what a power loss leaves, and of the records that say more than that, the fields that do.
 LOSS = {"", "goes", "ran", "moments", "headline", "footage"}
 FIELDS = {"Goes": {"leaves"}, "DeskGoes": {"store", "pending"}, "LaneRan": {"calls", "shown", "desk"}, "LaneKeeps": {"ran", "footage"}}
-BEGIN = re.compile(r"(?:abbrev pub|pub record|pub data|abbrev|record|data|pub) ([^ :({]+)")
+BEGIN = re.compile(r"(?:abbrev pub|pub record|pub data|abbrev|record|data|pub(?! mod)) ([^ :({]+)")
 USE = re.compile(r"use Rattle\.(\w+)\.specs\.([\w.]+?)(?:\.\{([^}]*)\}| as (\w+))\s*;?$", re.M)
 WORD = re.compile(r"(?<![\w'.])[A-Za-z_][\w']*(?:\.[A-Za-z_][\w']*)?")
 BOUND = re.compile(r"[({]([\w' ]+) : |^ *(?:pub )?([\w']+) :", re.M)
