@@ -11,7 +11,7 @@ use Rattle.loop_record.specs.declared.geometry.Geometry.{Geometry}
 use Rattle.loop_record.specs.Geometry.{frame_bytes}
 use Rattle.loop_record.specs.Recording.{Picture, Recording, Ring, Step, after as stepped, block, blocks_of, frame_under, free_id, holds, is_locked, last_number, lock, needs_recycling, plain, recycle, recycling_first, ring_of, steps, store, stores_after, unlock, victim, with_block}
 use Rattle.loop_store.specs.declared.fault.StoreFault.{StoreFault}
-use Rattle.loop_store.specs.Calls.{AnswersDue, AreAnswered, Call, IsAnswered, IsGiven, StoreState, after as stored, after_calls, appended, asked, checks, due, fault_of, first_of, has_failed, lacks_victim, locked, made, steps_of, unlocked, was_read, was_read_part}
+use Rattle.loop_store.specs.Calls.{AnswersDue, AreAnswered, Call, IsAnswered, AnswersOtherwise, StoreState, after as stored, after_calls, appended, asked, checks, due, fault_answered, first_of, has_failed, lacks_victim, locked, made, steps_of, unlocked, was_read, was_read_part}
 use Rattle.loop_store.specs.Steps.{if_answered, steps_or_none}
 use Rattle.loop_desk.specs.declared.limits.Flushed.{Flushed}
 use Rattle.loop_desk.specs.declared.limits.Outline.{Outline}
@@ -119,7 +119,7 @@ checks-bare g s (unlocked id result) = refl
 checks-bare g s (was_read number result) = λ i. due s.must_reopen StoreFault.MustReopen ∷ due (not (holds-bare s.recording number i)) StoreFault.NotHeld ∷ []
 checks-bare g s (was_read_part number at result) = λ i. due s.must_reopen StoreFault.MustReopen ∷ due (not (holds-bare s.recording number i)) StoreFault.NotHeld ∷ []
 
-fault-bare : (c : Call) → fault_of (bare_stored c) ≡ fault_of c
+fault-bare : (c : Call) → fault_answered (bare_stored c) ≡ fault_answered c
 fault-bare (appended ps result) = refl
 fault-bare (locked span result) = refl
 fault-bare (unlocked id result) = refl
@@ -128,7 +128,7 @@ fault-bare (was_read number (Err fault)) = refl
 fault-bare (was_read_part number at (Ok bytes)) = refl
 fault-bare (was_read_part number at (Err fault)) = refl
 
-given-bare : (r : Recording) (c : Call) → IsGiven r c → IsGiven (bare_recording r) (bare_stored c)
+given-bare : (r : Recording) (c : Call) → AnswersOtherwise r c → AnswersOtherwise (bare_recording r) (bare_stored c)
 given-bare r (appended ps (Ok number)) is = is
 given-bare r (appended ps (Err fault)) is = is
 given-bare r (locked span (Ok id)) is = is
@@ -142,9 +142,9 @@ given-bare r (was_read_part number at (Err fault)) is = is
 
 stored-answer : (g : Geometry) (s : StoreState) (c : Call) → IsAnswered g s c → IsAnswered g (bare_store s) (bare_stored c)
 stored-answer g s c said =
-    subst (λ (l : List (Option StoreFault)). AnswersDue (first_of l) (bare_stored c) (IsGiven (bare_recording s.recording) (bare_stored c))) (sym (checks-bare g s c)) (go (first_of (checks g s c)) said)
+    subst (λ (l : List (Option StoreFault)). AnswersDue (first_of l) (bare_stored c) (AnswersOtherwise (bare_recording s.recording) (bare_stored c))) (sym (checks-bare g s c)) (go (first_of (checks g s c)) said)
   where
-    go : (o : Option StoreFault) → AnswersDue o c (IsGiven s.recording c) → AnswersDue o (bare_stored c) (IsGiven (bare_recording s.recording) (bare_stored c))
+    go : (o : Option StoreFault) → AnswersDue o c (AnswersOtherwise s.recording c) → AnswersDue o (bare_stored c) (AnswersOtherwise (bare_recording s.recording) (bare_stored c))
     go None is = given-bare s.recording c is
     go (Some fault) is = fault-bare c ∙ is
 
@@ -165,7 +165,7 @@ made-bare : (g : Geometry) (s : StoreState) (c : Call) → made g (bare_store s)
 made-bare g s c =
     let same = fault-bare c in
     let steps = steps-of-bare g s c in
-    (λ i. if_answered (same i) (steps i)) ∙ answered-bare (fault_of c) (steps_of g s c)
+    (λ i. if_answered (same i) (steps i)) ∙ answered-bare (fault_answered c) (steps_of g s c)
 
 failed-bare : (c : Call) → has_failed (bare_stored c) ≡ has_failed c
 failed-bare (appended ps result) = refl

@@ -111,8 +111,8 @@ fn hold<P: PlaneMemory, A: Allocator + Copy>(
 /// DQBUF into the hand; answers the buffer's index. HandFull unless the hand is empty, NoMemory where there is no
 /// room for the bytes of a frame, then the queue's refusals (NotStreaming, FatalError, NothingDone); a refusal
 /// changes nothing. The buffer's planes go with it, unless they are mapped memory, and their fds stay attached. A
-/// buffer that the device gave up is spent at once. The frame's memory is what is spare, where that has its length; what
-/// isn't needed is left.
+/// buffer that the device gave up is spent at once. The frame's memory is what is spare, where that has its length;
+/// what isn't needed is left.
 pub(crate) fn dequeue<P: PlaneMemory, A: Allocator + Copy>(
     alloc: A,
     queue: &mut Queue<P, A>,

@@ -14,7 +14,7 @@ use Rattle.loop_record.proofs.Decided.{both}
 use Rattle.loop_record.proofs.Turned.{after-behind, each-behind, told-behind}
 use Rattle.loop_ring.proofs.SlotReads.{stays_on}
 use Rattle.loop_store.specs.declared.fault.StoreFault.TheVariants.{ClipEmpty, MustReopen, NoSuchClip, NumbersSpent}
-use Rattle.loop_store.specs.Calls.{AreAnswered, Call, IsAllowed, IsAnswered, MayGive, Progress, StoreState, after, after_calls, appended, begun, begun_in, due, failed_for, fault_of, has_failed, is_look, locked, made, made_in, progress_after, unlocked, was_read, was_read_part, was_refused}
+use Rattle.loop_store.specs.Calls.{AreAnswered, Call, IsAllowed, IsAnswered, MayGive, Progress, StoreState, after, after_calls, appended, begun, begun_in, due, failed_for, fault_answered, has_failed, is_look, locked, made, made_in, progress_after, unlocked, was_read, was_read_part, was_refused}
 use Rattle.loop_store.specs.Faults.{is_early}
 use Rattle.loop_store.specs.Goes.{CalledEach, Goes, Stands, progress_of, with_each}
 use Rattle.loop_store.specs.Seen.{Seen}
@@ -56,7 +56,7 @@ all-both p (x ∷ xs) ys all =
 
 -- ---- a store that must be reopened
 
-known-must : (g : Geometry) (o : Progress) (c : Call) → o.must_reopen ≡ true → IsAllowed g o c → fault_of c ≡ Some MustReopen
+known-must : (g : Geometry) (o : Progress) (c : Call) → o.must_reopen ≡ true → IsAllowed g o c → fault_answered c ≡ Some MustReopen
 known-must g o (appended group result) must said = must-known o (due (o.next == last_number (ring_of g)) NumbersSpent ∷ []) (appended group result) (MayGive o (appended group result)) must said
 known-must g o (locked span result) must said = must-known o (due (nat_lt span.to span.from) ClipEmpty ∷ []) (locked span result) (MayGive o (locked span result)) must said
 known-must g o (unlocked id result) must said = must-known o (due (not (is_some (slice_index_or o.clips id None))) NoSuchClip ∷ []) (unlocked id result) (MayGive o (unlocked id result)) must said

@@ -31,7 +31,7 @@ use Rattle.loop_ring.proofs.Heads.{head_of, heads-are, heads-length}
 use Rattle.loop_store.specs.declared.index.Index.{Index}
 use Rattle.loop_store.specs.declared.fault.StoreFault.{StoreFault}
 use Rattle.loop_store.specs.declared.fault.StoreFault.TheVariants.{ClipEmpty, MustReopen, NoSuchClip}
-use Rattle.loop_store.specs.Calls.{Call, IsAllowed, IsAnswered, IsGiven, MayGive, Progress, StoreState, begun, checks, clips_after, count_stored, failed_for, first_of, has_failed, is_look, known_checks, locked, made, span_checks, unlocked, was_refused}
+use Rattle.loop_store.specs.Calls.{Call, IsAllowed, IsAnswered, AnswersOtherwise, MayGive, Progress, StoreState, begun, checks, clips_after, count_stored, failed_for, first_of, has_failed, is_look, known_checks, locked, made, span_checks, unlocked, was_refused}
 use Rattle.loop_store.specs.Faults.{failed_by, is_disk, is_early}
 use Rattle.loop_store.specs.Goes.{Goes, progress_of}
 use Rattle.loop_store.specs.Held.{HasNoneStray, HoldsSome, Makes}
@@ -352,7 +352,7 @@ none-is None e = refl
 none-is (Some s) e = absurd cc
 
 -- a clip that stands may be taken away
-pub unlock-answered : (g : Geometry) (s : StoreState) (id : ℕ) (result : Result (Unit {0}) StoreFault) → s.must_reopen ≡ false → clip_of s.recording id ≢ None → IsGiven s.recording (unlocked id result) → IsAnswered g s (unlocked id result)
+pub unlock-answered : (g : Geometry) (s : StoreState) (id : ℕ) (result : Result (Unit {0}) StoreFault) → s.must_reopen ≡ false → clip_of s.recording id ≢ None → AnswersOtherwise s.recording (unlocked id result) → IsAnswered g s (unlocked id result)
 unlock-answered g s id result fine some is = answer-given g s (unlocked id result) fine (passed (not (is_some (clip_of s.recording id))) NoSuchClip [] (some-is (clip_of s.recording id) some)) is
 
 pub unlock-allowed : (g : Geometry) (o : Progress) (id : ℕ) (result : Result (Unit {0}) StoreFault) → o.must_reopen ≡ false → get_or o.clips id None ≢ None → MayGive o (unlocked id result) → IsAllowed g o (unlocked id result)

@@ -8,7 +8,7 @@ use Rattle.loop_record.specs.Recording.{Picture, Recording, last_number, needs_r
 use Rattle.loop_record.proofs.Decided.{differ, differ_test, equal_test}
 use Rattle.loop_store.specs.declared.fault.StoreFault.{StoreFault}
 use Rattle.loop_store.specs.declared.fault.StoreFault.TheVariants.{AllLocked, Disk, MustReopen, NumbersSpent}
-use Rattle.loop_store.specs.Calls.{Call, IsAllowed, IsAnswered, IsGiven, MayGive, Progress, StoreState, appended, asked, checks, checks_on, first_of, known_checks, lacks_victim, was_refused}
+use Rattle.loop_store.specs.Calls.{Call, IsAllowed, IsAnswered, AnswersOtherwise, MayGive, Progress, StoreState, appended, asked, checks, checks_on, first_of, known_checks, lacks_victim, was_refused}
 use Rattle.loop_store.specs.Faults.{failed_by, is_disk, is_early}
 use Rattle.loop_store.specs.Goes.{Goes, Stands, progress_of}
 use Rattle.loop_store.specs.Held.{HoldsSome}
@@ -60,7 +60,7 @@ some-first true (Some b) e none = absurd cc
 -- a group that was appended has steps
 pub answered-some : (g : Geometry) (s : StoreState) (ps : List Picture) (number : ℕ) → IsAnswered g s (appended ps (Ok number)) → steps (ring_of g) s.recording ps ≢ None
 answered-some g s ps number said =
-    let none = (due-none (first_of (checks g s (appended ps (Ok number)))) (appended ps (Ok number)) (IsGiven s.recording (appended ps (Ok number))) said refl).0 in
+    let none = (due-none (first_of (checks g s (appended ps (Ok number)))) (appended ps (Ok number)) (AnswersOtherwise s.recording (appended ps (Ok number))) said refl).0 in
     let a = passes s.must_reopen MustReopen _ none in
     let b = passes (eqb s.recording.next (last_number (ring_of g))) NumbersSpent _ a.1 in
     let c = passes (lacks_victim (ring_of g) s.recording) AllLocked [] b.1 in
@@ -129,7 +129,7 @@ pub record HasPlace (g : Geometry) (r : Recording) : Type 0 where
   pub unspent : r.next ≢ last_number (ring_of g)
   pub some : recycling_first (needs_recycling (ring_of g) r) (victim (ring_of g) r) ≢ None
 
-placed : (g : Geometry) (s : StoreState) (ps : List Picture) (result : Result ℕ StoreFault) → s.must_reopen ≡ false → HasPlace g s.recording → IsGiven s.recording (appended ps result) → IsAnswered g s (appended ps result)
+placed : (g : Geometry) (s : StoreState) (ps : List Picture) (result : Result ℕ StoreFault) → s.must_reopen ≡ false → HasPlace g s.recording → AnswersOtherwise s.recording (appended ps result) → IsAnswered g s (appended ps result)
 placed g s ps result fine place is = answer-given g s (appended ps result) fine (first-none g s.recording ps result place.unspent place.some) is
 
 -- what is known where the frames were stored

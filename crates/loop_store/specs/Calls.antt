@@ -11,7 +11,7 @@ use Rattle.loop_record.specs.Recording.{Picture, Recording, Ring, Step, clip_of,
 use Rattle.loop_record.specs.Turns.{after_all, told_in, EachIn}
 use Rattle.loop_store.specs.declared.fault.StoreFault.{StoreFault}
 use Rattle.loop_store.specs.declared.fault.StoreFault.TheVariants.{AllLocked, ClipEmpty, ClipNotHeld, ClipTableFull, Damaged, NoMemory, NoSuchClip, MustReopen, NotHeld, NumbersSpent}
-use Rattle.loop_store.specs.Faults.{disk_failed, failed_with, fault_in, is_disk, is_early}
+use Rattle.loop_store.specs.Faults.{disk_failed, failed_as, fault_in, is_disk, is_early}
 use Rattle.loop_store.specs.Steps.{if_answered, if_failed, steps_or_none}
 
 -- a call and its answer: an append of a group, a lock of a span with the clip's id, an unlock of an id, a read of a
@@ -42,12 +42,12 @@ pub record StoreState : Type 0 where
 -- ---- what a call asks for, and what its answer says of it
 
 -- the refusal in an answer
-abbrev pub fault_of : Call → Option StoreFault
-fault_of (appended group result) = fault_in result
-fault_of (locked span result) = fault_in result
-fault_of (unlocked id result) = fault_in result
-fault_of (was_read number result) = fault_in result
-fault_of (was_read_part number at result) = fault_in result
+abbrev pub fault_answered : Call → Option StoreFault
+fault_answered (appended group result) = fault_in result
+fault_answered (locked span result) = fault_in result
+fault_answered (unlocked id result) = fault_in result
+fault_answered (was_read number result) = fault_in result
+fault_answered (was_read_part number at result) = fault_in result
 
 -- it writes nothing
 abbrev pub is_look : Call → Bool
@@ -68,23 +68,23 @@ steps_of g s _ = []
 
 -- the steps that a call made, as it answered
 abbrev pub made : Geometry → StoreState → Call → List Step
-made g s call = if_answered (fault_of call) (steps_of g s call)
+made g s call = if_answered (fault_answered call) (steps_of g s call)
 
 -- the steps that it began, and of which a beginning may stand
 abbrev pub begun : Geometry → StoreState → Call → List Step
-begun g s call = if_failed (fault_of call) (steps_of g s call)
+begun g s call = if_failed (fault_answered call) (steps_of g s call)
 
 -- the call of the disk that failed, if the answer says that one did
 abbrev pub failed_for : Call → Option DiskFault
-failed_for call = failed_with (fault_of call)
+failed_for call = failed_as (fault_answered call)
 
 -- the disk failed in a call that writes
 abbrev pub has_failed : Call → Bool
-has_failed call = not (is_look call) && disk_failed (fault_of call)
+has_failed call = not (is_look call) && disk_failed (fault_answered call)
 
 -- it was refused before the disk was called
 abbrev pub was_refused : Call → Bool
-was_refused call = is_early (fault_of call)
+was_refused call = is_early (fault_answered call)
 
 abbrev pub after : Geometry → StoreState → Call → StoreState
 after g s call = record {
@@ -150,26 +150,26 @@ pub record IsPart (r : Recording) (number at : ℕ) (bytes : List ℕ) : Type 0 
   pub bytes_are : bytes ≡ piece at (length bytes) picture.bytes
 
 -- what a call answers where no check is due: the disk failed, a read lacks memory, or it is done
-abbrev pub IsGiven : Recording → Call → Type 0
-IsGiven r (appended group (Ok number)) = number ≡ r.next
-IsGiven r (locked span (Ok id)) = id ≡ free_id r
-IsGiven r (unlocked id (Ok x)) = Unit {0}
-IsGiven r (was_read number (Ok x)) = IsHeldFrame r number x.0 x.1
-IsGiven r (was_read_part number at (Ok bytes)) = IsPart r number at bytes
-IsGiven r (was_read number (Err fault)) = (fault ≡ NoMemory) ⊎ (is_disk fault ≡ true)
-IsGiven r (appended group (Err fault)) = is_disk fault ≡ true
-IsGiven r (locked span (Err fault)) = is_disk fault ≡ true
-IsGiven r (unlocked id (Err fault)) = is_disk fault ≡ true
-IsGiven r (was_read_part number at (Err fault)) = is_disk fault ≡ true
+abbrev pub AnswersOtherwise : Recording → Call → Type 0
+AnswersOtherwise r (appended group (Ok number)) = number ≡ r.next
+AnswersOtherwise r (locked span (Ok id)) = id ≡ free_id r
+AnswersOtherwise r (unlocked id (Ok x)) = Unit {0}
+AnswersOtherwise r (was_read number (Ok x)) = IsHeldFrame r number x.0 x.1
+AnswersOtherwise r (was_read_part number at (Ok bytes)) = IsPart r number at bytes
+AnswersOtherwise r (was_read number (Err fault)) = (fault ≡ NoMemory) ⊎ (is_disk fault ≡ true)
+AnswersOtherwise r (appended group (Err fault)) = is_disk fault ≡ true
+AnswersOtherwise r (locked span (Err fault)) = is_disk fault ≡ true
+AnswersOtherwise r (unlocked id (Err fault)) = is_disk fault ≡ true
+AnswersOtherwise r (was_read_part number at (Err fault)) = is_disk fault ≡ true
 
 -- the answer is the refusal that is due, and where none is, one of these
 abbrev pub AnswersDue : Option StoreFault → Call → Type 0 → Type 0
-AnswersDue (Some fault) call Given = fault_of call ≡ Some fault
+AnswersDue (Some fault) call Given = fault_answered call ≡ Some fault
 AnswersDue None call Given = Given
 
 -- a call was answered so
 abbrev pub IsAnswered : Geometry → StoreState → Call → Type 0
-IsAnswered g s call = AnswersDue (first_of (checks g s call)) call (IsGiven s.recording call)
+IsAnswered g s call = AnswersDue (first_of (checks g s call)) call (AnswersOtherwise s.recording call)
 
 -- ---- lists of calls
 

@@ -69,13 +69,13 @@ abbrev pub failed_by : StoreFault → Option DiskFault
 failed_by (Disk fault) = Some fault
 failed_by _ = None
 
-abbrev pub failed_with : Option StoreFault → Option DiskFault
-failed_with None = None
-failed_with (Some fault) = failed_by fault
+abbrev pub failed_as : Option StoreFault → Option DiskFault
+failed_as None = None
+failed_as (Some fault) = failed_by fault
 
 -- and if an answer does
 abbrev pub failed_in : {T : Type 0} → Result T StoreFault → Option DiskFault
-failed_in result = failed_with (fault_in result)
+failed_in result = failed_as (fault_in result)
 
 -- the disk isn't honest
 abbrev pub is_damage : StoreFault → Bool

@@ -1,5 +1,5 @@
-//! What holds of any store, and what calls leave, one after the other. The functions do nothing: their contracts are the
-//! laws.
+//! What holds of any store, and what calls leave, one after the other. The functions do nothing: their contracts are
+//! the laws.
 
 ghost use Rattle.std.specs.Prelude.{◌≡◌, ◌++◌, List, false};
 ghost use Rattle.loop_store.specs.Calls.{Call};

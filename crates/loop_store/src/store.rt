@@ -137,8 +137,9 @@ impl<D: Disk + Drop, A: Allocator> Store<D, A> {
 impl<D: Disk + Drop, A: Allocator> Store<D, A> {
     /// Stores a group of 1 to 8 frames behind the others, all or none, and answers the number of the first.
     /// Each has as many bytes as the geometry says, and they fit into the block of the next number, as `room` says: a
-    /// caller that isn't proved to see to it uses loop_desk's `Desk`, which refuses a frame of another size. Where that block has to be begun and each
-    /// segment holds one, the least block that isn't locked by a clip and isn't the newest goes first.
+    /// caller that isn't proved to see to it uses loop_desk's `Desk`, which refuses a frame of another size. Where that
+    /// block has to be begun and each segment holds one, the least block that isn't locked by a clip and isn't the
+    /// newest goes first.
     ///
     /// `MustReopen` where a call that writes has failed; otherwise `NumbersSpent` where no number is left; then
     /// `AllLocked` where a block would have to go and none may. It takes no memory, and reads nothing. After

@@ -217,7 +217,6 @@ pub writer_failed : {T : Type 0} (old new : Option (List ℕ)) (result : Result 
 writer_failed old new (Ok x) bytes text failed some is = absurd failed
 writer_failed old new (Err fault) bytes text failed some is = subst (λ (f : ExportFault). Stopped f old new text) (sym failed) (subst (AppendsSome old new) is some)
 
-
 -- how many numbers there are from one on
 abbrev pub numbers_left : Option ℕ → ℕ
 numbers_left None = 0

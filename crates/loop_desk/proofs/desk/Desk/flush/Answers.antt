@@ -1,4 +1,4 @@
-use Rattle.std.proofs.Common.{◌≡◌, ℕ, ◌+◌, ◌-◌, ◌<◌, ◌≤◌, min, false, Result, Ok, Err, List, [], ◌∷◌, length, take, drop, sym, ap, ◌∙◌, subst, arith}
+use Rattle.std.proofs.Common.{◌≡◌, ℕ, ◌+◌, ◌-◌, ◌<◌, ◌≤◌, min, false, Result, Ok, Err, List, [], ◌∷◌, length, take, drop, refl, sym, ap, ◌∙◌, subst, arith}
 use Rattle.std.proofs.lemmas.List.{length-map, take-map, drop-map}
 use Rattle.std.specs.List.{refill}
 use Rattle.circular_buffer.specs.Buffer.{Buffer, buffer}
@@ -31,7 +31,7 @@ returns-then-count-eq0 g c =
       goes = subst (λ (v : SeenDesk g.row.D.Denot). DeskGoes g.D.Disk.medium v v (flushed (Ok (record { first = c.next.result; stored = 0; left = 0 })) ∷ [])) c.self.view_is
           (flush-none g.D.Disk.medium d c.next.result c.next.ensures.next none fine (λ now. g.met.D.Disk.sound s.store.disk now));
       refused = tt;
-      idle = λ none-waits. c.self.view_is;
+      idle = λ waits. refl;
     }
 
 pub invariant_of-self : goal.invariant_of-self
