@@ -1,11 +1,13 @@
 //! A lane, or a desk alone, over a disk.
 ghost use Rattle.std.specs.Prelude.{◌≤◌, IfOk};
 
+use crate::camera::{self, Camera};
 use crate::desk;
 use crate::event::Supply;
 use crate::line::{Call, Verb};
 use crate::plane::{AnyPlane, mapped, three, window};
 use anyhow::{Result, anyhow};
+use loop_capture::Device;
 use loop_desk::{Desk, DeskLimits, Hand, Lane};
 use loop_disk::Disk;
 use loop_plane::{FdTable, Memory};
@@ -27,11 +29,12 @@ pub(crate) struct Opening {
     pub(crate) group: u32,
 }
 
-/// A lane under way, and what is at hand for its events.
+/// A lane under way, its device, and what is at hand for its events.
 #[derive(Drop)]
 pub(crate) struct Case<D: Disk + Drop> {
     pub(crate) alone: bool,
     pub(crate) lane: Lane<D, AnyPlane>,
+    pub(crate) device: Device<Camera>,
     pub(crate) supply: Supply,
 }
 
@@ -124,12 +127,14 @@ pub(crate) fn begin<D: Disk + Drop>(alloc: Global, disk: D, opening: Opening) ->
         size: 12,
     };
     let limits = limits_of(opening)?;
+    let device = camera::device(alloc)?;
     let desk = desk_over(alloc, opened(alloc, disk)?, limits)?;
     let lane = lane_to(alloc, desk);
     let alone = opening.alone;
     Ok(Case {
         alone,
         lane,
+        device,
         supply,
     })
 }
@@ -139,6 +144,7 @@ pub(crate) fn disk_of<D: Disk + Drop>(case: Case<D>) -> D {
     let Case {
         alone: _,
         lane,
+        device: _,
         supply: _,
     } = case;
     let Lane {
@@ -158,6 +164,7 @@ pub(crate) fn asks<D: Disk + Drop>(
     out: &mut Vec<u8>,
 ) -> Result<bool> {
     match call.verb {
+        Verb::Tick => camera::tick(&mut case.device, &mut case.lane.queue, call, out)?,
         Verb::Put => desk::put(alloc, &mut case.lane.desk, call, out)?,
         Verb::Flush => desk::flush(&mut case.lane.desk, out)?,
         Verb::Lock => desk::lock(&mut case.lane.desk, call, out)?,

@@ -25,6 +25,8 @@ pub(crate) enum Verb {
     Close,
     /// A number is put into the closed disk, 8 bytes from a place on.
     Poke,
+    /// The text of the closed case's frames from a number to another.
+    Export,
     /// The closed case again, or the queue's, as one list.
     Again,
     /// What may be shown once the disk had so many calls.
@@ -42,7 +44,9 @@ pub(crate) enum Verb {
     StreamOff,
     Map,
     Unmap,
-    /// The device has filled a buffer with the frame of a number.
+    /// The device's frame period ends at a time.
+    Tick,
+    /// A buffer was filled with the frame of a number.
     Complete,
     /// The device has filled a buffer with eleven bytes.
     Short,
@@ -66,7 +70,7 @@ pub(crate) enum Verb {
 }
 
 // Each call with its name, and how many numbers it needs.
-const VERBS: [Row; 39] = [
+const VERBS: [Row; 41] = [
     ("format", Verb::Format, 0),
     ("lane", Verb::Lane, 1),
     ("desk", Verb::Desk, 2),
@@ -77,6 +81,7 @@ const VERBS: [Row; 39] = [
     ("close-fd", Verb::CloseFd, 1),
     ("close", Verb::Close, 0),
     ("poke", Verb::Poke, 2),
+    ("export", Verb::Export, 2),
     ("again", Verb::Again, 0),
     ("step", Verb::Step, 1),
     ("stops", Verb::Stops, 0),
@@ -90,6 +95,7 @@ const VERBS: [Row; 39] = [
     ("streamoff", Verb::StreamOff, 0),
     ("mmap", Verb::Map, 1),
     ("munmap", Verb::Unmap, 1),
+    ("tick", Verb::Tick, 1),
     ("complete", Verb::Complete, 2),
     ("short", Verb::Short, 1),
     ("fail", Verb::Fail, 1),

@@ -5,11 +5,13 @@
 //!
 //! - `line` has the calls and how they are written;
 //! - `plane` has memory of each kind, `event` what a call sends to a lane or a queue, `told` what a reply tells;
-//! - `case` is a lane, a desk or a queue under way; `desk` makes the calls of a desk, `queue` those of a queue;
+//! - `camera` is a case's device; `case` is a lane, a desk or a queue under way; `desk` makes the calls of a desk,
+//!   `queue` those of a queue;
 //! - `session` keeps the list of a case: `lists` does it again as one list, `stops` over a disk of which each moment
 //!   is a stop, `failing` over one of which each call fails; `shown` tells what a disk holds.
 #![tactic(auto)]
 
+mod camera;
 mod case;
 mod desk;
 mod event;

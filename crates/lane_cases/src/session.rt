@@ -185,6 +185,12 @@ fn pokes_image(session: &mut Session, call: &Call, out: &mut Vec<u8>) -> Result<
     Ok(())
 }
 
+// The text of frames of the closed image.
+fn exports(alloc: Global, session: &Session, call: &Call, out: &mut Vec<u8>) -> Result<()> {
+    let disk = MemDisk::of(session.image.as_slice().to_vec(alloc)?);
+    shown::text_of_disk(alloc, disk, call, out)
+}
+
 // Does the list again that a queue has done, or else the one of the closed case.
 fn repeats(alloc: Global, session: &Session, out: &mut Vec<u8>) -> Result<()> {
     match &session.queue {
@@ -207,6 +213,7 @@ fn does(
         Verb::Queue => begins_queue(alloc, session, &call, out),
         Verb::Close => closes(alloc, session, out),
         Verb::Poke => pokes_image(session, &call, out),
+        Verb::Export => exports(alloc, session, &call, out),
         Verb::Again => repeats(alloc, session, out),
         Verb::Step => notes(alloc, session, &call, shown, out),
         Verb::Stops => stops(alloc, &session.list, &session.steps, &call, out),

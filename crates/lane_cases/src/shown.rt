@@ -1,12 +1,14 @@
 //! What a disk shows: the frames that are held, each whole, and the clips.
 use crate::desk::clips;
 use crate::frame::is_whole;
+use crate::line::Call;
 use crate::told;
 use anyhow::{Result, anyhow};
 use loop_disk::MemDisk;
 use loop_store::Store;
+use loop_y4m::{ExportFault, export};
 use std::alloc::Global;
-use std::io::Write;
+use std::io::{self, Write};
 
 /// What is shown once a disk had so many calls.
 #[derive(Drop)]
@@ -48,6 +50,53 @@ pub(crate) fn of_disk(alloc: Global, disk: MemDisk, out: &mut Vec<u8>) -> Result
         Ok(store) => {
             let mut store = store;
             of_store(alloc, &mut store, out)
+        }
+        Err(refused) => {
+            told::fault(out, refused.fault)?;
+            Ok(())
+        }
+    }
+}
+
+// A text: what isn't printed stands as two hexadecimal digits behind a backslash.
+fn text(out: &mut Vec<u8>, bytes: &[u8]) -> io::Result<()> {
+    for byte in bytes {
+        if (b' '..=b'~').contains(byte) {
+            out.write_all(&[*byte])?;
+        } else {
+            write!(out, "\\{byte:02x}")?;
+        }
+    }
+    Ok(())
+}
+
+// The text of a store's frames.
+fn exported(
+    alloc: Global,
+    store: &mut Store<MemDisk>,
+    call: &Call,
+    out: &mut Vec<u8>,
+) -> Result<()> {
+    let mut bytes = Vec::new(alloc);
+    match export(alloc, store, call.number(0), call.number(1), &mut bytes) {
+        Ok(_count) => text(out, &bytes)?,
+        Err(ExportFault::Store(refusal)) => told::fault(out, refusal)?,
+        Err(ExportFault::Write) => out.write_all(b"Write")?,
+    }
+    Ok(())
+}
+
+/// The text of a disk's frames from a number to another.
+pub(crate) fn text_of_disk(
+    alloc: Global,
+    disk: MemDisk,
+    call: &Call,
+    out: &mut Vec<u8>,
+) -> Result<()> {
+    match Store::open(alloc, disk) {
+        Ok(store) => {
+            let mut store = store;
+            exported(alloc, &mut store, call, out)
         }
         Err(refused) => {
             told::fault(out, refused.fault)?;

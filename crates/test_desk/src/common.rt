@@ -44,6 +44,7 @@ pub(crate) enum Call {
     ReqBufs(u32),
     QBuf(u32),
     StreamOn,
+    StreamOff,
     /// The device has filled a buffer with the frame of a number.
     Complete(u32, u64),
     Fail(u32),
@@ -132,6 +133,7 @@ fn ioctl<P: Drop, A: Allocator + Copy>(
             index,
             memory: BufferMemory::Mmap,
         },
+        Call::StreamOff => Ioctl::StreamOff { buf_type },
         _ => Ioctl::StreamOn { buf_type },
     }
 }

@@ -1,0 +1,285 @@
+//! What a device's ticks become: its frames go through queue, lane and store to a text.
+
+ghost use Rattle.std.specs.Prelude.{⊤};
+
+use crate::common::Call::*;
+use crate::common::Told::{Count, Done, Fault, Flushed, Index, Number};
+use crate::common::*;
+use crate::told::{holds, same};
+use loop_capture::Tick::{Completed, Failed, Idle, Missed};
+use loop_capture::{Device, FrameSource, Next, Pattern, Tick};
+use loop_desk::Lane;
+use loop_disk::MemDisk;
+use loop_plane::MmapPlane;
+use loop_store::{Store, StoreFault};
+use loop_y4m::export;
+use std::alloc::Global;
+use std::process::Abort;
+use std::test::Fail;
+
+/// The lane of these tests.
+type Mapped = Lane<MemDisk, MmapPlane>;
+
+/// The pattern, of which frames 4 and 9 can't be had.
+#[derive(Drop)]
+struct Faulty {
+    pattern: Pattern,
+    frame: u32,
+}
+
+impl FrameSource for Faulty {
+    ghost next_gives = { λ s r out t. ⊤ };
+
+    fn next(&mut self, out: &mut [u8]) -> Next {
+        let frame = self.frame;
+        self.frame = frame.saturating_add(1);
+        let answer = self.pattern.next(out);
+        if frame == 4 || frame == 9 {
+            return Next::Bad;
+        }
+        answer
+    }
+}
+
+/// Two buffers stream.
+const START: [(Call, Told); 4] = [
+    (ReqBufs(2), Count(2)),
+    (QBuf(0), Done),
+    (QBuf(1), Done),
+    (StreamOn, Done),
+];
+
+/// What the disk holds at the end: number, sequence and time of each frame. Its sequence is the count of the ticks
+/// before its own since streaming began, those that were missed or failed among them; numbers 0 and 1 were recycled.
+const HELD: [(u64, u32, u64); 6] = [
+    (2, 3, 120_000),
+    (3, 5, 200_000),
+    (4, 6, 240_000),
+    (5, 1, 400_000),
+    (6, 2, 440_000),
+    (7, 3, 480_000),
+];
+
+/// Their text: byte i of the pattern's frame n is (n + i) mod 256, and the pattern gave a frame at each tick.
+const TEXT: &[u8] = b"YUV4MPEG2 W4 H2 F25:1 Ip A0:0 C420jpeg\n\
+    FRAME\n\x03\x04\x05\x06\x07\x08\x09\x0A\x0B\x0C\x0D\x0E\
+    FRAME\n\x05\x06\x07\x08\x09\x0A\x0B\x0C\x0D\x0E\x0F\x10\
+    FRAME\n\x06\x07\x08\x09\x0A\x0B\x0C\x0D\x0E\x0F\x10\x11\
+    FRAME\n\x0A\x0B\x0C\x0D\x0E\x0F\x10\x11\x12\x13\x14\x15\
+    FRAME\n\x0B\x0C\x0D\x0E\x0F\x10\x11\x12\x13\x14\x15\x16\
+    FRAME\n\x0C\x0D\x0E\x0F\x10\x11\x12\x13\x14\x15\x16\x17";
+
+// One frame period, which ends at this time.
+fn ticks(rt: &impl Abort, device: &mut Device<Faulty>, lane: &mut Mapped, time: u64, want: Tick) {
+    same!(rt; device.tick(&mut lane.queue, time), want, time);
+}
+
+// Frame periods, and then events of the lane.
+fn plays(
+    rt: &impl Abort,
+    alloc: Global,
+    device: &mut Device<Faulty>,
+    lane: &mut Mapped,
+    periods: &[(u64, Tick)],
+    lines: &[(Call, Told)],
+) {
+    for (time, want) in periods {
+        ticks(rt, device, lane, *time, *want);
+    }
+    runs(rt, alloc, lane, Vec::new(alloc), lines);
+}
+
+// Eight frame periods up to a stop: two find no active buffer, one has no frame, and the last one's is thrown away.
+fn records_until_a_stop(
+    rt: &impl Abort,
+    alloc: Global,
+    device: &mut Device<Faulty>,
+    lane: &mut Mapped,
+) {
+    plays(
+        rt,
+        alloc,
+        device,
+        lane,
+        &[(0, Completed(0)), (40_000, Completed(1)), (80_000, Missed)],
+        &[
+            (Dequeue, Index(0)),
+            (Submit, Number(0)),
+            (Requeue, Index(0)),
+            (Dequeue, Index(1)),
+            (Submit, Number(1)),
+            (Requeue, Index(1)),
+            (Flush, Flushed(0, 2, 0)),
+        ],
+    );
+    plays(
+        rt,
+        alloc,
+        device,
+        lane,
+        &[(120_000, Completed(0)), (160_000, Failed(1))],
+        &[
+            (Dequeue, Index(0)),
+            (Submit, Number(2)),
+            (Requeue, Index(0)),
+            (Dequeue, Index(1)),
+            (Submit, Fault(StoreFault::HandEmpty)),
+            (Requeue, Index(1)),
+            (Flush, Flushed(2, 1, 0)),
+        ],
+    );
+    plays(
+        rt,
+        alloc,
+        device,
+        lane,
+        &[
+            (200_000, Completed(0)),
+            (240_000, Completed(1)),
+            (280_000, Missed),
+        ],
+        &[
+            (Dequeue, Index(0)),
+            (Submit, Number(3)),
+            (Requeue, Index(0)),
+            (Dequeue, Index(1)),
+            (Submit, Number(4)),
+            (Requeue, Index(1)),
+            (Flush, Flushed(3, 1, 1)),
+            (Flush, Flushed(4, 1, 0)),
+        ],
+    );
+    plays(
+        rt,
+        alloc,
+        device,
+        lane,
+        &[(320_000, Completed(0))],
+        &[(StreamOff, Done)],
+    );
+}
+
+// Frame periods behind the stop. The first has no frame, so that the buffers change places; the last flush recycles the
+// oldest block.
+fn records_after_a_stop(
+    rt: &impl Abort,
+    alloc: Global,
+    device: &mut Device<Faulty>,
+    lane: &mut Mapped,
+) {
+    plays(
+        rt,
+        alloc,
+        device,
+        lane,
+        &[(340_000, Idle)],
+        &[(QBuf(0), Done), (QBuf(1), Done), (StreamOn, Done)],
+    );
+    plays(
+        rt,
+        alloc,
+        device,
+        lane,
+        &[(360_000, Failed(0))],
+        &[
+            (Dequeue, Index(0)),
+            (Submit, Fault(StoreFault::HandEmpty)),
+            (Requeue, Index(0)),
+        ],
+    );
+    plays(
+        rt,
+        alloc,
+        device,
+        lane,
+        &[(400_000, Completed(1)), (440_000, Completed(0))],
+        &[
+            (Dequeue, Index(1)),
+            (Submit, Number(5)),
+            (Requeue, Index(1)),
+            (Dequeue, Index(0)),
+            (Submit, Number(6)),
+            (Requeue, Index(0)),
+            (Flush, Flushed(5, 1, 1)),
+        ],
+    );
+    plays(
+        rt,
+        alloc,
+        device,
+        lane,
+        &[(480_000, Completed(1))],
+        &[
+            (Dequeue, Index(1)),
+            (Submit, Number(7)),
+            (Requeue, Index(1)),
+            (Flush, Flushed(6, 2, 0)),
+        ],
+    );
+}
+
+// A device for frames of 12 bytes.
+fn device_of(rt: &impl Abort, alloc: Global) -> Device<Faulty> {
+    let source = Faulty {
+        pattern: Pattern::new(),
+        frame: 0,
+    };
+    match Device::new(alloc, source, 12) {
+        Ok(device) => device,
+        Err(_) => panic!(rt; "memory for a frame"),
+    }
+}
+
+// A device gives its frames to a lane.
+fn records(rt: &impl Abort, alloc: Global, lane: &mut Mapped) {
+    let mut device = device_of(rt, alloc);
+    records_until_a_stop(rt, alloc, &mut device, lane);
+    records_after_a_stop(rt, alloc, &mut device, lane);
+}
+
+// The disk of a lane that a device has given its frames to.
+fn recorded(rt: &impl Abort, alloc: Global) -> Result<MemDisk, Fail> {
+    let image = fresh(alloc)?;
+    let sets = two_sets(rt, alloc)?;
+    let mut lane: Mapped = lane_over(rt, alloc, MemDisk::of(image));
+    runs(rt, alloc, &mut lane, sets, &START);
+    records(rt, alloc, &mut lane);
+    let Lane { desk, .. } = lane;
+    Ok(desk.into_disk())
+}
+
+// Sequence and time of the frame of a number.
+fn head(alloc: Global, store: &mut Store<MemDisk>, number: u64) -> Option<(u32, u64)> {
+    match store.read_frame(alloc, number) {
+        Ok(read) if read.head.number == number => Some((read.head.sequence, read.head.timestamp)),
+        _ => None,
+    }
+}
+
+// The frames of these numbers have these heads.
+fn have_heads(
+    rt: &impl Abort,
+    alloc: Global,
+    store: &mut Store<MemDisk>,
+    rows: &[(u64, u32, u64)],
+) {
+    for (number, sequence, time) in rows {
+        same!(rt; head(alloc, store, *number), Some((*sequence, *time)), *number);
+    }
+}
+
+// The frames of a store become a text.
+fn becomes(rt: &impl Abort, alloc: Global, store: &mut Store<MemDisk>, text: &[u8]) {
+    let mut out = Vec::new(alloc);
+    same!(rt; export(alloc, store, 0, u64::MAX, &mut out).ok(), Some(6));
+    holds!(rt; out.iter().eq(text.iter()));
+}
+
+#[test]
+fn what_a_device_gives_is_recorded_and_exported(rt: HostRuntime) -> Result<(), Fail> {
+    let alloc = rt.alloc();
+    let mut store = opened(&rt, alloc, recorded(&rt, alloc)?);
+    have_heads(&rt, alloc, &mut store, &HELD);
+    becomes(&rt, alloc, &mut store, TEXT);
+    Ok(())
+}
