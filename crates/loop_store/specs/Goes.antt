@@ -30,7 +30,8 @@ pub record Stands {D : Type 0} (medium : D → Medium) (store : Seen D) (s : Sto
 abbrev pub progress_of : {D : Type 0} → Seen D → Progress
 progress_of store = record { next = store.next; clips = store.clips; must_reopen = store.must_reopen }
 
--- The first three are said of each state that the store stood for, where its disk is honest; the others of every disk.
+-- The first four are said of an honest disk, and three of them of each state that the store stood for; the others of
+-- every disk.
 pub record Goes {D : Type 0} (medium : D → Medium) (old new : Seen D) (calls : List Call) : Type 0 where
   -- each answer is the model's
   pub answers : (s : StoreState) → Stands medium old s → (medium old.disk).honest → AreAnswered old.geometry s calls
