@@ -49,6 +49,93 @@ const START: [(Call, Told); 4] = [
     (StreamOn, Done),
 ];
 
+/// Frame periods, each with its end, and the events behind them.
+type Part = (&'static [(u64, Tick)], &'static [(Call, Told)]);
+
+/// Eight frame periods up to a stop: two find no active buffer, one has no frame, and the last one's is thrown away.
+const UNTIL_A_STOP: [Part; 4] = [
+    (
+        &[(0, Completed(0)), (40_000, Completed(1)), (80_000, Missed)],
+        &[
+            (Dequeue, Index(0)),
+            (Submit, Number(0)),
+            (Requeue, Index(0)),
+            (Dequeue, Index(1)),
+            (Submit, Number(1)),
+            (Requeue, Index(1)),
+            (Flush, Flushed(0, 2, 0)),
+        ],
+    ),
+    (
+        &[(120_000, Completed(0)), (160_000, Failed(1))],
+        &[
+            (Dequeue, Index(0)),
+            (Submit, Number(2)),
+            (Requeue, Index(0)),
+            (Dequeue, Index(1)),
+            (Submit, Fault(StoreFault::HandEmpty)),
+            (Requeue, Index(1)),
+            (Flush, Flushed(2, 1, 0)),
+        ],
+    ),
+    (
+        &[
+            (200_000, Completed(0)),
+            (240_000, Completed(1)),
+            (280_000, Missed),
+        ],
+        &[
+            (Dequeue, Index(0)),
+            (Submit, Number(3)),
+            (Requeue, Index(0)),
+            (Dequeue, Index(1)),
+            (Submit, Number(4)),
+            (Requeue, Index(1)),
+            (Flush, Flushed(3, 1, 1)),
+            (Flush, Flushed(4, 1, 0)),
+        ],
+    ),
+    (&[(320_000, Completed(0))], &[(StreamOff, Done)]),
+];
+
+/// Frame periods behind the stop. The first that streams has no frame, so that the buffers change places; the last
+/// flush recycles the oldest block.
+const BEHIND_THE_STOP: [Part; 4] = [
+    (
+        &[(340_000, Idle)],
+        &[(QBuf(0), Done), (QBuf(1), Done), (StreamOn, Done)],
+    ),
+    (
+        &[(360_000, Failed(0))],
+        &[
+            (Dequeue, Index(0)),
+            (Submit, Fault(StoreFault::HandEmpty)),
+            (Requeue, Index(0)),
+        ],
+    ),
+    (
+        &[(400_000, Completed(1)), (440_000, Completed(0))],
+        &[
+            (Dequeue, Index(1)),
+            (Submit, Number(5)),
+            (Requeue, Index(1)),
+            (Dequeue, Index(0)),
+            (Submit, Number(6)),
+            (Requeue, Index(0)),
+            (Flush, Flushed(5, 1, 1)),
+        ],
+    ),
+    (
+        &[(480_000, Completed(1))],
+        &[
+            (Dequeue, Index(1)),
+            (Submit, Number(7)),
+            (Requeue, Index(1)),
+            (Flush, Flushed(6, 2, 0)),
+        ],
+    ),
+];
+
 /// What the disk holds at the end: number, sequence and time of each frame. Its sequence is the count of the ticks
 /// before its own since streaming began, those that were missed or failed among them; numbers 0 and 1 were recycled.
 const HELD: [(u64, u32, u64); 6] = [
@@ -69,12 +156,7 @@ const TEXT: &[u8] = b"YUV4MPEG2 W4 H2 F25:1 Ip A0:0 C420jpeg\n\
     FRAME\n\x0B\x0C\x0D\x0E\x0F\x10\x11\x12\x13\x14\x15\x16\
     FRAME\n\x0C\x0D\x0E\x0F\x10\x11\x12\x13\x14\x15\x16\x17";
 
-// One frame period, which ends at this time.
-fn ticks(rt: &impl Abort, device: &mut Device<Faulty>, lane: &mut Mapped, time: u64, want: Tick) {
-    same!(rt; device.tick(&mut lane.queue, time), want, time);
-}
-
-// Frame periods, and then events of the lane.
+// Frame periods, each of which ends at its time, and then events of the lane.
 fn plays(
     rt: &impl Abort,
     alloc: Global,
@@ -84,138 +166,9 @@ fn plays(
     lines: &[(Call, Told)],
 ) {
     for (time, want) in periods {
-        ticks(rt, device, lane, *time, *want);
+        same!(rt; device.tick(&mut lane.queue, *time), *want, *time);
     }
     runs(rt, alloc, lane, Vec::new(alloc), lines);
-}
-
-// Eight frame periods up to a stop: two find no active buffer, one has no frame, and the last one's is thrown away.
-fn records_until_a_stop(
-    rt: &impl Abort,
-    alloc: Global,
-    device: &mut Device<Faulty>,
-    lane: &mut Mapped,
-) {
-    plays(
-        rt,
-        alloc,
-        device,
-        lane,
-        &[(0, Completed(0)), (40_000, Completed(1)), (80_000, Missed)],
-        &[
-            (Dequeue, Index(0)),
-            (Submit, Number(0)),
-            (Requeue, Index(0)),
-            (Dequeue, Index(1)),
-            (Submit, Number(1)),
-            (Requeue, Index(1)),
-            (Flush, Flushed(0, 2, 0)),
-        ],
-    );
-    plays(
-        rt,
-        alloc,
-        device,
-        lane,
-        &[(120_000, Completed(0)), (160_000, Failed(1))],
-        &[
-            (Dequeue, Index(0)),
-            (Submit, Number(2)),
-            (Requeue, Index(0)),
-            (Dequeue, Index(1)),
-            (Submit, Fault(StoreFault::HandEmpty)),
-            (Requeue, Index(1)),
-            (Flush, Flushed(2, 1, 0)),
-        ],
-    );
-    plays(
-        rt,
-        alloc,
-        device,
-        lane,
-        &[
-            (200_000, Completed(0)),
-            (240_000, Completed(1)),
-            (280_000, Missed),
-        ],
-        &[
-            (Dequeue, Index(0)),
-            (Submit, Number(3)),
-            (Requeue, Index(0)),
-            (Dequeue, Index(1)),
-            (Submit, Number(4)),
-            (Requeue, Index(1)),
-            (Flush, Flushed(3, 1, 1)),
-            (Flush, Flushed(4, 1, 0)),
-        ],
-    );
-    plays(
-        rt,
-        alloc,
-        device,
-        lane,
-        &[(320_000, Completed(0))],
-        &[(StreamOff, Done)],
-    );
-}
-
-// Frame periods behind the stop. The first has no frame, so that the buffers change places; the last flush recycles the
-// oldest block.
-fn records_after_a_stop(
-    rt: &impl Abort,
-    alloc: Global,
-    device: &mut Device<Faulty>,
-    lane: &mut Mapped,
-) {
-    plays(
-        rt,
-        alloc,
-        device,
-        lane,
-        &[(340_000, Idle)],
-        &[(QBuf(0), Done), (QBuf(1), Done), (StreamOn, Done)],
-    );
-    plays(
-        rt,
-        alloc,
-        device,
-        lane,
-        &[(360_000, Failed(0))],
-        &[
-            (Dequeue, Index(0)),
-            (Submit, Fault(StoreFault::HandEmpty)),
-            (Requeue, Index(0)),
-        ],
-    );
-    plays(
-        rt,
-        alloc,
-        device,
-        lane,
-        &[(400_000, Completed(1)), (440_000, Completed(0))],
-        &[
-            (Dequeue, Index(1)),
-            (Submit, Number(5)),
-            (Requeue, Index(1)),
-            (Dequeue, Index(0)),
-            (Submit, Number(6)),
-            (Requeue, Index(0)),
-            (Flush, Flushed(5, 1, 1)),
-        ],
-    );
-    plays(
-        rt,
-        alloc,
-        device,
-        lane,
-        &[(480_000, Completed(1))],
-        &[
-            (Dequeue, Index(1)),
-            (Submit, Number(7)),
-            (Requeue, Index(1)),
-            (Flush, Flushed(6, 2, 0)),
-        ],
-    );
 }
 
 // A device for frames of 12 bytes.
@@ -233,8 +186,9 @@ fn device_of(rt: &impl Abort, alloc: Global) -> Device<Faulty> {
 // A device gives its frames to a lane.
 fn records(rt: &impl Abort, alloc: Global, lane: &mut Mapped) {
     let mut device = device_of(rt, alloc);
-    records_until_a_stop(rt, alloc, &mut device, lane);
-    records_after_a_stop(rt, alloc, &mut device, lane);
+    for (periods, lines) in UNTIL_A_STOP.iter().chain(&BEHIND_THE_STOP) {
+        plays(rt, alloc, &mut device, lane, periods, lines);
+    }
 }
 
 // The disk of a lane that a device has given its frames to.
