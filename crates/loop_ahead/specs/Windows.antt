@@ -1,7 +1,10 @@
 -- What a window holds of a disk, and a disk with a count of its own.
-use Rattle.std.specs.Prelude.{◌≡◌, ◌↔◌, ℕ, ◌+◌, ◌<◌, ◌≤◌, List, length, get_or}
+use Rattle.std.specs.Prelude.{◌≡◌, ◌↔◌, ℕ, ◌+◌, ◌<◌, ◌≤◌, Result, IfErr, List, length, get_or}
+use Rattle.loop_disk.specs.declared.fault.DiskFault.{DiskFault}
+use Rattle.loop_disk.specs.declared.fault.DiskFault.TheVariants.{Read}
 use Rattle.loop_disk.specs.declared.fault.Failures.{Failures}
-use Rattle.loop_disk.specs.Medium.{Medium}
+use Rattle.loop_disk.specs.Calls.{Stays}
+use Rattle.loop_disk.specs.Medium.{LeavesEach, Medium}
 
 -- the first n bytes are those of the image from `at` on
 abbrev pub IsCopy : ℕ → ℕ → List ℕ → List ℕ → Type 0
@@ -17,7 +20,12 @@ pub record Recounted (D : Type 0) : Type 0 where
   pub disk : D
   pub failures : Failures
 
--- what each call keeps of the disk beneath, however often it fails within
-pub record IsAlike (old new : Medium) : Type 0 where
-  pub size : new.size ≡ old.size
-  pub honest : old.honest ↔ new.honest
+-- What reads, however many, do to the disk beneath, and how they fail: an honest disk stays as it was, a harsh one may
+-- leave what it might before, and size and honesty are every disk's own.
+pub record OnlyReads {D T : Type 0} (medium : D → Medium) (harsh : D → Type 0) (old new : D)
+    (result : Result T DiskFault) : Type 0 where
+  pub stays : (medium old).honest → Stays (medium old) (medium new)
+  pub each : harsh old → harsh new × LeavesEach (medium old) (medium new)
+  pub fault : IfErr result (λ fault. fault ≡ Read)
+  pub size : (medium new).size ≡ (medium old).size
+  pub honest : (medium old).honest ↔ (medium new).honest

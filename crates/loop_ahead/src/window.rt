@@ -1,9 +1,7 @@
 // The bytes of a disk that were read before they are asked for.
-ghost use Rattle.std.specs.Prelude.{◌≡◌, ◌+◌, ◌-◌, ◌≤◌, ℕ, List, IfErr, IfOk, OnOk, length};
-ghost use Rattle.loop_disk.specs.declared.fault.DiskFault.TheVariants.{Read};
-ghost use Rattle.loop_disk.specs.Medium.{LeavesEach, piece};
-ghost use Rattle.loop_disk.specs.Calls.{Stays};
-ghost use Rattle.loop_ahead.specs.Windows.{IsAhead, IsAlike, IsCopy};
+ghost use Rattle.std.specs.Prelude.{◌≡◌, ◌+◌, ◌-◌, ◌≤◌, ℕ, List, IfOk, OnOk, length};
+ghost use Rattle.loop_disk.specs.Medium.{piece};
+ghost use Rattle.loop_ahead.specs.Windows.{IsAhead, IsCopy, OnlyReads};
 
 use loop_disk::{Disk, DiskFault};
 use std::alloc::Allocator;
@@ -68,10 +66,7 @@ fn fetch<D: Disk, A: Allocator>(
     requires room { least ≤ length window.old.bytes.items }
     ensures ahead { IsAhead window.new.bytes.items window.new.start window.new.held (D.medium disk.new) }
     ensures got { OnOk result ((window.new.start ≡ at) × (least ≤ window.new.held)) }
-    ensures disk { (D.medium disk.old).honest → Stays (D.medium disk.old) (D.medium disk.new) }
-    ensures each { D.harsh disk.old → D.harsh disk.new × LeavesEach (D.medium disk.old) (D.medium disk.new) }
-    ensures fault { IfErr result (λ fault. fault ≡ Read) }
-    ensures alike { IsAlike (D.medium disk.old) (D.medium disk.new) }
+    ensures reads { OnlyReads D.medium D.harsh disk.old disk.new result }
 {
     let most = window.reach(at, least, disk.size());
     window.held = 0;
@@ -95,10 +90,7 @@ fn fill_most<D: Disk>(
     ensures count { IfOk result (λ count. (least ≤ count) × (count ≤ most)) }
     ensures read { (D.medium disk.old).honest
         → IfOk result (λ count. IsCopy at count (D.medium disk.old).bytes buf.new) }
-    ensures disk { (D.medium disk.old).honest → Stays (D.medium disk.old) (D.medium disk.new) }
-    ensures each { D.harsh disk.old → D.harsh disk.new × LeavesEach (D.medium disk.old) (D.medium disk.new) }
-    ensures fault { IfErr result (λ fault. fault ≡ Read) }
-    ensures alike { IsAlike (D.medium disk.old) (D.medium disk.new) }
+    ensures reads { OnlyReads D.medium D.harsh disk.old disk.new result }
 {
     if least < most {
         match fill(disk, buf, at, most) {
@@ -116,10 +108,7 @@ fn fill<D: Disk>(disk: &mut D, buf: &mut [u8], at: u64, count: usize) -> Result<
     requires inside { at + count ≤ (D.medium disk.old).size }
     requires room { count ≤ length buf.old }
     ensures read { (D.medium disk.old).honest → OnOk result (IsCopy at count (D.medium disk.old).bytes buf.new) }
-    ensures disk { (D.medium disk.old).honest → Stays (D.medium disk.old) (D.medium disk.new) }
-    ensures each { D.harsh disk.old → D.harsh disk.new × LeavesEach (D.medium disk.old) (D.medium disk.new) }
-    ensures fault { IfErr result (λ fault. fault ≡ Read) }
-    ensures alike { IsAlike (D.medium disk.old) (D.medium disk.new) }
+    ensures reads { OnlyReads D.medium D.harsh disk.old disk.new result }
 {
     disk.read(at, &mut buf[..count])
 }
@@ -136,10 +125,7 @@ pub(crate) fn read_by<D: Disk, A: Allocator>(
     ensures ahead { IsAhead window.new.bytes.items window.new.start window.new.held (D.medium disk.new) }
     ensures read { (D.medium disk.old).honest
         → OnOk result (buf.new ≡ piece at (length buf.old) (D.medium disk.old).bytes) }
-    ensures disk { (D.medium disk.old).honest → Stays (D.medium disk.old) (D.medium disk.new) }
-    ensures each { D.harsh disk.old → D.harsh disk.new × LeavesEach (D.medium disk.old) (D.medium disk.new) }
-    ensures fault { IfErr result (λ fault. fault ≡ Read) }
-    ensures alike { IsAlike (D.medium disk.old) (D.medium disk.new) }
+    ensures reads { OnlyReads D.medium D.harsh disk.old disk.new result }
 {
     if buf.len() > window.bytes.len() / 2 {
         return disk.read(at, buf);
