@@ -9,7 +9,7 @@ use Rattle.loop_capture.specs.Ticks.{SeenDevice, Ends, Took, Ticked, Ticks, tick
 use Rattle.loop_vb2.specs.Effects.{longest_active, seen_state}
 use Rattle.loop_vb2.specs.Events.{Happens, take_fresh}
 use Rattle.loop_vb2.specs.Planes.{frame_size}
-use Rattle.loop_vb2.specs.State.{Lined, QueueState, StandsFor}
+use Rattle.loop_vb2.specs.State.{Lined, QueueState, StandsQueue}
 
 not_wrong : (answer : Next) (active : Option ℕ) → WrongSize ≡ tick_of answer active → ⊥
 not_wrong End active e = absurd (cc)
@@ -47,5 +47,5 @@ module _ {S P : Type 0} (gives : S → Next → List ℕ → S → Type 0) (m : 
         given = given;
         tick_is = y.0;
         next = next ∙ ap (sequence_after answer) same;
-        queue = subst (λ (k : ℕ). StandsFor m q' (after_tick tick (record { sequence = k; timestamp = now }) e.frame (seen_state s))) same y.1;
+        queue = subst (λ (k : ℕ). StandsQueue m q' (after_tick tick (record { sequence = k; timestamp = now }) e.frame (seen_state s))) same y.1;
       })

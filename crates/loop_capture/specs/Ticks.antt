@@ -8,7 +8,7 @@ use Rattle.loop_capture.specs.declared.source.Next.TheVariants.{More, End, Bad}
 use Rattle.loop_vb2.specs.declared.buffer.Stamp.{Stamp}
 use Rattle.loop_vb2.specs.Effects.{completed, failed, longest_active, seen_state}
 use Rattle.loop_vb2.specs.Planes.{frame_size}
-use Rattle.loop_vb2.specs.State.{Lined, QueueState, StandsFor}
+use Rattle.loop_vb2.specs.State.{Lined, QueueState, StandsQueue}
 
 -- a device: its source, the bytes in its buffer, and the sequence of its next frame
 pub record SeenDevice (S : Type 0) : Type 0 where
@@ -46,13 +46,13 @@ after_tick tick stamp bytes s = s
 
 -- this buffer, or none, has been active longest
 abbrev pub IsLongest : {P : Type 0} → (P → Plane) → Option ℕ → Lined P → Type 0
-IsLongest meaning active queue = (s : QueueState) → StandsFor meaning queue s → active ≡ longest_active s
+IsLongest meaning active queue = (s : QueueState) → StandsQueue meaning queue s → active ≡ longest_active s
 
 -- in each state that the queue stands for: the tick is this one, and the queue stands for the state that it makes
 abbrev pub Ends : {P : Type 0} → (P → Plane) → Next → Stamp → List ℕ → Tick → Lined P → Lined P → Type 0
 Ends meaning answer stamp bytes tick before after =
-    (s : QueueState) → StandsFor meaning before s
-    → (tick ≡ tick_of answer (longest_active s)) × StandsFor meaning after (after_tick tick stamp bytes s)
+    (s : QueueState) → StandsQueue meaning before s
+    → (tick ≡ tick_of answer (longest_active s)) × StandsQueue meaning after (after_tick tick stamp bytes s)
 
 -- a tick for which the source was asked: the device had a frame's length and had started, the start is noticed, and the
 -- frame is ended
@@ -64,7 +64,7 @@ pub record Took {S P : Type 0} (gives : S → Next → List ℕ → S → Type 0
   pub given : gives d.source answer e.frame e.source
   pub tick_is : tick ≡ tick_of answer (longest_active s)
   pub next : e.next ≡ sequence_after answer (sequence_of d.next s)
-  pub queue : StandsFor meaning after
+  pub queue : StandsQueue meaning after
       (after_tick tick (record { sequence = sequence_of d.next s; timestamp = now }) e.frame (seen_state s))
 
 -- a tick: WrongSize and Idle change nothing
@@ -82,4 +82,4 @@ abbrev pub Ticks : {S P : Type 0} → (S → Next → List ℕ → S → Type 0)
     → SeenDevice S
     → Lined P → Lined P → Type 0
 Ticks gives meaning now tick d e before after =
-    (s : QueueState) → StandsFor meaning before s → Ticked gives meaning now tick d e before after s
+    (s : QueueState) → StandsQueue meaning before s → Ticked gives meaning now tick d e before after s

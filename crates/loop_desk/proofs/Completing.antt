@@ -60,7 +60,7 @@ IsWhole s (model.complete index stamp bytes None) = length bytes ≡ frame_size 
 IsWhole s e = Unit {0}
 
 abbrev pub IsCounted : QueueState → Event → Type 0
-IsCounted s e = model.IsAnswered s e × IsWhole s e
+IsCounted s e = model.MayHappen s e × IsWhole s e
 
 got_other : {X : Type 0} (f : X → X) (xs : List X) (x i : ℕ) → (i ≡ x → ⊥) → slice_get (changed f x xs) i ≡ slice_get xs i
 got_other f [] x i h = refl
@@ -161,7 +161,7 @@ held_queued (Some set) bs x e held = held_changed (queued_with (Some set)) bs x 
 shape_settled : (b : Body Plane) → (settled b).shape ≡ b.shape
 shape_settled b = elim (device_runs b) as (λ t. (cond t (awake b) b).shape ≡ b.shape) [ true ↦ refl | false ↦ refl ]
 
-kept_shape : (s : QueueState) (e : Event) → (model.after s e).body.shape ≡ s.body.shape
+kept_shape : (s : QueueState) (e : Event) → (model.after_event s e).body.shape ≡ s.body.shape
 kept_shape s (model.reqbufs count kind sets (Ok g)) = elim (count == 0) as (λ t. (cond t (body_stopped s.body) s.body).shape ≡ s.body.shape) [ true ↦ refl | false ↦ refl ]
 kept_shape s (model.qbuf index kind given None) = shape_settled (with_buffer (queued_with given) index s.body)
 kept_shape s (model.streamon None) = elim s.body.streaming as (λ t. (cond t s.body (settled (record s.body { streaming = true }))).shape ≡ s.body.shape) [ true ↦ refl | false ↦ shape_settled (record s.body { streaming = true }) ]
@@ -188,7 +188,7 @@ kept_shape s (model.fail index stamp (Some x)) = refl
 kept_shape s model.fatal = refl
 kept_shape s (model.take_fresh fresh) = refl
 
-kept_fit : (s : QueueState) (e : Event) → model.IsAnswered s e → IsWhole s e → AllFit s.body → AllFit (model.after s e).body
+kept_fit : (s : QueueState) (e : Event) → model.MayHappen s e → IsWhole s e → AllFit s.body → AllFit (model.after_event s e).body
 kept_fit s (model.reqbufs count kind sets (Ok g)) a w fit = fit_requested count kind sets s.body a.0
 kept_fit s (model.reqbufs count kind sets (Err x)) a w fit = fit
 kept_fit s (model.prepare_buf index kind given None) a w fit = fit_prepared index kind given s.body (not_refused (prepare_refusal index kind given s.body) a) fit
@@ -216,10 +216,10 @@ kept_fit s model.fatal a w fit = fit
 kept_fit s (model.take_fresh fresh) a w fit = fit
 
 -- planes were taken out of a dequeued buffer
-take_dequeued : (s : QueueState) (index : ℕ) (set : PlaneSet Plane) → model.IsAnswered s (model.take_planes index (Ok set)) → is_dequeued (state_at s.body.buffers index) ≡ true
+take_dequeued : (s : QueueState) (index : ℕ) (set : PlaneSet Plane) → model.MayHappen s (model.take_planes index (Ok set)) → is_dequeued (state_at s.body.buffers index) ≡ true
 take_dequeued s index set a = let p : Passed (take_checks index s.body) = all_passed (take_checks index s.body) a.0 in true_of (is_dequeued (state_at s.body.buffers index)) p.1.1.0
 
-kept_held : (s : QueueState) (e : Event) → model.IsAnswered s e → AreHeld s.body.buffers → AreHeld (model.after s e).body.buffers
+kept_held : (s : QueueState) (e : Event) → model.MayHappen s e → AreHeld s.body.buffers → AreHeld (model.after_event s e).body.buffers
 kept_held s (model.reqbufs count kind sets (Ok g)) a held = held_none (new_buffers (grants_or_none s.body.min_queued count) sets) (λ i. ap waits (new_state (grants_or_none s.body.min_queued count) sets i))
 kept_held s (model.reqbufs count kind sets (Err x)) a held = held
 kept_held s (model.prepare_buf index kind given None) a held = held_changed (prepared_with given) s.body.buffers index (λ b got was w. absurd (not_both (waits (prepared_with given b).state) w (ap waits (prepared_state given b)))) held
@@ -295,8 +295,8 @@ module _ (format : PixelFormat) (width height : ℕ) where
       subst (λ (x : Shape). taken_bytes x (completed_with x stamp bytes b) ≡ bytes) (sym c.shaped)
       (whole_taken format width height stamp bytes b set.0 set.1 (subst (λ (x : Shape). has_count x.count set.0 ≡ true) c.shaped fits.counted) (whole ∙ ap frame_size c.shaped))
 
-  frames_next : (s : QueueState) (e : Event) (line : List ℕ) → Runs s line → (n : Next s e line) → IsHolding (shape_of format width height) s → stops e ≡ false → model.IsAnswered s e → IsWhole s e
-      → shots s.body.shape s.body.buffers line ++ completed_frame e ≡ taken_by s e ++ shots s.body.shape (model.after s e).body.buffers n.rest
+  frames_next : (s : QueueState) (e : Event) (line : List ℕ) → Runs s line → (n : Next s e line) → IsHolding (shape_of format width height) s → stops e ≡ false → model.MayHappen s e → IsWhole s e
+      → shots s.body.shape s.body.buffers line ++ completed_frame e ≡ taken_by s e ++ shots s.body.shape (model.after_event s e).body.buffers n.rest
   frames_next s (model.reqbufs count kind sets (Ok g)) line r n c on a w =
       let new = new_buffers (grants_or_none s.body.min_queued count) sets in
       let none : n.rest ≡ [] = none_listed n.rest (λ i. n.runs.shows.done.listed i ∙ ap is_ended (new_state (grants_or_none s.body.min_queued count) sets i)) in
@@ -366,19 +366,19 @@ glued line ended taken next all_ended all_taken rest e f =
     sym (append_assoc line ended all_ended)
     ∙ (ap (λ l. l ++ all_ended) e ∙ (append_assoc taken next all_ended ∙ (ap (λ l. taken ++ l) f ∙ sym (append_assoc taken all_taken rest))))
 
-pub all_fit : (s : QueueState) (events : List Event) → EachIn model.after IsCounted s events → AllFit s.body → AllFit (after_all model.after s events).body
+pub all_fit : (s : QueueState) (events : List Event) → EachIn model.after_event IsCounted s events → AllFit s.body → AllFit (after_all model.after_event s events).body
 all_fit s [] each fit = fit
-all_fit s (e ∷ es) each fit = all_fit (model.after s e) es each.1 (kept_fit s e each.0.0 each.0.1 fit)
+all_fit s (e ∷ es) each fit = all_fit (model.after_event s e) es each.1 (kept_fit s e each.0.0 each.0.1 fit)
 
-pub all_shaped : (s : QueueState) (events : List Event) → (after_all model.after s events).body.shape ≡ s.body.shape
+pub all_shaped : (s : QueueState) (events : List Event) → (after_all model.after_event s events).body.shape ≡ s.body.shape
 all_shaped s [] = refl
-all_shaped s (e ∷ es) = all_shaped (model.after s e) es ∙ kept_shape s e
+all_shaped s (e ∷ es) = all_shaped (model.after_event s e) es ∙ kept_shape s e
 
-pub frames_along : (format : PixelFormat) (width height : ℕ) (s : QueueState) (events : List Event) (line : List ℕ) → Runs s line → IsHolding (shape_of format width height) s → list_any stops events ≡ false → EachIn model.after IsCounted s events
-    → (others : List Picture) × (shots s.body.shape s.body.buffers line ++ flat_map completed_frame events ≡ told_in model.after taken_by s events ++ others)
+pub frames_along : (format : PixelFormat) (width height : ℕ) (s : QueueState) (events : List Event) (line : List ℕ) → Runs s line → IsHolding (shape_of format width height) s → list_any stops events ≡ false → EachIn model.after_event IsCounted s events
+    → (others : List Picture) × (shots s.body.shape s.body.buffers line ++ flat_map completed_frame events ≡ told_in model.after_event taken_by s events ++ others)
 frames_along format width height s [] line r c on each = (shots s.body.shape s.body.buffers line, append-nil (shots s.body.shape s.body.buffers line))
 frames_along format width height s (e ∷ es) line r c on each =
-    let t : QueueState = model.after s e in
+    let t : QueueState = model.after_event s e in
     let now = first_off (stops e) (list_any stops es) on in
     let n : Next s e line = next s e line r now each.0.0 in
     let kept : t.body.shape ≡ s.body.shape = kept_shape s e in
@@ -386,13 +386,13 @@ frames_along format width height s (e ∷ es) line r c on each =
     let one = frames_next format width height s e line r n c now each.0.0 each.0.1 in
     let more = frames_along format width height t es n.rest n.runs holding (second_off (stops e) (list_any stops es) on) each.1 in (
       more.0,
-      glued (shots s.body.shape s.body.buffers line) (completed_frame e) (taken_by s e) (shots t.body.shape t.body.buffers n.rest) (flat_map completed_frame es) (told_in model.after taken_by t es) more.0
+      glued (shots s.body.shape s.body.buffers line) (completed_frame e) (taken_by s e) (shots t.body.shape t.body.buffers n.rest) (flat_map completed_frame es) (told_in model.after_event taken_by t es) more.0
           (one ∙ ap (λ (x : Shape). taken_by s e ++ shots x t.body.buffers n.rest) (sym kept)) more.1,
     )
 
 -- ---- behind a stop
 
-pub stopped_waits : (s : QueueState) (e : Event) → stops e ≡ true → (i : ℕ) → waits (state_at (model.after s e).body.buffers i) ≡ false
+pub stopped_waits : (s : QueueState) (e : Event) → stops e ≡ true → (i : ℕ) → waits (state_at (model.after_event s e).body.buffers i) ≡ false
 stopped_waits s model.streamoff is i = ap waits (state_at-map stopped (λ t. Dequeued) s.body.buffers i (λ b. refl) refl)
 stopped_waits s (model.reqbufs count kind sets (Ok g)) is i = ap waits (new_state (grants_or_none s.body.min_queued count) sets i)
 stopped_waits s (model.reqbufs count kind sets (Err x)) is i = absurd (cc)

@@ -12,7 +12,7 @@ use Rattle.loop_vb2.specs.Laws.{KeepsOrder}
 use Rattle.loop_vb2.specs.Lines.{least, sooner}
 use Rattle.loop_vb2.specs.Owner.{is_ended}
 use Rattle.loop_vb2.specs.Buffers.{state_at}
-use Rattle.loop_vb2.specs.State.{QueueState, StandsFor}
+use Rattle.loop_vb2.specs.State.{QueueState, StandsQueue}
 use Rattle.loop_vb2.proofs.Ordered.{dequeues_in_order}
 use Rattle.loop_ioctl.specs.declared.events.QueueEvent.{QueueEvent}
 use Rattle.loop_ioctl.specs.declared.events.QueueReply.{QueueReply}
@@ -93,7 +93,7 @@ module _ {P A : Type 0} (m : P → Plane) where
 -- ---- lists
 
 pub lane-turns-are-events : {P : Type 0} (A : Type 0) (m : P → Plane) → LaneTurnsAreEvents A m
-lane-turns-are-events A m f xs each = all_told (lane_after m) (IsLaneTurn m) model.after model.IsAnswered (λ x. x.queue.queue) (event_at m) (λ x t said. lane-told m x (turn_at x t) said) f xs each
+lane-turns-are-events A m f xs each = all_told (lane_after m) (IsLaneTurn m) model.after_event model.MayHappen (λ x. x.queue.queue) (event_at m) (λ x t said. lane-told m x (turn_at x t) said) f xs each
 
 pub dequeues : {D P A : Type 0} (m : P → Plane) (medium : D → Medium) (old new : Lane D P A) (es : List (LaneEvent P A)) (ps : List (LaneReply P A)) → LaneRan m medium old new es ps
     → (f : Front) → StandsLane m old f → KeepsOrder old.queue new.queue (queue_events m f (zip es ps))
@@ -101,4 +101,4 @@ dequeues {D} {P} {A} m medium old new es ps run f stands =
     let ran = run.front f stands in
     let xs = zip es ps in
     let are = lane-turns-are-events A m f xs ran.told in
-    dequeues_in_order m old.queue new.queue f.queue.queue (queue_events m f xs) stands.queue.queue are.0 (subst (λ (s : QueueState). StandsFor m new.queue s) are.1 ran.stands.queue.queue)
+    dequeues_in_order m old.queue new.queue f.queue.queue (queue_events m f xs) stands.queue.queue are.0 (subst (λ (s : QueueState). StandsQueue m new.queue s) are.1 ran.stands.queue.queue)

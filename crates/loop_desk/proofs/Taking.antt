@@ -64,14 +64,14 @@ each-second : {S X : Type 0} (after : S → X → S) (P : S → X → Type 0) (s
 each-second after P s [] ys each = each
 each-second after P s (x ∷ xs) ys each = each-second after P (after s x) xs ys each.1
 
-each-both : (s : QueueState) (es : List Event) → EachIn model.after model.IsAnswered s es → EachIn model.after IsWhole s es → EachIn model.after IsCounted s es
+each-both : (s : QueueState) (es : List Event) → EachIn model.after_event model.MayHappen s es → EachIn model.after_event IsWhole s es → EachIn model.after_event IsCounted s es
 each-both s [] first second = tt
-each-both s (e ∷ es) first second = ((first.0, second.0), each-both (model.after s e) es first.1 second.1)
+each-both s (e ∷ es) first second = ((first.0, second.0), each-both (model.after_event s e) es first.1 second.1)
 
 -- ---- an event that takes no frame
 
 abbrev Quiet : QueueState → List Event → Type 0
-Quiet s es = EachIn model.after IsWhole s es × (told_in model.after taken_by s es ≡ [])
+Quiet s es = EachIn model.after_event IsWhole s es × (told_in model.after_event taken_by s es ≡ [])
 
 quiet-unless : (s : QueueState) (why : Option Reason) (es : List Event) → Quiet s es → Quiet s (unless_refused why es)
 quiet-unless s None es quiet = quiet
@@ -136,7 +136,7 @@ module _ {P A : Type 0} (m : P → Plane) where
 -- ---- one turn
 
 taken-tells : (f : Front) (index : ℕ) (o : Option (Buffer Plane)) → slice_get f.queue.queue.body.buffers index ≡ o
-    → EachIn model.after IsWhole f.queue.queue (dqbuf_event (kind_of f.queue) index o) × (map unflagged (hand_frame (hand_with f.queue.queue.body index o)) ≡ told_in model.after taken_by f.queue.queue (dqbuf_event (kind_of f.queue) index o))
+    → EachIn model.after_event IsWhole f.queue.queue (dqbuf_event (kind_of f.queue) index o) × (map unflagged (hand_frame (hand_with f.queue.queue.body index o)) ≡ told_in model.after_event taken_by f.queue.queue (dqbuf_event (kind_of f.queue) index o))
 taken-tells f index None got = (tt, refl)
 taken-tells f index (Some b) got =
     let body : Body Plane = f.queue.queue.body in
@@ -149,7 +149,7 @@ taken-tells f index (Some b) got =
 module _ {P A : Type 0} (m : P → Plane) where
   -- each completion is whole, and what the hand gets is what the event takes
   abbrev Tells : Front → LaneTurn P A → Type 0
-  Tells f t = EachIn model.after IsWhole f.queue.queue (event_at_turn m f t) × (map unflagged (frame_of_turn m f t) ≡ told_in model.after taken_by f.queue.queue (event_at_turn m f t))
+  Tells f t = EachIn model.after_event IsWhole f.queue.queue (event_at_turn m f t) × (map unflagged (frame_of_turn m f t) ≡ told_in model.after_event taken_by f.queue.queue (event_at_turn m f t))
 
 module _ {P : Type 0} (A : Type 0) (m : P → Plane) where
   dequeue-tells : (f : Front) (result : Result ℕ LaneFault) → Tells {P = P} {A = A} m f (at_front (dequeued result))
@@ -190,11 +190,11 @@ module _ {P A : Type 0} (m : P → Plane) where
 
 module _ {P A : Type 0} (m : P → Plane) where
   counted : (f : Front) (xs : List (LaneEvent P A × LaneReply P A)) → EachIn (lane_after m) (IsLaneTurn m) f xs
-      → EachIn model.after IsCounted f.queue.queue (queue_events m f xs) × ((after_all (lane_after m) f xs).queue.queue ≡ after_all model.after f.queue.queue (queue_events m f xs))
-  counted f xs each = all_told (lane_after m) (IsLaneTurn m) model.after IsCounted (λ x. x.queue.queue) (event_at m)
+      → EachIn model.after_event IsCounted f.queue.queue (queue_events m f xs) × ((after_all (lane_after m) f xs).queue.queue ≡ after_all model.after_event f.queue.queue (queue_events m f xs))
+  counted f xs each = all_told (lane_after m) (IsLaneTurn m) model.after_event IsCounted (λ x. x.queue.queue) (event_at m)
       (λ x t said. let told = lane-told m x (turn_at x t) said in (each-both x.queue.queue (event_at m x t) told.0 (lane-tells m x t.0 t.1 said).0, told.1)) f xs each
 
-  frames-told : (f : Front) (xs : List (LaneEvent P A × LaneReply P A)) → EachIn (lane_after m) (IsLaneTurn m) f xs → map unflagged (frames_taken m f xs) ≡ told_in model.after taken_by f.queue.queue (queue_events m f xs)
+  frames-told : (f : Front) (xs : List (LaneEvent P A × LaneReply P A)) → EachIn (lane_after m) (IsLaneTurn m) f xs → map unflagged (frames_taken m f xs) ≡ told_in model.after_event taken_by f.queue.queue (queue_events m f xs)
   frames-told f [] each = refl
   frames-told f (x ∷ xs) each =
       let next = lane_after m f x in
@@ -204,8 +204,8 @@ module _ {P A : Type 0} (m : P → Plane) where
       let moved = (lane-told m f (turn_at f x) each.0).1 in
       map-append unflagged (frame_at m f x) (frames_taken m next xs)
       ∙ ((λ i. here.1 i ++ rest i)
-      ∙ (ap (λ (t : QueueState). told_in model.after taken_by s (event_at m f x) ++ told_in model.after taken_by t (queue_events m next xs)) moved
-      ∙ sym (told-behind model.after taken_by s (event_at m f x) (queue_events m next xs))))
+      ∙ (ap (λ (t : QueueState). told_in model.after_event taken_by s (event_at m f x) ++ told_in model.after_event taken_by t (queue_events m next xs)) moved
+      ∙ sym (told-behind model.after_event taken_by s (event_at m f x) (queue_events m next xs))))
 
   -- from a front whose queue has nothing done
   from-front : (format : PixelFormat) (width height : ℕ) (f : Front) (part : List (LaneEvent P A × LaneReply P A)) → Runs f.queue.queue [] → IsHolding (shape_of format width height) f.queue.queue → EachIn (lane_after m) (IsLaneTurn m) f part → list_any stops (queue_events m f part) ≡ false
@@ -243,11 +243,11 @@ completes {D} {P} {A} m medium old new es ps run f stands format width height sh
           let later : EachIn (lane_after m) (IsLaneTurn m) now (stop ∷ (part ++ behind)) = each-second (lane_after m) (IsLaneTurn m) f before (stop ∷ (part ++ behind)) all in
           let each : EachIn (lane_after m) (IsLaneTurn m) next part = subst (λ (x : Front). EachIn (lane_after m) (IsLaneTurn m) x part) (sym follows) (each-first (lane_after m) (IsLaneTurn m) (lane_after m now stop) part behind later.1) in
           let n : QueueState = now.queue.queue in
-          let came : n ≡ after_all model.after s (queue_events m f before) = first.1 in
+          let came : n ≡ after_all model.after_event s (queue_events m f before) = first.1 in
           let two = counted m now (stop ∷ []) (later.0, tt) in
           let events = queue_events m now (stop ∷ []) in
-          let went : next.queue.queue ≡ after_all model.after n events = ap (λ (x : Front). x.queue.queue) follows ∙ two.1 in
-          let done : next.queue.queue ≡ model.after n e = went ∙ ap (λ l. after_all model.after n (l ++ [])) here in
+          let went : next.queue.queue ≡ after_all model.after_event n events = ap (λ (x : Front). x.queue.queue) follows ∙ two.1 in
+          let done : next.queue.queue ≡ model.after_event n e = went ∙ ap (λ l. after_all model.after_event n (l ++ [])) here in
           let fit_now : AllFit n.body = subst (λ (t : QueueState). AllFit t.body) (sym came) (all_fit s (queue_events m f before) first.0 stands.queue.queue.fit) in
           from-front m format width height next part (subst (λ (t : QueueState). Runs t []) (sym done) (runs_stopped n e stopped))
           (record {

@@ -15,7 +15,7 @@ use Rattle.loop_vb2.specs.declared.reason.Refused.{Refused}
 use Rattle.loop_vb2.specs.Buffers.{changed, handed, dequeued_from}
 use Rattle.loop_vb2.specs.Checks.{queue_refusal}
 use Rattle.loop_vb2.specs.Effects as effect
-use Rattle.loop_vb2.specs.State.{Body, QueueState, Lined, StandsFor}
+use Rattle.loop_vb2.specs.State.{Body, QueueState, Lined, StandsQueue}
 use Rattle.loop_vb2.specs.Answers.{Fails}
 use Rattle.loop_vb2.specs.Planes.{read_given}
 use Rattle.loop_vb2.specs.Events.{Happens, read_frame, qbuf, dqbuf}
@@ -26,8 +26,8 @@ use Rattle.loop_ioctl.specs.declared.events.QueueEvent.{QueueEvent}
 use Rattle.loop_ioctl.specs.declared.events.QueueEvent.TheVariants as event
 use Rattle.loop_ioctl.specs.declared.events.QueueReply.{QueueReply}
 use Rattle.loop_ioctl.specs.Names.{Names}
-use Rattle.loop_ioctl.specs.Attached.{times, values_by_fd, values_held, IsLinked}
-use Rattle.loop_ioctl.specs.Calls.{IoctlState, Stands, planes_at}
+use Rattle.loop_ioctl.specs.Attached.{fd_times, values_by_fd, values_held, IsLinked}
+use Rattle.loop_ioctl.specs.Calls.{IoctlState, StandsIoctl, planes_at}
 use Rattle.loop_ioctl.specs.Events.{is_whole, state_after, Reacts}
 use Rattle.loop_ioctl.proofs.Attached.{in_buffers, in_buffer, once_same}
 use Rattle.loop_ioctl.proofs.Aside.{queued_kind, queued_none, queued_some, IsAside, is_request, event_aside, call_out, new_queues_stand}
@@ -62,10 +62,10 @@ nothing_out j k (full index p planes) e none out = absurd (cc)
 nothing_out j k (spent index planes) e none out = absurd (cc)
 
 module _ {P : Type 0} (m : P → Plane) where
-  shape_read : (q : Lined P) (t : Fds P) (j : IoctlState) → Stands m q t j → j.queue.body.shape ≡ q.body.shape
+  shape_read : (q : Lined P) (t : Fds P) (j : IoctlState) → StandsIoctl m q t j → j.queue.body.shape ≡ q.body.shape
   shape_read q t j stands = sym (ap (λ b. b.shape) stands.queue.shown.body)
 
-  own_kind : (kind : Memory) (q : Lined P) (table : Fds P) (j : IoctlState) → kind ≡ q.body.kind → Stands m q table j → kind ≡ kind_of j
+  own_kind : (kind : Memory) (q : Lined P) (table : Fds P) (j : IoctlState) → kind ≡ q.body.kind → StandsIoctl m q table j → kind ≡ kind_of j
   own_kind kind q table j is stands = is ∙ ap (λ b. b.kind) stands.queue.shown.body
 
 module _ {P A : Type 0} (m : P → Plane) where
@@ -80,7 +80,7 @@ module _ {P A : Type 0} (m : P → Plane) where
 
   -- ---- events of the queue
 
-  whole_read : (e : QueueEvent P A) (whole : Bool) (q : Lined P) (t : Fds P) (j : IoctlState) → is_whole q.body.shape e ≡ whole → Stands m q t j → is_whole j.queue.body.shape e ≡ whole
+  whole_read : (e : QueueEvent P A) (whole : Bool) (q : Lined P) (t : Fds P) (j : IoctlState) → is_whole q.body.shape e ≡ whole → StandsIoctl m q t j → is_whole j.queue.body.shape e ≡ whole
   whole_read e whole q t j is stands = ap (λ s. is_whole s e) (shape_read m q t j stands) ∙ is
 
   forbids_read : (e : QueueEvent P A) (b : Bool) (h : Hand P A) (f : HandState) → forbids (index_in (hand_state m h)) e ≡ b → hand_state m h ≡ f → forbids (index_in f) e ≡ b
@@ -138,10 +138,10 @@ took_linked s index b h out n get planes none linked =
     let vs : values_by_fd kind (option_to_list (planes_held h)) ≡ values_by_fd kind (option_to_list (planes_at bs index)) =
     ap (λ p. values_by_fd kind (option_to_list p)) planes
     ∙ (handed_by_fd kind b.planes ∙ ap (λ p. values_by_fd kind (option_to_list p)) (sym (planes_got bs index b get))) in
-    λ (fd : ℕ). once_same (times fd (values_held kind bs) + times fd out) (times fd (values_held kind (changed (dequeued_from kind) index bs)) + times fd (values_by_fd kind (option_to_list (planes_held h)))) (n fd) (n fd)
-    (ap (λ l. times fd (values_held kind (changed (dequeued_from kind) index bs)) + times fd l) vs
-    ∙ (moved_out (times fd (values_held kind (changed (dequeued_from kind) index bs))) (times fd (values_by_fd kind (option_to_list (planes_at bs index)))) (times fd (values_held kind bs)) (out_count bs kind index 0 fd)
-    ∙ ap (λ l. times fd (values_held kind bs) + times fd l) (sym none)))
+    λ (fd : ℕ). once_same (fd_times fd (values_held kind bs) + fd_times fd out) (fd_times fd (values_held kind (changed (dequeued_from kind) index bs)) + fd_times fd (values_by_fd kind (option_to_list (planes_held h)))) (n fd) (n fd)
+    (ap (λ l. fd_times fd (values_held kind (changed (dequeued_from kind) index bs)) + fd_times fd l) vs
+    ∙ (moved_out (fd_times fd (values_held kind (changed (dequeued_from kind) index bs))) (fd_times fd (values_by_fd kind (option_to_list (planes_at bs index)))) (fd_times fd (values_held kind bs)) (out_count bs kind index 0 fd)
+    ∙ ap (λ l. fd_times fd (values_held kind bs) + fd_times fd l) (sym none)))
     refl (linked fd)
 
 module _ {P A : Type 0} (m : P → Plane) where
@@ -168,7 +168,7 @@ module _ {P A : Type 0} (m : P → Plane) where
       let t = step s stands.queue.queue in
       let b = t.0.2.0 in
       let get : slice_get body.buffers d.index ≡ Some b = t.0.2.1 in
-      let now : StandsFor m q' (effect.dequeued d.index s) = t.1 in
+      let now : StandsQueue m q' (effect.dequeued d.index s) = t.1 in
       let left : StaysIn (effect.dequeued d.index s).body d.index b = left_there (dequeued_from body.kind) body.buffers d.index b get in
       let held : hand_state m h ≡ hand_of body d.index b = holds (effect.dequeued d.index s) b now left t.0.2.2 in
       let with_it : hand_with body d.index (slice_get body.buffers d.index) ≡ hand_of body d.index b = ap (hand_with body d.index) get in
@@ -186,34 +186,34 @@ module _ {P A : Type 0} (m : P → Plane) where
 
 -- ---- a requeue
 
-back_none : (s : QueueState) (index fd : ℕ) → times fd (values_held (effect.queued index None s).body.kind (effect.queued index None s).body.buffers) + 0 ≡ times fd (values_held s.body.kind s.body.buffers) + times fd (values_by_fd {T = Plane} s.body.kind [])
+back_none : (s : QueueState) (index fd : ℕ) → fd_times fd (values_held (effect.queued index None s).body.kind (effect.queued index None s).body.buffers) + 0 ≡ fd_times fd (values_held s.body.kind s.body.buffers) + fd_times fd (values_by_fd {T = Plane} s.body.kind [])
 back_none s index fd =
     let t = effect.queued index None s in
-    ap (λ k. times fd (values_held k t.body.buffers) + 0) (queued_kind index None s)
+    ap (λ k. fd_times fd (values_held k t.body.buffers) + 0) (queued_kind index None s)
     ∙ (ap (λ n. n + 0) (queued_none index s fd)
-    ∙ ap (λ l. times fd (values_held s.body.kind s.body.buffers) + times fd l) (sym (none_by_fd s.body.kind)))
+    ∙ ap (λ l. fd_times fd (values_held s.body.kind s.body.buffers) + fd_times fd l) (sym (none_by_fd s.body.kind)))
 
 some_back : (a b c : ℕ) → a ≡ b + c → a + 0 ≡ b + c
 some_back a b c e = omega (arith, e)
 
 -- a buffer that held no planes gets those of a set
-set_back : (kind : Memory) (bs cs : List (Buffer Plane)) (set : PlaneSet Plane) (fd : ℕ) → in_buffers fd cs ≡ in_buffers fd bs + in_buffer fd (Some set) → times fd (values_held kind cs) + 0 ≡ times fd (values_held kind bs) + times fd (values_by_fd kind (set ∷ []))
+set_back : (kind : Memory) (bs cs : List (Buffer Plane)) (set : PlaneSet Plane) (fd : ℕ) → in_buffers fd cs ≡ in_buffers fd bs + in_buffer fd (Some set) → fd_times fd (values_held kind cs) + 0 ≡ fd_times fd (values_held kind bs) + fd_times fd (values_by_fd kind (set ∷ []))
 set_back Mmap bs cs set fd e = refl
 set_back UserPtr bs cs set fd e = refl
 set_back DmaBuf bs cs set fd e = some_back (in_buffers fd cs) (in_buffers fd bs) (in_buffer fd (Some set)) e
 
-back_count : (s : QueueState) (index : ℕ) (planes : Option (PlaneSet Plane)) (fd : ℕ) → queue_refusal index s.body.kind planes s.body ≡ None → times fd (values_held (effect.queued index planes s).body.kind (effect.queued index planes s).body.buffers) + 0 ≡ times fd (values_held s.body.kind s.body.buffers) + times fd (values_by_fd s.body.kind (option_to_list planes))
+back_count : (s : QueueState) (index : ℕ) (planes : Option (PlaneSet Plane)) (fd : ℕ) → queue_refusal index s.body.kind planes s.body ≡ None → fd_times fd (values_held (effect.queued index planes s).body.kind (effect.queued index planes s).body.buffers) + 0 ≡ fd_times fd (values_held s.body.kind s.body.buffers) + fd_times fd (values_by_fd s.body.kind (option_to_list planes))
 back_count s index None fd e = back_none s index fd
 back_count s index (Some set) fd e =
     let t = effect.queued index (Some set) s in
-    ap (λ k. times fd (values_held k t.body.buffers) + 0) (queued_kind index (Some set) s)
+    ap (λ k. fd_times fd (values_held k t.body.buffers) + 0) (queued_kind index (Some set) s)
     ∙ set_back s.body.kind s.body.buffers t.body.buffers set fd (queued_some index set s fd e)
 
 back_linked : (s : QueueState) (index : ℕ) (planes : Option (PlaneSet Plane)) (out : List (ℕ × Plane)) (n : Names Plane) → out ≡ values_by_fd s.body.kind (option_to_list planes) → queue_refusal index s.body.kind planes s.body ≡ None → IsLinked s.body out n → IsLinked (effect.queued index planes s).body [] n
 back_linked s index planes out n is e linked =
     let t = effect.queued index planes s in
-    λ (fd : ℕ). once_same (times fd (values_held s.body.kind s.body.buffers) + times fd out) (times fd (values_held t.body.kind t.body.buffers) + 0) (n fd) (n fd)
-    (back_count s index planes fd e ∙ ap (λ l. times fd (values_held s.body.kind s.body.buffers) + times fd l) (sym is))
+    λ (fd : ℕ). once_same (fd_times fd (values_held s.body.kind s.body.buffers) + fd_times fd out) (fd_times fd (values_held t.body.kind t.body.buffers) + 0) (n fd) (n fd)
+    (back_count s index planes fd e ∙ ap (λ l. fd_times fd (values_held s.body.kind s.body.buffers) + fd_times fd l) (sym is))
     refl (linked fd)
 
 module _ {P A : Type 0} (m : P → Plane) where

@@ -26,7 +26,7 @@ use Rattle.loop_ioctl.specs.declared.events.QueueEvent.TheVariants as event
 use Rattle.loop_ioctl.specs.declared.events.QueueReply.{QueueReply}
 use Rattle.loop_ioctl.specs.declared.events.QueueReply.TheVariants as answer
 use Rattle.loop_ioctl.specs.Attached.{values_by_fd}
-use Rattle.loop_ioctl.specs.Calls.{IoctlState, Stands, HandsBack, planes_given, supply_given}
+use Rattle.loop_ioctl.specs.Calls.{IoctlState, StandsIoctl, HandsBack, planes_given, supply_given}
 use Rattle.loop_ioctl.specs.Events.{is_whole, IsTold, state_after}
 use Rattle.loop_desk.specs.declared.hand.Hand.{Hand}
 use Rattle.loop_desk.specs.declared.hand.Hand.TheVariants as hand
@@ -72,7 +72,7 @@ kind_of j = j.queue.body.kind
 -- its fd, which is attached
 pub record StandsFront {P A : Type 0} (meaning : P → Plane) (code : Lined P) (table : Fds P) (held : Hand P A)
     (f : Front) : Type 0 where
-  pub queue : Stands meaning code table f.queue
+  pub queue : StandsIoctl meaning code table f.queue
   pub hand : hand_state meaning held ≡ f.hand
   pub out : f.queue.out ≡ values_by_fd (kind_of f.queue) (option_to_list (planes_held f.hand))
 

@@ -9,7 +9,7 @@ use Rattle.loop_vb2.specs.declared.planes.PlaneSet.{PlaneSet}
 use Rattle.loop_vb2.specs.Buffers.{completed_with}
 use Rattle.loop_vb2.specs.First.{shape_of}
 use Rattle.loop_vb2.specs.Planes.{frame_size, has_count}
-use Rattle.loop_vb2.specs.State.{QueueState, Lined, StandsFor}
+use Rattle.loop_vb2.specs.State.{QueueState, Lined, StandsQueue}
 use Rattle.loop_ioctl.specs.Names.{names_in}
 use Rattle.loop_ioctl.specs.Calls.{read_names}
 use Rattle.loop_desk.specs.declared.hand.Hand.TheVariants as hand
@@ -18,7 +18,7 @@ use Rattle.loop_desk.specs.Front.{StandsFront, empty, taken_bytes}
 -- A queue without buffers, any table and an empty hand stand for the front in which no plane is out.
 abbrev pub NewFrontsStand : {P : Type 0} → Type 0 → (P → Plane) → Type 0
 NewFrontsStand {P} A meaning =
-    (code : Lined P) (table : Fds P) (s : QueueState) → StandsFor meaning code s → s.body.buffers ≡ []
+    (code : Lined P) (table : Fds P) (s : QueueState) → StandsQueue meaning code s → s.body.buffers ≡ []
     → StandsFront {A = A} meaning code table hand.Empty
     (record { queue = record { queue = s; names = read_names meaning (names_in table); out = [] }; hand = empty })
 

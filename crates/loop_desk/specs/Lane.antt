@@ -191,9 +191,9 @@ module _ {P A : Type 0} (meaning : P → Plane) where
 abbrev pub LaneTurnsAreEvents : {P : Type 0} → Type 0 → (P → Plane) → Type 0
 LaneTurnsAreEvents {P} A meaning =
     (f : Front) (xs : List (LaneEvent P A × LaneReply P A)) → EachIn (lane_after meaning) (IsLaneTurn meaning) f xs
-    → EachIn model.after model.IsAnswered f.queue.queue (queue_events meaning f xs)
+    → EachIn model.after_event model.MayHappen f.queue.queue (queue_events meaning f xs)
     × ((after_all (lane_after meaning) f xs).queue.queue
-    ≡ after_all model.after f.queue.queue (queue_events meaning f xs))
+    ≡ after_all model.after_event f.queue.queue (queue_events meaning f xs))
 
 -- ---- the device's frames
 

@@ -8,7 +8,7 @@ use Rattle.loop_vb2.specs.Answers.{IsAnswer, read_answer}
 use Rattle.loop_vb2.specs.Buffers.{bytes_at, used_at, state_at, dequeued_from, handed}
 use Rattle.loop_vb2.specs.Owner.{is_dequeued}
 use Rattle.loop_vb2.specs.Planes.{number_at, bytes_in, plane_of_set, read_given}
-use Rattle.loop_vb2.specs.State.{Body, QueueState, Lined, StandsFor}
+use Rattle.loop_vb2.specs.State.{Body, QueueState, Lined, StandsQueue}
 use Rattle.loop_ioctl.specs.declared.events.QueueEvent.{QueueEvent}
 use Rattle.loop_ioctl.specs.declared.events.QueueEvent.TheVariants as event
 use Rattle.loop_desk.specs.declared.hand.Hand.{Hand}
@@ -53,12 +53,12 @@ count_of counts = number_at counts 0 + number_at counts 1 + number_at counts 2
 -- from each state that the queue stands for, where that much was used of a buffer of the application
 abbrev pub AppendsOwn : {P : Type 0} → (P → Plane) → Lined P → ℕ → ℕ → ℕ → ℕ → List ℕ → ℕ → List ℕ → Type 0
 AppendsOwn meaning code index plane most at before stop after =
-    (s : QueueState) → StandsFor meaning code s → IsOwn s.body.buffers index most plane
+    (s : QueueState) → StandsQueue meaning code s → IsOwn s.body.buffers index most plane
     → Appends (begin_at s.body.buffers index most plane) at before stop after
 
 abbrev pub AppendsAllOwn : {P : Type 0} → (P → Plane) → Lined P → ℕ → List ℕ → List ℕ → ℕ → List ℕ → Type 0
 AppendsAllOwn meaning code index counts before stop after =
-    (s : QueueState) → StandsFor meaning code s → IsOwn s.body.buffers index (number_at counts 0) 0
+    (s : QueueState) → StandsQueue meaning code s → IsOwn s.body.buffers index (number_at counts 0) 0
     → IsOwn s.body.buffers index (number_at counts 1) 1 → IsOwn s.body.buffers index (number_at counts 2) 2
     → Appends (begins_at s.body.buffers index counts) 0 before stop after
 
@@ -72,14 +72,14 @@ StaysIn body index b = slice_get body.buffers index ≡ Some (dequeued_from body
 abbrev pub CopiesFrame : {P : Type 0} → (P → Plane) → Lined P → ℕ → List ℕ → Option (PlaneSet P) → List ℕ → ℕ
     → List ℕ → Type 0
 CopiesFrame meaning code index used planes before stop after =
-    (s : QueueState) (b : Buffer Plane) → StandsFor meaning code s → StaysIn s.body index b → used ≡ b.used
+    (s : QueueState) (b : Buffer Plane) → StandsQueue meaning code s → StaysIn s.body index b → used ≡ b.used
     → read_given meaning planes ≡ handed s.body.kind b.planes
     → Appends (taken_bytes s.body.shape b) 0 before stop after
 
 -- the hand has the buffer
 abbrev pub GetsBuffer : {P A : Type 0} → (P → Plane) → Lined P → Dequeued P → Hand P A → Type 0
 GetsBuffer meaning code answer held =
-    (s : QueueState) (b : Buffer Plane) → StandsFor meaning code s → StaysIn s.body answer.index b
+    (s : QueueState) (b : Buffer Plane) → StandsQueue meaning code s → StaysIn s.body answer.index b
     → IsAnswer s.body.kind b (read_answer meaning answer) → hand_state meaning held ≡ hand_of s.body answer.index b
 
 -- ---- events

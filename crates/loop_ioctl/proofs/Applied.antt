@@ -15,8 +15,8 @@ use Rattle.loop_vb2.specs.Checks.{stream_on_refusal, map_refusal, unmap_refusal,
 use Rattle.loop_vb2.specs.Effects.{streaming, stopped_state, touched, body_streaming, settled}
 use Rattle.loop_vb2.specs.Errnos.{errno}
 use Rattle.loop_vb2.specs.Planes.{read_set}
-use Rattle.loop_vb2.specs.State.{Body, QueueState, Lined, StandsFor}
-use Rattle.loop_vb2.specs.Events.{Event, IsAnswered as IsEvent, IsRefusal, Happens, after as then_event, unless, refusal_in, streamon, streamoff, mmap, munmap}
+use Rattle.loop_vb2.specs.State.{Body, QueueState, Lined, StandsQueue}
+use Rattle.loop_vb2.specs.Events.{Event, MayHappen, IsRefusal, Happens, after_event, unless, refusal_in, streamon, streamoff, mmap, munmap}
 use Rattle.loop_vb2.proofs.Ordered.{not_refused}
 use Rattle.loop_ioctl.specs.declared.call.BufferMemory.{BufferMemory}
 use Rattle.loop_ioctl.specs.declared.call.BufferType.{BufferType}
@@ -28,7 +28,7 @@ use Rattle.loop_ioctl.specs.declared.put.Use.TheVariants.{Prepare, Queue}
 use Rattle.loop_ioctl.specs.Types.{named_type, type_of, same_type}
 use Rattle.loop_ioctl.specs.Names.{Names, or_else}
 use Rattle.loop_ioctl.specs.Attached.{IsLinked}
-use Rattle.loop_ioctl.specs.Calls.{IoctlState, Stands, planes_of, HandsBack, planes_given, supply_given, call_refusal, type_refusal, done, IsReply, IsAnsweredFor, after, Applies}
+use Rattle.loop_ioctl.specs.Calls.{IoctlState, StandsIoctl, planes_of, HandsBack, planes_given, supply_given, call_refusal, type_refusal, done, IsReply, IsRepliedFor, after_ioctl, Applies}
 use Rattle.loop_ioctl.specs.Parts.{Puts, Asks, LetsOneOut, Replaces, AppliesTyped}
 use Rattle.loop_ioctl.proofs.Attached.{kept_changed, kept_mapped, in_buffers}
 use Rattle.loop_ioctl.proofs.Putting.{settled_fds, settled_kind, still_linked, moves, stays}
@@ -67,7 +67,7 @@ module _ {P A : Type 0} (m : P → Plane) where
       let passes : type_refusal c j ≡ None =
       ap (λ f. cond (same_type (named_type c) (type_of f)) None (Some BadType)) (sym (ap (λ b. b.format) stands.queue.shown.body)) ∙ ap (λ x. cond x None (Some BadType)) same in
       let h = then j stands in
-      (subst (λ r. IsAnsweredFor m c j (or_else r (call_refusal m c j)) result) (sym passes) h.0, h.1)
+      (subst (λ r. IsRepliedFor m c j (or_else r (call_refusal m c j)) result) (sym passes) h.0, h.1)
 
   -- it is another
   pub of_other_type : (c : Ioctl P A) (r : Refused P A) (q : Lined P) (t : Fds P) → same_type (named_type c) (type_of q.body.format) ≡ false → r.errno ≡ errno BadType → HandsBack (planes_given c) (supply_given c) r → Applies m c (Err r) q t q t
@@ -80,8 +80,8 @@ module _ {P A : Type 0} (m : P → Plane) where
 
   -- what such a call is, in the model
   pub record IsPlain (c : Ioctl P A) (event : Option Errno → Event) (why : QueueState → Option Reason) (effect : QueueState → QueueState) : Type 0 where
-    pub answered : (s : QueueState) (r : Option Errno) → IsEvent s (event r) → IsRefusal (why s) r
-    pub turned : (s : QueueState) (r : Option Errno) → then_event s (event r) ≡ unless r s (effect s)
+    pub answered : (s : QueueState) (r : Option Errno) → MayHappen s (event r) → IsRefusal (why s) r
+    pub turned : (s : QueueState) (r : Option Errno) → after_event s (event r) ≡ unless r s (effect s)
     pub judged : (j : IoctlState) → call_refusal m c j ≡ why j.queue
     pub makes : (j : IoctlState) → done m c j ≡ record j { queue = effect j.queue }
     pub tells : (j : IoctlState) → IsReply m c j reply.Done
@@ -92,15 +92,15 @@ module _ {P A : Type 0} (m : P → Plane) where
   back_of : (c : Ioctl P A) (planes : Option (PlaneSet P)) (supply : List (PlaneSet P)) (r : Refused P A) → planes_given c ≡ planes → supply_given c ≡ supply → HandsBack planes supply r → HandsBack (planes_given c) (supply_given c) r
   back_of c planes supply r e f back = (back.0 ∙ sym e, back.1 ∙ sym f)
 
-  plain_step : (c : Ioctl P A) (event : Option Errno → Event) (why : QueueState → Option Reason) (effect : QueueState → QueueState) → IsPlain c event why effect → (result : Result (IoctlReply P A) (Refused P A)) (q q' : Lined P) (table : Fds P) → Happens m q q' (event (refusal_in result)) → IfOk result (λ r. r ≡ reply.Done) → IfErr result (HandsBack None []) → (j : IoctlState) → Stands m q table j → IsAnsweredFor m c j (call_refusal m c j) result × Stands m q' table (after m c j result)
+  plain_step : (c : Ioctl P A) (event : Option Errno → Event) (why : QueueState → Option Reason) (effect : QueueState → QueueState) → IsPlain c event why effect → (result : Result (IoctlReply P A) (Refused P A)) (q q' : Lined P) (table : Fds P) → Happens m q q' (event (refusal_in result)) → IfOk result (λ r. r ≡ reply.Done) → IfErr result (HandsBack None []) → (j : IoctlState) → StandsIoctl m q table j → IsRepliedFor m c j (call_refusal m c j) result × StandsIoctl m q' table (after_ioctl m c j result)
   plain_step c event why effect is (Ok r) q q' table step done back j stands =
       let t = step j.queue stands.queue in
       let passes : why j.queue ≡ None = not_refused (why j.queue) (is.answered j.queue None t.0) in
-      let new : StandsFor m q' (effect j.queue) = subst (λ s. StandsFor m q' s) (is.turned j.queue None) t.1 in
-      ((is.judged j ∙ passes, subst (λ x. IsReply m c j x) (sym done) (is.tells j)), subst (λ k. Stands m q' table k) (sym (is.makes j)) (moves m q q' table j (effect j.queue) stands new (is.links j.queue j.out j.names stands.linked)))
+      let new : StandsQueue m q' (effect j.queue) = subst (λ s. StandsQueue m q' s) (is.turned j.queue None) t.1 in
+      ((is.judged j ∙ passes, subst (λ x. IsReply m c j x) (sym done) (is.tells j)), subst (λ k. StandsIoctl m q' table k) (sym (is.makes j)) (moves m q q' table j (effect j.queue) stands new (is.links j.queue j.out j.names stands.linked)))
   plain_step c event why effect is (Err r) q q' table step done back j stands =
       let t = step j.queue stands.queue in
-      let new : StandsFor m q' j.queue = subst (λ s. StandsFor m q' s) (is.turned j.queue (Some r.errno)) t.1 in
+      let new : StandsQueue m q' j.queue = subst (λ s. StandsQueue m q' s) (is.turned j.queue (Some r.errno)) t.1 in
       ((inl (ap (option_map errno) (is.judged j) ∙ is.answered j.queue (Some r.errno) t.0), back_of c None [] r is.planes is.supply back), stays m q q' table j stands new)
 
   pub stream_on_applies : (type : BufferType) (result : Result (IoctlReply P A) (Refused P A)) (q q' : Lined P) (table : Fds P) → Happens m q q' (streamon (refusal_in result)) → IfOk result (λ r. r ≡ reply.Done) → IfErr result (HandsBack None []) → AppliesTyped m (call.StreamOn type) result q table q' table
@@ -119,7 +119,7 @@ module _ {P A : Type 0} (m : P → Plane) where
 
   -- ---- QUERYBUF
 
-  query_step : (type : BufferType) (index : ℕ) (result : Result (IoctlReply P A) (Refused P A)) (q : Lined P) (table : Fds P) → Asks m index q result → IfErr result (HandsBack None []) → (j : IoctlState) → Stands m q table j → IsAnsweredFor m (call.QueryBuf type index) j (call_refusal {A = A} m (call.QueryBuf type index) j) result × Stands m q table (after m (call.QueryBuf type index) j result)
+  query_step : (type : BufferType) (index : ℕ) (result : Result (IoctlReply P A) (Refused P A)) (q : Lined P) (table : Fds P) → Asks m index q result → IfErr result (HandsBack None []) → (j : IoctlState) → StandsIoctl m q table j → IsRepliedFor m (call.QueryBuf type index) j (call_refusal {A = A} m (call.QueryBuf type index) j) result × StandsIoctl m q table (after_ioctl m (call.QueryBuf type index) j result)
   query_step type index (Ok (reply.Info info)) q table step back j stands = let t = step j.queue stands.queue in (t.0, stands)
   query_step type index (Ok (reply.Granted g)) q table step back j stands = absurd step
   query_step type index (Ok (reply.Dequeued d)) q table step back j stands = absurd step
@@ -131,7 +131,7 @@ module _ {P A : Type 0} (m : P → Plane) where
 
   -- ---- QBUF and PREPARE_BUF
 
-  queue_step : (type : BufferType) (index : ℕ) (given : BufferMemory P) (result : Result (IoctlReply P A) (Refused P A)) (q q' : Lined P) (a b : Fds P) → Puts m Queue index given result q a q' b → IfOk result (λ r. r ≡ reply.Done) → IfErr result (HandsBack (planes_of given) []) → (j : IoctlState) → Stands m q a j → IsAnsweredFor m (call.QBuf type index given) j (call_refusal {A = A} m (call.QBuf type index given) j) result × Stands m q' b (after m (call.QBuf type index given) j result)
+  queue_step : (type : BufferType) (index : ℕ) (given : BufferMemory P) (result : Result (IoctlReply P A) (Refused P A)) (q q' : Lined P) (a b : Fds P) → Puts m Queue index given result q a q' b → IfOk result (λ r. r ≡ reply.Done) → IfErr result (HandsBack (planes_of given) []) → (j : IoctlState) → StandsIoctl m q a j → IsRepliedFor m (call.QBuf type index given) j (call_refusal {A = A} m (call.QBuf type index given) j) result × StandsIoctl m q' b (after_ioctl m (call.QBuf type index given) j result)
   queue_step type index given (Ok r) q q' a b puts is back j stands =
       let h = puts j stands in ((h.0, subst (λ x. IsReply m (call.QBuf type index given) j x) (sym is) tt), h.1)
   queue_step type index given (Err r) q q' a b puts is back j stands = let h = puts j stands in ((inl h.0, back), h.1)
@@ -139,7 +139,7 @@ module _ {P A : Type 0} (m : P → Plane) where
   pub queue_applies : (type : BufferType) (index : ℕ) (given : BufferMemory P) (result : Result (IoctlReply P A) (Refused P A)) (q q' : Lined P) (a b : Fds P) → Puts m Queue index given result q a q' b → IfOk result (λ r. r ≡ reply.Done) → IfErr result (HandsBack (planes_of given) []) → AppliesTyped m (call.QBuf type index given) result q a q' b
   queue_applies type index given result q q' a b puts is back = queue_step type index given result q q' a b puts is back
 
-  prepare_step : (type : BufferType) (index : ℕ) (given : BufferMemory P) (result : Result (IoctlReply P A) (Refused P A)) (q q' : Lined P) (a b : Fds P) → Puts m Prepare index given result q a q' b → IfOk result (λ r. r ≡ reply.Done) → IfErr result (HandsBack (planes_of given) []) → (j : IoctlState) → Stands m q a j → IsAnsweredFor m (call.PrepareBuf type index given) j (call_refusal {A = A} m (call.PrepareBuf type index given) j) result × Stands m q' b (after m (call.PrepareBuf type index given) j result)
+  prepare_step : (type : BufferType) (index : ℕ) (given : BufferMemory P) (result : Result (IoctlReply P A) (Refused P A)) (q q' : Lined P) (a b : Fds P) → Puts m Prepare index given result q a q' b → IfOk result (λ r. r ≡ reply.Done) → IfErr result (HandsBack (planes_of given) []) → (j : IoctlState) → StandsIoctl m q a j → IsRepliedFor m (call.PrepareBuf type index given) j (call_refusal {A = A} m (call.PrepareBuf type index given) j) result × StandsIoctl m q' b (after_ioctl m (call.PrepareBuf type index given) j result)
   prepare_step type index given (Ok r) q q' a b puts is back j stands =
       let h = puts j stands in ((h.0, subst (λ x. IsReply m (call.PrepareBuf type index given) j x) (sym is) tt), h.1)
   prepare_step type index given (Err r) q q' a b puts is back j stands = let h = puts j stands in ((inl h.0, back), h.1)
@@ -149,7 +149,7 @@ module _ {P A : Type 0} (m : P → Plane) where
 
   -- ---- DQBUF and REQBUFS
 
-  dequeue_step : (type : BufferType) (result : Result (IoctlReply P A) (Refused P A)) (q q' : Lined P) (a b : Fds P) → LetsOneOut m result q a q' b → IfErr result (HandsBack None []) → (j : IoctlState) → Stands m q a j → IsAnsweredFor m (call.DqBuf type) j (call_refusal {A = A} m (call.DqBuf type) j) result × Stands m q' b (after m (call.DqBuf type) j result)
+  dequeue_step : (type : BufferType) (result : Result (IoctlReply P A) (Refused P A)) (q q' : Lined P) (a b : Fds P) → LetsOneOut m result q a q' b → IfErr result (HandsBack None []) → (j : IoctlState) → StandsIoctl m q a j → IsRepliedFor m (call.DqBuf type) j (call_refusal {A = A} m (call.DqBuf type) j) result × StandsIoctl m q' b (after_ioctl m (call.DqBuf type) j result)
   dequeue_step type (Ok (reply.Dequeued d)) q q' a b lets back j stands = let h = lets j stands in (h.0, h.1)
   dequeue_step type (Ok (reply.Granted g)) q q' a b lets back j stands = let h = lets j stands in absurd h.0
   dequeue_step type (Ok (reply.Info info)) q q' a b lets back j stands = let h = lets j stands in absurd h.0
@@ -159,7 +159,7 @@ module _ {P A : Type 0} (m : P → Plane) where
   pub dequeue_applies : (type : BufferType) (result : Result (IoctlReply P A) (Refused P A)) (q q' : Lined P) (a b : Fds P) → LetsOneOut m result q a q' b → IfErr result (HandsBack None []) → AppliesTyped m (call.DqBuf type) result q a q' b
   dequeue_applies type result q q' a b lets back = dequeue_step type result q q' a b lets back
 
-  request_step : (type : BufferType) (count : ℕ) (kind : Memory) (supply : Vec (PlaneSet P) A) (result : Result (IoctlReply P A) (Refused P A)) (q q' : Lined P) (a b : Fds P) → Replaces m count kind supply.items result q a q' b → IfErr result (HandsBack None supply.items) → (j : IoctlState) → Stands m q a j → IsAnsweredFor m (call.ReqBufs type count kind supply) j (call_refusal m (call.ReqBufs type count kind supply) j) result × Stands m q' b (after m (call.ReqBufs type count kind supply) j result)
+  request_step : (type : BufferType) (count : ℕ) (kind : Memory) (supply : Vec (PlaneSet P) A) (result : Result (IoctlReply P A) (Refused P A)) (q q' : Lined P) (a b : Fds P) → Replaces m count kind supply.items result q a q' b → IfErr result (HandsBack None supply.items) → (j : IoctlState) → StandsIoctl m q a j → IsRepliedFor m (call.ReqBufs type count kind supply) j (call_refusal m (call.ReqBufs type count kind supply) j) result × StandsIoctl m q' b (after_ioctl m (call.ReqBufs type count kind supply) j result)
   request_step type count kind supply (Ok (reply.Granted g)) q q' a b lets back j stands = let h = lets j stands in (h.0, h.1)
   request_step type count kind supply (Ok (reply.Dequeued d)) q q' a b lets back j stands = let h = lets j stands in absurd h.0
   request_step type count kind supply (Ok (reply.Info info)) q q' a b lets back j stands = let h = lets j stands in absurd h.0

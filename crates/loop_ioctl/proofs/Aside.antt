@@ -24,8 +24,8 @@ use Rattle.loop_ioctl.specs.declared.events.QueueReply.TheVariants as answer
 use Rattle.loop_ioctl.specs.declared.put.Use.{Use}
 use Rattle.loop_ioctl.specs.declared.put.Use.TheVariants.{Prepare, Queue}
 use Rattle.loop_ioctl.specs.Names.{Names, names_in, set_named}
-use Rattle.loop_ioctl.specs.Attached.{times, values_held, IsOnce, IsLinked}
-use Rattle.loop_ioctl.specs.Calls.{IoctlState, read_names, put_in, taken_out, done, after, NewQueuesStand}
+use Rattle.loop_ioctl.specs.Attached.{fd_times, values_held, IsOnce, IsLinked}
+use Rattle.loop_ioctl.specs.Calls.{IoctlState, read_names, put_in, taken_out, done, after_ioctl, NewQueuesStand}
 use Rattle.loop_ioctl.specs.Events.{state_after}
 use Rattle.loop_ioctl.proofs.Attached.{in_buffers, in_buffer}
 use Rattle.loop_ioctl.proofs.Applied.{on_kind}
@@ -33,13 +33,13 @@ use Rattle.loop_ioctl.proofs.Putting.{used_kind, used_none, used_some, held_same
 
 -- ---- a queue without buffers
 
-none_held : (kind : Memory) (fd : ℕ) (name : Option (Option Plane)) → IsOnce (times fd (values_held {T = Plane} kind []) + times {T = Plane} fd []) name
+none_held : (kind : Memory) (fd : ℕ) (name : Option (Option Plane)) → IsOnce (fd_times fd (values_held {T = Plane} kind []) + fd_times {T = Plane} fd []) name
 none_held Mmap fd name = inl refl
 none_held UserPtr fd name = inl refl
 none_held DmaBuf fd name = inl refl
 
 none_linked : (b : Body Plane) (before : Names Plane) → b.buffers ≡ [] → IsLinked b [] before
-none_linked b before e = λ (fd : ℕ). subst (λ bs. IsOnce (times fd (values_held b.kind bs) + times {T = Plane} fd []) (before fd)) (sym e) (none_held b.kind fd (before fd))
+none_linked b before e = λ (fd : ℕ). subst (λ bs. IsOnce (fd_times fd (values_held b.kind bs) + fd_times {T = Plane} fd []) (before fd)) (sym e) (none_held b.kind fd (before fd))
 
 pub new_queues_stand : {P : Type 0} (m : P → Plane) → NewQueuesStand m
 new_queues_stand m code table s stands none = record { queue = stands; names = refl; linked = none_linked s.body (read_names m (names_in table)) none }
@@ -49,7 +49,7 @@ new_queues_stand m code table s stands none = record { queue = stands; names = r
 pub queued_kind : (index : ℕ) (given : Option (PlaneSet Plane)) (s : QueueState) → (queued index given s).body.kind ≡ s.body.kind
 queued_kind index given s = used_kind Queue index given s
 
-pub queued_none : (index : ℕ) (s : QueueState) (fd : ℕ) → times fd (values_held s.body.kind (queued index None s).body.buffers) ≡ times fd (values_held s.body.kind s.body.buffers)
+pub queued_none : (index : ℕ) (s : QueueState) (fd : ℕ) → fd_times fd (values_held s.body.kind (queued index None s).body.buffers) ≡ fd_times fd (values_held s.body.kind s.body.buffers)
 queued_none index s fd = held_same s.body.kind s.body.buffers (queued index None s).body.buffers fd (used_none Queue index s fd)
 
 pub queued_some : (index : ℕ) (set : PlaneSet Plane) (s : QueueState) (fd : ℕ) → queue_refusal index s.body.kind (Some set) s.body ≡ None → in_buffers fd (queued index (Some set) s).body.buffers ≡ in_buffers fd s.body.buffers + in_buffer fd (Some set)
@@ -93,7 +93,7 @@ module _ {P A : Type 0} (m : P → Plane) where
   done_aside (call.Mmap type index) j e = record { out = refl; kind = refl }
   done_aside (call.Munmap type index) j e = record { out = refl; kind = refl }
 
-  call_aside : (c : Ioctl P A) (result : Result (IoctlReply P A) (Refused P A)) (j : IoctlState) → is_request (event.Ioctl c) ≡ false → IsAside j (after m c j result)
+  call_aside : (c : Ioctl P A) (result : Result (IoctlReply P A) (Refused P A)) (j : IoctlState) → is_request (event.Ioctl c) ≡ false → IsAside j (after_ioctl m c j result)
   call_aside c (Ok r) j e = done_aside c j e
   call_aside c (Err r) j e = same_aside j
 
@@ -108,7 +108,7 @@ module _ {P A : Type 0} (m : P → Plane) where
   event_aside e r j n = same_aside j
 
   -- and REQBUFS
-  request_out : (type : BufferType) (count : ℕ) (kind : Memory) (supply : Vec (PlaneSet P) A) (result : Result (IoctlReply P A) (Refused P A)) (j : IoctlState) → (after m (call.ReqBufs type count kind supply) j result).out ≡ j.out
+  request_out : (type : BufferType) (count : ℕ) (kind : Memory) (supply : Vec (PlaneSet P) A) (result : Result (IoctlReply P A) (Refused P A)) (j : IoctlState) → (after_ioctl m (call.ReqBufs type count kind supply) j result).out ≡ j.out
   request_out type count kind supply (Ok r) j = refl
   request_out type count kind supply (Err r) j = refl
 

@@ -16,8 +16,8 @@ use Rattle.loop_vb2.specs.Events.{Happens, refusal_of, complete, fail, fatal}
 use Rattle.loop_vb2.proofs.Ordered.{not_refused}
 use Rattle.loop_ioctl.specs.declared.events.QueueEvent.TheVariants as event
 use Rattle.loop_ioctl.specs.declared.events.QueueReply.TheVariants as answer
-use Rattle.loop_ioctl.specs.Names.{Names, in_place, values_in}
-use Rattle.loop_ioctl.specs.Attached.{times, IsLinked}
+use Rattle.loop_ioctl.specs.Names.{Names, value_with_fd, values_in}
+use Rattle.loop_ioctl.specs.Attached.{fd_times, IsLinked}
 use Rattle.loop_ioctl.specs.Events.{is_whole, Reacts}
 use Rattle.loop_ioctl.specs.declared.events.QueueEvent.{QueueEvent}
 use Rattle.std.proofs.lemmas.Bool.{eqb-true}
@@ -25,11 +25,11 @@ use Rattle.loop_ioctl.proofs.Attached.{in_buffer, kept_changed, last_none}
 use Rattle.loop_ioctl.proofs.Putting.{still_linked, moves, stays}
 
 -- a plane filled has the fd that it had
-slot_fds : (fd f : ℕ) (p : Option Plane) (bytes : List ℕ) (a b : List (ℕ × Plane)) → times fd a ≡ times fd b → times fd (in_place f (slot_filled p bytes) ++ a) ≡ times fd (in_place f p ++ b)
+slot_fds : (fd f : ℕ) (p : Option Plane) (bytes : List ℕ) (a b : List (ℕ × Plane)) → fd_times fd a ≡ fd_times fd b → fd_times fd (value_with_fd f (slot_filled p bytes) ++ a) ≡ fd_times fd (value_with_fd f p ++ b)
 slot_fds fd f None bytes a b e = e
 slot_fds fd f (Some p) bytes a b e = omega (arith, e)
 
-last_fds : (fd f : ℕ) (p : Option Plane) (bytes : List ℕ) → times fd (in_place f (slot_filled p bytes)) ≡ times fd (in_place f p)
+last_fds : (fd f : ℕ) (p : Option Plane) (bytes : List ℕ) → fd_times fd (value_with_fd f (slot_filled p bytes)) ≡ fd_times fd (value_with_fd f p)
 last_fds fd f None bytes = refl
 last_fds fd f (Some p) bytes = refl
 
@@ -41,10 +41,10 @@ filled_fds shape bytes (Some set) fd =
     let b2 = take (number_at shape.sizes 2) (drop (number_at shape.sizes 0 + number_at shape.sizes 1) bytes) in
     let f0 = number_at set.fds 0 in
     let f1 = number_at set.fds 1 in
-    ap (times fd) (last_none (values_in (set_by slot_filled shape bytes set)))
-    ∙ (slot_fds fd (number_at set.fds 2) set.planes.cr b2 (in_place f1 (slot_filled set.planes.cb b1) ++ in_place f0 (slot_filled set.planes.y b0)) (in_place f1 set.planes.cb ++ in_place f0 set.planes.y)
-    (slot_fds fd f1 set.planes.cb b1 (in_place f0 (slot_filled set.planes.y b0)) (in_place f0 set.planes.y) (last_fds fd f0 set.planes.y b0))
-    ∙ sym (ap (times fd) (last_none (values_in set))))
+    ap (fd_times fd) (last_none (values_in (set_by slot_filled shape bytes set)))
+    ∙ (slot_fds fd (number_at set.fds 2) set.planes.cr b2 (value_with_fd f1 (slot_filled set.planes.cb b1) ++ value_with_fd f0 (slot_filled set.planes.y b0)) (value_with_fd f1 set.planes.cb ++ value_with_fd f0 set.planes.y)
+    (slot_fds fd f1 set.planes.cb b1 (value_with_fd f0 (slot_filled set.planes.y b0)) (value_with_fd f0 set.planes.y) (last_fds fd f0 set.planes.y b0))
+    ∙ sym (ap (fd_times fd) (last_none (values_in set))))
 
 pub completed_linked : (index : ℕ) (stamp : Stamp) (bytes : List ℕ) (s : QueueState) (out : List (ℕ × Plane)) (n : Names Plane) → IsLinked s.body out n → IsLinked (completed index stamp bytes s).body out n
 completed_linked index stamp bytes s out n linked =

@@ -16,7 +16,7 @@ use Rattle.loop_vb2.specs.Errnos.{errno}
 use Rattle.loop_vb2.specs.Events as model
 use Rattle.loop_vb2.specs.Events.{Event, IsRefusal, unless, refusal_in}
 use Rattle.loop_vb2.specs.Planes.{same_memory, are_kind, read_given}
-use Rattle.loop_vb2.specs.State.{Body, QueueState, StandsFor}
+use Rattle.loop_vb2.specs.State.{Body, QueueState, StandsQueue}
 use Rattle.loop_vb2.proofs.Ordered.{dequeues_in_order}
 use Rattle.loop_ioctl.specs.declared.call.BufferMemory.{BufferMemory}
 use Rattle.loop_ioctl.specs.declared.call.BufferMemory.TheVariants as memory
@@ -31,7 +31,7 @@ use Rattle.loop_ioctl.specs.declared.events.QueueReply.TheVariants as answer
 use Rattle.loop_ioctl.specs.declared.put.Use.{Use}
 use Rattle.loop_ioctl.specs.declared.put.Use.TheVariants.{Prepare, Queue}
 use Rattle.loop_ioctl.specs.Names.{or_else, set_named, set_refusal}
-use Rattle.loop_ioctl.specs.Calls.{IoctlState, IsAnsweredFor, after, call_refusal, early_refusal, put_in, put_refusal, taken_out, type_refusal, use_refusal, used}
+use Rattle.loop_ioctl.specs.Calls.{IoctlState, IsRepliedFor, after_ioctl, call_refusal, early_refusal, put_in, put_refusal, taken_out, type_refusal, use_refusal, used}
 use Rattle.loop_ioctl.specs.Events.{IsTold, IsTurn, state_after, turned, turns}
 use Rattle.loop_ioctl.specs.Modelled.{unless_refused, put_events, call_events, event_of, events_of, events_in, TurnsAreEvents, RunsAreInOrder}
 use Rattle.loop_ioctl.proofs.Out.{planes_got}
@@ -53,7 +53,7 @@ all_told {S} {X} {T} {Y} after P next Q view told one s (x ∷ xs) each =
 
 -- from one state of the queue to another, by these events
 abbrev pub AreBetween : QueueState → QueueState → List Event → Type 0
-AreBetween s t events = EachIn model.after model.IsAnswered s events × (t ≡ after_all model.after s events)
+AreBetween s t events = EachIn model.after_event model.MayHappen s events × (t ≡ after_all model.after_event s events)
 
 or_none : (a b : Option Reason) → or_else a b ≡ None → (a ≡ None) × (b ≡ None)
 or_none None b e = (refl, e)
@@ -88,8 +88,8 @@ early_is_first Queue index set b = early_first (nat_le (length b.buffers) index)
 
 -- what PREPARE_BUF and QBUF are in the model
 record IsPut (way : Use) (index : ℕ) (refusal : Option Errno) (s : QueueState) (put : Memory → Option (PlaneSet Plane) → Event) : Type 0 where
-  answered : (kind : Memory) (given : Option (PlaneSet Plane)) → IsRefusal (use_refusal way index kind given s.body) refusal → model.IsAnswered s (put kind given)
-  made : (kind : Memory) (given : Option (PlaneSet Plane)) → model.after s (put kind given) ≡ unless refusal s (used way index given s)
+  answered : (kind : Memory) (given : Option (PlaneSet Plane)) → IsRefusal (use_refusal way index kind given s.body) refusal → model.MayHappen s (put kind given)
+  made : (kind : Memory) (given : Option (PlaneSet Plane)) → model.after_event s (put kind given) ≡ unless refusal s (used way index given s)
 
 module _ {P : Type 0} (m : P → Plane) where
   put_done : (way : Use) (index : ℕ) (given : BufferMemory P) (j : IoctlState) (put : Memory → Option (PlaneSet Plane) → Event) → IsPut way index None j.queue put → put_refusal m way index given j ≡ None
@@ -104,7 +104,7 @@ module _ {P : Type 0} (m : P → Plane) where
       subst (λ (o : Option Reason). AreBetween j.queue (used way index (Some set) j.queue) (unless_refused o (put DmaBuf (Some set) ∷ []))) (sym both.0)
       ((is.answered DmaBuf (Some set) (ap (option_map errno) both.1), tt), sym (is.made DmaBuf (Some set)))
 
-  fd_refused : (early named late : Option Reason) (e : Errno) (s : QueueState) (x : Event) → or_else early late ≡ late → (IsRefusal late (Some e) → model.IsAnswered s x) → model.after s x ≡ s → option_map errno (or_else early (or_else named late)) ≡ Some e
+  fd_refused : (early named late : Option Reason) (e : Errno) (s : QueueState) (x : Event) → or_else early late ≡ late → (IsRefusal late (Some e) → model.MayHappen s x) → model.after_event s x ≡ s → option_map errno (or_else early (or_else named late)) ≡ Some e
       → AreBetween s s (unless_refused named (x ∷ []))
   fd_refused early (Some reason) late e s x first answered still why = (tt, refl)
   fd_refused early None late e s x first answered still why = ((answered (ap (option_map errno) (sym first) ∙ why), tt), sym still)
@@ -120,7 +120,7 @@ module _ {P : Type 0} (m : P → Plane) where
       (is.answered DmaBuf (Some set)) (is.made DmaBuf (Some set)) why
 
 module _ {P A : Type 0} (m : P → Plane) where
-  call_told : (c : Ioctl P A) (result : Result (IoctlReply P A) (Refused P A)) (j : IoctlState) → IsAnsweredFor m c j (call_refusal m c j) result → AreBetween j.queue (after m c j result).queue (call_events m c result j)
+  call_told : (c : Ioctl P A) (result : Result (IoctlReply P A) (Refused P A)) (j : IoctlState) → IsRepliedFor m c j (call_refusal m c j) result → AreBetween j.queue (after_ioctl m c j result).queue (call_events m c result j)
   call_told (call.ReqBufs type count kind supply) (Ok (reply.Granted g)) j h = (((h.0, h.1.0, refl), tt), refl)
   call_told (call.ReqBufs type count kind supply) (Ok (reply.Info info)) j h = absurd h.1
   call_told (call.ReqBufs type count kind supply) (Ok (reply.Dequeued d)) j h = absurd h.1
@@ -156,7 +156,7 @@ module _ {P A : Type 0} (m : P → Plane) where
   call_told (call.Munmap type index) (Err r) j h = ((checked (call_refusal {A = A} m (call.Munmap type index) j) r.errno h.0, tt), refl)
 
   -- the buffer type comes first
-  typed_told : (type : Option Reason) (c : Ioctl P A) (result : Result (IoctlReply P A) (Refused P A)) (j : IoctlState) → IsAnsweredFor m c j (or_else type (call_refusal m c j)) result → AreBetween j.queue (after m c j result).queue (unless_refused type (call_events m c result j))
+  typed_told : (type : Option Reason) (c : Ioctl P A) (result : Result (IoctlReply P A) (Refused P A)) (j : IoctlState) → IsRepliedFor m c j (or_else type (call_refusal m c j)) result → AreBetween j.queue (after_ioctl m c j result).queue (unless_refused type (call_events m c result j))
   typed_told None c result j h = call_told c result j h
   typed_told (Some reason) c (Ok r) j h = absurd (let e : Some reason ≡ None = h.0 in cc)
   typed_told (Some reason) c (Err r) j h = (tt, refl)
@@ -173,11 +173,11 @@ module _ {P A : Type 0} (m : P → Plane) where
 -- ---- lists
 
 pub turns_are_events : {P : Type 0} (A : Type 0) (m : P → Plane) → TurnsAreEvents A m
-turns_are_events A m j xs each = all_told (turned m) (IsTurn m) model.after model.IsAnswered (λ k. k.queue) (events_of m) (λ k x h. turn_told m x.0 x.1 k h) j xs each
+turns_are_events A m j xs each = all_told (turned m) (IsTurn m) model.after_event model.MayHappen (λ k. k.queue) (events_of m) (λ k x h. turn_told m x.0 x.1 k h) j xs each
 
 pub runs_are_in_order : {P : Type 0} (A : Type 0) (m : P → Plane) → RunsAreInOrder A m
 runs_are_in_order {P} A m events replies q q' t t' run j stands =
     let told = run.told j stands in
     let xs = turns events replies in
     let are = turns_are_events A m j xs told.0 in
-    dequeues_in_order m q q' j.queue (events_in m j xs) stands.queue are.0 (subst (λ (s : QueueState). StandsFor m q' s) are.1 told.1.queue)
+    dequeues_in_order m q q' j.queue (events_in m j xs) stands.queue are.0 (subst (λ (s : QueueState). StandsQueue m q' s) are.1 told.1.queue)

@@ -11,7 +11,7 @@ use Rattle.loop_vb2.specs.declared.planes.PlaneSet.{PlaneSet}
 use Rattle.loop_vb2.specs.declared.reason.Reason.{Reason}
 use Rattle.loop_vb2.specs.Planes.{number_at}
 use Rattle.loop_ioctl.specs.declared.call.PlaneFds.{PlaneFds}
-use Rattle.loop_ioctl.specs.Names.{Names, or_else, reason_of, names_in, renamed, fd_refusal, value_of, place_refusal, place_value, place_taken, first_taken, second_taken, set_taken, set_refusal, set_named, in_place, values_in, given_back, TakesPlace, TakesSet, AreAway, GivesBack}
+use Rattle.loop_ioctl.specs.Names.{Names, or_else, reason_of, names_in, renamed, fd_refusal, value_of, place_refusal, place_value, place_taken, first_taken, second_taken, set_taken, set_refusal, set_named, value_with_fd, values_in, given_back, TakesPlace, TakesSet, AreAway, GivesBack}
 
 -- functions that agree everywhere are one
 pub ext : {A B : Type 0} {f g : A → B} → ((x : A) → f x ≡ g x) → f ≡ g
@@ -83,7 +83,7 @@ module _ {T : Type 0} where
   not_away NoMemory name h e = h
   not_away TableFull name h e = h
 
-  pub gave : {U : Type 0} (fd : ℕ) (value : T) (before after : Fds T) (result : Result U (FdFault × T)) → OnOk result (Updates before after fd (Some (Some value))) → IfErr result (λ e. DetachFault e.0 (names before fd)) → GivesBack (in_place fd (Some value)) before after
+  pub gave : {U : Type 0} (fd : ℕ) (value : T) (before after : Fds T) (result : Result U (FdFault × T)) → OnOk result (Updates before after fd (Some (Some value))) → IfErr result (λ e. DetachFault e.0 (names before fd)) → GivesBack (value_with_fd fd (Some value)) before after
   gave fd value before after (Ok u) ok fault = λ _. names_updated before after fd (Some (Some value)) ok
   gave fd value before after (Err e) ok fault = λ away. absurd (not_away e.0 (names before fd) fault (sym (names_get before fd) ∙ away.0))
 
@@ -100,23 +100,23 @@ module _ {T : Type 0} where
     away : AreAway vs after
     back : given_back vs after ≡ before
 
-  name_restored : (fd : ℕ) (before : Names T) (name : Option (Option T)) → before fd ≡ name → fd_refusal name ≡ None → IsRestored (in_place fd (value_of name)) before (renamed fd (Some None) before)
+  name_restored : (fd : ℕ) (before : Names T) (name : Option (Option T)) → before fd ≡ name → fd_refusal name ≡ None → IsRestored (value_with_fd fd (value_of name)) before (renamed fd (Some None) before)
   name_restored fd before None h e = absurd (cc)
   name_restored fd before (Some None) h e = absurd (cc)
   name_restored fd before (Some (Some value)) h e = record { away = (renamed_here fd (Some None) before fd refl, tt); back = restored fd value before h }
 
-  place_restored : (due : Bool) (fd : ℕ) (before : Names T) → place_refusal due fd before ≡ None → IsRestored (in_place fd (place_value due fd before)) before (place_taken due fd before)
+  place_restored : (due : Bool) (fd : ℕ) (before : Names T) → place_refusal due fd before ≡ None → IsRestored (value_with_fd fd (place_value due fd before)) before (place_taken due fd before)
   place_restored false fd before e = record { away = tt; back = refl }
   place_restored true fd before e = name_restored fd before (before fd) refl e
 
   -- a place taken, and given back from a table that names the same
-  pub undone : (due : Bool) (fd : ℕ) (place : Option T) (a b c d : Fds T) → TakesPlace due fd (Ok place) a b → names_in c ≡ names_in b → GivesBack (in_place fd place) c d → names_in d ≡ names_in a
+  pub undone : (due : Bool) (fd : ℕ) (place : Option T) (a b c d : Fds T) → TakesPlace due fd (Ok place) a b → names_in c ≡ names_in b → GivesBack (value_with_fd fd place) c d → names_in d ≡ names_in a
   undone due fd place a b c d took same gave =
-      let r : IsRestored (in_place fd (place_value due fd (names_in a))) (names_in a) (place_taken due fd (names_in a)) = place_restored due fd (names_in a) took.0 in
+      let r : IsRestored (value_with_fd fd (place_value due fd (names_in a))) (names_in a) (place_taken due fd (names_in a)) = place_restored due fd (names_in a) took.0 in
       let e : names_in c ≡ place_taken due fd (names_in a) = same ∙ took.2 in
-      let away : AreAway (in_place fd place) (names_in c) =
-      subst (λ p. AreAway (in_place fd p) (names_in c)) (sym took.1) (subst (λ n. AreAway (in_place fd (place_value due fd (names_in a))) n) (sym e) r.away) in
-      gave away ∙ (ap (λ n. given_back (in_place fd place) n) e ∙ (ap (λ p. given_back (in_place fd p) (place_taken due fd (names_in a))) took.1 ∙ r.back))
+      let away : AreAway (value_with_fd fd place) (names_in c) =
+      subst (λ p. AreAway (value_with_fd fd p) (names_in c)) (sym took.1) (subst (λ n. AreAway (value_with_fd fd (place_value due fd (names_in a))) n) (sym e) r.away) in
+      gave away ∙ (ap (λ n. given_back (value_with_fd fd place) n) e ∙ (ap (λ p. given_back (value_with_fd fd p) (place_taken due fd (names_in a))) took.1 ∙ r.back))
 
   -- ---- sets
 
@@ -148,7 +148,7 @@ module _ {T : Type 0} where
         same_values a b (ap names_in first.1),
       )
 
-  pub set_fails_second : (named : PlaneFds) (reason : Reason) (y : Option T) (a b c d : Fds T) → TakesPlace (nat_lt 0 named.count) (number_at named.fds 0) (Ok y) a b → TakesPlace {T = T} (nat_lt 1 named.count) (number_at named.fds 1) (Err reason) b c → GivesBack (in_place (number_at named.fds 0) y) c d → TakesSet {T = T} named (Err reason) a d
+  pub set_fails_second : (named : PlaneFds) (reason : Reason) (y : Option T) (a b c d : Fds T) → TakesPlace (nat_lt 0 named.count) (number_at named.fds 0) (Ok y) a b → TakesPlace {T = T} (nat_lt 1 named.count) (number_at named.fds 1) (Err reason) b c → GivesBack (value_with_fd (number_at named.fds 0) y) c d → TakesSet {T = T} named (Err reason) a d
   set_fails_second named reason y a b c d first second gave =
       let d1 = nat_lt 1 named.count in
       let f1 = number_at named.fds 1 in
@@ -158,7 +158,7 @@ module _ {T : Type 0} where
         same_values a d (undone (nat_lt 0 named.count) (number_at named.fds 0) y a b c d first (ap names_in second.1) gave),
       )
 
-  pub set_fails_third : (named : PlaneFds) (reason : Reason) (y cb : Option T) (a b c d e f : Fds T) → TakesPlace (nat_lt 0 named.count) (number_at named.fds 0) (Ok y) a b → TakesPlace (nat_lt 1 named.count) (number_at named.fds 1) (Ok cb) b c → TakesPlace {T = T} (nat_lt 2 named.count) (number_at named.fds 2) (Err reason) c d → GivesBack (in_place (number_at named.fds 1) cb) d e → GivesBack (in_place (number_at named.fds 0) y) e f → TakesSet {T = T} named (Err reason) a f
+  pub set_fails_third : (named : PlaneFds) (reason : Reason) (y cb : Option T) (a b c d e f : Fds T) → TakesPlace (nat_lt 0 named.count) (number_at named.fds 0) (Ok y) a b → TakesPlace (nat_lt 1 named.count) (number_at named.fds 1) (Ok cb) b c → TakesPlace {T = T} (nat_lt 2 named.count) (number_at named.fds 2) (Err reason) c d → GivesBack (value_with_fd (number_at named.fds 1) cb) d e → GivesBack (value_with_fd (number_at named.fds 0) y) e f → TakesSet {T = T} named (Err reason) a f
   set_fails_third named reason y cb a b c d e f first second third gave more =
       let d1 = nat_lt 1 named.count in
       let f1 = number_at named.fds 1 in
@@ -193,10 +193,10 @@ module _ {T : Type 0} where
       let rest : AreAway ws (names_in b) = subst (λ n. AreAway ws n) (sym e) (away_second vs ws (names_in a) away) in
       second rest ∙ (ap (given_back ws) e ∙ sym (back_joined vs ws (names_in a)))
 
-  pub set_gave : (set : PlaneSet T) (a b c d : Fds T) → GivesBack (in_place (number_at set.fds 2) set.planes.cr) a b → GivesBack (in_place (number_at set.fds 1) set.planes.cb) b c → GivesBack (in_place (number_at set.fds 0) set.planes.y) c d → GivesBack (values_in set) a d
+  pub set_gave : (set : PlaneSet T) (a b c d : Fds T) → GivesBack (value_with_fd (number_at set.fds 2) set.planes.cr) a b → GivesBack (value_with_fd (number_at set.fds 1) set.planes.cb) b c → GivesBack (value_with_fd (number_at set.fds 0) set.planes.y) c d → GivesBack (values_in set) a d
   set_gave set a b c d first second third =
-      gives_joined (in_place (number_at set.fds 2) set.planes.cr) (in_place (number_at set.fds 1) set.planes.cb ++ in_place (number_at set.fds 0) set.planes.y) a b d first
-      (gives_joined (in_place (number_at set.fds 1) set.planes.cb) (in_place (number_at set.fds 0) set.planes.y) b c d second third)
+      gives_joined (value_with_fd (number_at set.fds 2) set.planes.cr) (value_with_fd (number_at set.fds 1) set.planes.cb ++ value_with_fd (number_at set.fds 0) set.planes.y) a b d first
+      (gives_joined (value_with_fd (number_at set.fds 1) set.planes.cb) (value_with_fd (number_at set.fds 0) set.planes.y) b c d second third)
 
   -- ---- a set that was taken, given back
 
@@ -223,9 +223,9 @@ module _ {T : Type 0} where
       let p = set_passed named before e in
       let n1 = first_taken named before in
       let n2 = second_taken named before in
-      let v0 = in_place (number_at named.fds 0) (place_value (nat_lt 0 named.count) (number_at named.fds 0) before) in
-      let v1 = in_place (number_at named.fds 1) (place_value (nat_lt 1 named.count) (number_at named.fds 1) n1) in
-      let v2 = in_place (number_at named.fds 2) (place_value (nat_lt 2 named.count) (number_at named.fds 2) n2) in
+      let v0 = value_with_fd (number_at named.fds 0) (place_value (nat_lt 0 named.count) (number_at named.fds 0) before) in
+      let v1 = value_with_fd (number_at named.fds 1) (place_value (nat_lt 1 named.count) (number_at named.fds 1) n1) in
+      let v2 = value_with_fd (number_at named.fds 2) (place_value (nat_lt 2 named.count) (number_at named.fds 2) n2) in
       both_restored v2 (v1 ++ v0) before n2 (set_taken named before) (place_restored (nat_lt 2 named.count) (number_at named.fds 2) n2 p.2)
       (both_restored v1 v0 before n1 n2 (place_restored (nat_lt 1 named.count) (number_at named.fds 1) n1 p.1) (place_restored (nat_lt 0 named.count) (number_at named.fds 0) before p.0))
 

@@ -24,8 +24,8 @@ use Rattle.loop_vb2.specs.State.{Body, Lined}
 use Rattle.loop_vb2.specs.Events.{Happens, read_frame, read_grant, reqbufs, dqbuf}
 use Rattle.loop_ioctl.specs.declared.call.IoctlReply.TheVariants as reply
 use Rattle.loop_ioctl.specs.Names.{Names, names_in, values_in, values_of, given_back, AreAway, GivesBack}
-use Rattle.loop_ioctl.specs.Attached.{times, values_by_fd, values_held, IsLinked}
-use Rattle.loop_ioctl.specs.Calls.{IoctlState, Stands, read_names, planes_at, names_left, handed_out, taken_out, TellsFrame}
+use Rattle.loop_ioctl.specs.Attached.{fd_times, values_by_fd, values_held, IsLinked}
+use Rattle.loop_ioctl.specs.Calls.{IoctlState, StandsIoctl, read_names, planes_at, names_left, handed_out, taken_out, TellsFrame}
 use Rattle.loop_ioctl.specs.Parts.{LetsOut, LetsOneOut, Replaces}
 use Rattle.loop_ioctl.proofs.Attached.{in_buffers, let_out, last_none, AreOnce, once_same, IsLetOut, given_once, in_more}
 use Rattle.loop_ioctl.proofs.Read.{read_value, values_of_read, back_read, away_read}
@@ -43,7 +43,7 @@ none_left : (n : ℕ → ℕ) (before : Names Plane) → AreOnce (λ x. n x + 0)
 none_left n before once = λ (x : ℕ). once_same (n x + 0) (n x) (before x) (before x) (omega arith) refl (once x)
 
 module _ {P : Type 0} (m : P → Plane) where
-  dma_left : (sets : List (PlaneSet P)) (hs : List (PlaneSet Plane)) (n : ℕ → ℕ) (a b : Fds P) (before : Names Plane) → before ≡ read_names m (names_in a) → GivesBack (values_of sets) a b → map (read_set m) sets ≡ hs → AreOnce (λ x. n x + times x (values_of hs)) before → IsLeft m DmaBuf hs n before b
+  dma_left : (sets : List (PlaneSet P)) (hs : List (PlaneSet Plane)) (n : ℕ → ℕ) (a b : Fds P) (before : Names Plane) → before ≡ read_names m (names_in a) → GivesBack (values_of sets) a b → map (read_set m) sets ≡ hs → AreOnce (λ x. n x + fd_times x (values_of hs)) before → IsLeft m DmaBuf hs n before b
   dma_left sets hs n a b before is gives read once =
       let vs : values_of hs ≡ map (read_value m) (values_of sets) = ap values_of (sym read) ∙ values_of_read m sets in
       let out : IsLetOut (values_of hs) n before = given_once (values_of hs) n before once in
@@ -55,7 +55,7 @@ module _ {P : Type 0} (m : P → Plane) where
         once = out.once;
       }
 
-  left : (kind : Memory) (sets : List (PlaneSet P)) (hs : List (PlaneSet Plane)) (n : ℕ → ℕ) (a b : Fds P) (before : Names Plane) → before ≡ read_names m (names_in a) → LetsOut kind sets a b → (kind ≡ DmaBuf → map (read_set m) sets ≡ hs) → AreOnce (λ x. n x + times x (values_by_fd kind hs)) before → IsLeft m kind hs n before b
+  left : (kind : Memory) (sets : List (PlaneSet P)) (hs : List (PlaneSet Plane)) (n : ℕ → ℕ) (a b : Fds P) (before : Names Plane) → before ≡ read_names m (names_in a) → LetsOut kind sets a b → (kind ≡ DmaBuf → map (read_set m) sets ≡ hs) → AreOnce (λ x. n x + fd_times x (values_by_fd kind hs)) before → IsLeft m kind hs n before b
   left Mmap sets hs n a b before is lets read once = record { names = is ∙ ap (λ t. read_names m (names_in t)) (sym lets); once = none_left n before once }
   left UserPtr sets hs n a b before is lets read once = record { names = is ∙ ap (λ t. read_names m (names_in t)) (sym lets); once = none_left n before once }
   left DmaBuf sets hs n a b before is lets read once = dma_left sets hs n a b before is lets (read refl) once
@@ -92,16 +92,16 @@ nothing_apart : (o : ℕ) → (0 + o) + 0 ≡ 0 + o
 nothing_apart o = omega arith
 
 -- the planes of a buffer that goes to the application are the queue's no more
-pub out_count : (bs : List (Buffer Plane)) (kind : Memory) (index o fd : ℕ) → (times fd (values_held kind (changed (dequeued_from kind) index bs)) + o) + times fd (values_by_fd kind (option_to_list (planes_at bs index))) ≡ times fd (values_held kind bs) + o
+pub out_count : (bs : List (Buffer Plane)) (kind : Memory) (index o fd : ℕ) → (fd_times fd (values_held kind (changed (dequeued_from kind) index bs)) + o) + fd_times fd (values_by_fd kind (option_to_list (planes_at bs index))) ≡ fd_times fd (values_held kind bs) + o
 out_count bs Mmap index o fd = nothing_apart o
 out_count bs UserPtr index o fd = nothing_apart o
 out_count bs DmaBuf index o fd =
-    apart (in_buffers fd bs) (in_buffers fd (changed (dequeued_from DmaBuf) index bs)) (times fd (values_of (option_to_list (planes_at bs index)))) o (let_out (dequeued_from DmaBuf) index bs fd (λ b. refl))
+    apart (in_buffers fd bs) (in_buffers fd (changed (dequeued_from DmaBuf) index bs)) (fd_times fd (values_of (option_to_list (planes_at bs index)))) o (let_out (dequeued_from DmaBuf) index bs fd (λ b. refl))
 
-out_once : (bs : List (Buffer Plane)) (kind : Memory) (index : ℕ) (out : List (ℕ × Plane)) (before : Names Plane) → AreOnce (λ fd. times fd (values_held kind bs) + times fd out) before → AreOnce (λ x. (times x (values_held kind (changed (dequeued_from kind) index bs)) + times x out) + times x (values_by_fd kind (option_to_list (planes_at bs index)))) before
+out_once : (bs : List (Buffer Plane)) (kind : Memory) (index : ℕ) (out : List (ℕ × Plane)) (before : Names Plane) → AreOnce (λ fd. fd_times fd (values_held kind bs) + fd_times fd out) before → AreOnce (λ x. (fd_times x (values_held kind (changed (dequeued_from kind) index bs)) + fd_times x out) + fd_times x (values_by_fd kind (option_to_list (planes_at bs index)))) before
 out_once bs kind index out before linked =
-    λ (x : ℕ). once_same (times x (values_held kind bs) + times x out) ((times x (values_held kind (changed (dequeued_from kind) index bs)) + times x out) + times x (values_by_fd kind (option_to_list (planes_at bs index)))) (before x) (before x)
-    (out_count bs kind index (times x out) x) refl (linked x)
+    λ (x : ℕ). once_same (fd_times x (values_held kind bs) + fd_times x out) ((fd_times x (values_held kind (changed (dequeued_from kind) index bs)) + fd_times x out) + fd_times x (values_by_fd kind (option_to_list (planes_at bs index)))) (before x) (before x)
+    (out_count bs kind index (fd_times x out) x) refl (linked x)
 
 module _ {P : Type 0} (m : P → Plane) where
   pub lets_one_out : (A : Type 0) (answer : Dequeued P) (told : Dequeued P) (kind : Memory) (q q' : Lined P) (a b : Fds P) → kind ≡ q.body.kind → Happens m q q' (dqbuf (read_frame m (Ok answer))) → told ≡ record answer { planes = handed_out None kind answer.planes } → LetsOut kind (option_to_list answer.planes) a b → LetsOneOut {P = P} {A = A} m (Ok (reply.Dequeued told)) q a q' b
@@ -112,18 +112,18 @@ module _ {P : Type 0} (m : P → Plane) where
       let buffer = t.0.2.0 in
       let planes : planes_at s.body.buffers answer.index ≡ buffer.planes = planes_got s.body.buffers answer.index buffer t.0.2.1 in
       let hs = option_to_list (planes_at s.body.buffers answer.index) in
-      let n : ℕ → ℕ = λ x. times x (values_held s.body.kind (changed (dequeued_from s.body.kind) answer.index s.body.buffers)) + times x j.out in
+      let n : ℕ → ℕ = λ x. fd_times x (values_held s.body.kind (changed (dequeued_from s.body.kind) answer.index s.body.buffers)) + fd_times x j.out in
       let lets_here : LetsOut s.body.kind (option_to_list answer.planes) a b = subst (λ x. LetsOut x (option_to_list answer.planes) a b) k lets in
       let read : s.body.kind ≡ DmaBuf → map (read_set m) (option_to_list answer.planes) ≡ hs =
       λ (e : s.body.kind ≡ DmaBuf). list_read m answer.planes ∙ ap option_to_list (t.0.2.2.planes ∙ (handed_all s.body.kind buffer.planes e ∙ sym planes)) in
       let l : IsLeft m s.body.kind hs n j.names b = left m s.body.kind (option_to_list answer.planes) hs n a b j.names stands.names lets_here read (out_once s.body.buffers s.body.kind answer.index j.out j.names stands.linked) in
       let state : IoctlState = record { queue = dequeued answer.index s; names = names_left s.body.kind hs j.names; out = j.out } in
-      let now : Stands m q' b state = record { queue = t.1; names = l.names; linked = l.once } in
+      let now : StandsIoctl m q' b state = record { queue = t.1; names = l.names; linked = l.once } in
       let told_index : told.index ≡ answer.index = ap (λ d. d.index) tells in
       let frame : TellsFrame m j (record answer { planes = handed_out None s.body.kind answer.planes }) =
       (t.0.1, (buffer, t.0.2.1, record { sequence = t.0.2.2.sequence; timestamp = t.0.2.2.timestamp; flags = t.0.2.2.flags; used = t.0.2.2.used; planes = refl }, out_read m s.body.kind answer.planes buffer.planes t.0.2.2.planes)) in (
         (t.0.0, subst (λ d. TellsFrame m j d) (sym (tells ∙ ap (λ x. record answer { planes = handed_out None x answer.planes }) k)) frame),
-        subst (λ f. Stands m q' b (taken_out f j)) (sym t.0.1) now,
+        subst (λ f. StandsIoctl m q' b (taken_out f j)) (sym t.0.1) now,
       )
 
   pub lets_none_out : {A : Type 0} (r : Refused P A) (e : Errno) (q q' : Lined P) (table : Fds P) → r.errno ≡ e → Happens m q q' (dqbuf (Err e)) → LetsOneOut m (Err r) q table q' table
@@ -152,7 +152,7 @@ supply_passed a b t e =
     true_of t (passed_here (not t) BadSupply None e2)
 
 -- a new queue of DMA-BUF memory has no planes yet
-new_none : (count : ℕ) (kind : Memory) (sets : List (PlaneSet Plane)) (b : Body Plane) → request_refusal count kind sets b ≡ None → (fd : ℕ) → times fd (values_held kind (body_requested count kind sets b).buffers) ≡ 0
+new_none : (count : ℕ) (kind : Memory) (sets : List (PlaneSet Plane)) (b : Body Plane) → request_refusal count kind sets b ≡ None → (fd : ℕ) → fd_times fd (values_held kind (body_requested count kind sets b).buffers) ≡ 0
 new_none count Mmap sets b e fd = refl
 new_none count UserPtr sets b e fd = refl
 new_none count DmaBuf sets b e fd =
@@ -163,9 +163,9 @@ new_none count DmaBuf sets b e fd =
 alone : (a o : ℕ) → a ≡ 0 → a + o ≡ o
 alone a o e = omega arith
 
-new_linked : (count : ℕ) (kind : Memory) (sets : List (PlaneSet Plane)) (b : Body Plane) (out : List (ℕ × Plane)) (n : Names Plane) → request_refusal count kind sets b ≡ None → AreOnce (λ x. times x out) n → IsLinked (body_requested count kind sets b) out n
+new_linked : (count : ℕ) (kind : Memory) (sets : List (PlaneSet Plane)) (b : Body Plane) (out : List (ℕ × Plane)) (n : Names Plane) → request_refusal count kind sets b ≡ None → AreOnce (λ x. fd_times x out) n → IsLinked (body_requested count kind sets b) out n
 new_linked count kind sets b out n e once =
-    λ (x : ℕ). once_same (times x out) (times x (values_held kind (body_requested count kind sets b).buffers) + times x out) (n x) (n x) (alone (times x (values_held kind (body_requested count kind sets b).buffers)) (times x out) (new_none count kind sets b e x)) refl (once x)
+    λ (x : ℕ). once_same (fd_times x out) (fd_times x (values_held kind (body_requested count kind sets b).buffers) + fd_times x out) (n x) (n x) (alone (fd_times x (values_held kind (body_requested count kind sets b).buffers)) (fd_times x out) (new_none count kind sets b e x)) refl (once x)
 
 left_all : (kind : Memory) (bs : List (Buffer Plane)) → kind ≡ DmaBuf → left_in kind bs ≡ held bs
 left_all Mmap bs e = absurd (cc)
@@ -175,10 +175,10 @@ left_all DmaBuf bs e = refl
 behind : (a o : ℕ) → o + a ≡ a + o
 behind a o = omega arith
 
-old_once : (bs : List (Buffer Plane)) (kind : Memory) (out : List (ℕ × Plane)) (before : Names Plane) → AreOnce (λ fd. times fd (values_held kind bs) + times fd out) before → AreOnce (λ x. times x out + times x (values_by_fd kind (held bs))) before
+old_once : (bs : List (Buffer Plane)) (kind : Memory) (out : List (ℕ × Plane)) (before : Names Plane) → AreOnce (λ fd. fd_times fd (values_held kind bs) + fd_times fd out) before → AreOnce (λ x. fd_times x out + fd_times x (values_by_fd kind (held bs))) before
 old_once bs kind out before linked =
-    λ (x : ℕ). once_same (times x (values_held kind bs) + times x out) (times x out + times x (values_by_fd kind (held bs))) (before x) (before x)
-    (behind (times x (values_held kind bs)) (times x out)) refl (linked x)
+    λ (x : ℕ). once_same (fd_times x (values_held kind bs) + fd_times x out) (fd_times x out + fd_times x (values_by_fd kind (held bs))) (before x) (before x)
+    (behind (fd_times x (values_held kind bs)) (fd_times x out)) refl (linked x)
 
 out_all : {P : Type 0} (m : P → Plane) (kind : Memory) (sets : List (PlaneSet P)) (bs : List (Buffer Plane)) → map (read_set m) sets ≡ left_in kind bs → map (read_set m) (handed_out [] kind sets) ≡ handed_out [] kind (held bs)
 out_all m Mmap sets bs e = refl
@@ -193,8 +193,8 @@ module _ {P A : Type 0} (m : P → Plane) where
       let sets = map (read_set m) supply in
       let k : own ≡ s.body.kind = is ∙ ap (λ x. x.kind) stands.queue.shown.body in
       let lets_here : LetsOut s.body.kind g.left.items a b = subst (λ x. LetsOut x g.left.items a b) k lets in
-      let l : IsLeft m s.body.kind (held s.body.buffers) (λ x. times x j.out) j.names b =
-      left m s.body.kind g.left.items (held s.body.buffers) (λ x. times x j.out) a b j.names stands.names lets_here (λ (e : s.body.kind ≡ DmaBuf). t.0.2 ∙ left_all s.body.kind s.body.buffers e) (old_once s.body.buffers s.body.kind j.out j.names stands.linked) in
+      let l : IsLeft m s.body.kind (held s.body.buffers) (λ x. fd_times x j.out) j.names b =
+      left m s.body.kind g.left.items (held s.body.buffers) (λ x. fd_times x j.out) a b j.names stands.names lets_here (λ (e : s.body.kind ≡ DmaBuf). t.0.2 ∙ left_all s.body.kind s.body.buffers e) (old_once s.body.buffers s.body.kind j.out j.names stands.linked) in
       let after = names_left s.body.kind (held s.body.buffers) j.names in (
         (t.0.0, (counts ∙ t.0.1, ap (map (read_set m)) (leaves ∙ ap (λ x. handed_out [] x g.left.items) k) ∙ out_all m s.body.kind g.left.items s.body.buffers t.0.2)),
         record {

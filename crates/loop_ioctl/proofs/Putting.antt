@@ -16,18 +16,18 @@ use Rattle.loop_vb2.specs.declared.reason.Refused.{Refused}
 use Rattle.loop_vb2.specs.Errnos.{errno}
 use Rattle.loop_vb2.specs.Planes.{read_set, read_given, same_memory, are_kind, has_count}
 use Rattle.loop_vb2.specs.Buffers.{holds_at, woken, queued_with, prepared_with, read_buffer}
-use Rattle.loop_vb2.specs.Checks.{first_of, prepare_late_checks, queue_late_checks}
+use Rattle.loop_vb2.specs.Checks.{first_reason, prepare_late_checks, queue_late_checks}
 use Rattle.loop_vb2.specs.Effects.{device_runs, awake, settled, with_buffer}
-use Rattle.loop_vb2.specs.State.{Body, QueueState, Lined, StandsFor}
-use Rattle.loop_vb2.specs.Events.{IsAnswered, Happens, after, refusal_of, refusal_in}
+use Rattle.loop_vb2.specs.State.{Body, QueueState, Lined, StandsQueue}
+use Rattle.loop_vb2.specs.Events.{MayHappen, Happens, after_event, refusal_of, refusal_in}
 use Rattle.loop_vb2.proofs.Ordered.{not_refused}
 use Rattle.loop_ioctl.specs.declared.call.BufferMemory.TheVariants as memory
 use Rattle.loop_ioctl.specs.declared.call.PlaneFds.{PlaneFds}
 use Rattle.loop_ioctl.specs.declared.put.Use.{Use}
 use Rattle.loop_ioctl.specs.declared.put.Use.TheVariants.{Prepare, Queue}
 use Rattle.loop_ioctl.specs.Names.{Names, names_in, or_else, set_refusal, set_named, set_taken, values_in, GivesIfRefused, TakesSet}
-use Rattle.loop_ioctl.specs.Attached.{times, values_held, IsOnce, IsLinked}
-use Rattle.loop_ioctl.specs.Calls.{IoctlState, Stands, read_names, early_refusal, use_refusal, used, put_refusal}
+use Rattle.loop_ioctl.specs.Attached.{fd_times, values_held, IsOnce, IsLinked}
+use Rattle.loop_ioctl.specs.Calls.{IoctlState, StandsIoctl, read_names, early_refusal, use_refusal, used, put_refusal}
 use Rattle.loop_ioctl.specs.Parts.{use_event, either, JudgedBack, PutsNamed, Puts}
 use Rattle.loop_ioctl.proofs.Names.{same_names, same_values, set_undone}
 use Rattle.loop_ioctl.proofs.Attached.{in_buffer, in_buffers, kept_changed, kept_mapped, added, AreOnce, once_same, set_once, last_none}
@@ -80,8 +80,8 @@ fit_of index k set b late e =
     }
 
 pub fit : (way : Use) (index : ℕ) (kind : Memory) (set : PlaneSet Plane) (b : Body Plane) → use_refusal way index kind (Some set) b ≡ None → IsFit index kind b
-fit Prepare index kind set b e = fit_of index kind set b (first_of (prepare_late_checks index (Some set) b)) e
-fit Queue index kind set b e = fit_of index kind set b (first_of (queue_late_checks index (Some set) b)) e
+fit Prepare index kind set b e = fit_of index kind set b (first_reason (prepare_late_checks index (Some set) b)) e
+fit Queue index kind set b e = fit_of index kind set b (first_reason (queue_late_checks index (Some set) b)) e
 
 -- ---- the fds of a queue through such a call
 
@@ -105,7 +105,7 @@ used_some Prepare index set s fd within empty = added (prepared_with (Some set))
 used_some Queue index set s fd within empty =
     settled_fds (with_buffer (queued_with (Some set)) index s.body) fd ∙ added (queued_with (Some set)) (Some set) index s.body.buffers fd within empty (λ b. refl)
 
-pub held_same : (kind : Memory) (bs cs : List (Buffer Plane)) (fd : ℕ) → in_buffers fd cs ≡ in_buffers fd bs → times fd (values_held kind cs) ≡ times fd (values_held kind bs)
+pub held_same : (kind : Memory) (bs cs : List (Buffer Plane)) (fd : ℕ) → in_buffers fd cs ≡ in_buffers fd bs → fd_times fd (values_held kind cs) ≡ fd_times fd (values_held kind bs)
 held_same Mmap bs cs fd e = refl
 held_same UserPtr bs cs fd e = refl
 held_same DmaBuf bs cs fd e = e
@@ -113,14 +113,14 @@ held_same DmaBuf bs cs fd e = e
 -- a change that leaves the kind of memory and the fds
 pub still_linked : (b c : Body Plane) (out : List (ℕ × Plane)) (n : Names Plane) → c.kind ≡ b.kind → ((fd : ℕ) → in_buffers fd c.buffers ≡ in_buffers fd b.buffers) → IsLinked b out n → IsLinked c out n
 still_linked b c out n kind fds linked =
-    λ (fd : ℕ). once_same (times fd (values_held b.kind b.buffers) + times fd out) (times fd (values_held c.kind c.buffers) + times fd out) (n fd) (n fd)
-    (ap (λ x. x + times fd out) (ap (λ k. times fd (values_held k c.buffers)) kind ∙ held_same b.kind b.buffers c.buffers fd (fds fd))) refl (linked fd)
+    λ (fd : ℕ). once_same (fd_times fd (values_held b.kind b.buffers) + fd_times fd out) (fd_times fd (values_held c.kind c.buffers) + fd_times fd out) (n fd) (n fd)
+    (ap (λ x. x + fd_times fd out) (ap (λ k. fd_times fd (values_held k c.buffers)) kind ∙ held_same b.kind b.buffers c.buffers fd (fds fd))) refl (linked fd)
 
 -- the application's memory has no fds
 pub user_linked : (b c : Body Plane) (out : List (ℕ × Plane)) (n : Names Plane) → b.kind ≡ UserPtr → c.kind ≡ UserPtr → IsLinked b out n → IsLinked c out n
 user_linked b c out n e f linked =
-    λ (fd : ℕ). once_same (times fd (values_held b.kind b.buffers) + times fd out) (times fd (values_held c.kind c.buffers) + times fd out) (n fd) (n fd)
-    (ap (λ k. times fd (values_held k c.buffers) + times fd out) f ∙ sym (ap (λ k. times fd (values_held k b.buffers) + times fd out) e)) refl (linked fd)
+    λ (fd : ℕ). once_same (fd_times fd (values_held b.kind b.buffers) + fd_times fd out) (fd_times fd (values_held c.kind c.buffers) + fd_times fd out) (n fd) (n fd)
+    (ap (λ k. fd_times fd (values_held k c.buffers) + fd_times fd out) f ∙ sym (ap (λ k. fd_times fd (values_held k b.buffers) + fd_times fd out) e)) refl (linked fd)
 
 -- the queue's use of a buffer leaves all fds attached
 none_links : (way : Use) (index : ℕ) (kind : Memory) (s : QueueState) (out : List (ℕ × Plane)) (n : Names Plane) → use_refusal way index kind None s.body ≡ None → IsLinked s.body out n → IsLinked (used way index None s).body out n
@@ -140,42 +140,42 @@ fds_linked : (way : Use) (index : ℕ) (named : PlaneFds) (s : QueueState) (out 
 fds_linked way index named s out n taken e linked =
     let set = set_named named n in
     let f : IsFit index DmaBuf s.body = fit way index DmaBuf set s.body e in
-    let once : AreOnce (λ x. in_buffers x s.body.buffers + times x out) n = λ (x : ℕ). subst (λ k. IsOnce (times x (values_held k s.body.buffers) + times x out) (n x)) f.kind (linked x) in
-    let more : AreOnce (λ x. (in_buffers x s.body.buffers + times x out) + times x (values_in set)) (set_taken named n) = set_once (λ x. in_buffers x s.body.buffers + times x out) n named taken once in
-    λ (fd : ℕ). once_same ((in_buffers fd s.body.buffers + times fd out) + times fd (values_in set)) (times fd (values_held (used way index (Some set) s).body.kind (used way index (Some set) s).body.buffers) + times fd out) (set_taken named n fd) (set_taken named n fd)
-    (ap (λ k. times fd (values_held k (used way index (Some set) s).body.buffers) + times fd out) (used_kind way index (Some set) s ∙ f.kind)
-    ∙ beside (in_buffers fd (used way index (Some set) s).body.buffers) (in_buffers fd s.body.buffers) (times fd (values_in set)) (times fd out)
-    (used_some way index set s fd f.within f.empty ∙ ap (λ vs. in_buffers fd s.body.buffers + times fd vs) (last_none (values_in set))))
+    let once : AreOnce (λ x. in_buffers x s.body.buffers + fd_times x out) n = λ (x : ℕ). subst (λ k. IsOnce (fd_times x (values_held k s.body.buffers) + fd_times x out) (n x)) f.kind (linked x) in
+    let more : AreOnce (λ x. (in_buffers x s.body.buffers + fd_times x out) + fd_times x (values_in set)) (set_taken named n) = set_once (λ x. in_buffers x s.body.buffers + fd_times x out) n named taken once in
+    λ (fd : ℕ). once_same ((in_buffers fd s.body.buffers + fd_times fd out) + fd_times fd (values_in set)) (fd_times fd (values_held (used way index (Some set) s).body.kind (used way index (Some set) s).body.buffers) + fd_times fd out) (set_taken named n fd) (set_taken named n fd)
+    (ap (λ k. fd_times fd (values_held k (used way index (Some set) s).body.buffers) + fd_times fd out) (used_kind way index (Some set) s ∙ f.kind)
+    ∙ beside (in_buffers fd (used way index (Some set) s).body.buffers) (in_buffers fd s.body.buffers) (fd_times fd (values_in set)) (fd_times fd out)
+    (used_some way index set s fd f.within f.empty ∙ ap (λ vs. in_buffers fd s.body.buffers + fd_times fd vs) (last_none (values_in set))))
     refl (more fd)
 
 -- ---- steps of queue and table
 
 module _ {P : Type 0} (m : P → Plane) where
   -- the queue has moved on, and the table is as it was
-  pub moves : (q q' : Lined P) (table : Fds P) (j : IoctlState) (t : QueueState) → Stands m q table j → StandsFor m q' t → IsLinked t.body j.out j.names → Stands m q' table (record j { queue = t })
+  pub moves : (q q' : Lined P) (table : Fds P) (j : IoctlState) (t : QueueState) → StandsIoctl m q table j → StandsQueue m q' t → IsLinked t.body j.out j.names → StandsIoctl m q' table (record j { queue = t })
   moves q q' table j t stands new linked = record { queue = new; names = stands.names; linked = linked }
 
-  pub stays : (q q' : Lined P) (table : Fds P) (j : IoctlState) → Stands m q table j → StandsFor m q' j.queue → Stands m q' table j
+  pub stays : (q q' : Lined P) (table : Fds P) (j : IoctlState) → StandsIoctl m q table j → StandsQueue m q' j.queue → StandsIoctl m q' table j
   stays q q' table j stands new = record { queue = new; names = stands.names; linked = stands.linked }
 
-  pub same_table : (q : Lined P) (table table' : Fds P) (j : IoctlState) → names_in table' ≡ names_in table → Stands m q table j → Stands m q table' j
+  pub same_table : (q : Lined P) (table table' : Fds P) (j : IoctlState) → names_in table' ≡ names_in table → StandsIoctl m q table j → StandsIoctl m q table' j
   same_table q table table' j e stands = record { queue = stands.queue; names = stands.names ∙ ap (read_names m) (sym e); linked = stands.linked }
 
   -- what such an event says
-  judged_by : (way : Use) (index : ℕ) (kind : Memory) (given : Option (PlaneSet Plane)) (r : Option Errno) (s : QueueState) → IsAnswered s (use_event way index kind given r) → option_map errno (use_refusal way index kind given s.body) ≡ r
+  judged_by : (way : Use) (index : ℕ) (kind : Memory) (given : Option (PlaneSet Plane)) (r : Option Errno) (s : QueueState) → MayHappen s (use_event way index kind given r) → option_map errno (use_refusal way index kind given s.body) ≡ r
   judged_by Prepare index kind given r s h = h
   judged_by Queue index kind given r s h = h
 
-  used_by : (way : Use) (index : ℕ) (kind : Memory) (given : Option (PlaneSet Plane)) (q : Lined P) (s : QueueState) → StandsFor m q (after s (use_event way index kind given None)) → StandsFor m q (used way index given s)
+  used_by : (way : Use) (index : ℕ) (kind : Memory) (given : Option (PlaneSet Plane)) (q : Lined P) (s : QueueState) → StandsQueue m q (after_event s (use_event way index kind given None)) → StandsQueue m q (used way index given s)
   used_by Prepare index kind given q s h = h
   used_by Queue index kind given q s h = h
 
-  left_by : (way : Use) (index : ℕ) (kind : Memory) (given : Option (PlaneSet Plane)) (e : Errno) (q : Lined P) (s : QueueState) → StandsFor m q (after s (use_event way index kind given (Some e))) → StandsFor m q s
+  left_by : (way : Use) (index : ℕ) (kind : Memory) (given : Option (PlaneSet Plane)) (e : Errno) (q : Lined P) (s : QueueState) → StandsQueue m q (after_event s (use_event way index kind given (Some e))) → StandsQueue m q s
   left_by Prepare index kind given e q s h = h
   left_by Queue index kind given e q s h = h
 
   -- a call that leaves the table
-  pub puts_plain : {U A : Type 0} (result : Result U (Refused P A)) (way : Use) (index : ℕ) (kind : Memory) (given : Option (PlaneSet Plane)) (q q' : Lined P) (table : Fds P) → Happens m q q' (use_event way index kind given (refusal_in result)) → ((s : QueueState) (out : List (ℕ × Plane)) (n : Names Plane) → use_refusal way index kind given s.body ≡ None → IsLinked s.body out n → IsLinked (used way index given s).body out n) → (j : IoctlState) → Stands m q table j → JudgedBack (use_refusal way index kind given j.queue.body) result × Stands m q' table (either result (record j { queue = used way index given j.queue }) j)
+  pub puts_plain : {U A : Type 0} (result : Result U (Refused P A)) (way : Use) (index : ℕ) (kind : Memory) (given : Option (PlaneSet Plane)) (q q' : Lined P) (table : Fds P) → Happens m q q' (use_event way index kind given (refusal_in result)) → ((s : QueueState) (out : List (ℕ × Plane)) (n : Names Plane) → use_refusal way index kind given s.body ≡ None → IsLinked s.body out n → IsLinked (used way index given s).body out n) → (j : IoctlState) → StandsIoctl m q table j → JudgedBack (use_refusal way index kind given j.queue.body) result × StandsIoctl m q' table (either result (record j { queue = used way index given j.queue }) j)
   puts_plain (Ok u) way index kind given q q' table step links j stands =
       let t = step j.queue stands.queue in
       let passes = not_refused (use_refusal way index kind given j.queue.body) (judged_by way index kind given None j.queue t.0) in
@@ -199,12 +199,12 @@ module _ {P : Type 0} (m : P → Plane) where
   length_read [] = refl
   length_read (b ∷ bs) = ap (λ n. suc n) (length_read bs)
 
-  early_read : (q : Lined P) (table : Fds P) (index : ℕ) (j : IoctlState) → Stands m q table j → early_refusal index j.queue.body ≡ early_refusal index q.body
+  early_read : (q : Lined P) (table : Fds P) (index : ℕ) (j : IoctlState) → StandsIoctl m q table j → early_refusal index j.queue.body ≡ early_refusal index q.body
   early_read q table index j stands =
       ap (early_refusal index) (sym stands.queue.shown.body)
       ∙ ap (λ n. cond (nat_le n index) (Some BadIndex) (cond (not (same_memory q.body.kind DmaBuf)) (Some BadMemory) None)) (length_read q.body.buffers)
 
-  set_read : (q : Lined P) (table : Fds P) (named : PlaneFds) (j : IoctlState) → Stands m q table j → set_refusal named j.names ≡ set_refusal named (names_in table)
+  set_read : (q : Lined P) (table : Fds P) (named : PlaneFds) (j : IoctlState) → StandsIoctl m q table j → set_refusal named j.names ≡ set_refusal named (names_in table)
   set_read q table named j stands = ap (set_refusal named) stands.names ∙ set_refusal_read m named (names_in table)
 
   pub named_early : (U : Type 0) (way : Use) (index : ℕ) (named : PlaneFds) (reason : Reason) (e : Errno) (q : Lined P) (table : Fds P) → early_refusal index q.body ≡ Some reason → e ≡ errno reason → PutsNamed m {U = U} way index named (Err e) q table q table
@@ -221,10 +221,10 @@ module _ {P : Type 0} (m : P → Plane) where
         same_table q table table' j (same_names table table' fails.1) stands,
       )
 
-  set_is : (named : PlaneFds) (set : PlaneSet P) (q : Lined P) (table : Fds P) (j : IoctlState) → Stands m q table j → set ≡ set_named named (names_in table) → set_named named j.names ≡ read_set m set
+  set_is : (named : PlaneFds) (set : PlaneSet P) (q : Lined P) (table : Fds P) (j : IoctlState) → StandsIoctl m q table j → set ≡ set_named named (names_in table) → set_named named j.names ≡ read_set m set
   set_is named set q table j stands is = ap (set_named named) stands.names ∙ (set_named_read m named (names_in table) ∙ ap (read_set m) (sym is))
 
-  put_read : (way : Use) (index : ℕ) (named : PlaneFds) (set : PlaneSet P) (q : Lined P) (table : Fds P) (j : IoctlState) → Stands m q table j → early_refusal index q.body ≡ None → set_refusal named (names_in table) ≡ None → set ≡ set_named named (names_in table) → put_refusal m way index (memory.DmaBuf (Some named)) j ≡ use_refusal way index DmaBuf (Some (read_set m set)) j.queue.body
+  put_read : (way : Use) (index : ℕ) (named : PlaneFds) (set : PlaneSet P) (q : Lined P) (table : Fds P) (j : IoctlState) → StandsIoctl m q table j → early_refusal index q.body ≡ None → set_refusal named (names_in table) ≡ None → set ≡ set_named named (names_in table) → put_refusal m way index (memory.DmaBuf (Some named)) j ≡ use_refusal way index DmaBuf (Some (read_set m set)) j.queue.body
   put_read way index named set q table j stands early taken is =
       let last = use_refusal way index DmaBuf (Some (set_named named j.names)) j.queue.body in
       ap (λ r. or_else r (or_else (set_refusal named j.names) last)) (early_read q table index j stands ∙ early)
@@ -240,7 +240,7 @@ module _ {P : Type 0} (m : P → Plane) where
       let passes : use_refusal way index DmaBuf (Some (set_named named j.names)) j.queue.body ≡ None = ap (λ x. use_refusal way index DmaBuf (Some x) j.queue.body) e ∙ passed in (
         why ∙ passed,
         record {
-          queue = subst (λ s. StandsFor m q' s) (ap (λ x. used way index (Some x) j.queue) (sym e)) (used_by way index DmaBuf (Some (read_set m set)) q' j.queue t.1);
+          queue = subst (λ s. StandsQueue m q' s) (ap (λ x. used way index (Some x) j.queue) (sym e)) (used_by way index DmaBuf (Some (read_set m set)) q' j.queue t.1);
           names = ap (set_taken named) stands.names ∙ (set_taken_read m named (names_in a) ∙ ap (read_names m) (sym (ap names_in gives ∙ took.2)));
           linked = fds_linked way index named j.queue j.out j.names (set_read q a named j stands ∙ took.0) passes stands.linked;
         },

@@ -6,7 +6,7 @@ use Rattle.loop_record.specs.Turns.{after_all, EachIn}
 use Rattle.loop_record.proofs.Turned.{after-behind, each-behind}
 use Rattle.loop_ioctl.specs.declared.events.QueueEvent.{QueueEvent}
 use Rattle.loop_ioctl.specs.declared.events.QueueReply.{QueueReply}
-use Rattle.loop_ioctl.specs.Calls.{IoctlState, Stands}
+use Rattle.loop_ioctl.specs.Calls.{IoctlState, StandsIoctl}
 use Rattle.loop_ioctl.specs.Events.{turns, IsTurn, turned, Reacts, Runs, RunsJoin}
 use Rattle.loop_vb2.specs.State.{Lined}
 
@@ -34,14 +34,14 @@ turns-behind (x ∷ es) fs (r ∷ rs) ss e = ap (λ l. (x, r) ∷ l) (turns-behi
 pub runs_join : {P : Type 0} (A : Type 0) (m : P → Plane) → RunsJoin A m
 runs_join A m es fs rs ss q q' q'' t t' t'' first second = record {
   count = length-append rs ss ∙ (both_longer (length rs) (length es) (length ss) (length fs) first.count second.count ∙ sym (length-append es fs));
-  told = λ (j : IoctlState) (stands : Stands m q t j).
+  told = λ (j : IoctlState) (stands : StandsIoctl m q t j).
       let xs = turns es rs in
       let ys = turns fs ss in
       let a = first.told j stands in
       let b = second.told (after_all (turned m) j xs) a.1 in
       let e : turns (es ++ fs) (rs ++ ss) ≡ xs ++ ys = turns-behind es fs rs ss first.count in (
         subst (λ l. EachIn (turned m) (IsTurn m) j l) (sym e) (each-behind (turned m) (IsTurn m) j xs ys a.0 b.0),
-        subst (λ k. Stands m q'' t'' k) (sym (ap (after_all (turned m) j) e ∙ after-behind (turned m) j xs ys)) b.1,
+        subst (λ k. StandsIoctl m q'' t'' k) (sym (ap (after_all (turned m) j) e ∙ after-behind (turned m) j xs ys)) b.1,
       );
 }
 
@@ -50,7 +50,7 @@ module _ {P A : Type 0} where
   runs_none m q t = record { count = refl; told = λ j stands. (tt, stands) }
 
   runs_one : (m : P → Plane) (e : QueueEvent P A) (r : QueueReply P A) (q q' : Lined P) (t t' : Fds P) → Reacts m e r q t q' t' → Runs m (e ∷ []) (r ∷ []) q t q' t'
-  runs_one m e r q q' t t' reacts = record { count = refl; told = λ (j : IoctlState) (stands : Stands m q t j). let h = reacts j stands in ((h.0, tt), h.1) }
+  runs_one m e r q q' t t' reacts = record { count = refl; told = λ (j : IoctlState) (stands : StandsIoctl m q t j). let h = reacts j stands in ((h.0, tt), h.1) }
 
   -- one event more
   pub runs_more : (m : P → Plane) (es : List (QueueEvent P A)) (e : QueueEvent P A) (rs more : List (QueueReply P A)) (r : QueueReply P A) (q q' q'' : Lined P) (t t' t'' : Fds P) → more ≡ rs ++ r ∷ [] → Runs m es rs q t q' t' → Reacts m e r q' t' q'' t'' → Runs m (es ++ e ∷ []) more q t q'' t''

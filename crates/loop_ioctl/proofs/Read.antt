@@ -4,7 +4,7 @@ use Rattle.loop_plane.specs.Plane.{Plane}
 use Rattle.loop_vb2.specs.declared.planes.PlaneSet.{PlaneSet}
 use Rattle.loop_vb2.specs.Planes.{number_at, read_set}
 use Rattle.loop_ioctl.specs.declared.call.PlaneFds.{PlaneFds}
-use Rattle.loop_ioctl.specs.Names.{Names, or_else, renamed, fd_refusal, value_of, place_refusal, place_value, place_taken, first_taken, second_taken, set_taken, set_refusal, set_named, in_place, values_in, values_of, given_back, AreAway}
+use Rattle.loop_ioctl.specs.Names.{Names, or_else, renamed, fd_refusal, value_of, place_refusal, place_value, place_taken, first_taken, second_taken, set_taken, set_refusal, set_named, value_with_fd, values_in, values_of, given_back, AreAway}
 use Rattle.loop_ioctl.specs.Calls.{read_names}
 use Rattle.loop_ioctl.proofs.Names.{ext}
 
@@ -77,9 +77,9 @@ module _ {P : Type 0} (m : P → Plane) where
   abbrev pub read_value : ℕ × P → ℕ × Plane
   read_value v = (v.0, m v.1)
 
-  in_place_read : (fd : ℕ) (place : Option P) → in_place fd (option_map m place) ≡ map read_value (in_place fd place)
-  in_place_read fd None = refl
-  in_place_read fd (Some value) = refl
+  value_with_fd_read : (fd : ℕ) (place : Option P) → value_with_fd fd (option_map m place) ≡ map read_value (value_with_fd fd place)
+  value_with_fd_read fd None = refl
+  value_with_fd_read fd (Some value) = refl
 
   map_joined : (vs ws : List (ℕ × P)) → map read_value (vs ++ ws) ≡ map read_value vs ++ map read_value ws
   map_joined [] ws = refl
@@ -87,10 +87,10 @@ module _ {P : Type 0} (m : P → Plane) where
 
   values_read : (set : PlaneSet P) → values_in (read_set m set) ≡ map read_value (values_in set)
   values_read set =
-      let v0 = in_place (number_at set.fds 0) set.planes.y in
-      let v1 = in_place (number_at set.fds 1) set.planes.cb in
-      let v2 = in_place (number_at set.fds 2) set.planes.cr in
-      (λ i. in_place_read (number_at set.fds 2) set.planes.cr i ++ (in_place_read (number_at set.fds 1) set.planes.cb i ++ in_place_read (number_at set.fds 0) set.planes.y i))
+      let v0 = value_with_fd (number_at set.fds 0) set.planes.y in
+      let v1 = value_with_fd (number_at set.fds 1) set.planes.cb in
+      let v2 = value_with_fd (number_at set.fds 2) set.planes.cr in
+      (λ i. value_with_fd_read (number_at set.fds 2) set.planes.cr i ++ (value_with_fd_read (number_at set.fds 1) set.planes.cb i ++ value_with_fd_read (number_at set.fds 0) set.planes.y i))
       ∙ (ap (λ l. map read_value v2 ++ l) (sym (map_joined v1 v0)) ∙ sym (map_joined v2 (v1 ++ v0)))
 
   pub values_of_read : (sets : List (PlaneSet P)) → values_of (map (read_set m) sets) ≡ map read_value (values_of sets)

@@ -11,9 +11,9 @@ use Rattle.loop_ioctl.specs.Names.{Names, values_of}
 
 module _ {T : Type 0} where
   -- how many of the values have this fd
-  abbrev pub times : ℕ → List (ℕ × T) → ℕ
-  times fd [] = 0
-  times fd (v ∷ vs) = cond (v.0 == fd) 1 0 + times fd vs
+  abbrev pub fd_times : ℕ → List (ℕ × T) → ℕ
+  fd_times fd [] = 0
+  fd_times fd (v ∷ vs) = cond (v.0 == fd) 1 0 + fd_times fd vs
 
   -- the planes of sets of a kind, each with its fd: only DMA-BUF planes have one
   abbrev pub values_by_fd : Memory → List (PlaneSet T) → List (ℕ × T)
@@ -31,4 +31,4 @@ module _ {T : Type 0} where
 
 -- so it is of each fd, of the planes in a queue and of those that are out of it
 abbrev pub IsLinked : Body Plane → List (ℕ × Plane) → Names Plane → Type 0
-IsLinked b out before = (fd : ℕ) → IsOnce (times fd (values_held b.kind b.buffers) + times fd out) (before fd)
+IsLinked b out before = (fd : ℕ) → IsOnce (fd_times fd (values_held b.kind b.buffers) + fd_times fd out) (before fd)

@@ -15,11 +15,11 @@ use Rattle.loop_vb2.specs.declared.request.Granted.{Granted}
 use Rattle.loop_vb2.specs.Planes.{read_set, read_given, same_memory}
 use Rattle.loop_vb2.specs.Answers.{IsAnswer, IsInfo, read_answer}
 use Rattle.loop_vb2.specs.Buffers.{handed, mapped_as}
-use Rattle.loop_vb2.specs.Checks.{first_of, queue_refusal, prepare_refusal, dequeue_refusal, stream_on_refusal, query_refusal, map_refusal, unmap_refusal, request_refusal}
+use Rattle.loop_vb2.specs.Checks.{first_reason, queue_refusal, prepare_refusal, dequeue_refusal, stream_on_refusal, query_refusal, map_refusal, unmap_refusal, request_refusal}
 use Rattle.loop_vb2.specs.Effects.{queued, prepared, dequeued, first_ended, streaming, stopped_state, touched}
 use Rattle.loop_vb2.specs.Errnos.{errno}
 use Rattle.loop_vb2.specs.Requests.{grants_or_none, held, requested}
-use Rattle.loop_vb2.specs.State.{Body, QueueState, Lined, StandsFor}
+use Rattle.loop_vb2.specs.State.{Body, QueueState, Lined, StandsQueue}
 use Rattle.loop_ioctl.specs.declared.call.BufferMemory.{BufferMemory}
 use Rattle.loop_ioctl.specs.declared.call.BufferMemory.TheVariants as memory
 use Rattle.loop_ioctl.specs.declared.call.Ioctl.{Ioctl}
@@ -45,8 +45,9 @@ read_names meaning before = λ fd. option_map (option_map meaning) (before fd)
 
 -- a queue and a table stand for a state, in which each fd of a plane in the queue or out of it is attached, and
 -- stands there once
-pub record Stands {P : Type 0} (meaning : P → Plane) (code : Lined P) (table : Fds P) (j : IoctlState) : Type 0 where
-  pub queue : StandsFor meaning code j.queue
+pub record StandsIoctl {P : Type 0} (meaning : P → Plane) (code : Lined P) (table : Fds P) (j : IoctlState)
+    : Type 0 where
+  pub queue : StandsQueue meaning code j.queue
   pub names : j.names ≡ read_names meaning (names_in table)
   pub linked : IsLinked j.queue.body j.out j.names
 
@@ -55,7 +56,7 @@ pub record Stands {P : Type 0} (meaning : P → Plane) (code : Lined P) (table :
 -- the checks before an fd is looked at
 abbrev pub early_refusal : {P : Type 0} → ℕ → Body P → Option Reason
 early_refusal index b =
-    first_of ((nat_le (length b.buffers) index, BadIndex) ∷ (not (same_memory b.kind DmaBuf), BadMemory) ∷ [])
+    first_reason ((nat_le (length b.buffers) index, BadIndex) ∷ (not (same_memory b.kind DmaBuf), BadMemory) ∷ [])
 
 abbrev pub use_refusal : {P : Type 0} → Use → ℕ → Memory → Option (PlaneSet Plane) → Body P → Option Reason
 use_refusal Prepare index kind given b = prepare_refusal index kind given b
@@ -183,8 +184,8 @@ module _ {P A : Type 0} (meaning : P → Plane) where
   call_refusal (call.Mmap type index) j = map_refusal index j.queue.body
   call_refusal (call.Munmap type index) j = unmap_refusal index j.queue.body
 
-  abbrev pub refusal : Ioctl P A → IoctlState → Option Reason
-  refusal c j = or_else (type_refusal c j) (call_refusal c j)
+  abbrev pub ioctl_refusal : Ioctl P A → IoctlState → Option Reason
+  ioctl_refusal c j = or_else (type_refusal c j) (call_refusal c j)
 
   -- the state, where it isn't refused
   abbrev pub done : Ioctl P A → IoctlState → IoctlState
@@ -217,26 +218,26 @@ module _ {P A : Type 0} (meaning : P → Plane) where
   IsErrno c why e = (option_map errno why ≡ Some e) ⊎ ((why ≡ None) × (WantsMemory c × (e ≡ errno NoMemory)))
 
   -- it is answered so, where this is why it is to be refused: a refusal hands back what the call brought
-  abbrev pub IsAnsweredFor : Ioctl P A → IoctlState → Option Reason → Result (IoctlReply P A) (Refused P A) → Type 0
-  IsAnsweredFor c j why (Ok r) = (why ≡ None) × IsReply c j r
-  IsAnsweredFor c j why (Err r) = IsErrno c why r.errno × HandsBack (planes_given c) (supply_given c) r
+  abbrev pub IsRepliedFor : Ioctl P A → IoctlState → Option Reason → Result (IoctlReply P A) (Refused P A) → Type 0
+  IsRepliedFor c j why (Ok r) = (why ≡ None) × IsReply c j r
+  IsRepliedFor c j why (Err r) = IsErrno c why r.errno × HandsBack (planes_given c) (supply_given c) r
 
-  abbrev pub IsAnswered : Ioctl P A → IoctlState → Result (IoctlReply P A) (Refused P A) → Type 0
-  IsAnswered c j result = IsAnsweredFor c j (refusal c j) result
+  abbrev pub IsReplied : Ioctl P A → IoctlState → Result (IoctlReply P A) (Refused P A) → Type 0
+  IsReplied c j result = IsRepliedFor c j (ioctl_refusal c j) result
 
   -- the state after it: a refused call changes nothing
-  abbrev pub after : Ioctl P A → IoctlState → Result (IoctlReply P A) (Refused P A) → IoctlState
-  after c j (Ok r) = done c j
-  after c j (Err r) = j
+  abbrev pub after_ioctl : Ioctl P A → IoctlState → Result (IoctlReply P A) (Refused P A) → IoctlState
+  after_ioctl c j (Ok r) = done c j
+  after_ioctl c j (Err r) = j
 
   -- from each state that queue and table stand for, the call is answered so, and they stand for the state after it
   abbrev pub Applies : Ioctl P A → Result (IoctlReply P A) (Refused P A) → Lined P → Fds P → Lined P → Fds P → Type 0
   Applies c result queue table new_queue new_table =
-      (j : IoctlState) → Stands meaning queue table j
-      → IsAnswered c j result × Stands meaning new_queue new_table (after c j result)
+      (j : IoctlState) → StandsIoctl meaning queue table j
+      → IsReplied c j result × StandsIoctl meaning new_queue new_table (after_ioctl c j result)
 
 -- A queue without buffers and any table stand for the state in which each fd names what it does, and no plane is out.
 abbrev pub NewQueuesStand : {P : Type 0} → (P → Plane) → Type 0
 NewQueuesStand {P} meaning =
-    (code : Lined P) (table : Fds P) (s : QueueState) → StandsFor meaning code s → s.body.buffers ≡ []
-    → Stands meaning code table (record { queue = s; names = read_names meaning (names_in table); out = [] })
+    (code : Lined P) (table : Fds P) (s : QueueState) → StandsQueue meaning code s → s.body.buffers ≡ []
+    → StandsIoctl meaning code table (record { queue = s; names = read_names meaning (names_in table); out = [] })

@@ -12,7 +12,7 @@ use Rattle.loop_ioctl.specs.declared.events.QueueEvent.{QueueEvent}
 use Rattle.loop_ioctl.specs.declared.events.QueueEvent.TheVariants as event
 use Rattle.loop_ioctl.specs.declared.events.QueueReply.{QueueReply}
 use Rattle.loop_ioctl.specs.declared.events.QueueReply.TheVariants as answer
-use Rattle.loop_ioctl.specs.Calls.{IoctlState, Stands, IsAnswered, after}
+use Rattle.loop_ioctl.specs.Calls.{IoctlState, StandsIoctl, IsReplied, after_ioctl}
 use Rattle.loop_ioctl.specs.Parts.{Judged, either}
 
 -- the device changes the queue alone
@@ -41,7 +41,7 @@ module _ {P A : Type 0} where
 module _ {P A : Type 0} (meaning : P → Plane) where
   -- the reply is the model's
   abbrev pub IsTold : QueueEvent P A → QueueReply P A → IoctlState → Type 0
-  IsTold (event.Ioctl call) (answer.Ioctl result) j = IsAnswered meaning call j result
+  IsTold (event.Ioctl call) (answer.Ioctl result) j = IsReplied meaning call j result
   IsTold (event.Complete index stamp bytes) (answer.Ended result) j = Judged (end_refusal index j.queue.body) result
   IsTold (event.Fail index stamp) (answer.Ended result) j = Judged (end_refusal index j.queue.body) result
   IsTold event.Fatal answer.Fatal j = Unit {0}
@@ -49,7 +49,7 @@ module _ {P A : Type 0} (meaning : P → Plane) where
 
   -- the state after the event
   abbrev pub state_after : QueueEvent P A → QueueReply P A → IoctlState → IoctlState
-  state_after (event.Ioctl call) (answer.Ioctl result) j = after meaning call j result
+  state_after (event.Ioctl call) (answer.Ioctl result) j = after_ioctl meaning call j result
   state_after (event.Complete index stamp bytes) (answer.Ended result) j =
       either result (with_queue (completed index stamp bytes.items) j) j
   state_after (event.Fail index stamp) (answer.Ended result) j = either result (with_queue (failed index stamp) j) j
@@ -66,17 +66,17 @@ module _ {P A : Type 0} (meaning : P → Plane) where
   -- one event: the reply is the model's, and queue and table stand for the state after it
   abbrev pub Reacts : QueueEvent P A → QueueReply P A → Lined P → Fds P → Lined P → Fds P → Type 0
   Reacts e r queue table new_queue new_table =
-      (j : IoctlState) → Stands meaning queue table j
-      → IsTold e r j × Stands meaning new_queue new_table (state_after e r j)
+      (j : IoctlState) → StandsIoctl meaning queue table j
+      → IsTold e r j × StandsIoctl meaning new_queue new_table (state_after e r j)
 
   -- a list of events: there are as many replies, each is the model's at its point, and queue and table stand
   -- for the state after all
   pub record Runs (events : List (QueueEvent P A)) (replies : List (QueueReply P A)) (queue : Lined P) (table : Fds P)
       (new_queue : Lined P) (new_table : Fds P) : Type 0 where
     pub count : length replies ≡ length events
-    pub told : (j : IoctlState) → Stands meaning queue table j
+    pub told : (j : IoctlState) → StandsIoctl meaning queue table j
         → EachIn turned IsTurn j (turns events replies)
-        × Stands meaning new_queue new_table (after_all turned j (turns events replies))
+        × StandsIoctl meaning new_queue new_table (after_all turned j (turns events replies))
 
 -- Two runs, one after the other, are the run of the joined lists.
 abbrev pub RunsJoin : {P : Type 0} → Type 0 → (P → Plane) → Type 0

@@ -27,7 +27,7 @@ use Rattle.loop_ioctl.specs.declared.events.QueueEvent.TheVariants as event
 use Rattle.loop_ioctl.specs.declared.events.QueueReply.{QueueReply}
 use Rattle.loop_ioctl.specs.declared.events.QueueReply.TheVariants as answer
 use Rattle.loop_ioctl.specs.Names.{set_named, set_refusal}
-use Rattle.loop_ioctl.specs.Calls.{IoctlState, Stands, planes_at, type_refusal}
+use Rattle.loop_ioctl.specs.Calls.{IoctlState, StandsIoctl, planes_at, type_refusal}
 use Rattle.loop_ioctl.specs.Events.{IsTurn, Runs, turned, turns}
 
 -- what is refused before it comes to the queue is no event of it
@@ -90,15 +90,15 @@ module _ {P A : Type 0} (meaning : P → Plane) where
   -- buffers are dequeued in the order in which they ended
   abbrev pub RunsInOrder : List (QueueEvent P A) → List (QueueReply P A) → Lined P → Fds P → Lined P → Type 0
   RunsInOrder events replies queue table new_queue =
-      (j : IoctlState) → Stands meaning queue table j
+      (j : IoctlState) → StandsIoctl meaning queue table j
       → KeepsOrder queue new_queue (events_in j (turns events replies))
 
 -- Turns, each told as the model of the ioctls has it, are events of the queue's model, and leave its state.
 abbrev pub TurnsAreEvents : {P : Type 0} → Type 0 → (P → Plane) → Type 0
 TurnsAreEvents {P} A meaning =
     (j : IoctlState) (xs : List (QueueEvent P A × QueueReply P A)) → EachIn (turned meaning) (IsTurn meaning) j xs
-    → EachIn model.after model.IsAnswered j.queue (events_in meaning j xs)
-    × ((after_all (turned meaning) j xs).queue ≡ after_all model.after j.queue (events_in meaning j xs))
+    → EachIn model.after_event model.MayHappen j.queue (events_in meaning j xs)
+    × ((after_all (turned meaning) j xs).queue ≡ after_all model.after_event j.queue (events_in meaning j xs))
 
 -- Whatever the lists, a run's buffers are dequeued in the order in which they ended.
 abbrev pub RunsAreInOrder : {P : Type 0} → Type 0 → (P → Plane) → Type 0

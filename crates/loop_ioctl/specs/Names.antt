@@ -92,15 +92,15 @@ module _ {T : Type 0} where
   -- ---- values given back
 
   -- the value of a place with its fd, where there is one
-  abbrev pub in_place : ℕ → Option T → List (ℕ × T)
-  in_place fd None = []
-  in_place fd (Some value) = (fd, value) ∷ []
+  abbrev pub value_with_fd : ℕ → Option T → List (ℕ × T)
+  value_with_fd fd None = []
+  value_with_fd fd (Some value) = (fd, value) ∷ []
 
   -- those of a set, the last first
   abbrev pub values_in : PlaneSet T → List (ℕ × T)
   values_in set =
-      in_place (number_at set.fds 2) set.planes.cr
-      ++ (in_place (number_at set.fds 1) set.planes.cb ++ in_place (number_at set.fds 0) set.planes.y)
+      value_with_fd (number_at set.fds 2) set.planes.cr
+      ++ (value_with_fd (number_at set.fds 1) set.planes.cb ++ value_with_fd (number_at set.fds 0) set.planes.y)
 
   -- those of sets
   abbrev pub values_of : List (PlaneSet T) → List (ℕ × T)

@@ -22,7 +22,7 @@ use Rattle.loop_ioctl.specs.declared.call.PlaneFds.{PlaneFds}
 use Rattle.loop_ioctl.specs.declared.put.Use.{Use}
 use Rattle.loop_ioctl.specs.declared.put.Use.TheVariants.{Prepare, Queue}
 use Rattle.loop_ioctl.specs.Names.{values_of, GivesBack}
-use Rattle.loop_ioctl.specs.Calls.{IoctlState, Stands, put_refusal, put_in, TellsFrame, TellsGrant, taken_out, replaced, call_refusal, IsAnsweredFor, after}
+use Rattle.loop_ioctl.specs.Calls.{IoctlState, StandsIoctl, put_refusal, put_in, TellsFrame, TellsGrant, taken_out, replaced, call_refusal, IsRepliedFor, after_ioctl}
 use Rattle.loop_ioctl.specs.declared.call.Ioctl.{Ioctl}
 use Rattle.loop_ioctl.specs.declared.call.IoctlReply.{IoctlReply}
 use Rattle.loop_ioctl.specs.declared.call.IoctlReply.TheVariants as reply
@@ -50,22 +50,23 @@ module _ {P : Type 0} (meaning : P → Plane) where
   -- of queue and table, with planes by fd
   abbrev pub PutsNamed : {U : Type 0} → Use → ℕ → PlaneFds → Result U Errno → Lined P → Fds P → Lined P → Fds P → Type 0
   PutsNamed way index named result queue table new_queue new_table =
-      (j : IoctlState) → Stands meaning queue table j
+      (j : IoctlState) → StandsIoctl meaning queue table j
       → Judged (put_refusal meaning way index (memory.DmaBuf (Some named)) j) result
-      × Stands meaning new_queue new_table (either result (put_in meaning way index (memory.DmaBuf (Some named)) j) j)
+      × StandsIoctl meaning new_queue new_table
+      (either result (put_in meaning way index (memory.DmaBuf (Some named)) j) j)
 
   -- of queue and table, with whatever memory
   abbrev pub Puts : {U A : Type 0} → Use → ℕ → BufferMemory P → Result U (Refused P A) → Lined P → Fds P → Lined P
       → Fds P → Type 0
   Puts way index given result queue table new_queue new_table =
-      (j : IoctlState) → Stands meaning queue table j → JudgedBack (put_refusal meaning way index given j) result
-      × Stands meaning new_queue new_table (either result (put_in meaning way index given j) j)
+      (j : IoctlState) → StandsIoctl meaning queue table j → JudgedBack (put_refusal meaning way index given j) result
+      × StandsIoctl meaning new_queue new_table (either result (put_in meaning way index given j) j)
 
 -- sets leave a queue of this kind: DMA-BUF planes go back to their fds
 abbrev pub LetsOut : {T : Type 0} → Memory → List (PlaneSet T) → Fds T → Fds T → Type 0
-LetsOut Mmap sets before after = after ≡ before
-LetsOut UserPtr sets before after = after ≡ before
-LetsOut DmaBuf sets before after = GivesBack (values_of sets) before after
+LetsOut Mmap sets before after_ioctl = after_ioctl ≡ before
+LetsOut UserPtr sets before after_ioctl = after_ioctl ≡ before
+LetsOut DmaBuf sets before after_ioctl = GivesBack (values_of sets) before after_ioctl
 
 module _ {P A : Type 0} where
   -- QUERYBUF
@@ -86,9 +87,9 @@ module _ {P A : Type 0} where
   abbrev pub LetsOneOut : (P → Plane) → Result (IoctlReply P A) (Refused P A) → Lined P → Fds P → Lined P → Fds P
       → Type 0
   LetsOneOut meaning result queue table new_queue new_table =
-      (j : IoctlState) → Stands meaning queue table j
+      (j : IoctlState) → StandsIoctl meaning queue table j
       → IsTakenOut meaning j result
-      × Stands meaning new_queue new_table (either result (taken_out (first_ended j.queue) j) j)
+      × StandsIoctl meaning new_queue new_table (either result (taken_out (first_ended j.queue) j) j)
 
   -- REQBUFS
   abbrev pub IsReplaced : (P → Plane) → ℕ → Memory → List (PlaneSet Plane) → IoctlState
@@ -105,14 +106,15 @@ module _ {P A : Type 0} where
   abbrev pub Replaces : (P → Plane) → ℕ → Memory → List (PlaneSet P) → Result (IoctlReply P A) (Refused P A) → Lined P
       → Fds P → Lined P → Fds P → Type 0
   Replaces meaning count kind supply result queue table new_queue new_table =
-      (j : IoctlState) → Stands meaning queue table j
+      (j : IoctlState) → StandsIoctl meaning queue table j
       → IsReplaced meaning count kind (map (read_set meaning) supply) j result
-      × Stands meaning new_queue new_table (either result (replaced count kind (map (read_set meaning) supply) j) j)
+      × StandsIoctl meaning new_queue new_table
+      (either result (replaced count kind (map (read_set meaning) supply) j) j)
 
   -- an ioctl, whose buffer type is the queue's
   abbrev pub AppliesTyped : (P → Plane) → Ioctl P A → Result (IoctlReply P A) (Refused P A) → Lined P → Fds P
       → Lined P → Fds P → Type 0
   AppliesTyped meaning c result queue table new_queue new_table =
-      (j : IoctlState) → Stands meaning queue table j
-      → IsAnsweredFor meaning c j (call_refusal meaning c j) result
-      × Stands meaning new_queue new_table (after meaning c j result)
+      (j : IoctlState) → StandsIoctl meaning queue table j
+      → IsRepliedFor meaning c j (call_refusal meaning c j) result
+      × StandsIoctl meaning new_queue new_table (after_ioctl meaning c j result)

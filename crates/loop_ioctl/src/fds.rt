@@ -1,6 +1,6 @@
 // The planes of a set, taken from the table by fd and given back to it.
 ghost use Rattle.std.specs.Prelude.{◌≡◌};
-ghost use Rattle.loop_ioctl.specs.Names.{reason_of, TakesPlace, TakesSet, GivesBack, in_place, values_in, values_of};
+ghost use Rattle.loop_ioctl.specs.Names.{reason_of, TakesPlace, TakesSet, GivesBack, value_with_fd, values_in, values_of};
 
 use crate::call::PlaneFds;
 use loop_plane::{FdFault, FdTable};
@@ -36,7 +36,7 @@ fn take_place<P: Drop, A: Allocator>(
 
 // Gives the plane of one place back, where there is one. Its fd is attached.
 fn give_place<P: Drop, A: Allocator>(table: &mut FdTable<P, A>, fd: u32, place: Option<P>)
-    ensures { GivesBack (in_place fd place) table.old table.new }
+    ensures { GivesBack (value_with_fd fd place) table.old table.new }
 {
     match place {
         Some(plane) => {

@@ -37,5 +37,5 @@ overlaid m writes failures = record m {
 }
 
 -- the same of a value of an overlay, by what the disk beneath is
-abbrev pub shown : {D : Type 0} → (D → Medium) → Layered D → Medium
-shown medium overlay = overlaid (medium overlay.disk) overlay.writes overlay.failures
+abbrev pub above : {D : Type 0} → (D → Medium) → Layered D → Medium
+above medium overlay = overlaid (medium overlay.disk) overlay.writes overlay.failures

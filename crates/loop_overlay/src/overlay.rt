@@ -3,7 +3,7 @@ ghost use Rattle.std.specs.Prelude.{◌≡◌, ◌+◌, ◌≤◌, [], IfErr, Is
 ghost use Rattle.loop_disk.specs.declared.fault.DiskFault.TheVariants.{Read, Write, Sync};
 ghost use Rattle.loop_disk.specs.Medium.{LeavesEach, LeavesEachTorn, piece};
 ghost use Rattle.loop_disk.specs.Calls.{Called, Stays, Syncs, Writes, failed_call, no_failures, with_failed};
-ghost use Rattle.loop_overlay.specs.Layers.{Layered, shown};
+ghost use Rattle.loop_overlay.specs.Layers.{Layered, above};
 ghost use Rattle.loop_overlay.specs.Sound.{sound_overlaid};
 
 use crate::kept::{Kept, keep, lay_all};
@@ -69,7 +69,7 @@ impl<D, A: Allocator + Copy> OverlayDisk<D, A> {
 }
 
 impl<D: Disk, A: Allocator + Copy> Disk for OverlayDisk<D, A> {
-    ghost medium = { shown D.medium };
+    ghost medium = { above D.medium };
 
     ghost harsh = { λ overlay. ⊥ };
 
@@ -84,11 +84,11 @@ impl<D: Disk, A: Allocator + Copy> Disk for OverlayDisk<D, A> {
     fn read(&mut self, at: u64, buf: &mut [u8]) -> Result<(), DiskFault>
         requires { at + length buf.old ≤ (D.medium self.old.disk).size }
         ensures read { (D.medium self.old.disk).honest
-            → OnOk result (buf.new ≡ piece at (length buf.old) (shown D.medium self.old).bytes) }
-        ensures disk { (D.medium self.old.disk).honest → Stays (shown D.medium self.old) (shown D.medium self.new) }
-        ensures each { ⊥ → ⊥ × LeavesEach (shown D.medium self.old) (shown D.medium self.new) }
+            → OnOk result (buf.new ≡ piece at (length buf.old) (above D.medium self.old).bytes) }
+        ensures disk { (D.medium self.old.disk).honest → Stays (above D.medium self.old) (above D.medium self.new) }
+        ensures each { ⊥ → ⊥ × LeavesEach (above D.medium self.old) (above D.medium self.new) }
         ensures fault { IfErr result (λ fault. fault ≡ Read) }
-        ensures called { Called (shown D.medium self.old) (shown D.medium self.new) (failed_call result) }
+        ensures called { Called (above D.medium self.old) (above D.medium self.new) (failed_call result) }
         ensures beneath { (D.medium self.old.disk).honest → Stays (D.medium self.old.disk) (D.medium self.new.disk) }
         ensures passes { Called (D.medium self.old.disk) (D.medium self.new.disk) (failed_call result) }
     {
@@ -102,11 +102,11 @@ impl<D: Disk, A: Allocator + Copy> Disk for OverlayDisk<D, A> {
     fn write_at(&mut self, at: u64, bytes: &[u8]) -> Result<(), DiskFault>
         requires { at + length bytes.now ≤ (D.medium self.old.disk).size }
         ensures disk { (D.medium self.old.disk).honest
-            → Writes at bytes.now (shown D.medium self.old) (shown D.medium self.new) result }
+            → Writes at bytes.now (above D.medium self.old) (above D.medium self.new) result }
         ensures each { ⊥ → ⊥
-            × OnOk result (LeavesEachTorn at (length bytes.now) (shown D.medium self.old) (shown D.medium self.new)) }
+            × OnOk result (LeavesEachTorn at (length bytes.now) (above D.medium self.old) (above D.medium self.new)) }
         ensures fault { IfErr result (λ fault. fault ≡ Write) }
-        ensures called { Called (shown D.medium self.old) (shown D.medium self.new) (failed_call result) }
+        ensures called { Called (above D.medium self.old) (above D.medium self.new) (failed_call result) }
         ensures beneath { self.new.disk ≡ self.old.disk }
         ensures refused { OnErr result (self.new
             ≡ record self.old { failures = with_failed (failed_call result) self.old.failures }) }
@@ -120,10 +120,10 @@ impl<D: Disk, A: Allocator + Copy> Disk for OverlayDisk<D, A> {
     /// It never fails, changes nothing, and doesn't sync the disk beneath.
     fn sync(&mut self) -> Result<(), DiskFault>
         ensures disk { (D.medium self.old.disk).honest
-            → Syncs (shown D.medium self.old) (shown D.medium self.new) result }
+            → Syncs (above D.medium self.old) (above D.medium self.new) result }
         ensures each { ⊥ → ⊥ }
         ensures fault { IfErr result (λ fault. fault ≡ Sync) }
-        ensures called { Called (shown D.medium self.old) (shown D.medium self.new) (failed_call result) }
+        ensures called { Called (above D.medium self.old) (above D.medium self.new) (failed_call result) }
         ensures always { IsOk result }
         ensures beneath { self.new ≡ self.old }
     {

@@ -14,9 +14,9 @@ use Rattle.loop_vb2.specs.Errnos.{errno}
 use Rattle.loop_vb2.specs.Owner.{is_dequeued}
 use Rattle.loop_vb2.specs.Planes.{number_at, bytes_in, plane_of_set, plane_in, has_used_bytes, has_used, read_set}
 use Rattle.loop_vb2.specs.Buffers.{state_at, has_plane_at, used_at, bytes_at, readable, readable_at, read_buffer}
-use Rattle.loop_vb2.specs.Checks.{first_of, copy_checks, copy_refusal}
+use Rattle.loop_vb2.specs.Checks.{first_reason, copy_checks, copy_refusal}
 use Rattle.loop_vb2.specs.Copies.{code_refusal}
-use Rattle.loop_vb2.specs.State.{Body, QueueState, Lined, read_body, FitsShape, EachFits, AllFit, StandsFor}
+use Rattle.loop_vb2.specs.State.{Body, QueueState, Lined, read_body, FitsShape, EachFits, AllFit, StandsQueue}
 use Rattle.loop_vb2.specs.Events.{Happens, copy_plane}
 use Rattle.loop_vb2.proofs.Lines.{same}
 use Rattle.loop_vb2.proofs.Passing.{Passed, all_passed}
@@ -80,7 +80,7 @@ abbrev told : ℕ → ℕ → ℕ → Body Plane → Bool → ℕ → Option Rea
 told index at count b has number =
     cond (nat_le (length b.buffers) index) (Some BadIndex) (cond (not has) (Some BadPlanes) (cond (not (is_dequeued (state_at b.buffers index))) (Some BadState) (cond (nat_lt number (at + count)) (Some PlaneTooShort) None)))
 
-copy_alike : (index plane at count n k : ℕ) (b : Body Plane) → (has_plane_at b.buffers index plane ≡ true → n ≡ k) → first_of (copy_checks index plane at count n b) ≡ first_of (copy_checks index plane at count k b)
+copy_alike : (index plane at count n k : ℕ) (b : Body Plane) → (has_plane_at b.buffers index plane ≡ true → n ≡ k) → first_reason (copy_checks index plane at count n b) ≡ first_reason (copy_checks index plane at count k b)
 copy_alike index plane at count n k b h = by (has_plane_at b.buffers index plane) refl
   where
     by : (t : Bool) → has_plane_at b.buffers index plane ≡ t → told index at count b t n ≡ told index at count b t k
@@ -144,7 +144,7 @@ module _ {P : Type 0} (m : P → Plane) where
 
   -- ---- the event
 
-  code_checks : (index plane at count : ℕ) (now : Lined P) (s : QueueState) → StandsFor m now s → copy_refusal index plane at count s.body ≡ code_refusal m index plane at count now.body
+  code_checks : (index plane at count : ℕ) (now : Lined P) (s : QueueState) → StandsQueue m now s → copy_refusal index plane at count s.body ≡ code_refusal m index plane at count now.body
   code_checks index plane at count now s h =
       ap (λ (b : Body Plane). copy_refusal index plane at count b) (sym h.shown.body)
       ∙ copy_refusal_read index plane at count now.body (subst (λ (b : Body Plane). AllFit b) (sym h.shown.body) h.fit)

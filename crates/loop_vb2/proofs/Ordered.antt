@@ -21,8 +21,8 @@ use Rattle.loop_vb2.specs.Lines.{lists, without, InOrder}
 use Rattle.loop_vb2.specs.Checks.{queue_refusal, prepare_refusal, end_refusal, request_refusal}
 use Rattle.loop_vb2.specs.Effects.{awake, device_runs, settled, with_buffer, body_streaming, body_stopped, first_ended, ended, dequeued, touched}
 use Rattle.loop_vb2.specs.Requests.{grants_or_none, requested}
-use Rattle.loop_vb2.specs.State.{Body, QueueState, Lined, lined, in_step, InStep, Shows, StandsFor}
-use Rattle.loop_vb2.specs.Events.{Event, Grant, IsAnswered, IsRefusal, after, dequeued_by, ended_by, stops, reqbufs, prepare_buf, qbuf, dqbuf, streamon, streamoff, querybuf, mmap, munmap, take_planes, copy_plane, complete, fail, fatal, take_fresh}
+use Rattle.loop_vb2.specs.State.{Body, QueueState, Lined, lined, in_step, InStep, Shows, StandsQueue}
+use Rattle.loop_vb2.specs.Events.{Event, Grant, MayHappen, IsRefusal, after_event, dequeued_by, ended_by, stops, reqbufs, prepare_buf, qbuf, dqbuf, streamon, streamoff, querybuf, mmap, munmap, take_planes, copy_plane, complete, fail, fatal, take_fresh}
 use Rattle.loop_vb2.specs.Laws.{DequeuedInOrder, InTurn, IsStill, KeepsOrder, NewQueuesAreStill}
 use Rattle.loop_vb2.proofs.InStep.{step_stopped, idle_fits, none_are_active}
 use Rattle.loop_vb2.proofs.Kept.{dequeued_idle, prepared_state}
@@ -82,7 +82,7 @@ runs_freed s count kind sets none =
       still = λ e. refl;
     }
 
-pub runs_stopped : (s : QueueState) (stop : Event) → stops stop ≡ true → Runs (after s stop) []
+pub runs_stopped : (s : QueueState) (stop : Event) → stops stop ≡ true → Runs (after_event s stop) []
 runs_stopped s streamoff e = runs_off s
 runs_stopped s (reqbufs count kind sets (Ok g)) e = runs_freed s count kind sets e
 runs_stopped s (reqbufs count kind sets (Err x)) e = absurd (cc)
@@ -105,7 +105,7 @@ runs_stopped s (take_fresh fresh) e = absurd (cc)
 -- the line after an event: what the device ended joins it behind, and what the application got leaves it in front
 pub record Next (s : QueueState) (e : Event) (line : List ℕ) : Type 0 where
   pub rest : List ℕ
-  pub runs : Runs (after s e) rest
+  pub runs : Runs (after_event s e) rest
   pub joined : line ++ ended_by e ≡ dequeued_by e ++ rest
 
 settled_streaming : (b : Body Plane) → (settled b).streaming ≡ b.streaming
@@ -195,7 +195,7 @@ next_requested s count kind sets g line r some passed =
       joined = append-nil line ∙ r.still off;
     }
 
-pub next : (s : QueueState) (e : Event) (line : List ℕ) → Runs s line → stops e ≡ false → IsAnswered s e → Next s e line
+pub next : (s : QueueState) (e : Event) (line : List ℕ) → Runs s line → stops e ≡ false → MayHappen s e → Next s e line
 next s (reqbufs count kind sets (Ok g)) line r on a = next_requested s count kind sets g line r on a.0
 next s (reqbufs count kind sets (Err x)) line r on a = record { rest = line; runs = r; joined = append-nil line }
 next s (prepare_buf index kind given None) line r on a = next_prepared s index kind given line r (not_refused (prepare_refusal index kind given s.body) a)
@@ -254,19 +254,19 @@ rejoined line ended taken next all_ended all_taken rest e f =
 -- the line after events
 record Along (s : QueueState) (events : List Event) (line : List ℕ) : Type 0 where
   rest : List ℕ
-  runs : Runs (after_all after s events) rest
+  runs : Runs (after_all after_event s events) rest
   joined : line ++ flat_map ended_by events ≡ flat_map dequeued_by events ++ rest
 
-along : (s : QueueState) (events : List Event) (line : List ℕ) → Runs s line → list_any stops events ≡ false → EachIn after IsAnswered s events → Along s events line
+along : (s : QueueState) (events : List Event) (line : List ℕ) → Runs s line → list_any stops events ≡ false → EachIn after_event MayHappen s events → Along s events line
 along s [] line r on a = record { rest = line; runs = r; joined = append-nil line }
 along s (e ∷ es) line r on a =
     let n : Next s e line = next s e line r (first_off (stops e) (list_any stops es) on) a.0 in
-    let more : Along (after s e) es n.rest = along (after s e) es n.rest n.runs (second_off (stops e) (list_any stops es) on) a.1 in
+    let more : Along (after_event s e) es n.rest = along (after_event s e) es n.rest n.runs (second_off (stops e) (list_any stops es) on) a.1 in
     record { rest = more.rest; runs = more.runs; joined = rejoined line (ended_by e) (dequeued_by e) n.rest (flat_map ended_by es) (flat_map dequeued_by es) more.rest n.joined more.joined }
 
 pub dequeued_in_order : DequeuedInOrder
 dequeued_in_order = λ s stop events stopped on a.
-    let all : Along (after s stop) events [] = along (after s stop) events [] (runs_stopped s stop stopped) on a.1 in
+    let all : Along (after_event s stop) events [] = along (after_event s stop) events [] (runs_stopped s stop stopped) on a.1 in
     (all.rest, all.joined)
 
 -- ---- two lines in the same order
@@ -302,22 +302,22 @@ same_line n c t (x ∷ xs) (y ∷ ys) a b =
 
 -- ---- a queue's events
 
-each_first : (s : QueueState) (xs ys : List Event) → EachIn after IsAnswered s (xs ++ ys) → EachIn after IsAnswered s xs
+each_first : (s : QueueState) (xs ys : List Event) → EachIn after_event MayHappen s (xs ++ ys) → EachIn after_event MayHappen s xs
 each_first s [] ys each = tt
-each_first s (x ∷ xs) ys each = (each.0, each_first (after s x) xs ys each.1)
+each_first s (x ∷ xs) ys each = (each.0, each_first (after_event s x) xs ys each.1)
 
-each_second : (s : QueueState) (xs ys : List Event) → EachIn after IsAnswered s (xs ++ ys) → EachIn after IsAnswered (after_all after s xs) ys
+each_second : (s : QueueState) (xs ys : List Event) → EachIn after_event MayHappen s (xs ++ ys) → EachIn after_event MayHappen (after_all after_event s xs) ys
 each_second s [] ys each = each
-each_second s (x ∷ xs) ys each = each_second (after s x) xs ys each.1
+each_second s (x ∷ xs) ys each = each_second (after_event s x) xs ys each.1
 
 -- the others of a part, where its last state is one that the queue stands for
-in_turn : {P : Type 0} (m : P → Plane) (new : Lined P) (s : QueueState) (done : List ℕ) (part behind : List Event) → Along s part done → (behind ≡ [] → StandsFor m new (after_all after s part)) → InTurn done part behind new.done
+in_turn : {P : Type 0} (m : P → Plane) (new : Lined P) (s : QueueState) (done : List ℕ) (part behind : List Event) → Along s part done → (behind ≡ [] → StandsQueue m new (after_all after_event s part)) → InTurn done part behind new.done
 in_turn m new s done part behind a last =
-    let t : QueueState = after_all after s part in
+    let t : QueueState = after_all after_event s part in
     (a.rest, a.joined, λ none. same_line t.end_number t.end_count (λ i. is_ended (state_at t.body.buffers i)) a.rest new.done a.runs.shows.done (last none).shown.done)
 
 -- a queue's start
-started : {P : Type 0} (m : P → Plane) (code : Lined P) (s : QueueState) → StandsFor m code s → IsStill code → Runs s code.done
+started : {P : Type 0} (m : P → Plane) (code : Lined P) (s : QueueState) → StandsQueue m code s → IsStill code → Runs s code.done
 started m code s h still = record {
   incoming = code.incoming;
   shows = record { body = refl; incoming = h.shown.incoming; done = h.shown.done; in_step = h.shown.in_step };
@@ -325,16 +325,16 @@ started m code s h still = record {
 }
 
 -- stops or not, what is done is a line
-run_one : (s : QueueState) (e : Event) (line : List ℕ) → Runs s line → IsAnswered s e → (rest : List ℕ) × Runs (after s e) rest
+run_one : (s : QueueState) (e : Event) (line : List ℕ) → Runs s line → MayHappen s e → (rest : List ℕ) × Runs (after_event s e) rest
 run_one s e line r a = by (stops e) refl
   where
-    by : (t : Bool) → stops e ≡ t → (rest : List ℕ) × Runs (after s e) rest
+    by : (t : Bool) → stops e ≡ t → (rest : List ℕ) × Runs (after_event s e) rest
     by true is = ([], runs_stopped s e is)
     by false is = let n : Next s e line = next s e line r is a in (n.rest, n.runs)
 
-run_all : (s : QueueState) (events : List Event) (line : List ℕ) → Runs s line → EachIn after IsAnswered s events → (rest : List ℕ) × Runs (after_all after s events) rest
+run_all : (s : QueueState) (events : List Event) (line : List ℕ) → Runs s line → EachIn after_event MayHappen s events → (rest : List ℕ) × Runs (after_all after_event s events) rest
 run_all s [] line r each = (line, r)
-run_all s (e ∷ es) line r each = let one = run_one s e line r each.0 in run_all (after s e) es one.0 one.1 each.1
+run_all s (e ∷ es) line r each = let one = run_one s e line r each.0 in run_all (after_event s e) es one.0 one.1 each.1
 
 none_listed : (line : List ℕ) → ((i : ℕ) → lists line i ≡ false) → line ≡ []
 none_listed [] h = refl
@@ -343,20 +343,20 @@ none_listed (k ∷ ks) h = absurd (not_both (lists (k ∷ ks) k) (ap (λ e. e ||
 pub new_queues_are_still : {P : Type 0} (m : P → Plane) → NewQueuesAreStill m
 new_queues_are_still m code s h none = λ off. none_listed code.done (λ (i : ℕ). h.shown.done.listed i ∙ ap (λ bs. is_ended (state_at bs i)) none)
 
-pub dequeues_in_order : {P : Type 0} (m : P → Plane) (old new : Lined P) (s : QueueState) (events : List Event) → StandsFor m old s → EachIn after IsAnswered s events → StandsFor m new (after_all after s events) → KeepsOrder old new events
+pub dequeues_in_order : {P : Type 0} (m : P → Plane) (old new : Lined P) (s : QueueState) (events : List Event) → StandsQueue m old s → EachIn after_event MayHappen s events → StandsQueue m new (after_all after_event s events) → KeepsOrder old new events
 dequeues_in_order m old new s events first answered last = record {
   from_start = λ (part behind : List Event) is on idle.
-      let each : EachIn after IsAnswered s (part ++ behind) = subst (λ (l : List Event). EachIn after IsAnswered s l) is answered in
+      let each : EachIn after_event MayHappen s (part ++ behind) = subst (λ (l : List Event). EachIn after_event MayHappen s l) is answered in
       in_turn m new s old.done part behind (along s part old.done (started m old s first idle) on (each_first s part behind each))
-      (λ none. subst (λ (l : List Event). StandsFor m new (after_all after s l)) (is ∙ ap (λ l. part ++ l) none ∙ append-nil part) last);
+      (λ none. subst (λ (l : List Event). StandsQueue m new (after_all after_event s l)) (is ∙ ap (λ l. part ++ l) none ∙ append-nil part) last);
   from_stop = λ (before part behind : List Event) (stop : Event) is stopped on.
-      let each : EachIn after IsAnswered s (before ++ stop ∷ (part ++ behind)) = subst (λ (l : List Event). EachIn after IsAnswered s l) is answered in
-      let t : QueueState = after_all after s before in
-      let now : EachIn after IsAnswered t (stop ∷ (part ++ behind)) = each_second s before (stop ∷ (part ++ behind)) each in
-      in_turn m new (after t stop) [] part behind (along (after t stop) part [] (runs_stopped t stop stopped) on (each_first (after t stop) part behind now.1))
-      (λ none. subst (λ (x : QueueState). StandsFor m new x) (ap (after_all after s) (is ∙ ap (λ l. before ++ stop ∷ (part ++ l)) none ∙ ap (λ l. before ++ stop ∷ l) (append-nil part)) ∙ after-behind after s before (stop ∷ part)) last);
+      let each : EachIn after_event MayHappen s (before ++ stop ∷ (part ++ behind)) = subst (λ (l : List Event). EachIn after_event MayHappen s l) is answered in
+      let t : QueueState = after_all after_event s before in
+      let now : EachIn after_event MayHappen t (stop ∷ (part ++ behind)) = each_second s before (stop ∷ (part ++ behind)) each in
+      in_turn m new (after_event t stop) [] part behind (along (after_event t stop) part [] (runs_stopped t stop stopped) on (each_first (after_event t stop) part behind now.1))
+      (λ none. subst (λ (x : QueueState). StandsQueue m new x) (ap (after_all after_event s) (is ∙ ap (λ l. before ++ stop ∷ (part ++ l)) none ∙ ap (λ l. before ++ stop ∷ l) (append-nil part)) ∙ after-behind after_event s before (stop ∷ part)) last);
   still = λ idle off.
-      let t : QueueState = after_all after s events in
+      let t : QueueState = after_all after_event s events in
       let end : (rest : List ℕ) × Runs t rest = run_all s events old.done (started m old s first idle) answered in
       sym (same_line t.end_number t.end_count (λ i. is_ended (state_at t.body.buffers i)) end.0 new.done end.1.shows.done last.shown.done)
       ∙ end.1.still (sym (ap (λ (b : Body Plane). b.streaming) last.shown.body) ∙ off);

@@ -4,14 +4,13 @@ use Rattle.std.specs.Prelude.{count_by}
 use Rattle.loop_plane.specs.Plane.{Plane}
 use Rattle.loop_vb2.specs.declared.state.BufferState.{BufferState}
 use Rattle.loop_vb2.specs.declared.state.BufferState.TheVariants.{Dequeued, Prepared, Queued, Active, Done, Error}
-use Rattle.loop_vb2.specs.declared.state.Owner.TheVariants.{Application, Device}
-use Rattle.loop_vb2.specs.Owner.{owner, is_idle, is_dequeued, is_active, is_queued, is_ended, activated}
+use Rattle.loop_vb2.specs.Owner.{Application, Device, owner, is_idle, is_dequeued, is_active, is_queued, is_ended, activated}
 use Rattle.loop_vb2.specs.Buffers.{state_at, used_at, prepared_with, queued_with, completed_with, failed_with, dequeued_from, mapped_as, emptied, woken, stopped}
 use Rattle.loop_vb2.specs.Checks.{queue_refusal, prepare_refusal, end_refusal, take_refusal, take_checks, copy_refusal, copy_checks}
 use Rattle.loop_vb2.specs.Effects.{device_runs, awake, settled, with_buffer, body_streaming, first_ended}
 use Rattle.loop_vb2.specs.Requests.{grants_or_none}
 use Rattle.loop_vb2.specs.State.{Body, QueueState, InStep, in_step}
-use Rattle.loop_vb2.specs.Events.{Event, IsAnswered, after, reqbufs, prepare_buf, qbuf, dqbuf, streamon, streamoff, querybuf, mmap, munmap, take_planes, copy_plane, complete, fail, fatal, take_fresh}
+use Rattle.loop_vb2.specs.Events.{Event, MayHappen, after_event, reqbufs, prepare_buf, qbuf, dqbuf, streamon, streamoff, querybuf, mmap, munmap, take_planes, copy_plane, complete, fail, fatal, take_fresh}
 use Rattle.loop_vb2.specs.Laws.{HandedOverByOwners, ActsForOwner, run_on, turned_to}
 use Rattle.loop_vb2.proofs.InStep.{not_yet}
 use Rattle.loop_vb2.proofs.Kept.{queued_state, prepared_state}
@@ -54,7 +53,7 @@ copy_dequeued index plane at count b e =
 first_is_ended : (s : QueueState) (i : ℕ) → first_ended s ≡ Some i → (is_ended (state_at s.body.buffers i) ≡ true) × (i < length s.body.buffers)
 first_is_ended s i e = least_found s.end_number (λ k. is_ended (state_at s.body.buffers k)) (length s.body.buffers) i e
 
-for_owner : (s : QueueState) (event : Event) → IsAnswered s event → ActsForOwner s.body.buffers event
+for_owner : (s : QueueState) (event : Event) → MayHappen s event → ActsForOwner s.body.buffers event
 for_owner s (prepare_buf index kind given None) a = dequeued_owner (state_at s.body.buffers index) (prepare_dequeued index kind given s.body (not_refused (prepare_refusal index kind given s.body) a))
 for_owner s (prepare_buf index kind given (Some e)) a = tt
 for_owner s (qbuf index kind given None) a = idle_owner (state_at s.body.buffers index) (queue_idle index kind given s.body (not_refused (queue_refusal index kind given s.body) a))
@@ -110,7 +109,7 @@ streaming_states b step i = by b.streaming refl
     by true e = none_queued b.started (state_at b.buffers i) (step.each i)
     by false e = settled_states on (λ h. refl) i
 
-turned : (s : QueueState) (event : Event) → InStep s.body → IsAnswered s event → (i : ℕ) → state_at (after s event).body.buffers i ≡ turned_to event (after s event).body.started i (state_at s.body.buffers i)
+turned : (s : QueueState) (event : Event) → InStep s.body → MayHappen s event → (i : ℕ) → state_at (after_event s event).body.buffers i ≡ turned_to event (after_event s event).body.started i (state_at s.body.buffers i)
 turned s (prepare_buf index kind given None) step a i =
     state_at-changed (prepared_with given) Prepared s.body.buffers index i (prepared_state given) (prepare_within index kind given s.body (not_refused (prepare_refusal index kind given s.body) a))
 turned s (prepare_buf index kind given (Some e)) step a i = refl

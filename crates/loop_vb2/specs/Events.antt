@@ -2,7 +2,6 @@
 use Rattle.std.specs.Prelude.{◌≡◌, ◌⊎◌, ℕ, Bool, true, false, ◌==◌, List, [], ◌∷◌, Option, Some, None, option_map, map, Result, Ok, Err, take, drop, slice_get}
 use Rattle.loop_plane.specs.Plane.{Plane}
 use Rattle.loop_plane.specs.declared.memory.Memory.{Memory}
-use Rattle.loop_record.specs.Turns.{after_all, EachIn}
 use Rattle.loop_vb2.specs.declared.buffer.Buffer.{Buffer}
 use Rattle.loop_vb2.specs.declared.buffer.BufferInfo.{BufferInfo}
 use Rattle.loop_vb2.specs.declared.buffer.Dequeued.{Dequeued}
@@ -19,7 +18,7 @@ use Rattle.loop_vb2.specs.Checks.{queue_refusal, prepare_refusal, dequeue_refusa
 use Rattle.loop_vb2.specs.Effects.{queued, prepared, dequeued, first_ended, streaming, stopped_state, completed, failed, touched, fatal_state, seen_state}
 use Rattle.loop_vb2.specs.Errnos.{errno}
 use Rattle.loop_vb2.specs.Requests.{grants_or_none, left_in, requested}
-use Rattle.loop_vb2.specs.State.{QueueState, Lined, StandsFor}
+use Rattle.loop_vb2.specs.State.{QueueState, Lined, StandsQueue}
 use Rattle.loop_vb2.specs.Planes.{read_set}
 
 -- what a request is granted: a number of buffers, and the planes that lay in the old ones
@@ -54,75 +53,69 @@ unless None s t = t
 unless (Some e) s t = s
 
 -- the state after an event
-abbrev pub after : QueueState → Event → QueueState
-after s (reqbufs count kind sets (Ok g)) = requested count kind sets s
-after s (reqbufs count kind sets (Err e)) = s
-after s (prepare_buf index kind given refusal) = unless refusal s (prepared index given s)
-after s (qbuf index kind given refusal) = unless refusal s (queued index given s)
-after s (dqbuf (Ok d)) = dequeued d.index s
-after s (dqbuf (Err e)) = s
-after s (streamon refusal) = unless refusal s (streaming s)
-after s streamoff = stopped_state s
-after s (querybuf index answer) = s
-after s (mmap index refusal) = unless refusal s (touched (mapped_as true) index s)
-after s (munmap index refusal) = unless refusal s (touched (mapped_as false) index s)
-after s (take_planes index (Ok set)) = touched emptied index s
-after s (take_planes index (Err e)) = s
-after s (copy_plane index plane at count answer) = s
-after s (complete index stamp bytes refusal) = unless refusal s (completed index stamp bytes s)
-after s (fail index stamp refusal) = unless refusal s (failed index stamp s)
-after s fatal = fatal_state s
-after s (take_fresh fresh) = seen_state s
+abbrev pub after_event : QueueState → Event → QueueState
+after_event s (reqbufs count kind sets (Ok g)) = requested count kind sets s
+after_event s (reqbufs count kind sets (Err e)) = s
+after_event s (prepare_buf index kind given refusal) = unless refusal s (prepared index given s)
+after_event s (qbuf index kind given refusal) = unless refusal s (queued index given s)
+after_event s (dqbuf (Ok d)) = dequeued d.index s
+after_event s (dqbuf (Err e)) = s
+after_event s (streamon refusal) = unless refusal s (streaming s)
+after_event s streamoff = stopped_state s
+after_event s (querybuf index answer) = s
+after_event s (mmap index refusal) = unless refusal s (touched (mapped_as true) index s)
+after_event s (munmap index refusal) = unless refusal s (touched (mapped_as false) index s)
+after_event s (take_planes index (Ok set)) = touched emptied index s
+after_event s (take_planes index (Err e)) = s
+after_event s (copy_plane index plane at count answer) = s
+after_event s (complete index stamp bytes refusal) = unless refusal s (completed index stamp bytes s)
+after_event s (fail index stamp refusal) = unless refusal s (failed index stamp s)
+after_event s fatal = fatal_state s
+after_event s (take_fresh fresh) = seen_state s
 
 -- refused with the errno of the first check that fails, and not refused where none fails
 abbrev pub IsRefusal : Option Reason → Option Errno → Type 0
 IsRefusal reason refusal = option_map errno reason ≡ refusal
 
 -- the answer is one that the model gives in this state
-abbrev pub IsAnswered : QueueState → Event → Type 0
-IsAnswered s (reqbufs count kind sets (Ok g)) =
+abbrev pub MayHappen : QueueState → Event → Type 0
+MayHappen s (reqbufs count kind sets (Ok g)) =
     Passes (request_refusal count kind sets s.body) × (g.count ≡ grants_or_none s.body.min_queued count)
     × (g.left ≡ left_in s.body.kind s.body.buffers)
-IsAnswered s (reqbufs count kind sets (Err e)) =
+MayHappen s (reqbufs count kind sets (Err e)) =
     Fails (request_refusal count kind sets s.body) e
     ⊎ (Passes (request_refusal count kind sets s.body) × (e ≡ errno NoMemory))
-IsAnswered s (prepare_buf index kind given refusal) = IsRefusal (prepare_refusal index kind given s.body) refusal
-IsAnswered s (qbuf index kind given refusal) = IsRefusal (queue_refusal index kind given s.body) refusal
-IsAnswered s (dqbuf (Ok d)) =
+MayHappen s (prepare_buf index kind given refusal) = IsRefusal (prepare_refusal index kind given s.body) refusal
+MayHappen s (qbuf index kind given refusal) = IsRefusal (queue_refusal index kind given s.body) refusal
+MayHappen s (dqbuf (Ok d)) =
     Passes (dequeue_refusal s.body) × (first_ended s ≡ Some d.index)
     × ((b : Buffer Plane) × (slice_get s.body.buffers d.index ≡ Some b) × IsAnswer s.body.kind b d)
-IsAnswered s (dqbuf (Err e)) = Fails (dequeue_refusal s.body) e
-IsAnswered s (streamon refusal) = IsRefusal (stream_on_refusal s.body) refusal
-IsAnswered s streamoff = Unit {0}
-IsAnswered s (querybuf index (Ok info)) =
+MayHappen s (dqbuf (Err e)) = Fails (dequeue_refusal s.body) e
+MayHappen s (streamon refusal) = IsRefusal (stream_on_refusal s.body) refusal
+MayHappen s streamoff = Unit {0}
+MayHappen s (querybuf index (Ok info)) =
     Passes (query_refusal index s.body)
     × ((b : Buffer Plane) × (slice_get s.body.buffers index ≡ Some b) × IsInfo b info)
-IsAnswered s (querybuf index (Err e)) = Fails (query_refusal index s.body) e
-IsAnswered s (mmap index refusal) = IsRefusal (map_refusal index s.body) refusal
-IsAnswered s (munmap index refusal) = IsRefusal (unmap_refusal index s.body) refusal
-IsAnswered s (take_planes index (Ok set)) =
+MayHappen s (querybuf index (Err e)) = Fails (query_refusal index s.body) e
+MayHappen s (mmap index refusal) = IsRefusal (map_refusal index s.body) refusal
+MayHappen s (munmap index refusal) = IsRefusal (unmap_refusal index s.body) refusal
+MayHappen s (take_planes index (Ok set)) =
     Passes (take_refusal index s.body)
     × ((b : Buffer Plane) × (slice_get s.body.buffers index ≡ Some b) × (b.planes ≡ Some set))
-IsAnswered s (take_planes index (Err e)) = Fails (take_refusal index s.body) e
-IsAnswered s (copy_plane index plane at count (Ok bytes)) =
+MayHappen s (take_planes index (Err e)) = Fails (take_refusal index s.body) e
+MayHappen s (copy_plane index plane at count (Ok bytes)) =
     Passes (copy_refusal index plane at count s.body)
     × (bytes ≡ take count (drop at (bytes_at s.body.buffers index plane)))
-IsAnswered s (copy_plane index plane at count (Err e)) = Fails (copy_refusal index plane at count s.body) e
-IsAnswered s (complete index stamp bytes refusal) = IsRefusal (end_refusal index s.body) refusal
-IsAnswered s (fail index stamp refusal) = IsRefusal (end_refusal index s.body) refusal
-IsAnswered s fatal = Unit {0}
-IsAnswered s (take_fresh fresh) = fresh ≡ s.body.fresh
+MayHappen s (copy_plane index plane at count (Err e)) = Fails (copy_refusal index plane at count s.body) e
+MayHappen s (complete index stamp bytes refusal) = IsRefusal (end_refusal index s.body) refusal
+MayHappen s (fail index stamp refusal) = IsRefusal (end_refusal index s.body) refusal
+MayHappen s fatal = Unit {0}
+MayHappen s (take_fresh fresh) = fresh ≡ s.body.fresh
 
 -- from each state that the queue stands for, the event is answered so, and the queue stands for the state after it
 abbrev pub Happens : {P : Type 0} → (P → Plane) → Lined P → Lined P → Event → Type 0
 Happens meaning before now event =
-    (s : QueueState) → StandsFor meaning before s → IsAnswered s event × StandsFor meaning now (after s event)
-
--- the same of a list of events, one after the other
-abbrev pub Goes : {P : Type 0} → (P → Plane) → Lined P → Lined P → List Event → Type 0
-Goes meaning before now events =
-    (s : QueueState) → StandsFor meaning before s
-    → EachIn after IsAnswered s events × StandsFor meaning now (after_all after s events)
+    (s : QueueState) → StandsQueue meaning before s → MayHappen s event × StandsQueue meaning now (after_event s event)
 
 -- ---- the answer of a call, as its event has it
 

@@ -6,11 +6,10 @@ use Rattle.loop_record.specs.Turns.{EachIn}
 use Rattle.loop_vb2.specs.declared.buffer.Buffer.{Buffer}
 use Rattle.loop_vb2.specs.declared.state.BufferState.{BufferState}
 use Rattle.loop_vb2.specs.declared.state.BufferState.TheVariants.{Dequeued, Prepared, Queued, Done, Error}
-use Rattle.loop_vb2.specs.declared.state.Owner.TheVariants.{Application, Device}
-use Rattle.loop_vb2.specs.Owner.{owner, activated}
+use Rattle.loop_vb2.specs.Owner.{Application, Device, owner, activated}
 use Rattle.loop_vb2.specs.Buffers.{state_at}
-use Rattle.loop_vb2.specs.State.{QueueState, InStep, Lined, StandsFor}
-use Rattle.loop_vb2.specs.Events.{Event, IsAnswered, after, dequeued_by, ended_by, stops, reqbufs, prepare_buf, qbuf, dqbuf, streamon, streamoff, take_planes, copy_plane, complete, fail}
+use Rattle.loop_vb2.specs.State.{QueueState, InStep, Lined, StandsQueue}
+use Rattle.loop_vb2.specs.Events.{Event, MayHappen, after_event, dequeued_by, ended_by, stops, reqbufs, prepare_buf, qbuf, dqbuf, streamon, streamoff, take_planes, copy_plane, complete, fail}
 
 -- an event that is accepted acts for the buffer's owner: PREPARE_BUF, planes taken out and bytes copied for the
 -- application, QBUF for the application too, which may have prepared it, the device's ends for the device, and DQBUF
@@ -46,17 +45,17 @@ turned_to e started i state = state
 -- hands otherwise. The state is one that is in step with the device, as each that a queue stands for is.
 abbrev pub HandedOverByOwners : Type 0
 HandedOverByOwners =
-    (s : QueueState) (event : Event) → InStep s.body → IsAnswered s event
+    (s : QueueState) (event : Event) → InStep s.body → MayHappen s event
     → ActsForOwner s.body.buffers event
-    × ((i : ℕ) → state_at (after s event).body.buffers i
-    ≡ turned_to event (after s event).body.started i (state_at s.body.buffers i))
+    × ((i : ℕ) → state_at (after_event s event).body.buffers i
+    ≡ turned_to event (after_event s event).body.started i (state_at s.body.buffers i))
 
 -- Between two events that stop the stream, the buffers dequeued are a beginning of those completed or failed,
 -- in that order.
 abbrev pub DequeuedInOrder : Type 0
 DequeuedInOrder =
     (s : QueueState) (stop : Event) (events : List Event) → stops stop ≡ true → list_any stops events ≡ false
-    → EachIn after IsAnswered s (stop ∷ events)
+    → EachIn after_event MayHappen s (stop ∷ events)
     → (rest : List ℕ) × (flat_map ended_by events ≡ flat_map dequeued_by events ++ rest)
 
 -- Some events, and those behind them: the buffers that were done before, and then those that the device completed or
@@ -86,4 +85,4 @@ pub record KeepsOrder {P : Type 0} (old new : Lined P) (events : List Event) : T
 -- A queue without buffers has nothing done.
 abbrev pub NewQueuesAreStill : {P : Type 0} → (P → Plane) → Type 0
 NewQueuesAreStill {P} meaning =
-    (code : Lined P) (s : QueueState) → StandsFor meaning code s → s.body.buffers ≡ [] → IsStill code
+    (code : Lined P) (s : QueueState) → StandsQueue meaning code s → s.body.buffers ≡ [] → IsStill code

@@ -35,4 +35,4 @@ pub use planes::{PlaneSet, Planes, Shape};
 pub use queue::{MOST_BUFFERS, Queue};
 pub use reason::{Errno, Reason, Refused};
 pub use request::Granted;
-pub use state::{BufferState, Owner};
+pub use state::BufferState;

@@ -9,7 +9,7 @@ use Rattle.std.proofs.lemmas.Bool.{both_ways, eqb-true, lt-ltb, le-leb}
 use Rattle.std.proofs.lemmas.Fmt.{decimal_nonempty, digits_decimal, digits_value-decimal}
 use Rattle.std.proofs.lemmas.Str.Parse.{IsNumeralModel, numerals_by_value, tells_all_ascii_digits}
 use Rattle.loop_y4m.proofs.Places.{Lacks, behind}
-use Rattle.loop_y4m.specs.Header.{is_colon, number, rate, side}
+use Rattle.loop_y4m.specs.Header.{is_colon, number_at_most, rate, side}
 use Rattle.loop_record.proofs.Decided.{both}
 use Rattle.std.proofs.lemmas.List.{take_at, drop_at}
 
@@ -35,7 +35,7 @@ pub decimal_lacks : (c n : ℕ) → is_ascii_digit c ≡ false → n < 2 ^ 64 �
 decimal_lacks c n other small = digits_lack c (decimal n) other (digits_decimal own n small)
 
 -- what is written of a number is read as that number
-pub number_decimal : (most n : ℕ) → n ≤ most → n < 2 ^ 64 → number most (decimal n) ≡ Some n
+pub number_decimal : (most n : ℕ) → n ≤ most → n < 2 ^ 64 → number_at_most most (decimal n) ≡ Some n
 number_decimal most n few small = rw (lt-ltb 0 (length (decimal n)) (decimal_nonempty n small))
     (rw (digits_decimal own n small) (rw (digits_value-decimal own n small) (rw (le-leb n most few) refl)))
 

@@ -12,7 +12,7 @@ use Rattle.loop_record.specs.Geometry.{frame_bytes, is_good, plane_sizes}
 use Rattle.loop_record.specs.declared.geometry.Geometry.{Geometry}
 use Rattle.loop_record.specs.declared.geometry.PixelFormat.{PixelFormat}
 use Rattle.loop_record.specs.declared.geometry.PixelFormat.TheVariants.{Grey, Ym12, Ym16, Ym24}
-use Rattle.loop_y4m.specs.Header.{and_then, colour, complete, size_of_frame, header_of, nothing_given, with_parameter, with_parameters, words}
+use Rattle.loop_y4m.specs.Header.{and_then, colour, complete, size_of_frame, header_of, nothing_given, with_parameter, with_parameters, header_words}
 use Rattle.loop_y4m.specs.declared.header.Parameters.{Parameters}
 use Rattle.loop_y4m.specs.declared.header.Header.{Header}
 use Rattle.loop_y4m.specs.Stream.{before, ends_after, frames_within_input, header_line, next_frame, parse}
@@ -55,16 +55,16 @@ lined g = codes "YUV4MPEG2 " ++ parameters g.width g.height g.rate_num g.rate_de
 header_parts : (g : Geometry) → header g ≡ lined g ++ 10 ∷ []
 header_parts g = nested (codes "YUV4MPEG2 W") (decimal g.width) (codes " H") (decimal g.height) (codes " F") (decimal g.rate_num) (codes ":") (decimal g.rate_den) (codes " Ip A0:0 C") (colour_name g.format) (10 ∷ [])
 
-word_of : (w rest : List ℕ) → Lacks 32 w → words (w ++ 32 ∷ rest) ≡ w ∷ words rest
+word_of : (w rest : List ℕ) → Lacks 32 w → header_words (w ++ 32 ∷ rest) ≡ w ∷ header_words rest
 word_of w rest none =
     let at : position_or_len (λ b. eqb b 32) (w ++ 32 ∷ rest) ≡ length w = behind 32 w (32 ∷ rest) none ∙ omega arith in
     word_by_word (w ++ 32 ∷ rest) (omega (arith, at, length-append w (32 ∷ rest))) ∙ rw at (rw (take_at w (32 ∷ rest) (length w) refl)
-    (ap (λ r. w ∷ words r) (ap (drop (length w + 1)) (sym (append_assoc w (32 ∷ []) rest)) ∙ drop_at (w ++ 32 ∷ []) rest (length w + 1) (length-append w (32 ∷ [])))))
+    (ap (λ r. w ∷ header_words r) (ap (drop (length w + 1)) (sym (append_assoc w (32 ∷ []) rest)) ∙ drop_at (w ++ 32 ∷ []) rest (length w + 1) (length-append w (32 ∷ [])))))
 
-taken : (p q : Parameters) (w rest : List ℕ) → Lacks 32 w → with_parameter p w ≡ Ok q → with_parameters p (words (w ++ 32 ∷ rest)) ≡ with_parameters q (words rest)
+taken : (p q : Parameters) (w rest : List ℕ) → Lacks 32 w → with_parameter p w ≡ Ok q → with_parameters p (header_words (w ++ 32 ∷ rest)) ≡ with_parameters q (header_words rest)
 taken p q w rest none is = rw (word_of w rest none) (rw is refl)
 
-last_taken : (p q : Parameters) (w : List ℕ) → Lacks 32 w → with_parameter p w ≡ Ok q → with_parameters p (words w) ≡ Ok q
+last_taken : (p q : Parameters) (w : List ℕ) → Lacks 32 w → with_parameter p w ≡ Ok q → with_parameters p (header_words w) ≡ Ok q
 last_taken p q w none is = rw (one_word w none) (rw is refl)
 
 spaceless : (f : PixelFormat) → Lacks 32 (67 ∷ colour_name f)
@@ -108,7 +108,7 @@ record Small (w h n d : ℕ) : Type 0 where
 abbrev given : Option ℕ → Option ℕ → ℕ → ℕ → PixelFormat → Parameters
 given w h n d f = record { width = w; height = h; rate_num = n; rate_den = d; format = f }
 
-parameters_read : (w h n d : ℕ) (f : PixelFormat) → Small w h n d → with_parameters nothing_given (words (parameters w h n d f)) ≡ Ok (given (Some w) (Some h) n d f)
+parameters_read : (w h n d : ℕ) (f : PixelFormat) → Small w h n d → with_parameters nothing_given (header_words (parameters w h n d f)) ≡ Ok (given (Some w) (Some h) n d f)
 parameters_read w h n d f s =
     let last : List ℕ = 67 ∷ colour_name f in
     let fifth : List ℕ = codes "A0:0" ++ 32 ∷ last in

@@ -17,21 +17,21 @@ use Rattle.loop_y4m.specs.declared.header.Parameters.{Parameters}
 -- ---- the words of a parameter
 
 -- a decimal number, judged by its value, of at most this
-abbrev pub number : ℕ → List ℕ → Option ℕ
-number most text = if nat_lt 0 (length text) && all_ascii_digits text && nat_le (digits_value 10 text) most
+abbrev pub number_at_most : ℕ → List ℕ → Option ℕ
+number_at_most most text = if nat_lt 0 (length text) && all_ascii_digits text && nat_le (digits_value 10 text) most
     then Some (digits_value 10 text) else None
 
 -- a width or a height: 1 to 16,384
 abbrev pub side : List ℕ → Option ℕ
-side text = option_and_then (λ n. if n == 0 then None else Some n) (number 16384 text)
+side text = option_and_then (λ n. if n == 0 then None else Some n) (number_at_most 16384 text)
 
 abbrev pub is_colon : ℕ → Bool
 is_colon b = b == 58
 
 -- a rate: two numbers of 32 bits with a colon between them
 abbrev pub rate : List ℕ → Option (ℕ × ℕ)
-rate text = option_and_then (λ n. option_map (λ d. (n, d)) (number 4294967295 (after_first is_colon text)))
-    (number 4294967295 (before_first is_colon text))
+rate text = option_and_then (λ n. option_map (λ d. (n, d)) (number_at_most 4294967295 (after_first is_colon text)))
+    (number_at_most 4294967295 (before_first is_colon text))
 
 -- halved in both directions, wherever the samples of chroma lie
 abbrev pub is_420 : List ℕ → Bool
@@ -76,8 +76,8 @@ with_parameter p (letter ∷ text) =
     else Ok p
 
 -- the words between spaces
-abbrev pub words : List ℕ → List (List ℕ)
-words text = slice_split (λ b. b == 32) text
+abbrev pub header_words : List ℕ → List (List ℕ)
+header_words text = slice_split (λ b. b == 32) text
 
 -- all parameters, from left to right
 abbrev pub with_parameters : Parameters → List (List ℕ) → Result Parameters Y4mFault
@@ -103,7 +103,7 @@ complete (Some w) (Some h) p =
 
 -- what a header line says behind its `YUV4MPEG2` and a space
 abbrev pub header_of : List ℕ → Result Header Y4mFault
-header_of text = and_then (with_parameters nothing_given (words text)) (λ p. complete p.width p.height p)
+header_of text = and_then (with_parameters nothing_given (header_words text)) (λ p. complete p.width p.height p)
 
 -- ---- a store for the frames
 

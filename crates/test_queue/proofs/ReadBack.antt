@@ -12,7 +12,7 @@ use Rattle.loop_vb2.specs.declared.planes.Shape.{Shape}
 use Rattle.loop_vb2.specs.Planes.{number_at, bytes_in, plane_in, set_filled, slot_filled}
 use Rattle.loop_vb2.specs.Buffers.{changed, completed_with, dequeued_from, kept, has_plane_at, used_at, bytes_at}
 use Rattle.loop_vb2.specs.Checks.{copy_checks}
-use Rattle.loop_vb2.specs.State.{QueueState, Lined, StandsFor}
+use Rattle.loop_vb2.specs.State.{QueueState, Lined, StandsQueue}
 use Rattle.loop_vb2.specs.Answers.{read_answer}
 use Rattle.loop_vb2.specs.Events.{Happens, complete, dqbuf, copy_plane}
 use Rattle.loop_vb2.specs.Effects.{completed, dequeued}
@@ -38,7 +38,7 @@ part_kept kind shape stamp bytes (b ∷ bs) (suc index) some = part_kept kind sh
 module _ {P : Type 0} (m : P → Plane) where
   -- the three calls, one after the other
   pub part_is_read : (index : ℕ) (stamp : Stamp) (bytes old out : List ℕ) (d : Dequeued P) (first second third last : Lined P) → Happens m first second (complete index stamp bytes None) → Happens m second third (dqbuf (Ok (read_answer m d))) → d.index ≡ index
-      → Happens m third last (copy_plane index 0 0 (length old) (Ok out)) → (s : QueueState) → StandsFor m first s → out ≡ take (length old) (take (number_at s.body.shape.sizes 0) bytes)
+      → Happens m third last (copy_plane index 0 0 (length old) (Ok out)) → (s : QueueState) → StandsQueue m first s → out ≡ take (length old) (take (number_at s.body.shape.sizes 0) bytes)
   part_is_read index stamp bytes old out d first second third last f g same c = λ s h.
       let t : QueueState = dequeued d.index (completed index stamp bytes s) in
       let z = c t (g (completed index stamp bytes s) (f s h).1).1 in

@@ -2,7 +2,7 @@
 //! kind of plane is named by a quote of the box's impl.
 ghost use Rattle.std.specs.Prelude.{◌≡◌, length, take, true};
 ghost use Rattle.loop_vb2.specs.Planes.{frame_size, number_at};
-ghost use Rattle.loop_vb2.specs.State.{QueueState, StandsFor};
+ghost use Rattle.loop_vb2.specs.State.{QueueState, StandsQueue};
 
 use loop_plane::PlaneMemory;
 use loop_vb2::{Queue, Stamp};
@@ -13,7 +13,7 @@ use loop_vb2::{Queue, Stamp};
 pub fn read_back(queue: &mut Queue, index: u32, stamp: Stamp, bytes: &[u8], out: &mut [u8]) -> bool
     requires whole { length bytes.now ≡ frame_size queue.old.body.shape }
     ensures shape { queue.new.body.shape ≡ queue.old.body.shape }
-    ensures part { (s : QueueState) → StandsFor ⟦<Box<dyn PlaneMemory + Send> as PlaneMemory>⟧.plane queue.old s
+    ensures part { (s : QueueState) → StandsQueue ⟦<Box<dyn PlaneMemory + Send> as PlaneMemory>⟧.plane queue.old s
         → result ≡ true
         → out.new ≡ take (length out.old) (take (number_at s.body.shape.sizes 0) bytes.now) }
 {

@@ -1,5 +1,5 @@
 use Rattle.std.proofs.Common.{◌≡◌, ◌≤◌, length}
-use Rattle.loop_y4m.specs.Header.{with_parameters, words, nothing_given}
+use Rattle.loop_y4m.specs.Header.{with_parameters, header_words, nothing_given}
 use Rattle.loop_y4m.specs.Steps.{HasSmallSides}
 use Rattle.loop_y4m.proofs.header.parse_header.Given as goal
 
@@ -8,7 +8,7 @@ abbrev pub invariant-loop-given : goal.invariant-loop-given
 invariant-loop-given l = record {
   shorter : length l.rest ≤ length l.text;
   sides : HasSmallSides l.given;
-  parameters : with_parameters l.given (words l.rest) ≡ with_parameters nothing_given (words l.text);
+  parameters : with_parameters l.given (header_words l.rest) ≡ with_parameters nothing_given (header_words l.text);
 }
 
 abbrev pub decreases-loop-given : goal.decreases-loop-given
