@@ -128,23 +128,23 @@ fault-bare (was_read number (Err fault)) = refl
 fault-bare (was_read_part number at (Ok bytes)) = refl
 fault-bare (was_read_part number at (Err fault)) = refl
 
-given-bare : (r : Recording) (c : Call) → AnswersOtherwise r c → AnswersOtherwise (bare_recording r) (bare_stored c)
+given-bare : (r : Recording) (c : Call) → AnswersOtherwise (Unit {0}) r c → AnswersOtherwise (Unit {0}) (bare_recording r) (bare_stored c)
 given-bare r (appended ps (Ok number)) is = is
 given-bare r (appended ps (Err fault)) is = is
 given-bare r (locked span (Ok id)) is = is
 given-bare r (locked span (Err fault)) is = is
 given-bare r (unlocked id (Ok x)) is = is
 given-bare r (unlocked id (Err fault)) is = is
-given-bare r (was_read number (Ok x)) is = record { picture = bare is.picture; there = under-bare r.frames number ∙ ap (option_map bare) is.there; head_is = is.head_is; bytes_are = refl }
+given-bare r (was_read number (Ok x)) given = λ now. let is = given now in record { picture = bare is.picture; there = under-bare r.frames number ∙ ap (option_map bare) is.there; head_is = is.head_is; bytes_are = refl }
 given-bare r (was_read number (Err fault)) is = is
-given-bare r (was_read_part number at (Ok bytes)) is = record { picture = bare is.picture; there = under-bare r.frames number ∙ ap (option_map bare) is.there; bytes_are = refl }
+given-bare r (was_read_part number at (Ok bytes)) given = λ now. let is = given now in record { picture = bare is.picture; there = under-bare r.frames number ∙ ap (option_map bare) is.there; bytes_are = refl }
 given-bare r (was_read_part number at (Err fault)) is = is
 
-stored-answer : (g : Geometry) (s : StoreState) (c : Call) → IsAnswered g s c → IsAnswered g (bare_store s) (bare_stored c)
+stored-answer : (g : Geometry) (s : StoreState) (c : Call) → IsAnswered (Unit {0}) g s c → IsAnswered (Unit {0}) g (bare_store s) (bare_stored c)
 stored-answer g s c said =
-    subst (λ (l : List (Option StoreFault)). AnswersDue (first_of l) (bare_stored c) (AnswersOtherwise (bare_recording s.recording) (bare_stored c))) (sym (checks-bare g s c)) (go (first_of (checks g s c)) said)
+    subst (λ (l : List (Option StoreFault)). AnswersDue (first_of l) (bare_stored c) (AnswersOtherwise (Unit {0}) (bare_recording s.recording) (bare_stored c))) (sym (checks-bare g s c)) (go (first_of (checks g s c)) said)
   where
-    go : (o : Option StoreFault) → AnswersDue o c (AnswersOtherwise s.recording c) → AnswersDue o (bare_stored c) (AnswersOtherwise (bare_recording s.recording) (bare_stored c))
+    go : (o : Option StoreFault) → AnswersDue o c (AnswersOtherwise (Unit {0}) s.recording c) → AnswersDue o (bare_stored c) (AnswersOtherwise (Unit {0}) (bare_recording s.recording) (bare_stored c))
     go None is = given-bare s.recording c is
     go (Some fault) is = fault-bare c ∙ is
 
@@ -183,7 +183,7 @@ stored-bare g s c =
 
 -- calls of the store
 record IsStoreBlind (g : Geometry) (s : StoreState) (calls : List Call) : Type 0 where
-  answers : AreAnswered g s calls → AreAnswered g (bare_store s) (map bare_stored calls)
+  answers : AreAnswered (Unit {0}) g s calls → AreAnswered (Unit {0}) g (bare_store s) (map bare_stored calls)
   state : after_calls g (bare_store s) (map bare_stored calls) ≡ bare_store (after_calls g s calls)
 
 store-blind : (g : Geometry) (s : StoreState) (calls : List Call) → IsStoreBlind g s calls
@@ -192,7 +192,7 @@ store-blind g s (c ∷ calls) =
     let rest = store-blind g (stored g s c) calls in
     let one = stored-bare g s c in
     record {
-      answers = λ said. (stored-answer g s c said.0, subst (λ (x : StoreState). AreAnswered g x (map bare_stored calls)) (sym one) (rest.answers said.1));
+      answers = λ said. (stored-answer g s c said.0, subst (λ (x : StoreState). AreAnswered (Unit {0}) g x (map bare_stored calls)) (sym one) (rest.answers said.1));
       state = ap (λ (x : StoreState). after_calls g x (map bare_stored calls)) one ∙ rest.state;
     }
 
@@ -222,7 +222,7 @@ flush-bare s [] (Err fault) said = said
 flush-bare s (p ∷ ps) (Err fault) said = tt
 
 call-bare : (k : Rules) (s : DeskState) (c : DeskCall) → IsDeskAnswer k s c → IsDeskAnswer k (bare_state s) (bare_call c)
-call-bare k s c said = (told c said.0, (counted c said.1.0, subst (λ (l : List Call). AreAnswered k.geometry (bare_store s.store) l) (sym (calls-bare k s c)) ((store-blind k.geometry s.store (store_calls k (waiting_at s) c)).answers said.1.1)))
+call-bare k s c said = (told c said.0, (counted c said.1.0, subst (λ (l : List Call). AreAnswered (Unit {0}) k.geometry (bare_store s.store) l) (sym (calls-bare k s c)) ((store-blind k.geometry s.store (store_calls k (waiting_at s) c)).answers said.1.1)))
   where
     told : (d : DeskCall) → IsDeskTold k (waiting_at s) d → IsDeskTold k (waiting_at (bare_state s)) (bare_call d)
     told (submitted p size result) is =
@@ -277,10 +277,10 @@ numbers-bare (f ∷ frames) = ap (λ l. f.0 ∷ l) (numbers-bare frames)
 pub outline-tells : {D A : Type 0} (medium : D → Medium) (d : SeenDesk D) (outline : Outline A) (s : DeskState)
     → TellsOutline medium d outline → StandsAt medium d s → (medium d.store.disk).honest → IsOutlineOf s outline
 outline-tells medium d outline s told stands now =
-    let tells = stands.store.recording.told now in
+    let tells = stands.store.recording.told in
     record {
       next = told.next ∙ tells.next_is;
-      frames = told.frames s.store.recording stands.store.recording now;
+      frames = told.frames s.store.recording stands.store.recording;
       clips = told.clips ∙ ap (listed 0) tells.clips_are;
       pending = told.pending ∙ ap (λ l. length l) stands.pending;
     }

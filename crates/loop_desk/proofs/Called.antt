@@ -57,7 +57,7 @@ module _ {D : Type 0} (medium : D → Medium) (d : SeenDesk D) where
   -- ---- a status
 
   pub goes-status : (status : Status) → ((medium d.store.disk).honest → IsSound (medium d.store.disk)) → TellsStatus medium d status → DeskGoes medium d d (status_told status ∷ [])
-  goes-status status sound tells = called d.store d.pending (status_told status) [] (goes-none medium d.store sound) refl (tells.next, (tells.pending, tells.must_reopen)) refl (λ s stands now. tells.held s.store.recording stands.store.recording now)
+  goes-status status sound tells = called d.store d.pending (status_told status) [] (goes-none medium d.store sound) refl (tells.next, (tells.pending, tells.must_reopen)) refl (λ s stands now. tells.held s.store.recording stands.store.recording)
 
   -- ---- a flush where nothing waits
 

@@ -42,12 +42,12 @@ group-and-rest most waiting =
     let front = take_min most waiting in
     (λ i. sym front i ++ drop (count i) waiting) ∙ take-append-drop (min most (length waiting)) waiting
 
-flush-frames : (g : Geometry) (w : Waiting) (s : StoreState) (group : List Picture) (f : Flushed) → IsFlush w group (Ok f) → AreAnswered g s (append_of group (Ok f)) → group ++ drop (length group) w.pending ≡ w.pending
+flush-frames : (g : Geometry) (w : Waiting) (s : StoreState) (group : List Picture) (f : Flushed) → IsFlush w group (Ok f) → AreAnswered (Unit {0}) g s (append_of group (Ok f)) → group ++ drop (length group) w.pending ≡ w.pending
     → frames_stored (made_in g s (append_of group (Ok f))) ++ drop f.stored w.pending ≡ w.pending
 flush-frames g w s [] f told said whole = (λ i. drop (told.1 i).stored w.pending) ∙ whole
 flush-frames g w s (p ∷ ps) f told said whole =
     let list = steps_or_none (steps (ring_of g) s.recording (p ∷ ps)) in
-    let frames : frames_stored (list ++ []) ≡ p ∷ ps = ap frames_stored (append-nil list) ∙ frames-steps (ring_of g) s.recording (p ∷ ps) (answered-some g s (p ∷ ps) f.first said.0) in
+    let frames : frames_stored (list ++ []) ≡ p ∷ ps = ap frames_stored (append-nil list) ∙ frames-steps (ring_of g) s.recording (p ∷ ps) (answered-some (Unit {0}) g s (p ∷ ps) f.first said.0) in
     let count = told.1 in
     (λ i. frames i ++ drop (count i).stored w.pending) ∙ whole
 
@@ -55,7 +55,7 @@ none-stored : (g : Geometry) (s : StoreState) (group : List Picture) (fault : St
 none-stored g s [] fault = refl
 none-stored g s (p ∷ ps) fault = refl
 
-call-frames : (k : Rules) (w : Waiting) (s : StoreState) (c : DeskCall) → IsDeskTold k w c → AreAnswered k.geometry s (store_calls k w c) → w.pending ++ accepted c ≡ frames_stored (made_in k.geometry s (store_calls k w c)) ++ pending_after w.pending c
+call-frames : (k : Rules) (w : Waiting) (s : StoreState) (c : DeskCall) → IsDeskTold k w c → AreAnswered (Unit {0}) k.geometry s (store_calls k w c) → w.pending ++ accepted c ≡ frames_stored (made_in k.geometry s (store_calls k w c)) ++ pending_after w.pending c
 call-frames k w s (submitted p size (Ok number)) told said = refl
 call-frames k w s (submitted p size (Err fault)) told said = append-nil w.pending
 call-frames k w s (flushed (Ok f)) told said =
@@ -70,7 +70,7 @@ call-frames k w s (frame_read number (Err fault)) told said = append-nil w.pendi
 call-frames k w s (status_told status) told said = append-nil w.pending
 
 -- what waited, and then what was accepted, is what was stored, and then what waits
-pub none-lost : (k : Rules) (w : Waiting) (s : StoreState) (calls : List DeskCall) → AreTold k w calls → AreAnswered k.geometry s (store_calls_in k w calls) → w.pending ++ accepted_in calls ≡ frames_stored (made_in k.geometry s (store_calls_in k w calls)) ++ (waiting_after_calls k w calls).pending
+pub none-lost : (k : Rules) (w : Waiting) (s : StoreState) (calls : List DeskCall) → AreTold k w calls → AreAnswered (Unit {0}) k.geometry s (store_calls_in k w calls) → w.pending ++ accepted_in calls ≡ frames_stored (made_in k.geometry s (store_calls_in k w calls)) ++ (waiting_after_calls k w calls).pending
 none-lost k w s [] told said = append-nil w.pending
 none-lost k w s (c ∷ calls) told said =
     let g = k.geometry in
@@ -78,7 +78,7 @@ none-lost k w s (c ∷ calls) told said =
     let v = waiting_after k w c in
     let there = store_calls_in k v calls in
     let t = after_calls g s here in
-    let parts = each-parts (after g) (IsAnswered g) s here there said in
+    let parts = each-parts (after g) (IsAnswered (Unit {0}) g) s here there said in
     let one = call-frames k w s c told.0 parts.0 in
     let rest = none-lost k v t calls told.1 parts.1 in
     let split : frames_stored (made_in g s (here ++ there)) ≡ frames_stored (made_in g s here) ++ frames_stored (made_in g t there) = ap frames_stored (told-behind (after g) (made g) s here there) ∙ frames-both (made_in g s here) (made_in g t there) in

@@ -10,6 +10,7 @@ use Rattle.loop_store.specs.Calls.{StoreState}
 use Rattle.loop_store.specs.Goes.{Stands}
 use Rattle.loop_store.specs.Held.{HoldsSome}
 use Rattle.loop_store.specs.Steps.{LeavesSteps}
+use Rattle.loop_store.proofs.Checked.{are-answered-as}
 use Rattle.loop_store.proofs.Modelled.{recording-after}
 use Rattle.loop_store.specs.Seen.{StandsFor}
 use Rattle.loop_desk.specs.Desk.{DeskCall, frames_stored}
@@ -39,6 +40,6 @@ keeps-footage medium old new calls s goes stands now =
           let still : old.store.must_reopen ≡ false = stands.must_reopen ∙ fine in
           weaker (medium old.store.disk) (medium new.store.disk) (HoldsSome g s.recording (steps_made old s calls ++ steps_begun old s calls)) (HoldsWhole g s.recording (steps_made old s calls ++ steps_begun old s calls)) (leaves fine).moments
           (λ image some. reads-whole g s.recording (steps_made old s calls ++ steps_begun old s calls) (medium old.store.disk).bytes image (stands.recording.held still now) some);
-      recording = subst (λ (r : Recording). StandsFor medium new.store r) (recording-after g s list) (goes.store.stands s stands now).recording;
-      none_lost = none-lost k (waiting_of old) s calls goes.told (goes.store.answers s stands now) ∙ ap (λ (l : List Picture). frames_stored (steps_made old s calls) ++ l) (sym goes.pending);
+      recording = subst (λ (r : Recording). StandsFor medium new.store r) (recording-after g s list) (goes.store.stands s stands).recording;
+      none_lost = none-lost k (waiting_of old) s calls goes.told (are-answered-as (medium old.store.disk).honest (Unit {0}) g s list (λ u. now) (goes.store.answers s stands)) ∙ ap (λ (l : List Picture). frames_stored (steps_made old s calls) ++ l) (sym goes.pending);
     }

@@ -10,6 +10,7 @@ use Rattle.loop_record.proofs.Turned.{after-behind}
 use Rattle.loop_store.specs.Calls.{AreAnswered, Call, IsAnswered, Progress, StoreState, after_calls, appended, has_failed, locked, progress_after, unlocked, was_read, was_read_part}
 use Rattle.loop_store.specs.Calls as calls
 use Rattle.loop_store.specs.Goes.{Stands}
+use Rattle.loop_store.proofs.Checked.{are-answered-as}
 use Rattle.loop_store.proofs.Locked.{answered-id}
 use Rattle.loop_store.proofs.Putting.{answered-some}
 use Rattle.loop_store.specs.Steps.{steps_or_none}
@@ -45,10 +46,10 @@ record Leads (g : Geometry) (s : StoreState) (c : Call) : Type 0 where
   next : (calls.after g s c).recording.next ≡ (progress_after (progress_at s) c).next
   clips : (calls.after g s c).recording.clips ≡ (progress_after (progress_at s) c).clips
 
-leads : (g : Geometry) (s : StoreState) (c : Call) → IsAnswered g s c → Leads g s c
-leads g s (appended group (Ok number)) said = let up = appended-raises (ring_of g) s.recording group (answered-some g s group number said) in record { next = up.next; clips = up.clips }
+leads : (g : Geometry) (s : StoreState) (c : Call) → IsAnswered (Unit {0}) g s c → Leads g s c
+leads g s (appended group (Ok number)) said = let up = appended-raises (ring_of g) s.recording group (answered-some (Unit {0}) g s group number said) in record { next = up.next; clips = up.clips }
 leads g s (appended group (Err fault)) said = record { next = none-more s.recording.next; clips = refl }
-leads g s (locked span (Ok id)) said = record { next = none-more s.recording.next; clips = let is = answered-id g s span id said in λ i. slice_set s.recording.clips (sym is i) (Some span) }
+leads g s (locked span (Ok id)) said = record { next = none-more s.recording.next; clips = let is = answered-id (Unit {0}) g s span id said in λ i. slice_set s.recording.clips (sym is i) (Some span) }
 leads g s (locked span (Err fault)) said = record { next = none-more s.recording.next; clips = refl }
 leads g s (unlocked id (Ok x)) said = record { next = none-more s.recording.next; clips = refl }
 leads g s (unlocked id (Err fault)) said = record { next = none-more s.recording.next; clips = refl }
@@ -58,7 +59,7 @@ leads g s (was_read_part number at (Ok bytes)) said = record { next = none-more 
 leads g s (was_read_part number at (Err fault)) said = record { next = none-more s.recording.next; clips = refl }
 
 -- the model's state is as far as its calls bring it
-progress-after : (g : Geometry) (s : StoreState) (list : List Call) → AreAnswered g s list → progress_at (after_calls g s list) ≡ after_all progress_after (progress_at s) list
+progress-after : (g : Geometry) (s : StoreState) (list : List Call) → AreAnswered (Unit {0}) g s list → progress_at (after_calls g s list) ≡ after_all progress_after (progress_at s) list
 progress-after g s [] said = refl
 progress-after g s (c ∷ list) said =
     let there = leads g s c said.0 in
@@ -68,7 +69,7 @@ progress-after g s (c ∷ list) said =
     progress-after g (calls.after g s c) list said.1 ∙ ap (λ (o : Progress). after_all progress_after o list) one
 
 -- what decides on the next call is what the state after one shows
-waiting-after : (k : Rules) (s : DeskState) (c : DeskCall) → AreAnswered k.geometry s.store (store_calls k (waiting_at s) c) → waiting_at (desk_after k s c) ≡ waiting_after k (waiting_at s) c
+waiting-after : (k : Rules) (s : DeskState) (c : DeskCall) → AreAnswered (Unit {0}) k.geometry s.store (store_calls k (waiting_at s) c) → waiting_at (desk_after k s c) ≡ waiting_after k (waiting_at s) c
 waiting-after k s c said =
     let store = progress-after k.geometry s.store (store_calls k (waiting_at s) c) said in
     λ i. record { store = store i; pending = pending_after s.pending c }
@@ -79,7 +80,7 @@ record AreModelled (k : Rules) (s : DeskState) (list : List DeskCall) : Type 0 w
   store : (desk_after_calls k s list).store ≡ after_calls k.geometry s.store (store_calls_in k (waiting_at s) list)
   pending : (desk_after_calls k s list).pending ≡ (waiting_after_calls k (waiting_at s) list).pending
 
-modelled : (k : Rules) (s : DeskState) (list : List DeskCall) → AreTold k (waiting_at s) list → AreAnswered k.geometry s.store (store_calls_in k (waiting_at s) list) → EachIn (desk_after k) IsCounted s list → AreModelled k s list
+modelled : (k : Rules) (s : DeskState) (list : List DeskCall) → AreTold k (waiting_at s) list → AreAnswered (Unit {0}) k.geometry s.store (store_calls_in k (waiting_at s) list) → EachIn (desk_after k) IsCounted s list → AreModelled k s list
 modelled k s [] told said held = record { answers = tt; store = refl; pending = refl }
 modelled k s (c ∷ list) told said held =
     let g = k.geometry in
@@ -87,10 +88,10 @@ modelled k s (c ∷ list) told said held =
     let here = store_calls k w c in
     let v = waiting_after k w c in
     let there = store_calls_in k v list in
-    let parts = each-parts (calls.after g) (IsAnswered g) s.store here there said in
+    let parts = each-parts (calls.after g) (IsAnswered (Unit {0}) g) s.store here there said in
     let t = desk_after k s c in
     let same : waiting_at t ≡ v = waiting-after k s c parts.0 in
-    let rest = modelled k t list (subst (λ (x : Waiting). AreTold k x list) (sym same) told.1) (subst (λ (x : Waiting). AreAnswered g t.store (store_calls_in k x list)) (sym same) parts.1) held.1 in
+    let rest = modelled k t list (subst (λ (x : Waiting). AreTold k x list) (sym same) told.1) (subst (λ (x : Waiting). AreAnswered (Unit {0}) g t.store (store_calls_in k x list)) (sym same) parts.1) held.1 in
     record {
       answers = ((told.0, (held.0, parts.0)), rest.answers);
       store = rest.store ∙ ap (λ (x : Waiting). after_calls g t.store (store_calls_in k x list)) same ∙ sym (after-behind (calls.after g) s.store here there);
@@ -100,8 +101,8 @@ modelled k s (c ∷ list) told said held =
 -- a desk that stands for a state shows what decides on its next call
 shown : {D : Type 0} (medium : D → Medium) (d : SeenDesk D) (s : DeskState) → StandsAt medium d s → (medium d.store.disk).honest → waiting_of d ≡ waiting_at s
 shown medium d s stands now =
-    let next = (stands.store.recording.told now).next_is in
-    let clips = (stands.store.recording.told now).clips_are in
+    let next = stands.store.recording.told.next_is in
+    let clips = stands.store.recording.told.clips_are in
     let must = stands.store.must_reopen in
     let pending = stands.pending in
     λ i. record { store = record { next = next i; clips = clips i; must_reopen = must i }; pending = pending i }
@@ -112,9 +113,9 @@ answers-are medium old new list s goes stands now =
     let k = rules_of old in
     let same = shown medium old s stands now in
     let told = subst (λ (x : Waiting). AreTold k x list) same goes.told in
-    let said = subst (λ (x : Waiting). AreAnswered k.geometry s.store (store_calls_in k x list)) same (goes.store.answers s.store stands.store now) in
+    let said = subst (λ (x : Waiting). AreAnswered (Unit {0}) k.geometry s.store (store_calls_in k x list)) same (are-answered-as (medium old.store.disk).honest (Unit {0}) old.store.geometry s.store (store_calls_in k (waiting_of old) list) (λ u. now) (goes.store.answers s.store stands.store)) in
     let model = modelled k s list told said (goes.counted s stands now) in
-    let there = subst (λ (x : Waiting). StandsOn (store_calls_in k x list)) same (goes.store.stands s.store stands.store now) in (
+    let there = subst (λ (x : Waiting). StandsOn (store_calls_in k x list)) same (goes.store.stands s.store stands.store) in (
       model.answers,
       record {
         store = subst (λ (t : StoreState). Stands medium new.store t) (sym model.store) there;

@@ -144,10 +144,11 @@ abbrev pub IsCounted : DeskState → DeskCall → Type 0
 IsCounted s (status_told status) = status.held ≡ length s.store.recording.frames
 IsCounted s _ = Unit {0}
 
+-- of an honest disk
 abbrev pub IsDeskAnswer : Rules → DeskState → DeskCall → Type 0
 IsDeskAnswer k s call =
     IsDeskTold k (waiting_at s) call
-    × (IsCounted s call × AreAnswered k.geometry s.store (store_calls k (waiting_at s) call))
+    × (IsCounted s call × AreAnswered (Unit {0}) k.geometry s.store (store_calls k (waiting_at s) call))
 
 -- ---- lists of calls
 

@@ -66,15 +66,13 @@ pub record TellsStatus {D : Type 0} (medium : D → Medium) (d : SeenDesk D) (st
   pub pending : status.pending ≡ length d.pending
   pub must_reopen : status.must_reopen ≡ d.store.must_reopen
   pub count : status.held ≡ length d.store.numbers
-  pub held : (r : Recording) → StandsFor medium d.store r → (medium d.store.disk).honest
-      → status.held ≡ length r.frames
+  pub held : (r : Recording) → StandsFor medium d.store r → status.held ≡ length r.frames
 
 pub record TellsOutline {D A : Type 0} (medium : D → Medium) (d : SeenDesk D) (outline : Outline A) : Type 0 where
   pub next : outline.next ≡ d.store.next
   pub pending : outline.pending ≡ length d.pending
   pub clips : outline.clips.items ≡ listed 0 d.store.clips
-  pub frames : (r : Recording) → StandsFor medium d.store r → (medium d.store.disk).honest
-      → outline.frames.items ≡ map (λ f. f.0) r.frames
+  pub frames : (r : Recording) → StandsFor medium d.store r → outline.frames.items ≡ map (λ f. f.0) r.frames
 
 -- why no outline is given: the store must be reopened, or otherwise memory was refused
 abbrev pub OutlineRefuses : {D : Type 0} → SeenDesk D → StoreFault → Type 0

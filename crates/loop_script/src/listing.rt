@@ -25,7 +25,7 @@ impl<A: Allocator + Copy> Listing<A> {
     /// Looks at a store on any disk. It answers MustReopen and NoMemory.
     pub fn of<D: Disk + Drop>(store: &Store<D, A>, alloc: A) -> Result<Self, StoreFault>
         ensures next { IfOk result (λ listing. listing.next ≡ store.now.next) }
-        ensures numbers { (r : Recording) → StandsFor D.medium store.now r → (D.medium store.now.disk).honest
+        ensures numbers { (r : Recording) → StandsFor D.medium store.now r
             → IfOk result (λ listing. listing.numbers.items ≡ map (λ f. f.0) r.frames) }
         ensures clips { IfOk result (λ listing. listing.clips.items ≡ listed 0 store.now.clips) }
         ensures refusals { IfErr result (λ fault. (fault ≡ StoreFault.MustReopen) ⊎ (fault ≡ StoreFault.NoMemory)) }

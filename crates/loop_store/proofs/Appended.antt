@@ -20,11 +20,15 @@ use Rattle.loop_store.specs.declared.index.Index.{Index}
 use Rattle.loop_store.specs.declared.place.Place.{Place}
 use Rattle.loop_store.specs.declared.place.Place.TheVariants.{Newest, Closed, Victim}
 use Rattle.loop_store.specs.Held.{HasNoneStray}
-use Rattle.loop_store.specs.Places.{IsGrownAt, IsKnown, IsPlaceAt, steps_before}
+use Rattle.loop_store.specs.Drawn.{drawn}
+use Rattle.loop_store.specs.Places.{IsGrownAt, IsKnown, IsPlaceAt, place_segment, steps_before}
 use Rattle.loop_store.specs.Recovered.{IsHeadIn, IsIndex, IsIndexOf, IsNoted, IsRecovered, head_after}
-use Rattle.loop_store.specs.Seen.{IsKept, StandsFor, seen_with}
+use Rattle.loop_store.specs.Seen.{IsKept, StandsFor, Tells, seen_with}
 use Rattle.loop_store.specs.Steps.{steps_or_none}
-use Rattle.loop_store.proofs.Looks.{told-by}
+use Rattle.loop_record.proofs.Bounds.{limits}
+use Rattle.loop_store.proofs.Alike.{appended-same, place-same}
+use Rattle.loop_store.proofs.Looks.{alike-by, known-by, same-tells, told-by}
+use Rattle.loop_store.proofs.Regrown.{Regrown, known-drawn, regrown}
 
 -- ---- the steps
 
@@ -191,14 +195,50 @@ grown-index was now n j noted whole some unspent room =
       counted = noted.counted ∙ (λ i. clip_counts (ring_of (sym same i)) (sym noted.clips i) now.table.heads);
     }
 
-pub kept-grown : {D A : Type 0} (medium : D → Medium) (old new : D) (was now : Index A) (n j : ℕ) (ps : List Picture) (must : Bool) → IsKept medium old was must → must ≡ false → IsNoted was now j n → 1 ≤ was.ring.geometry.slots → was.next ≢ last_number (ring_of was.ring.geometry)
-    → was.next % was.ring.geometry.slots + n ≤ was.ring.geometry.slots → (medium new).size ≡ (medium old).size → Grew medium was.ring.geometry old new was.next n j ps → IsKept medium new now must
-kept-grown medium old new was now n j ps must kept fine noted some unspent room size grew = record {
+-- what is known of the place of an append, whatever the disk
+pub record IsPlaced {A : Type 0} (was : Index A) (place : Place) (n : ℕ) : Type 0 where
+  pub within : place_segment place < was.ring.geometry.segments
+  pub at : (r : Recording) (image : List ℕ) → IsIndexOf was r image → (r.next ≢ last_number (ring_of was.ring.geometry)) × IsPlaceAt was.ring.geometry r image place
+  pub unspent : was.next ≢ last_number (ring_of was.ring.geometry)
+  pub room : was.next % was.ring.geometry.slots + n ≤ was.ring.geometry.slots
+
+-- with frames that are made up, the index has grown by an append of as many others
+pub record HasGrown {A : Type 0} (was now : Index A) (r : Recording) (n : ℕ) : Type 0 where
+  pub pictures : List Picture
+  pub size : length pictures ≡ n
+  pub known : IsIndexOf now (plain (ring_of was.ring.geometry) r (steps_before was.ring.geometry r ++ map store pictures)) (drawn now.ring.geometry now.table.heads now.clips)
+
+pub has-grown : {A : Type 0} (was now : Index A) (place : Place) (n : ℕ) → (known : IsRecovered was (drawn was.ring.geometry was.table.heads was.clips)) → IsIndex was → IsNoted was now (place_segment place) n → IsPlaced was place n → HasGrown was now known.recording n
+has-grown was now place n known whole noted placed =
+    let g = was.ring.geometry in
+    let j = place_segment place in
+    let heads = was.table.heads in
+    let r = known.recording in
+    let some = (limits g was.ring.good).slots.0 in
+    let head : IsHeadIn g (Some (head_after g was.next n)) = (placed.room, appended-low g was.next some whole.few placed.unspent) in
+    let next = known.known.next_is in
+    let is = placed.at r (drawn g heads was.clips) known.known in
+    let drawn_on : Regrown g (set heads j (Some (head_after g r.next n))) was.clips r (steps_before g r) n =
+    regrown g heads was.clips r place n was.ring.good whole.count whole.within placed.within known.known.held is.1 (subst (λ (k : ℕ). IsHeadIn g (Some (head_after g k n))) next head) in
+    let back : Regrown g (set heads j (Some (head_after g was.next n))) was.clips r (steps_before g r) n = subst (λ (k : ℕ). Regrown g (set heads j (Some (head_after g k n))) was.clips r (steps_before g r) n) (sym next) drawn_on in
+    let t = plain (ring_of g) r (steps_before g r ++ map store back.pictures) in
+    let all = known-drawn now g (set heads j (Some (head_after g was.next n))) was.clips t was.ring.good (length-set heads j (Some (head_after g was.next n)) ∙ whole.count)
+    (All-set (IsHeadIn g) heads j (Some (head_after g was.next n)) head whole.within) back.held (ap (λ (x : LoopRing). x.geometry) noted.ring) noted.heads noted.clips
+    (noted.next ∙ (λ i. next i + sym back.size i) ∙ sym (appended-next g r back.pictures)) (known.known.clips_are ∙ sym (appended-clips g r back.pictures)) in
+    record { pictures = back.pictures; size = back.size; known = all }
+
+pub kept-grown : {D A : Type 0} (medium : D → Medium) (old new : D) (was now : Index A) (place : Place) (n j : ℕ) (ps : List Picture) (must : Bool) → IsKept medium old was must → must ≡ false → j ≡ place_segment place → IsPlaced was place n → IsNoted was now j n → (medium new).size ≡ (medium old).size
+    → Grew medium was.ring.geometry old new was.next n j ps → IsKept medium new now must
+kept-grown medium old new was now place n j ps must kept fine at placed noted size grew = record {
   fits = record {
     size_is = size ∙ kept.fits.size_is ∙ ap disk_size (sym (ap (λ (x : LoopRing). x.geometry) noted.ring));
-    whole = grown-index was now n j noted kept.fits.whole some unspent room;
+    whole = grown-index was now n j noted kept.fits.whole (limits was.ring.geometry was.ring.good).slots.0 placed.unspent placed.room;
   };
-  known = λ honest. ((medium new).bytes, recorded honest);
+  known =
+      let grown = has-grown was now place n kept.known kept.fits.whole (noted-at was now j (place_segment place) n at noted) placed in record {
+        recording = plain (ring_of was.ring.geometry) kept.known.recording (steps_before was.ring.geometry kept.known.recording ++ map store grown.pictures);
+        known = grown.known;
+      };
   present = λ f honest.
       let back = grew.back honest in record {
         recorded = recorded honest;
@@ -216,17 +256,36 @@ kept-grown medium old new was now n j ps must kept fine noted some unspent room 
           known = grown-known medium old new was now n j ps there.recording noted grew back there.known;
         }
 
--- it stands for the recording with the steps of the append, which are all that it has
-pub stands-grown : {D A : Type 0} (medium : D → Medium) (old new : D) (was now : Index A) (n j : ℕ) (ps : List Picture) (must : Bool) (r : Recording) → (medium old).honest → IsIndexOf was r (medium old).bytes → IsNoted was now j n → IsIndex was → 1 ≤ was.ring.geometry.slots
-    → was.next ≢ last_number (ring_of was.ring.geometry) → was.next % was.ring.geometry.slots + n ≤ was.ring.geometry.slots → Grew medium was.ring.geometry old new was.next n j ps → r.next ≢ last_number (ring_of was.ring.geometry)
-    → recycling_first (needs_recycling (ring_of was.ring.geometry) r) (victim (ring_of was.ring.geometry) r) ≢ None → StandsFor medium (seen_with new now must) (plain (ring_of was.ring.geometry) r (steps_or_none (steps (ring_of was.ring.geometry) r ps)))
-stands-grown {D} {A} medium old new was now n j ps must r honest known noted whole some left room grew unspent place =
+-- each recording that the store told of before, with the steps of the append
+pub told-grown : {D A : Type 0} (medium : D → Medium) (old new : D) (was now : Index A) (place : Place) (n j : ℕ) (ps : List Picture) (must : Bool) (r : Recording) → (kept : IsKept medium old was must) → StandsFor medium (seen_with old was must) r → j ≡ place_segment place
+    → IsPlaced was place n → IsNoted was now j n → n ≡ length ps → Tells (seen_with new now must) (plain (ring_of was.ring.geometry) r (steps_or_none (steps (ring_of was.ring.geometry) r ps)))
+told-grown medium old new was now place n j ps must r kept stands at placed noted count =
     let g = was.ring.geometry in
-    let same : steps_before g r ++ map store ps ≡ steps_or_none (steps (ring_of g) r ps) = steps-are g r ps unspent place in
-    let t : Recording = plain (ring_of g) r (steps_or_none (steps (ring_of g) r ps)) in
-    let after : IsIndexOf now t (medium new).bytes = subst (λ (l : List Step). IsIndexOf now (plain (ring_of g) r l) (medium new).bytes) same (grown-known medium old new was now n j ps r noted grew honest known) in
-    let slots : 1 ≤ now.ring.geometry.slots = subst (λ (h : Geometry). 1 ≤ h.slots) (sym (ap (λ (x : LoopRing). x.geometry) noted.ring)) some in record {
-      told = λ there. told-by new now must t (medium new).bytes slots (grown-index was now n j noted whole some left room).within after;
-      settled = λ fine there. grew.settled honest;
-      held = λ fine there. after.held;
+    let some = (limits g was.ring.good).slots.0 in
+    let r0 = kept.known.recording in
+    let same = alike-by medium old was must r kept stands in
+    let grown = has-grown was now place n kept.known kept.fits.whole (noted-at was now j (place_segment place) n at noted) placed in
+    let is = placed.at r0 (drawn g was.table.heads was.clips) kept.known.known in
+    let steps_are : steps_before g r ++ map store ps ≡ steps_or_none (steps (ring_of g) r ps) = steps-are g r ps (λ spent. is.0 (same.next ∙ spent)) (λ none. place-some g r0 (drawn g was.table.heads was.clips) place is.1 (place-same g r0 r same ∙ none)) in
+    let slots : 1 ≤ now.ring.geometry.slots = subst (λ (h : Geometry). 1 ≤ h.slots) (sym (ap (λ (x : LoopRing). x.geometry) noted.ring)) some in
+    let t0 = plain (ring_of g) r0 (steps_before g r0 ++ map store grown.pictures) in
+    let told : Tells (seen_with new now must) t0 = told-by new now must t0 (drawn now.ring.geometry now.table.heads now.clips) slots (grown-index was now n j noted kept.fits.whole some placed.unspent placed.room).within grown.known in
+    subst (λ (l : List Step). Tells (seen_with new now must) (plain (ring_of g) r l)) steps_are
+    (same-tells (seen_with new now must) t0 (plain (ring_of g) r (steps_before g r ++ map store ps)) told (appended-same g r0 r grown.pictures ps same (grown.size ∙ count)))
+
+-- it stands for that one, and where the disk is honest the disk holds it
+pub stands-grown : {D A : Type 0} (medium : D → Medium) (old new : D) (was now : Index A) (place : Place) (n j : ℕ) (ps : List Picture) (must : Bool) (r : Recording) → (kept : IsKept medium old was must) → must ≡ false → StandsFor medium (seen_with old was must) r → j ≡ place_segment place
+    → IsPlaced was place n → IsNoted was now j n → Grew medium was.ring.geometry old new was.next n j ps → StandsFor medium (seen_with new now must) (plain (ring_of was.ring.geometry) r (steps_or_none (steps (ring_of was.ring.geometry) r ps)))
+stands-grown medium old new was now place n j ps must r kept fine stands at placed noted grew =
+    let g = was.ring.geometry in
+    let t : Recording = plain (ring_of g) r (steps_or_none (steps (ring_of g) r ps)) in record {
+      told = told-grown medium old new was now place n j ps must r kept stands at placed noted grew.count;
+      settled = λ still there. grew.settled (grew.back there);
+      held = λ still there.
+          let back = grew.back there in
+          let known = known-by medium old was must r kept stands fine back in
+          let is = placed.at r (medium old).bytes known in
+          let same : steps_before g r ++ map store ps ≡ steps_or_none (steps (ring_of g) r ps) = steps-are g r ps is.0 (place-some g r (medium old).bytes place is.1) in
+          let after : IsIndexOf now t (medium new).bytes = subst (λ (l : List Step). IsIndexOf now (plain (ring_of g) r l) (medium new).bytes) same (grown-known medium old new was now n j ps r noted grew back known) in
+          after.held;
     }

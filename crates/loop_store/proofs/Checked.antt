@@ -1,9 +1,10 @@
 -- What the checks of a call say of its answer.
-use Rattle.std.proofs.Common.{◌≡◌, ◌⊎◌, inl, inr, ℕ, Bool, true, false, Option, Some, None, List, [], ◌∷◌, refl, sym, ap, ◌∙◌, subst}
+use Rattle.std.proofs.Common.{◌≡◌, ◌⊎◌, inl, inr, Bool, true, false, Option, Some, None, Ok, Err, List, [], ◌∷◌, refl, sym, ◌∙◌, subst}
 use Rattle.loop_record.specs.declared.geometry.Geometry.{Geometry}
 use Rattle.loop_store.specs.declared.fault.StoreFault.{StoreFault}
 use Rattle.loop_store.specs.declared.fault.StoreFault.TheVariants.{MustReopen}
-use Rattle.loop_store.specs.Calls.{AnswersDue, Call, IsAnswered, AnswersOtherwise, Progress, StoreState, checks, checks_on, due, fault_answered, first_of}
+use Rattle.loop_record.specs.Recording.{Recording}
+use Rattle.loop_store.specs.Calls.{AnswersDue, AreAnswered, Call, IsAnswered, AnswersOtherwise, Progress, StoreState, after, appended, locked, unlocked, was_read, was_read_part, checks, checks_on, due, fault_answered, first_of}
 
 -- ---- which is the first
 
@@ -59,10 +60,10 @@ refused o c Given fault first is = subst (λ (x : Option StoreFault). AnswersDue
 pub must-first : (g : Geometry) (s : StoreState) (c : Call) → s.must_reopen ≡ true → first_of (checks g s c) ≡ Some MustReopen
 must-first g s c must = failed s.must_reopen MustReopen (checks_on g s.recording c) must
 
-pub must-answer : (g : Geometry) (s : StoreState) (c : Call) → s.must_reopen ≡ true → IsAnswered g s c → fault_answered c ≡ Some MustReopen
-must-answer g s c must said = go (first_of (checks g s c)) (must-first g s c must) said
+pub must-answer : (H : Type 0) (g : Geometry) (s : StoreState) (c : Call) → s.must_reopen ≡ true → IsAnswered H g s c → fault_answered c ≡ Some MustReopen
+must-answer H g s c must said = go (first_of (checks g s c)) (must-first g s c must) said
   where
-    go : (o : Option StoreFault) → o ≡ Some MustReopen → AnswersDue o c (AnswersOtherwise s.recording c) → fault_answered c ≡ Some MustReopen
+    go : (o : Option StoreFault) → o ≡ Some MustReopen → AnswersDue o c (AnswersOtherwise H s.recording c) → fault_answered c ≡ Some MustReopen
     go None e x = absurd cc
     go (Some fault) e x = x ∙ e
 
@@ -70,11 +71,40 @@ must-answer g s c must said = go (first_of (checks g s c)) (must-first g s c mus
 pub fine-first : (g : Geometry) (s : StoreState) (c : Call) → s.must_reopen ≡ false → first_of (checks g s c) ≡ first_of (checks_on g s.recording c)
 fine-first g s c fine = passed s.must_reopen MustReopen (checks_on g s.recording c) fine
 
-pub answer-given : (g : Geometry) (s : StoreState) (c : Call) → s.must_reopen ≡ false → first_of (checks_on g s.recording c) ≡ None → AnswersOtherwise s.recording c → IsAnswered g s c
-answer-given g s c fine none is = given (first_of (checks g s c)) c (AnswersOtherwise s.recording c) (fine-first g s c fine ∙ none) is
+pub answer-given : (H : Type 0) (g : Geometry) (s : StoreState) (c : Call) → s.must_reopen ≡ false → first_of (checks_on g s.recording c) ≡ None → AnswersOtherwise H s.recording c → IsAnswered H g s c
+answer-given H g s c fine none is = given (first_of (checks g s c)) c (AnswersOtherwise H s.recording c) (fine-first g s c fine ∙ none) is
 
-pub answer-due : (g : Geometry) (s : StoreState) (c : Call) (fault : StoreFault) → s.must_reopen ≡ false → first_of (checks_on g s.recording c) ≡ Some fault → fault_answered c ≡ Some fault → IsAnswered g s c
-answer-due g s c fault fine first is = refused (first_of (checks g s c)) c (AnswersOtherwise s.recording c) fault (fine-first g s c fine ∙ first) is
+pub answer-due : (H : Type 0) (g : Geometry) (s : StoreState) (c : Call) (fault : StoreFault) → s.must_reopen ≡ false → first_of (checks_on g s.recording c) ≡ Some fault → fault_answered c ≡ Some fault → IsAnswered H g s c
+answer-due H g s c fault fine first is = refused (first_of (checks g s c)) c (AnswersOtherwise H s.recording c) fault (fine-first g s c fine ∙ first) is
+
+-- ---- honest disks
+
+otherwise-as : (H K : Type 0) (r : Recording) (c : Call) → (K → H) → AnswersOtherwise H r c → AnswersOtherwise K r c
+otherwise-as H K r (appended group (Ok number)) f x = x
+otherwise-as H K r (locked span (Ok id)) f x = x
+otherwise-as H K r (unlocked id (Ok done)) f x = x
+otherwise-as H K r (was_read number (Ok read)) f x = λ k. x (f k)
+otherwise-as H K r (was_read_part number at (Ok bytes)) f x = λ k. x (f k)
+otherwise-as H K r (was_read number (Err fault)) f (inl x) = inl x
+otherwise-as H K r (was_read number (Err fault)) f (inr (inl x)) = inr (inl x)
+otherwise-as H K r (was_read number (Err fault)) f (inr (inr x)) = inr (inr (x.0, λ k. x.1 (f k)))
+otherwise-as H K r (was_read_part number at (Err fault)) f (inl x) = inl x
+otherwise-as H K r (was_read_part number at (Err fault)) f (inr x) = inr (x.0, λ k. x.1 (f k))
+otherwise-as H K r (appended group (Err fault)) f x = x
+otherwise-as H K r (locked span (Err fault)) f x = x
+otherwise-as H K r (unlocked id (Err fault)) f x = x
+
+-- an answer of one disk is one of another that is honest only where the first is
+pub answered-as : (H K : Type 0) (g : Geometry) (s : StoreState) (c : Call) → (K → H) → IsAnswered H g s c → IsAnswered K g s c
+answered-as H K g s c f said = go (first_of (checks g s c)) said
+  where
+    go : (o : Option StoreFault) → AnswersDue o c (AnswersOtherwise H s.recording c) → AnswersDue o c (AnswersOtherwise K s.recording c)
+    go None x = otherwise-as H K s.recording c f x
+    go (Some fault) x = x
+
+pub are-answered-as : (H K : Type 0) (g : Geometry) (s : StoreState) (calls : List Call) → (K → H) → AreAnswered H g s calls → AreAnswered K g s calls
+are-answered-as H K g s [] f said = tt
+are-answered-as H K g s (c ∷ calls) f said = (answered-as H K g s c f said.0, are-answered-as H K g (after g s c) calls f said.1)
 
 -- what is known of every disk says so too
 pub must-known : (o : Progress) (more : List (Option StoreFault)) (c : Call) (Given : Type 0) → o.must_reopen ≡ true → AnswersDue (first_of (due o.must_reopen MustReopen ∷ more)) c Given → fault_answered c ≡ Some MustReopen

@@ -8,7 +8,7 @@ use Rattle.loop_record.specs.Reading.{Contents, Holds}
 use Rattle.loop_record.specs.Recording.{holds}
 use Rattle.loop_store.specs.declared.fault.StoreFault.{StoreFault}
 use Rattle.loop_store.specs.declared.fault.StoreFault.TheVariants.{MustReopen, NoMemory, NotHeld}
-use Rattle.loop_store.specs.Calls.{IsAnswered, AnswersOtherwise, IsHeldFrame, StoreState, checks, first_of, read_with, was_read}
+use Rattle.loop_store.specs.Calls.{IsAnswered, AnswersOtherwise, IsHeldFrame, ReadFails, StoreState, checks, first_of, read_with, was_read}
 use Rattle.loop_store.specs.Faults.{is_disk}
 use Rattle.loop_store.specs.Goes.{Stands}
 use Rattle.loop_store.specs.Opened.{IsOpened}
@@ -41,9 +41,9 @@ opened-same medium other old new image s stands fine honest left opened still =
     }
 
 -- a read of a held number
-pub read-held : (g : Geometry) (s : StoreState) (number : ℕ) (result : Result FrameHead StoreFault) (out : List ℕ) → s.must_reopen ≡ false → holds s.recording number ≡ true → IsAnswered g s (was_read number (read_with result out)) → ReadsFrame s.recording number result out
-read-held g s number (Ok h) out fine there said = (due-none (first_of (checks g s (was_read number (Ok (h, out))))) (was_read number (Ok (h, out))) (IsHeldFrame s.recording number h out) said refl).1
-read-held g s number (Err fault) out fine there said = go (due-some (first_of (checks g s (was_read number (Err fault)))) (was_read number (Err fault)) (AnswersOtherwise s.recording (was_read number (Err fault))) said)
+pub read-held : (H : Type 0) (g : Geometry) (s : StoreState) (number : ℕ) (result : Result FrameHead StoreFault) (out : List ℕ) → H → s.must_reopen ≡ false → holds s.recording number ≡ true → IsAnswered H g s (was_read number (read_with result out)) → ReadsFrame s.recording number result out
+read-held H g s number (Ok h) out honest fine there said = (due-none (first_of (checks g s (was_read number (Ok (h, out))))) (was_read number (Ok (h, out))) (H → IsHeldFrame s.recording number h out) said refl).1 honest
+read-held H g s number (Err fault) out honest fine there said = go (due-some (first_of (checks g s (was_read number (Err fault)))) (was_read number (Err fault)) (AnswersOtherwise H s.recording (was_read number (Err fault))) said)
   where
     none : first_of (checks g s (was_read number (Err fault))) ≡ None
     none = passed s.must_reopen MustReopen _ fine ∙ passed (not (holds s.recording number)) NotHeld [] (ap not there)
@@ -51,6 +51,11 @@ read-held g s number (Err fault) out fine there said = go (due-some (first_of (c
     apart : None ≡ Some fault → ⊥
     apart e = absurd cc
 
-    go : (first_of (checks g s (was_read number (Err fault))) ≡ Some fault) ⊎ ((first_of (checks g s (was_read number (Err fault))) ≡ None) × AnswersOtherwise s.recording (was_read number (Err fault))) → (fault ≡ NoMemory) ⊎ (is_disk fault ≡ true)
+    go : (first_of (checks g s (was_read number (Err fault))) ≡ Some fault) ⊎ ((first_of (checks g s (was_read number (Err fault))) ≡ None) × AnswersOtherwise H s.recording (was_read number (Err fault))) → (fault ≡ NoMemory) ⊎ (is_disk fault ≡ true)
     go (inl e) = absurd (apart (sym none ∙ e))
-    go (inr x) = x.1
+    go (inr x) = failed x.1
+      where
+        failed : (fault ≡ NoMemory) ⊎ ReadFails H fault → (fault ≡ NoMemory) ⊎ (is_disk fault ≡ true)
+        failed (inl is) = inl is
+        failed (inr (inl is)) = inr is
+        failed (inr (inr x)) = absurd (x.1 honest)

@@ -1,5 +1,5 @@
 -- Calls of a store, one after the other.
-use Rattle.std.proofs.Common.{◌≡◌, inl, Bool, true, false, not, ◌&&◌, is_some, Option, None, Some, List, [], ◌∷◌, ◌++◌, get_or, map, refl, sym, ap, ◌∙◌, subst, arith}
+use Rattle.std.proofs.Common.{◌≡◌, inl, Bool, true, false, not, ◌&&◌, is_some, Option, None, Some, List, [], ◌∷◌, ◌++◌, map, refl, sym, ap, ◌∙◌, subst, arith}
 use Rattle.std.proofs.lemmas.List.{append-nil, map-append}
 use Rattle.std.specs.Prelude.{◌||◌, ◌==◌, nat_lt, slice_index_or}
 use Rattle.std.specs.List.{list_all}
@@ -19,7 +19,7 @@ use Rattle.loop_store.specs.Faults.{is_early}
 use Rattle.loop_store.specs.Goes.{CalledEach, Goes, Stands, progress_of, with_each}
 use Rattle.loop_store.specs.Seen.{Seen}
 use Rattle.loop_store.specs.Steps.{LeavesSteps}
-use Rattle.loop_store.proofs.Checked.{must-known}
+use Rattle.loop_store.proofs.Checked.{are-answered-as, must-known}
 use Rattle.loop_store.proofs.Leaves.{leaves-joined, leaves-none, leaves-same}
 use Rattle.loop_store.proofs.Modelled.{fine-all, idle-all, recording-after}
 
@@ -80,8 +80,8 @@ idle medium old new calls goes must = goes.unmoved (all-refused old.geometry (pr
 -- no call
 pub goes-none : {D : Type 0} (medium : D → Medium) (store : Seen D) → ((medium store.disk).honest → IsSound (medium store.disk)) → Goes medium store store []
 goes-none medium store sound = record {
-  answers = λ s stands now. tt;
-  stands = λ s stands now. stands;
+  answers = λ s stands. tt;
+  stands = λ s stands. stands;
   leaves = λ s stands now fine.
       let still : store.must_reopen ≡ false = stands.must_reopen ∙ fine in
       leaves-none store.geometry s.recording (medium store.disk) (sound now) (stands.recording.settled still now) (stands.recording.held still now);
@@ -95,8 +95,8 @@ goes-none medium store sound = record {
 
 -- One call, by what it says of its own steps.
 pub record GoesOnce {D : Type 0} (medium : D → Medium) (old new : Seen D) (c : Call) : Type 0 where
-  pub answers : (s : StoreState) → Stands medium old s → (medium old.disk).honest → IsAnswered old.geometry s c
-  pub stands : (s : StoreState) → Stands medium old s → (medium old.disk).honest → Stands medium new (after old.geometry s c)
+  pub answers : (s : StoreState) → Stands medium old s → IsAnswered (medium old.disk).honest old.geometry s c
+  pub stands : (s : StoreState) → Stands medium old s → Stands medium new (after old.geometry s c)
   pub leaves : (s : StoreState) → Stands medium old s → (medium old.disk).honest → s.must_reopen ≡ false
       → LeavesSteps old.geometry s.recording (made old.geometry s c) (begun old.geometry s c) (medium old.disk) (medium new.disk)
   pub looks : is_look c ≡ true → (medium old.disk).honest → Stays (medium old.disk) (medium new.disk)
@@ -108,7 +108,7 @@ pub record GoesOnce {D : Type 0} (medium : D → Medium) (old new : Seen D) (c :
 
 pub goes-once : {D : Type 0} (medium : D → Medium) (old new : Seen D) (c : Call) → GoesOnce medium old new c → Goes medium old new (c ∷ [])
 goes-once medium old new c one = record {
-  answers = λ s stands now. (one.answers s stands now, tt);
+  answers = λ s stands. (one.answers s stands, tt);
   stands = one.stands;
   leaves = λ s stands now fine.
       let g = old.geometry in
@@ -124,10 +124,10 @@ goes-once medium old new c one = record {
 -- Calls, and calls behind them.
 pub goes-joined : {D : Type 0} (medium : D → Medium) (old mid new : Seen D) (xs ys : List Call) → Goes medium old mid xs → Goes medium mid new ys → Goes medium old new (xs ++ ys)
 goes-joined {D} medium old mid new xs ys first second = record {
-  answers = λ s stands now. each-behind (after g) (IsAnswered g) s xs ys (first.answers s stands now) (later s stands now);
-  stands = λ s stands now.
+  answers = λ s stands. each-behind (after g) (IsAnswered (medium old.disk).honest g) s xs ys (first.answers s stands) (later s stands);
+  stands = λ s stands.
       subst (λ (t : StoreState). Stands medium new t) (sym (after-behind (after g) s xs ys))
-      (subst (λ (h : Geometry). Stands medium new (after_calls h (mid_state s) ys)) first.geometry (second.stands (mid_state s) (first.stands s stands now) (first.called.honest.0 now)));
+      (subst (λ (h : Geometry). Stands medium new (after_calls h (mid_state s) ys)) first.geometry (second.stands (mid_state s) (first.stands s stands)));
   leaves = λ s stands now fine.
       leaves-same g s.recording (made_in g s xs ++ made_in g (mid_state s) ys) (made_in g s (xs ++ ys)) (begun_in g s xs ++ begun_in g (mid_state s) ys) (begun_in g s (xs ++ ys)) (medium old.disk) (medium new.disk)
       (sym (told-behind (after g) (made g) s xs ys)) (sym (told-behind (after g) (begun g) s xs ys)) (go s stands now fine (mid_state s).must_reopen refl);
@@ -149,14 +149,16 @@ goes-joined {D} medium old mid new xs ys first second = record {
     mid_state : StoreState → StoreState
     mid_state s = after_calls g s xs
 
-    later : (s : StoreState) → Stands medium old s → (medium old.disk).honest → AreAnswered g (mid_state s) ys
-    later s stands now = subst (λ (h : Geometry). AreAnswered h (mid_state s) ys) first.geometry (second.answers (mid_state s) (first.stands s stands now) (first.called.honest.0 now))
+    later : (s : StoreState) → Stands medium old s → AreAnswered (medium old.disk).honest g (mid_state s) ys
+    later s stands =
+        are-answered-as (medium mid.disk).honest (medium old.disk).honest g (mid_state s) ys first.called.honest.0
+        (subst (λ (h : Geometry). AreAnswered (medium mid.disk).honest h (mid_state s) ys) first.geometry (second.answers (mid_state s) (first.stands s stands)))
 
     go : (s : StoreState) → Stands medium old s → (medium old.disk).honest → s.must_reopen ≡ false → (b : Bool) → (mid_state s).must_reopen ≡ b
         → LeavesSteps g s.recording (made_in g s xs ++ made_in g (mid_state s) ys) (begun_in g s xs ++ begun_in g (mid_state s) ys) (medium old.disk) (medium new.disk)
     go s stands now fine true must =
-        let none = idle-all g (mid_state s) ys must (later s stands now) in
-        let there = first.stands s stands now in
+        let none = idle-all (medium old.disk).honest g (mid_state s) ys must (later s stands) in
+        let there = first.stands s stands in
         let same : new ≡ mid = idle medium mid new ys second (there.must_reopen ∙ must) in
         subst (λ (t : Seen D). LeavesSteps g s.recording (made_in g s xs ++ made_in g (mid_state s) ys) (begun_in g s xs ++ begun_in g (mid_state s) ys) (medium old.disk) (medium t.disk)) (sym same)
         (leaves-same g s.recording (made_in g s xs) (made_in g s xs ++ made_in g (mid_state s) ys) (begun_in g s xs) (begun_in g s xs ++ begun_in g (mid_state s) ys) (medium old.disk) (medium mid.disk)
@@ -166,6 +168,6 @@ goes-joined {D} medium old mid new xs ys first second = record {
         let one : LeavesSteps g s.recording (made_in g s xs) [] (medium old.disk) (medium mid.disk) = subst (λ l. LeavesSteps g s.recording (made_in g s xs) l (medium old.disk) (medium mid.disk)) none (first.leaves s stands now fine) in
         let two : LeavesSteps g (plain (ring_of g) s.recording (made_in g s xs)) (made_in g (mid_state s) ys) (begun_in g (mid_state s) ys) (medium mid.disk) (medium new.disk) =
         subst (λ (r : Recording). LeavesSteps g r (made_in g (mid_state s) ys) (begun_in g (mid_state s) ys) (medium mid.disk) (medium new.disk)) (recording-after g s xs)
-        (subst (λ (h : Geometry). LeavesSteps h (mid_state s).recording (made_in h (mid_state s) ys) (begun_in h (mid_state s) ys) (medium mid.disk) (medium new.disk)) first.geometry (second.leaves (mid_state s) (first.stands s stands now) (first.called.honest.0 now) still)) in
+        (subst (λ (h : Geometry). LeavesSteps h (mid_state s).recording (made_in h (mid_state s) ys) (begun_in h (mid_state s) ys) (medium mid.disk) (medium new.disk)) first.geometry (second.leaves (mid_state s) (first.stands s stands) (first.called.honest.0 now) still)) in
         leaves-same g s.recording (made_in g s xs ++ made_in g (mid_state s) ys) (made_in g s xs ++ made_in g (mid_state s) ys) (begun_in g (mid_state s) ys) (begun_in g s xs ++ begun_in g (mid_state s) ys) (medium old.disk) (medium new.disk) refl
         (sym (ap (λ l. l ++ begun_in g (mid_state s) ys) none)) (leaves-joined g s.recording (made_in g s xs) (made_in g (mid_state s) ys) (begun_in g (mid_state s) ys) (medium old.disk) (medium mid.disk) (medium new.disk) one two)

@@ -20,7 +20,6 @@ pub mod RecoveredParts
 pub mod RecoveredWhole
 pub mod Leaves
 pub mod Checked
-pub mod Victim
 pub mod Missing
 pub mod Modelled
 pub mod Gone
@@ -31,3 +30,9 @@ pub mod Reading
 pub mod Crashed
 pub mod Noted
 pub mod Crossing
+pub mod Drawn
+pub mod Redrawn
+pub mod Same
+pub mod Regrown
+pub mod Alike
+pub mod Opening

@@ -1,6 +1,6 @@
 -- What a lock and an unlock make of an image, of what is known of it, and of a store.
-use Rattle.std.proofs.Common.{◌≡◌, ◌≢◌, ◌⊎◌, inl, inr, ℕ, suc, ◌+◌, ◌*◌, ◌/◌, ◌%◌, ◌<◌, ◌≤◌, Bool, true, false, not, ◌&&◌, eqb, leb, ltb, if◌then◌else◌, is_some, Option, None, Some, Result, Ok, Err, List, [], ◌∷◌, length, get_or, set, map, refl, sym, ap, ◌∙◌, subst, arith}
-use Rattle.std.proofs.Math.Nat.{add-mul}
+use Rattle.std.proofs.Common.{◌≡◌, ◌≢◌, ◌⊎◌, inl, inr, ℕ, suc, ◌+◌, ◌-◌, ◌*◌, ◌^◌, ◌/◌, ◌%◌, ◌<◌, ◌≤◌, Bool, true, false, not, ◌&&◌, eqb, leb, ltb, if◌then◌else◌, is_some, Option, None, Some, Result, Ok, Err, List, [], ◌∷◌, length, get_or, set, map, refl, sym, ap, ◌∙◌, subst, arith}
+use Rattle.std.proofs.Math.Nat.{add-mul, mul-div-le}
 use Rattle.std.proofs.lemmas.Bool.{cases_lt}
 use Rattle.std.proofs.lemmas.List.{length-map, set-get_or}
 use Rattle.std.proofs.lemmas.Result.{on_ok_weaker}
@@ -18,8 +18,11 @@ use Rattle.loop_record.specs.Change.{ShowsClip}
 use Rattle.loop_record.specs.Geometry.{clip_at, disk_size, gate_at, segment_at, segment_size}
 use Rattle.loop_record.specs.Layout.{clip_in}
 use Rattle.loop_record.specs.Reading.{Holds, Parts, parts_of, shown}
-use Rattle.loop_record.specs.Recording.{Recording, Step, after, clip_of, first_free, free_id, holds, last_number, lock, plain, ring_of, unlock}
+use Rattle.loop_record.specs.Recording.{IsWellFormed, Recording, Step, after, holds_all, clip_of, first_free, free_id, holds, last_number, lock, plain, ring_of, unlock}
 use Rattle.loop_record.proofs.Clips.{clip_of-entry, clips-are, parts-clip, reading-clip, reading-lock, reading-unlock}
+use Rattle.loop_record.proofs.Bounds.{limits}
+use Rattle.loop_record.proofs.Form.{reading-well_formed}
+use Rattle.loop_record.proofs.Rising.{all_range-each, among-range as rising-range, held-among}
 use Rattle.loop_record.proofs.Decided.{at_most, at_most_test, both, equal, not_below_test}
 use Rattle.loop_record.proofs.Framing.{same_open, same_segment, same_whole_frames}
 use Rattle.loop_record.proofs.Parts.{reading-stages, within_behind}
@@ -34,6 +37,7 @@ use Rattle.loop_store.specs.declared.fault.StoreFault.TheVariants.{ClipEmpty, Mu
 use Rattle.loop_store.specs.Calls.{Call, IsAllowed, IsAnswered, AnswersOtherwise, MayGive, Progress, StoreState, begun, checks, clips_after, count_stored, failed_for, first_of, has_failed, is_look, known_checks, locked, made, span_checks, unlocked, was_refused}
 use Rattle.loop_store.specs.Faults.{failed_by, is_disk, is_early}
 use Rattle.loop_store.specs.Goes.{Goes, progress_of}
+use Rattle.loop_store.specs.Drawn.{drawn}
 use Rattle.loop_store.specs.Held.{HasNoneStray, HoldsSome, Makes}
 use Rattle.loop_store.specs.Locks.{CanRefuseSpan, CanTake, EndsRun, KeepsSegments}
 use Rattle.loop_store.specs.Recovered.{IsClipNoted, IsHeadIn, IsIndex, IsIndexOf, IsRecovered}
@@ -41,7 +45,13 @@ use Rattle.loop_store.specs.Seen.{IsKept, IsPresent, Seen, StandsFor, seen_with}
 use Rattle.loop_store.proofs.Grown.{held-some}
 use Rattle.loop_store.specs.Numbers.{is_among}
 use Rattle.loop_store.proofs.Looked.{missing-behind}
-use Rattle.loop_store.proofs.Looks.{known-by, there-held, told-by}
+use Rattle.loop_store.proofs.Alike.{clip-same, free-same, locked-same, span-same, unlocked-same}
+use Rattle.loop_store.proofs.Drawn.{FitsEntry}
+use Rattle.loop_store.proofs.Looks.{alike-by, known-by, same-tells, there-held, told-by}
+use Rattle.loop_store.proofs.Missing.{fits-legal}
+use Rattle.loop_store.proofs.Redrawn.{drawn-clip}
+use Rattle.loop_store.proofs.Regrown.{known-drawn}
+use Rattle.loop_store.proofs.Same.{IsSame}
 use Rattle.loop_store.proofs.Checked.{answer-due, answer-given, due-none, failed, given, passed, refused}
 use Rattle.loop_store.proofs.Once.{goes-done, goes-failed, goes-refused}
 use Rattle.loop_store.proofs.Numbers.{among-block, among-range}
@@ -134,6 +144,14 @@ entry-open index m id present l some none = some (sym (entry-is index m id prese
 
 -- ---- what is known
 
+-- what a clip that is noted makes of an image, and of recordings with the same numbers
+pub record IsRedrawn (g : Geometry) (id : ℕ) (clip : Option Span) (IsOne : Recording → Type 0) (step : Step) : Type 0 where
+  pub low : id < 64
+  pub fits : (r : Recording) → IsOne r → IsWellFormed r → r.next ≤ 2 ^ 62 → FitsEntry clip
+  pub shown : (r : Recording) (old new : List ℕ) → IsOne r → Holds g r old → ShowsClip id clip old new → Holds g (after (ring_of g) r step) new
+  pub alike : (r t : Recording) → IsSame r t → IsOne r → IsOne t
+  pub stepped : (r t : Recording) → IsSame r t → IsSame (after (ring_of g) r step) (after (ring_of g) t step)
+
 -- what is known where a clip was noted
 pub record Noted {D A : Type 0} (medium : D → Medium) (old new : D) (was now : Index A) (id : ℕ) (clip : Option Span) (IsOne : Recording → Type 0) (step : Step) : Type 0 where
   pub noted : IsClipNoted was now id clip
@@ -143,6 +161,7 @@ pub record Noted {D A : Type 0} (medium : D → Medium) (old new : D) (was now :
   pub held : (r : Recording) → IsOne r → (medium old).honest → Holds was.ring.geometry r (medium old).bytes → Holds was.ring.geometry (after (ring_of was.ring.geometry) r step) (medium new).bytes
   pub next : (r : Recording) → (after (ring_of was.ring.geometry) r step).next ≡ r.next
   pub clips : (r : Recording) → IsOne r → (after (ring_of was.ring.geometry) r step).clips ≡ set r.clips id clip
+  pub redrawn : IsRedrawn was.ring.geometry id clip IsOne step
 
 geometry-same : {A : Type 0} (was now : Index A) (id : ℕ) (clip : Option Span) → IsClipNoted was now id clip → now.ring.geometry ≡ was.ring.geometry
 geometry-same was now id clip noted = ap (λ (x : LoopRing). x.geometry) noted.ring
@@ -167,15 +186,33 @@ index-noted was now id clip noted whole =
       counted = noted.counted ∙ (λ i. clip_counts (ring_of (sym same i)) now.clips (sym noted.heads i));
     }
 
+-- with frames that are made up, the index says the recording with the step
+pub drawn-noted : {A : Type 0} (was now : Index A) (id : ℕ) (clip : Option Span) (IsOne : Recording → Type 0) (step : Step) → (known : IsRecovered was (drawn was.ring.geometry was.table.heads was.clips)) → IsIndex was → IsOne known.recording → IsClipNoted was now id clip
+    → IsRedrawn was.ring.geometry id clip IsOne step → (after (ring_of was.ring.geometry) known.recording step).next ≡ known.recording.next → (after (ring_of was.ring.geometry) known.recording step).clips ≡ set known.recording.clips id clip
+    → IsIndexOf now (after (ring_of was.ring.geometry) known.recording step) (drawn now.ring.geometry now.table.heads now.clips)
+drawn-noted was now id clip IsOne step known whole one noted re next clips =
+    let g = was.ring.geometry in
+    let r = known.recording in
+    let heads = was.table.heads in
+    let image = drawn g heads was.clips in
+    let low : r.next ≤ 2 ^ 62 = omega (arith, known.known.next_is, whole.few, mul-div-le (2 ^ 62) g.slots) in
+    let formed = reading-well_formed g r image known.known.held in
+    let size : length was.clips ≡ 64 = ap length known.known.clips_are ∙ formed.ids in
+    let shows = drawn-clip g heads was.clips id clip re.low (omega (arith, re.low, size)) (re.fits r one formed low) in
+    known-drawn now g heads (set was.clips id clip) (after (ring_of g) r step) was.ring.good whole.count whole.within (re.shown r image (drawn g heads (set was.clips id clip)) one known.known.held shows)
+    (geometry-same was now id clip noted) noted.heads noted.clips (noted.next ∙ known.known.next_is ∙ sym next) (ap (λ (cs : List (Option Span)). set cs id clip) known.known.clips_are ∙ sym clips)
+
 pub kept-noted : {D A : Type 0} (medium : D → Medium) (old new : D) (was now : Index A) (id : ℕ) (clip : Option Span) (IsOne : Recording → Type 0) (step : Step) (must : Bool) → IsKept medium old was must → must ≡ false
-    → ((r : Recording) → (medium old).honest → IsIndexOf was r (medium old).bytes → IsOne r) → Noted medium old new was now id clip IsOne step → IsKept medium new now must
+    → ((r : Recording) (image : List ℕ) → IsIndexOf was r image → IsOne r) → Noted medium old new was now id clip IsOne step → IsKept medium new now must
 kept-noted {A = A} medium old new was now id clip IsOne step must kept fine one n =
-    let same = geometry-same was now id clip n.noted in record {
+    let same = geometry-same was now id clip n.noted in
+    let r0 = kept.known.recording in
+    let one0 = one r0 (drawn was.ring.geometry was.table.heads was.clips) kept.known.known in record {
       fits = record {
         size_is = n.called.size ∙ kept.fits.size_is ∙ ap disk_size (sym same);
         whole = index-noted was now id clip n.noted kept.fits.whole;
       };
-      known = λ honest. ((medium new).bytes, recorded honest);
+      known = record { recording = after (ring_of was.ring.geometry) r0 step; known = drawn-noted was now id clip IsOne step kept.known kept.fits.whole one0 n.noted n.redrawn (n.next r0) (n.clips r0 one0) };
       present = λ f honest.
           let back = n.called.honest.1 honest in record {
             recorded = recorded honest;
@@ -189,19 +226,54 @@ kept-noted {A = A} medium old new was now id clip IsOne step must kept fine one 
         let back = n.called.honest.1 honest in
         let there = (kept.present fine back).recorded in record {
           recording = after (ring_of was.ring.geometry) there.recording step;
-          known = known-noted medium old new was now id clip IsOne step there.recording n (one there.recording back there.known) back there.known;
+          known = known-noted medium old new was now id clip IsOne step there.recording n (one there.recording (medium old).bytes there.known) back there.known;
         }
 
-pub stands-noted : {D A : Type 0} (medium : D → Medium) (old new : D) (was now : Index A) (id : ℕ) (clip : Option Span) (IsOne : Recording → Type 0) (step : Step) (must : Bool) (r : Recording) → (medium old).honest → IsIndexOf was r (medium old).bytes → IsOne r → IsIndex was
-    → 1 ≤ was.ring.geometry.slots → Noted medium old new was now id clip IsOne step → StandsFor medium (seen_with new now must) (plain (ring_of was.ring.geometry) r (step ∷ []))
-stands-noted medium old new was now id clip IsOne step must r honest known one whole some n =
+pub stands-noted : {D A : Type 0} (medium : D → Medium) (old new : D) (was now : Index A) (id : ℕ) (clip : Option Span) (IsOne : Recording → Type 0) (step : Step) (must : Bool) (r : Recording) → (kept : IsKept medium old was must) → must ≡ false → StandsFor medium (seen_with old was must) r
+    → ((r : Recording) (image : List ℕ) → IsIndexOf was r image → IsOne r) → Noted medium old new was now id clip IsOne step → StandsFor medium (seen_with new now must) (plain (ring_of was.ring.geometry) r (step ∷ []))
+stands-noted medium old new was now id clip IsOne step must r kept fine stands one n =
     let g = was.ring.geometry in
-    let after = known-noted medium old new was now id clip IsOne step r n one honest known in
-    let slots : 1 ≤ now.ring.geometry.slots = subst (λ (h : Geometry). 1 ≤ h.slots) (sym (geometry-same was now id clip n.noted)) some in record {
-      told = λ there. told-by new now must (plain (ring_of g) r (step ∷ [])) (medium new).bytes slots (index-noted was now id clip n.noted whole).within after;
-      settled = λ fine there. n.settled honest;
-      held = λ fine there. after.held;
+    let r0 = kept.known.recording in
+    let one0 = one r0 (drawn g was.table.heads was.clips) kept.known.known in
+    let some = (limits g was.ring.good).slots.0 in
+    let slots : 1 ≤ now.ring.geometry.slots = subst (λ (h : Geometry). 1 ≤ h.slots) (sym (geometry-same was now id clip n.noted)) some in
+    let drawn_on = drawn-noted was now id clip IsOne step kept.known kept.fits.whole one0 n.noted n.redrawn (n.next r0) (n.clips r0 one0) in
+    let told0 = told-by new now must (after (ring_of g) r0 step) (drawn now.ring.geometry now.table.heads now.clips) slots (index-noted was now id clip n.noted kept.fits.whole).within drawn_on in record {
+      told = same-tells (seen_with new now must) (after (ring_of g) r0 step) (after (ring_of g) r step) told0 (n.redrawn.stepped r0 r (alike-by medium old was must r kept stands));
+      settled = λ still there. n.settled (n.called.honest.1 there);
+      held = λ still there.
+          let back = n.called.honest.1 there in
+          let known = known-by medium old was must r kept stands fine back in
+          (known-noted medium old new was now id clip IsOne step r n (one r (medium old).bytes known) back known).held;
     }
+
+-- a lock and an unlock
+pub lock-redrawn : (g : Geometry) (id : ℕ) (span : Span) → id < 64 → IsRedrawn g id (Some span) (CanTake g span id) (lock span)
+lock-redrawn g id span low = record {
+  low = low;
+  fits = λ r one formed next.
+      let k = both (leb span.from span.to && holds_all r span) (ltb (free_id r) 64) one.legal in
+      let m = both (leb span.from span.to) (holds_all r span) k.0 in
+      let order = at_most span.from span.to m.0 in
+      let last = all_range-each (holds r) span.from (span.to + 1 - span.from) span.to m.1 order (omega (arith, order)) in
+      let top = (rising-range 0 r.next span.to r.frames formed.rising (held-among span.to r.frames last)).1 in
+      (omega (arith, order, top, next), omega (arith, top, next));
+  shown = λ r old new one held shows. lock-held g r span id old new held one shows;
+  alike = λ r t same one.
+      let first = sym (span-same r t span same) ∙ one.fits in
+      let is = one.id_is ∙ free-same r t same in
+      record { fits = first; legal = fits-legal (ring_of g) t span first (subst (λ (n : ℕ). n < 64) is low); id_is = is };
+  stepped = λ r t same. locked-same (ring_of g) r t span same;
+}
+
+pub unlock-redrawn : (g : Geometry) (id : ℕ) → id < 64 → IsRedrawn g id None (λ r. clip_of r id ≢ None) (unlock id)
+unlock-redrawn g id low = record {
+  low = low;
+  fits = λ r one formed next. tt;
+  shown = λ r old new one held shows. unlock-held g r id old new held low shows;
+  alike = λ r t same one none. one (clip-same r t id same ∙ none);
+  stepped = λ r t same. unlocked-same (ring_of g) r t id same;
+}
 
 -- ---- runs of held numbers
 
@@ -241,17 +313,17 @@ run-ends g r image table j n end h held same within l there has is = go (cases_l
 -- ---- a store
 
 -- a call that adds a clip or takes one away, by what it says where it is answered, and of a recording of which it may be made
-pub record IsClipCall (g : Geometry) (c : Call) (IsOne : Recording → Type 0) : Type 0 where
+pub record IsClipCall (H : Type 0) (g : Geometry) (c : Call) (IsOne : Recording → Type 0) : Type 0 where
   pub writes : is_look c ≡ false
   pub late : was_refused c ≡ false
   pub stored : count_stored c ≡ 0
-  pub answers : (s : StoreState) → s.must_reopen ≡ false → IsOne s.recording → IsAnswered g s c
+  pub answers : (s : StoreState) → s.must_reopen ≡ false → IsOne s.recording → IsAnswered H g s c
 
-pub goes-noted : {D A : Type 0} (medium : D → Medium) (old new : D) (was now : Index A) (must : Bool) (id : ℕ) (clip : Option Span) (IsOne : Recording → Type 0) (step : Step) (c : Call) → IsKept medium old was must → must ≡ false → 1 ≤ was.ring.geometry.slots
+pub goes-noted : {D A : Type 0} (medium : D → Medium) (old new : D) (was now : Index A) (must : Bool) (id : ℕ) (clip : Option Span) (IsOne : Recording → Type 0) (step : Step) (c : Call) → IsKept medium old was must → must ≡ false
     → Noted medium old new was now id clip IsOne step → ((r : Recording) → IsOne r → (medium old).honest → Holds was.ring.geometry r (medium old).bytes → LeavesOnly (medium old) (medium new) (HoldsSome was.ring.geometry r (step ∷ [])))
-    → ((r : Recording) → (medium old).honest → IsIndexOf was r (medium old).bytes → IsOne r) → IsClipCall was.ring.geometry c IsOne → clips_after was.clips c ≡ set was.clips id clip → has_failed c ≡ false → failed_for c ≡ None → ((s : StoreState) → made was.ring.geometry s c ≡ step ∷ []) → ((s : StoreState) → begun was.ring.geometry s c ≡ [])
+    → ((r : Recording) (image : List ℕ) → IsIndexOf was r image → IsOne r) → IsClipCall (medium old).honest was.ring.geometry c IsOne → clips_after was.clips c ≡ set was.clips id clip → has_failed c ≡ false → failed_for c ≡ None → ((s : StoreState) → made was.ring.geometry s c ≡ step ∷ []) → ((s : StoreState) → begun was.ring.geometry s c ≡ [])
     → IsAllowed was.ring.geometry (progress_of (seen_with old was must)) c → Goes medium (seen_with old was must) (seen_with new now must) (c ∷ [])
-goes-noted medium old new was now must id clip IsOne step c kept fine some n moments one call clips unfailed none made_all begun_none allowed =
+goes-noted medium old new was now must id clip IsOne step c kept fine n moments one call clips unfailed none made_all begun_none allowed =
     goes-done medium (seen_with old was must) (seen_with new now must) c (λ r. step ∷ []) (record {
       writes = call.writes;
       late = call.late;
@@ -265,19 +337,19 @@ goes-noted medium old new was now must id clip IsOne step c kept fine some n mom
       none = none;
       made_all = made_all;
       begun_none = begun_none;
-      answers = λ s stands honest. call.answers s (sym stands.must_reopen ∙ fine) (one s.recording honest (known-by medium old was must s.recording kept stands.recording fine honest));
+      answers = λ s stands.
+          call.answers s (sym stands.must_reopen ∙ fine)
+          (n.redrawn.alike kept.known.recording s.recording (alike-by medium old was must s.recording kept stands.recording) (one kept.known.recording (drawn was.ring.geometry was.table.heads was.clips) kept.known.known));
       allowed = allowed;
-      moments = λ r stands honest. let known = known-by medium old was must r kept stands fine honest in moments r (one r honest known) honest known.held;
-      stands = λ r stands honest.
-          let known = known-by medium old was must r kept stands fine honest in
-          stands-noted medium old new was now id clip IsOne step must r honest known (one r honest known) kept.fits.whole some n;
+      moments = λ r stands honest. let known = known-by medium old was must r kept stands fine honest in moments r (one r (medium old).bytes known) honest known.held;
+      stands = λ r stands. stands-noted medium old new was now id clip IsOne step must r kept fine stands one n;
     })
 
-pub goes-unnoted : {D A : Type 0} (medium : D → Medium) (old new : D) (was now : Index A) (must : Bool) (IsOne : Recording → Type 0) (step : Step) (c : Call) (fault : DiskFault) → IsKept medium old was must → must ≡ false → now ≡ was
+pub goes-unnoted : {D A : Type 0} (medium : D → Medium) (old new : D) (was now : Index A) (must : Bool) (IsOne : Recording → Type 0) (step : Step) (c : Call) (fault : DiskFault) → IsKept medium old was must → must ≡ false → now ≡ was → ((r t : Recording) → IsSame r t → IsOne r → IsOne t)
     → ((medium new).honest → IsSound (medium new)) → Called (medium old) (medium new) (Some fault) → ((r : Recording) → IsOne r → (medium old).honest → Holds was.ring.geometry r (medium old).bytes → LeavesOnly (medium old) (medium new) (HoldsSome was.ring.geometry r (step ∷ [])))
-    → ((r : Recording) → (medium old).honest → IsIndexOf was r (medium old).bytes → IsOne r) → IsClipCall was.ring.geometry c IsOne → ((cs : List (Option Span)) → clips_after cs c ≡ cs) → has_failed c ≡ true → failed_for c ≡ Some fault → ((s : StoreState) → made was.ring.geometry s c ≡ []) → ((s : StoreState) → begun was.ring.geometry s c ≡ step ∷ [])
+    → ((r : Recording) (image : List ℕ) → IsIndexOf was r image → IsOne r) → IsClipCall (medium old).honest was.ring.geometry c IsOne → ((cs : List (Option Span)) → clips_after cs c ≡ cs) → has_failed c ≡ true → failed_for c ≡ Some fault → ((s : StoreState) → made was.ring.geometry s c ≡ []) → ((s : StoreState) → begun was.ring.geometry s c ≡ step ∷ [])
     → IsAllowed was.ring.geometry (progress_of (seen_with old was must)) c → Goes medium (seen_with old was must) (seen_with new now true) (c ∷ [])
-goes-unnoted medium old new was now must IsOne step c fault kept fine same sound called moments one call clips has some made_none begun_all allowed =
+goes-unnoted medium old new was now must IsOne step c fault kept fine same alike sound called moments one call clips has some made_none begun_all allowed =
     goes-failed medium (seen_with old was must) (seen_with new now true) c (λ r. step ∷ []) fault (record {
       writes = call.writes;
       late = call.late;
@@ -291,9 +363,11 @@ goes-unnoted medium old new was now must IsOne step c fault kept fine same sound
       stored = call.stored;
       made_none = made_none;
       begun_all = begun_all;
-      answers = λ s stands honest. call.answers s (sym stands.must_reopen ∙ fine) (one s.recording honest (known-by medium old was must s.recording kept stands.recording fine honest));
+      answers = λ s stands.
+          call.answers s (sym stands.must_reopen ∙ fine)
+          (alike kept.known.recording s.recording (alike-by medium old was must s.recording kept stands.recording) (one kept.known.recording (drawn was.ring.geometry was.table.heads was.clips) kept.known.known));
       allowed = allowed;
-      moments = λ r stands honest. let known = known-by medium old was must r kept stands fine honest in moments r (one r honest known) honest known.held;
+      moments = λ r stands honest. let known = known-by medium old was must r kept stands fine honest in moments r (one r (medium old).bytes known) honest known.held;
     })
 
 -- ---- refusals
@@ -324,7 +398,7 @@ span-allowed g o span fault fine (inr (inl x)) = lock-allowed g o span (Err faul
 span-allowed g o span fault fine (inr (inr x)) = lock-allowed g o span (Err fault) fine x.1.0 (inr (inl (x.0, x.1.1)))
 
 pub lock-refused : {D : Type 0} (medium : D → Medium) (s : Seen D) (span : Span) (fault : StoreFault) → ((medium s.disk).honest → IsSound (medium s.disk)) → s.must_reopen ≡ false → CanRefuseSpan span s.clips fault
-    → ((r : Recording) → StandsFor medium s r → (medium s.disk).honest → first_of (span_checks r span) ≡ Some fault) → Goes medium s s (locked span (Err fault) ∷ [])
+    → ((r : Recording) → StandsFor medium s r → first_of (span_checks r span) ≡ Some fault) → Goes medium s s (locked span (Err fault) ∷ [])
 lock-refused medium s span fault sound fine can first =
     let quiet = span-quiet span s.clips fault can in
     goes-refused medium s (locked span (Err fault)) sound (record {
@@ -335,11 +409,11 @@ lock-refused medium s span fault sound fine can first =
       stored = refl;
       made_none = λ g t. refl;
       begun_none = λ g t. ap (λ (b : Bool). if b then lock span ∷ [] else []) quiet.unfailed;
-    }) (λ t stands honest. answer-due s.geometry t (locked span (Err fault)) fault (sym stands.must_reopen ∙ fine) (first t.recording stands.recording honest) refl) (span-allowed s.geometry (progress_of s) span fault fine can)
+    }) (λ t stands. answer-due (medium s.disk).honest s.geometry t (locked span (Err fault)) fault (sym stands.must_reopen ∙ fine) (first t.recording stands.recording) refl) (span-allowed s.geometry (progress_of s) span fault fine can)
 
 -- the id that was answered is the least free one
-pub answered-id : (g : Geometry) (s : StoreState) (span : Span) (id : ℕ) → IsAnswered g s (locked span (Ok id)) → id ≡ free_id s.recording
-answered-id g s span id said = (due-none (first_of (checks g s (locked span (Ok id)))) (locked span (Ok id)) (id ≡ free_id s.recording) said refl).1
+pub answered-id : (H : Type 0) (g : Geometry) (s : StoreState) (span : Span) (id : ℕ) → IsAnswered H g s (locked span (Ok id)) → id ≡ free_id s.recording
+answered-id H g s span id said = (due-none (first_of (checks g s (locked span (Ok id)))) (locked span (Ok id)) (id ≡ free_id s.recording) said refl).1
 
 -- ---- an unlock
 
@@ -352,8 +426,8 @@ none-is None e = refl
 none-is (Some s) e = absurd cc
 
 -- a clip that stands may be taken away
-pub unlock-answered : (g : Geometry) (s : StoreState) (id : ℕ) (result : Result (Unit {0}) StoreFault) → s.must_reopen ≡ false → clip_of s.recording id ≢ None → AnswersOtherwise s.recording (unlocked id result) → IsAnswered g s (unlocked id result)
-unlock-answered g s id result fine some is = answer-given g s (unlocked id result) fine (passed (not (is_some (clip_of s.recording id))) NoSuchClip [] (some-is (clip_of s.recording id) some)) is
+pub unlock-answered : (H : Type 0) (g : Geometry) (s : StoreState) (id : ℕ) (result : Result (Unit {0}) StoreFault) → s.must_reopen ≡ false → clip_of s.recording id ≢ None → AnswersOtherwise H s.recording (unlocked id result) → IsAnswered H g s (unlocked id result)
+unlock-answered H g s id result fine some is = answer-given H g s (unlocked id result) fine (passed (not (is_some (clip_of s.recording id))) NoSuchClip [] (some-is (clip_of s.recording id) some)) is
 
 pub unlock-allowed : (g : Geometry) (o : Progress) (id : ℕ) (result : Result (Unit {0}) StoreFault) → o.must_reopen ≡ false → get_or o.clips id None ≢ None → MayGive o (unlocked id result) → IsAllowed g o (unlocked id result)
 unlock-allowed g o id result fine some may =
@@ -361,7 +435,7 @@ unlock-allowed g o id result fine some may =
     (passed o.must_reopen MustReopen _ fine ∙ passed (not (is_some (get_or o.clips id None))) NoSuchClip [] (some-is (get_or o.clips id None) some)) may
 
 pub unlock-refused : {D : Type 0} (medium : D → Medium) (s : Seen D) (id : ℕ) → ((medium s.disk).honest → IsSound (medium s.disk)) → s.must_reopen ≡ false → get_or s.clips id None ≡ None
-    → ((r : Recording) → StandsFor medium s r → (medium s.disk).honest → clip_of r id ≡ None) → Goes medium s s (unlocked id (Err NoSuchClip) ∷ [])
+    → ((r : Recording) → StandsFor medium s r → clip_of r id ≡ None) → Goes medium s s (unlocked id (Err NoSuchClip) ∷ [])
 unlock-refused medium s id sound fine seen none =
     goes-refused medium s (unlocked id (Err NoSuchClip)) sound (record {
       early = refl;
@@ -371,7 +445,7 @@ unlock-refused medium s id sound fine seen none =
       stored = refl;
       made_none = λ g t. refl;
       begun_none = λ g t. refl;
-    }) (λ t stands honest. answer-due s.geometry t (unlocked id (Err NoSuchClip)) NoSuchClip (sym stands.must_reopen ∙ fine) (failed (not (is_some (clip_of t.recording id))) NoSuchClip [] (none-is (clip_of t.recording id) (none t.recording stands.recording honest))) refl)
+    }) (λ t stands. answer-due (medium s.disk).honest s.geometry t (unlocked id (Err NoSuchClip)) NoSuchClip (sym stands.must_reopen ∙ fine) (failed (not (is_some (clip_of t.recording id))) NoSuchClip [] (none-is (clip_of t.recording id) (none t.recording stands.recording))) refl)
     (refused (first_of (known_checks s.geometry (progress_of s) (unlocked id (Err NoSuchClip)))) (unlocked id (Err NoSuchClip)) (MayGive (progress_of s) (unlocked id (Err NoSuchClip))) NoSuchClip
     (passed s.must_reopen MustReopen _ fine ∙ failed (not (is_some (get_or s.clips id None))) NoSuchClip [] (none-is (get_or s.clips id None) seen)) refl)
 

@@ -7,11 +7,13 @@ use Rattle.loop_record.specs.declared.geometry.Geometry.{Geometry}
 use Rattle.loop_record.specs.declared.segment.SegmentHead.{SegmentHead}
 use Rattle.loop_record.specs.Reading.{Holds}
 use Rattle.loop_record.specs.Recording.{Picture, Recording, holds}
+use Rattle.loop_record.proofs.Bounds.{limits}
 use Rattle.loop_record.proofs.Decided.{clash}
 use Rattle.loop_record.proofs.Form.{reading-well_formed}
 use Rattle.loop_ring.specs.Heads.{has_number, heads_of}
 use Rattle.loop_ring.proofs.Held.{held-number}
 pub use Rattle.loop_ring.proofs.SlotReads.{stays_on}
+use Rattle.loop_store.specs.Drawn.{drawn}
 use Rattle.loop_store.specs.Held.{HasNoneStray}
 use Rattle.loop_store.specs.declared.index.Index.{Index}
 use Rattle.loop_store.specs.Recovered.{IsFitting, IsHeadIn, IsIndexOf, IsRecovered}
@@ -21,6 +23,7 @@ use Rattle.loop_store.proofs.HeldCount.{count-held}
 use Rattle.loop_store.proofs.Looked.{held-slot}
 use Rattle.loop_store.proofs.Numbers.{among-under}
 use Rattle.loop_store.proofs.Room.{one-recording}
+use Rattle.loop_store.proofs.Same.{IsSame, count-same, formed-same, held-same, holds-same}
 
 pub stays-settled : (old new : Medium) → Stays old new → IsSettled old → IsSettled new
 stays-settled old new stays settled = λ c left. settled c (stays.images c left) ∙ sym stays.bytes
@@ -36,13 +39,13 @@ pub looked-kept : {D A : Type 0} (medium : D → Medium) (old new : D) (index : 
     → ((medium old).honest → Stays (medium old) (medium new)) → IsKept medium new index must_reopen
 looked-kept medium old new index must_reopen kept size back stays = record {
   fits = subst (IsFitting index) (sym size) kept.fits;
-  known = λ now. kept.known (back now);
+  known = kept.known;
   present = λ fine now. looked-present index (medium old) (medium new) (stays (back now)) (kept.present fine (back now));
 }
 
 pub looked-stands : {D : Type 0} (medium : D → Medium) (old : Seen D) (disk : D) (r : Recording) → StandsFor medium old r → ((medium disk).honest → (medium old.disk).honest) → ((medium old.disk).honest → Stays (medium old.disk) (medium disk)) → StandsFor medium (record old { disk = disk }) r
 looked-stands medium old disk r stands back stays = record {
-  told = λ now. let told = stands.told (back now) in record { formed = told.formed; next_is = told.next_is; numbers_are = told.numbers_are; count_is = told.count_is; clips_are = told.clips_are };
+  told = let told = stands.told in record { formed = told.formed; next_is = told.next_is; numbers_are = told.numbers_are; count_is = told.count_is; clips_are = told.clips_are };
   settled = λ fine now. stays-settled (medium old.disk) (medium disk) (stays (back now)) (stands.settled fine (back now));
   held = λ fine now. subst (λ (image : List ℕ). Holds old.geometry r image) (sym (stays (back now)).bytes) (stands.held fine (back now));
 }
@@ -64,6 +67,34 @@ told-by disk index must_reopen r image some within known = record {
   clips_are = known.clips_are;
 }
 
+-- what the store tells of the frames that are made up
+pub told-drawn : {D A : Type 0} (medium : D → Medium) (disk : D) (index : Index A) (must_reopen : Bool) → (kept : IsKept medium disk index must_reopen) → Tells (seen_with disk index must_reopen) kept.known.recording
+told-drawn medium disk index must_reopen kept =
+    told-by disk index must_reopen kept.known.recording (drawn index.ring.geometry index.table.heads index.clips) (limits index.ring.geometry index.ring.good).slots.0 kept.fits.whole.within kept.known.known
+
+-- each recording that it tells of has their numbers
+pub tells-same : {D : Type 0} (s : Seen D) (r t : Recording) → Tells s r → Tells s t → IsSame r t
+tells-same s r t a b = held-same r t a.formed b.formed (λ n. sym (a.numbers_are n) ∙ b.numbers_are n) (sym a.next_is ∙ b.next_is) (sym a.clips_are ∙ b.clips_are)
+
+pub same-tells : {D : Type 0} (s : Seen D) (r t : Recording) → Tells s r → IsSame r t → Tells s t
+same-tells s r t a same = record {
+  formed = formed-same r t same a.formed;
+  next_is = a.next_is ∙ same.next;
+  numbers_are = λ n. a.numbers_are n ∙ holds-same r t n same;
+  count_is = a.count_is ∙ count-same r t same;
+  clips_are = a.clips_are ∙ same.clips;
+}
+
+pub alike-by : {D A : Type 0} (medium : D → Medium) (disk : D) (index : Index A) (must_reopen : Bool) (r : Recording) → (kept : IsKept medium disk index must_reopen) → StandsFor medium (seen_with disk index must_reopen) r → IsSame kept.known.recording r
+alike-by medium disk index must_reopen r kept stands = tells-same (seen_with disk index must_reopen) kept.known.recording r (told-drawn medium disk index must_reopen kept) stands.told
+
+-- a number whose frame a segment has is held by each of these
+pub there-alike : {D A : Type 0} (medium : D → Medium) (disk : D) (index : Index A) (must_reopen : Bool) (r : Recording) (n j : ℕ) → (kept : IsKept medium disk index must_reopen) → StandsFor medium (seen_with disk index must_reopen) r → j < index.ring.geometry.segments
+    → has_number index.ring.geometry.slots n (get_or index.table.heads j None) ≡ true → holds r n ≡ true
+there-alike medium disk index must_reopen r n j kept stands l has =
+    sym (holds-same kept.known.recording r n (alike-by medium disk index must_reopen r kept stands))
+    ∙ there-held index.ring.geometry kept.known.recording (drawn index.ring.geometry index.table.heads index.clips) index.table.heads j n kept.known.known.held kept.known.known.heads_are l has
+
 -- where the store needn't be reopened, its index says all of the recording that it stands for
 pub known-by : {D A : Type 0} (medium : D → Medium) (disk : D) (index : Index A) (must_reopen : Bool) (r : Recording) → IsKept medium disk index must_reopen → StandsFor medium (seen_with disk index must_reopen) r → must_reopen ≡ false → (medium disk).honest
     → IsIndexOf index r (medium disk).bytes
@@ -76,6 +107,6 @@ known-by medium disk index must_reopen r kept stands fine now =
 pub failed-kept : {D A : Type 0} (medium : D → Medium) (old new : D) (was now : Index A) (must : Bool) → IsKept medium old was must → now ≡ was → (medium new).size ≡ (medium old).size → ((medium new).honest → (medium old).honest) → IsKept medium new now true
 failed-kept medium old new was now must kept same size back = record {
   fits = subst (λ (i : Index _). IsFitting i (medium new).size) (sym same) (subst (IsFitting was) (sym size) kept.fits);
-  known = λ honest. let k = kept.known (back honest) in (k.0, subst (λ (i : Index _). IsRecovered i k.0) (sym same) k.1);
+  known = subst (λ (i : Index _). IsRecovered i (drawn i.ring.geometry i.table.heads i.clips)) (sym same) kept.known;
   present = λ fine honest. absurd (clash true refl fine);
 }

@@ -1,5 +1,5 @@
 -- The least number of a span that isn't held, and the checks of a span.
-use Rattle.std.proofs.Common.{◌≡◌, ◌⊎◌, inl, inr, ℕ, zero, suc, ◌+◌, ◌-◌, ◌<◌, ◌≤◌, Bool, true, false, not, ◌&&◌, cond, eqb, ltb, leb, option_map, Option, None, Some, List, [], ◌∷◌, refl, sym, ap, ◌∙◌, subst, arith}
+use Rattle.std.proofs.Common.{◌≡◌, ◌⊎◌, inl, inr, ℕ, zero, suc, ◌+◌, ◌-◌, ◌<◌, ◌≤◌, Bool, true, false, not, ◌&&◌, cond, eqb, ltb, option_map, Option, None, Some, [], ◌∷◌, refl, sym, ap, ◌∙◌, arith}
 use Rattle.std.proofs.lemmas.Bool.{cases_lt}
 use Rattle.std.specs.Prelude.{IsTrue}
 use Rattle.std.specs.List.{find, range_with_len}
@@ -7,7 +7,6 @@ use Rattle.loop_record.specs.declared.clip.Span.{Span}
 use Rattle.loop_record.specs.Recording.{Recording, Ring, free_id, holds, holds_all, is_legal, lock}
 use Rattle.loop_record.proofs.Decided.{at_most_test, differ_test, equal_test, not_below, not_below_test, not_false}
 use Rattle.loop_record.proofs.Rising.{each-all_range}
-use Rattle.loop_store.specs.declared.fault.StoreFault.{StoreFault}
 use Rattle.loop_store.specs.declared.fault.StoreFault.TheVariants.{ClipEmpty, ClipNotHeld, ClipTableFull}
 use Rattle.loop_store.specs.Calls.{due, first_of, missing, span_checks}
 use Rattle.loop_store.proofs.Checked.{failed, found, none-before, passed, passes, skipped}

@@ -52,16 +52,16 @@ pub record IsIdle (a b : List Step) : Type 0 where
   pub made : a ≡ []
   pub begun : b ≡ []
 
-idle-one : (g : Geometry) (s : StoreState) (c : Call) → s.must_reopen ≡ true → IsAnswered g s c → IsIdle (made g s c) (begun g s c)
-idle-one g s c must said =
-    let is = must-answer g s c must said in
+idle-one : (H : Type 0) (g : Geometry) (s : StoreState) (c : Call) → s.must_reopen ≡ true → IsAnswered H g s c → IsIdle (made g s c) (begun g s c)
+idle-one H g s c must said =
+    let is = must-answer H g s c must said in
     record { made = ap (λ (o : Option StoreFault). if_answered o (steps_of g s c)) is; begun = ap (λ (o : Option StoreFault). if_failed o (steps_of g s c)) is }
 
-pub idle-all : (g : Geometry) (s : StoreState) (calls : List Call) → s.must_reopen ≡ true → AreAnswered g s calls → IsIdle (made_in g s calls) (begun_in g s calls)
-idle-all g s [] must said = record { made = refl; begun = refl }
-idle-all g s (c ∷ calls) must said =
-    let one = idle-one g s c must said.0 in
-    let rest = idle-all g (after g s c) calls (ap (λ (b : Bool). b || has_failed c) must) said.1 in
+pub idle-all : (H : Type 0) (g : Geometry) (s : StoreState) (calls : List Call) → s.must_reopen ≡ true → AreAnswered H g s calls → IsIdle (made_in g s calls) (begun_in g s calls)
+idle-all H g s [] must said = record { made = refl; begun = refl }
+idle-all H g s (c ∷ calls) must said =
+    let one = idle-one H g s c must said.0 in
+    let rest = idle-all H g (after g s c) calls (ap (λ (b : Bool). b || has_failed c) must) said.1 in
     let a = one.made in
     let b = rest.made in
     let d = one.begun in

@@ -1,13 +1,13 @@
 -- A store that was just formatted.
 use Rattle.std.proofs.Common.{◌≡◌, ℕ, zero, suc, ◌+◌, ◌<◌, cond, false, IsTrue, Option, None, Some, List, [], ◌∷◌, length, map, replicate, refl, sym, ap, ◌∙◌, subst, arith}
-use Rattle.std.proofs.lemmas.List.{length-replicate}
+use Rattle.std.proofs.lemmas.List.{get_or-replicate, length-replicate, take_at}
 use Rattle.std.proofs.lemmas.List.Elements.{All-replicate}
 use Rattle.std.specs.List.{All, range_with_len}
 use Rattle.byteorder.specs.Endian.{little_from}
 use Rattle.loop_disk.specs.Medium.{Medium, IsSettled}
 use Rattle.loop_record.specs.declared.geometry.Geometry.{Geometry}
 use Rattle.loop_record.specs.Geometry.{disk_size, is_good, segment_at}
-use Rattle.loop_record.specs.Layout.{header_at, open_gates}
+use Rattle.loop_record.specs.Layout.{header_at, open_gates, super_bytes}
 use Rattle.loop_record.specs.Reading.{Holds, IsFreshImage}
 use Rattle.loop_record.specs.Recording.{empty, ring_of}
 use Rattle.loop_record.proofs.Fresh.{reading-fresh}
@@ -16,6 +16,10 @@ use Rattle.loop_ring.specs.Heads.{clip_counts, heads_of}
 use Rattle.loop_ring.proofs.Bytes.{closed_none}
 use Rattle.loop_ring.proofs.Counted.{counts-closed}
 use Rattle.loop_store.specs.declared.index.Index.{Index}
+use Rattle.loop_record.specs.declared.segment.SegmentHead.{SegmentHead}
+use Rattle.loop_store.specs.Drawn.{drawn}
+use Rattle.loop_store.proofs.Drawn.{closed-entry, closed-header, drawn-length, super-length}
+use Rattle.loop_store.proofs.Regrown.{known-drawn}
 use Rattle.loop_store.specs.Held.{HasNoneStray}
 use Rattle.loop_store.specs.Numbers.{is_among, numbers_under}
 use Rattle.loop_store.specs.Recovered.{IsHeadIn, IsIndexOf}
@@ -48,6 +52,20 @@ fresh-known index g image new good fresh = record {
   clips_are = new.none;
 }
 
+-- what it draws is the empty recording
+drawn-fresh : (g : Geometry) → IsTrue (is_good g) → IsFreshImage g (drawn g (replicate g.segments None) (replicate 64 None))
+drawn-fresh g good = record {
+  size = drawn-length g (replicate g.segments None) (replicate 64 None);
+  superblock = take_at (super_bytes g) _ 512 (super-length g);
+  clips = λ id l. closed-entry g (replicate g.segments None) (replicate 64 None) id l (get_or-replicate 64 id None None l);
+  segments = λ j l. closed-header g (replicate g.segments None) (replicate 64 None) j l (get_or-replicate g.segments j None None l);
+}
+
+drawn-new : {A : Type 0} (index : Index A) (g : Geometry) → IsNew index g → IsTrue (is_good g) → IsIndexOf index empty (drawn index.ring.geometry index.table.heads index.clips)
+drawn-new index g new good =
+    known-drawn index g (replicate g.segments None) (replicate 64 None) empty good (let none : Option SegmentHead = None in length-replicate g.segments none) (All-replicate (IsHeadIn g) g.segments None tt) (reading-fresh g _ good (drawn-fresh g good))
+    new.geometry new.closed new.none new.next refl
+
 -- the image of a disk that was formatted, with the memory of its store
 pub fresh-kept : {D A : Type 0} (medium : D → Medium) (g : Geometry) (disk : D) (index : Index A) → IsNew index g → IsTrue (is_good g) → (medium disk).size ≡ disk_size g → ((medium disk).honest → IsSettled (medium disk)) → ((medium disk).honest → IsFreshImage g (medium disk).bytes)
     → IsKept medium disk index false
@@ -61,7 +79,7 @@ fresh-kept medium g disk index new good size settled fresh = record {
       counted = new.counts ∙ counts-closed (ring_of index.ring.geometry) index.clips g.segments ∙ ap (clip_counts (ring_of index.ring.geometry) index.clips) (sym new.closed);
     };
   };
-  known = λ now. ((medium disk).bytes, record { recording = empty; known = fresh-known index g (medium disk).bytes new good (fresh now) });
+  known = record { recording = empty; known = drawn-new index g new good };
   present = λ fine now. record {
     recorded = record { recording = empty; known = fresh-known index g (medium disk).bytes new good (fresh now) };
     settled = settled now;
@@ -87,7 +105,7 @@ fresh-tells g disk index new = record {
 pub fresh-stands : {D A : Type 0} (medium : D → Medium) (g : Geometry) (disk : D) (index : Index A) → IsNew index g → IsTrue (is_good g) → ((medium disk).honest → IsSettled (medium disk)) → ((medium disk).honest → IsFreshImage g (medium disk).bytes)
     → StandsFor medium (seen_with disk index false) empty
 fresh-stands medium g disk index new good settled fresh = record {
-  told = λ now. fresh-tells g disk index new;
+  told = fresh-tells g disk index new;
   settled = λ fine now. settled now;
   held = λ fine now. (fresh-known index g (medium disk).bytes new good (fresh now)).held;
 }

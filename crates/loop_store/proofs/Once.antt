@@ -46,10 +46,10 @@ pub record IsQuiet (c : Call) : Type 0 where
   pub begun_none : (g : Geometry) (s : StoreState) → begun g s c ≡ []
 
 pub goes-refused : {D : Type 0} (medium : D → Medium) (s : Seen D) (c : Call) → ((medium s.disk).honest → IsSound (medium s.disk)) → IsQuiet c
-    → ((t : StoreState) → Stands medium s t → (medium s.disk).honest → IsAnswered s.geometry t c) → IsAllowed s.geometry (progress_of s) c → Goes medium s s (c ∷ [])
+    → ((t : StoreState) → Stands medium s t → IsAnswered (medium s.disk).honest s.geometry t c) → IsAllowed s.geometry (progress_of s) c → Goes medium s s (c ∷ [])
 goes-refused {D} medium s c sound quiet answers allowed = goes-once medium s s c (record {
   answers = answers;
-  stands = λ t stands now. record {
+  stands = λ t stands. record {
     recording = subst (λ (steps : List Step). StandsFor medium s (plain (ring_of s.geometry) t.recording steps)) (sym (quiet.made_none s.geometry t)) stands.recording;
     must_reopen = stands.must_reopen ∙ sym (or-quiet t.must_reopen (has_failed c) quiet.unfailed);
   };
@@ -90,21 +90,21 @@ pub record Done {D : Type 0} (medium : D → Medium) (old new : Seen D) (c : Cal
   pub none : failed_for c ≡ None
   pub made_all : (s : StoreState) → made old.geometry s c ≡ steps s.recording
   pub begun_none : (s : StoreState) → begun old.geometry s c ≡ []
-  pub answers : (s : StoreState) → Stands medium old s → (medium old.disk).honest → IsAnswered old.geometry s c
+  pub answers : (s : StoreState) → Stands medium old s → IsAnswered (medium old.disk).honest old.geometry s c
   pub allowed : IsAllowed old.geometry (progress_of old) c
   pub moments : (r : Recording) → StandsFor medium old r → (medium old.disk).honest → LeavesOnly (medium old.disk) (medium new.disk) (HoldsSome old.geometry r (steps r))
-  pub stands : (r : Recording) → StandsFor medium old r → (medium old.disk).honest → StandsFor medium new (plain (ring_of old.geometry) r (steps r))
+  pub stands : (r : Recording) → StandsFor medium old r → StandsFor medium new (plain (ring_of old.geometry) r (steps r))
 
 pub goes-done : {D : Type 0} (medium : D → Medium) (old new : Seen D) (c : Call) (steps : Recording → List Step) → Done medium old new c steps → Goes medium old new (c ∷ [])
 goes-done {D} medium old new c steps done = goes-once medium old new c (record {
   answers = done.answers;
-  stands = λ s stands now. record {
-    recording = subst (λ (l : List Step). StandsFor medium new (plain (ring_of old.geometry) s.recording l)) (sym (done.made_all s)) (done.stands s.recording stands.recording now);
+  stands = λ s stands. record {
+    recording = subst (λ (l : List Step). StandsFor medium new (plain (ring_of old.geometry) s.recording l)) (sym (done.made_all s)) (done.stands s.recording stands.recording);
     must_reopen = done.still ∙ sym (or-quiet s.must_reopen (has_failed c) done.unfailed ∙ sym stands.must_reopen ∙ done.fine);
   };
   leaves = λ s stands now fine.
       let r = s.recording in
-      let later = done.stands r stands.recording now in
+      let later = done.stands r stands.recording in
       let there = done.called.honest.0 now in
       leaves-same old.geometry r (steps r) (made old.geometry s c) [] (begun old.geometry s c) (medium old.disk) (medium new.disk) (sym (done.made_all s)) (sym (done.begun_none s))
       (done-leaves old.geometry r (steps r) (medium old.disk) (medium new.disk) (done.moments r stands.recording now) (later.settled done.still there)
@@ -133,17 +133,17 @@ pub record Failed {D : Type 0} (medium : D → Medium) (old new : Seen D) (c : C
   pub stored : count_stored c ≡ 0
   pub made_none : (s : StoreState) → made old.geometry s c ≡ []
   pub begun_all : (s : StoreState) → begun old.geometry s c ≡ steps s.recording
-  pub answers : (s : StoreState) → Stands medium old s → (medium old.disk).honest → IsAnswered old.geometry s c
+  pub answers : (s : StoreState) → Stands medium old s → IsAnswered (medium old.disk).honest old.geometry s c
   pub allowed : IsAllowed old.geometry (progress_of old) c
   pub moments : (r : Recording) → StandsFor medium old r → (medium old.disk).honest → LeavesOnly (medium old.disk) (medium new.disk) (HoldsSome old.geometry r (steps r))
 
 pub goes-failed : {D : Type 0} (medium : D → Medium) (old new : Seen D) (c : Call) (steps : Recording → List Step) (fault : DiskFault) → Failed medium old new c steps fault → Goes medium old new (c ∷ [])
 goes-failed {D} medium old new c steps fault failed = goes-once medium old new c (record {
   answers = failed.answers;
-  stands = λ s stands now. record {
+  stands = λ s stands. record {
     recording =
         subst (λ (l : List Step). StandsFor medium new (plain (ring_of old.geometry) s.recording l)) (sym (failed.made_none s))
-        (failed-stands medium old new s.recording failed.failed failed.called.honest.1 stands.recording);
+        (failed-stands medium old new s.recording failed.failed stands.recording);
     must_reopen = ap (λ (x : Seen D). x.must_reopen) failed.failed ∙ sym (or-loud s.must_reopen (has_failed c) failed.has);
   };
   leaves = λ s stands now fine.

@@ -16,6 +16,8 @@ use Rattle.loop_store.specs.Places.{RefusesPlace}
 use Rattle.loop_store.specs.Seen.{HasFailed, Seen, StandsFor}
 use Rattle.loop_store.proofs.Appended.{steps-some}
 use Rattle.loop_store.proofs.Checked.{answer-due, answer-given, due-none, failed, given, passed, passes, refused}
+use Rattle.loop_store.proofs.Alike.{place-same}
+use Rattle.loop_store.proofs.Same.{IsSame}
 use Rattle.loop_store.proofs.Once.{goes-done, goes-failed, goes-refused}
 
 -- ---- the checks
@@ -58,17 +60,17 @@ some-first true None e none = absurd cc
 some-first true (Some b) e none = absurd cc
 
 -- a group that was appended has steps
-pub answered-some : (g : Geometry) (s : StoreState) (ps : List Picture) (number : ℕ) → IsAnswered g s (appended ps (Ok number)) → steps (ring_of g) s.recording ps ≢ None
-answered-some g s ps number said =
-    let none = (due-none (first_of (checks g s (appended ps (Ok number)))) (appended ps (Ok number)) (AnswersOtherwise s.recording (appended ps (Ok number))) said refl).0 in
+pub answered-some : (H : Type 0) (g : Geometry) (s : StoreState) (ps : List Picture) (number : ℕ) → IsAnswered H g s (appended ps (Ok number)) → steps (ring_of g) s.recording ps ≢ None
+answered-some H g s ps number said =
+    let none = (due-none (first_of (checks g s (appended ps (Ok number)))) (appended ps (Ok number)) (AnswersOtherwise H s.recording (appended ps (Ok number))) said refl).0 in
     let a = passes s.must_reopen MustReopen _ none in
     let b = passes (eqb s.recording.next (last_number (ring_of g))) NumbersSpent _ a.1 in
     let c = passes (lacks_victim (ring_of g) s.recording) AllLocked [] b.1 in
     steps-some g s.recording ps (differ s.recording.next (last_number (ring_of g)) b.0) (some-first (needs_recycling (ring_of g) s.recording) (victim (ring_of g) s.recording) c.0)
 
 -- and its number is the next one
-pub answered-number : (g : Geometry) (s : StoreState) (ps : List Picture) (number : ℕ) → IsAnswered g s (appended ps (Ok number)) → number ≡ s.recording.next
-answered-number g s ps number said = (due-none (first_of (checks g s (appended ps (Ok number)))) (appended ps (Ok number)) (number ≡ s.recording.next) said refl).1
+pub answered-number : (H : Type 0) (g : Geometry) (s : StoreState) (ps : List Picture) (number : ℕ) → IsAnswered H g s (appended ps (Ok number)) → number ≡ s.recording.next
+answered-number H g s ps number said = (due-none (first_of (checks g s (appended ps (Ok number)))) (appended ps (Ok number)) (number ≡ s.recording.next) said refl).1
 
 -- of every disk
 pub record IsNumbered (o : Progress) (number : ℕ) : Type 0 where
@@ -85,7 +87,7 @@ allowed-number g o ps number said =
 -- where there is no place
 pub place-refused : {D : Type 0} (medium : D → Medium) (s : Seen D) (ps : List Picture) (fault : StoreFault) → ((medium s.disk).honest → IsSound (medium s.disk)) → s.must_reopen ≡ false → (fault ≡ NumbersSpent) ⊎ (fault ≡ AllLocked)
     → (fault ≡ NumbersSpent → s.next ≡ last_number (ring_of s.geometry)) → (fault ≡ AllLocked → s.next ≢ last_number (ring_of s.geometry))
-    → ((r : Recording) → StandsFor medium s r → (medium s.disk).honest → RefusesPlace s.geometry r fault) → Goes medium s s (appended ps (Err fault) ∷ [])
+    → ((r : Recording) → StandsFor medium s r → RefusesPlace s.geometry r fault) → Goes medium s s (appended ps (Err fault) ∷ [])
 place-refused {D} medium s ps fault sound fine either spent unspent known = goes-refused medium s (appended ps (Err fault)) sound (record {
   early = early either;
   clips = λ cs. refl;
@@ -115,12 +117,12 @@ place-refused {D} medium s ps fault sound fine either spent unspent known = goes
     allowed (inl e) = refused (first_of (known_checks s.geometry (progress_of s) call)) call (MayGive (progress_of s) call) NumbersSpent (known-spent s.geometry (progress_of s) ps (Err fault) fine (spent e)) (ap (λ (f : StoreFault). Some f) e)
     allowed (inr e) = given (first_of (known_checks s.geometry (progress_of s) call)) call (MayGive (progress_of s) call) (known-none s.geometry (progress_of s) ps (Err fault) fine (unspent e)) (inl e)
 
-    refuses : (t : StoreState) → t.must_reopen ≡ false → RefusesPlace s.geometry t.recording fault → IsAnswered s.geometry t call
-    refuses t still (inl x) = answer-due s.geometry t call NumbersSpent still (first-spent s.geometry t.recording ps (Err fault) x.1) (ap (λ (f : StoreFault). Some f) x.0)
-    refuses t still (inr x) = answer-due s.geometry t call AllLocked still (first-locked s.geometry t.recording ps (Err fault) x.1.0 x.1.1) (ap (λ (f : StoreFault). Some f) x.0)
+    refuses : (t : StoreState) → t.must_reopen ≡ false → RefusesPlace s.geometry t.recording fault → IsAnswered (medium s.disk).honest s.geometry t call
+    refuses t still (inl x) = answer-due (medium s.disk).honest s.geometry t call NumbersSpent still (first-spent s.geometry t.recording ps (Err fault) x.1) (ap (λ (f : StoreFault). Some f) x.0)
+    refuses t still (inr x) = answer-due (medium s.disk).honest s.geometry t call AllLocked still (first-locked s.geometry t.recording ps (Err fault) x.1.0 x.1.1) (ap (λ (f : StoreFault). Some f) x.0)
 
-    answers : (t : StoreState) → Stands medium s t → (medium s.disk).honest → IsAnswered s.geometry t call
-    answers t stands now = refuses t (sym stands.must_reopen ∙ fine) (known t.recording stands.recording now)
+    answers : (t : StoreState) → Stands medium s t → IsAnswered (medium s.disk).honest s.geometry t call
+    answers t stands = refuses t (sym stands.must_reopen ∙ fine) (known t.recording stands.recording)
 
 -- ---- stored
 
@@ -129,8 +131,8 @@ pub record HasPlace (g : Geometry) (r : Recording) : Type 0 where
   pub unspent : r.next ≢ last_number (ring_of g)
   pub some : recycling_first (needs_recycling (ring_of g) r) (victim (ring_of g) r) ≢ None
 
-placed : (g : Geometry) (s : StoreState) (ps : List Picture) (result : Result ℕ StoreFault) → s.must_reopen ≡ false → HasPlace g s.recording → AnswersOtherwise s.recording (appended ps result) → IsAnswered g s (appended ps result)
-placed g s ps result fine place is = answer-given g s (appended ps result) fine (first-none g s.recording ps result place.unspent place.some) is
+placed : (H : Type 0) (g : Geometry) (s : StoreState) (ps : List Picture) (result : Result ℕ StoreFault) → s.must_reopen ≡ false → HasPlace g s.recording → AnswersOtherwise H s.recording (appended ps result) → IsAnswered H g s (appended ps result)
+placed H g s ps result fine place is = answer-given H g s (appended ps result) fine (first-none g s.recording ps result place.unspent place.some) is
 
 -- what is known where the frames were stored
 pub record Stored {D : Type 0} (medium : D → Medium) (old new : Seen D) (ps : List Picture) : Type 0 where
@@ -141,9 +143,9 @@ pub record Stored {D : Type 0} (medium : D → Medium) (old new : Seen D) (ps : 
   pub clips : new.clips ≡ old.clips
   pub geometry : new.geometry ≡ old.geometry
   pub called : Called (medium old.disk) (medium new.disk) None
-  pub place : (r : Recording) → StandsFor medium old r → (medium old.disk).honest → HasPlace old.geometry r
+  pub place : (r : Recording) → StandsFor medium old r → HasPlace old.geometry r
   pub moments : (r : Recording) → StandsFor medium old r → (medium old.disk).honest → LeavesOnly (medium old.disk) (medium new.disk) (HoldsSome old.geometry r (asked old.geometry r ps))
-  pub stands : (r : Recording) → StandsFor medium old r → (medium old.disk).honest → StandsFor medium new (plain (ring_of old.geometry) r (asked old.geometry r ps))
+  pub stands : (r : Recording) → StandsFor medium old r → StandsFor medium new (plain (ring_of old.geometry) r (asked old.geometry r ps))
 
 pub put-stored : {D : Type 0} (medium : D → Medium) (old new : Seen D) (ps : List Picture) → Stored medium old new ps → Goes medium old new (appended ps (Ok old.next) ∷ [])
 put-stored medium old new ps stored = goes-done medium old new (appended ps (Ok old.next)) (λ r. asked old.geometry r ps) (record {
@@ -159,7 +161,7 @@ put-stored medium old new ps stored = goes-done medium old new (appended ps (Ok 
   none = refl;
   made_all = λ s. refl;
   begun_none = λ s. refl;
-  answers = λ s stands now. placed old.geometry s ps (Ok old.next) (sym stands.must_reopen ∙ stored.fine) (stored.place s.recording stands.recording now) (stands.recording.told now).next_is;
+  answers = λ s stands. placed (medium old.disk).honest old.geometry s ps (Ok old.next) (sym stands.must_reopen ∙ stored.fine) (stored.place s.recording stands.recording) stands.recording.told.next_is;
   allowed = given (first_of (known_checks old.geometry (progress_of old) (appended ps (Ok old.next)))) (appended ps (Ok old.next)) (MayGive (progress_of old) (appended ps (Ok old.next))) (known-none old.geometry (progress_of old) ps (Ok old.next) stored.fine stored.unspent) refl;
   moments = stored.moments;
   stands = stored.stands;
@@ -174,7 +176,7 @@ pub record Failed {D : Type 0} (medium : D → Medium) (old new : Seen D) (ps : 
   pub has_failed : HasFailed old new
   pub called : Called (medium old.disk) (medium new.disk) (Some fault)
   pub sound : (medium new.disk).honest → IsSound (medium new.disk)
-  pub place : (r : Recording) → StandsFor medium old r → (medium old.disk).honest → HasPlace old.geometry r
+  pub place : (r : Recording) → StandsFor medium old r → HasPlace old.geometry r
   pub moments : (r : Recording) → StandsFor medium old r → (medium old.disk).honest → LeavesOnly (medium old.disk) (medium new.disk) (HoldsSome old.geometry r (asked old.geometry r ps))
 
 pub put-failed : {D : Type 0} (medium : D → Medium) (old new : Seen D) (ps : List Picture) (fault : DiskFault) → Failed medium old new ps fault → Goes medium old new (appended ps (Err (Disk fault)) ∷ [])
@@ -191,7 +193,11 @@ put-failed medium old new ps fault failed = goes-failed medium old new (appended
   stored = refl;
   made_none = λ s. refl;
   begun_all = λ s. refl;
-  answers = λ s stands now. placed old.geometry s ps (Err (Disk fault)) (sym stands.must_reopen ∙ failed.fine) (failed.place s.recording stands.recording now) refl;
+  answers = λ s stands. placed (medium old.disk).honest old.geometry s ps (Err (Disk fault)) (sym stands.must_reopen ∙ failed.fine) (failed.place s.recording stands.recording) refl;
   allowed = given (first_of (known_checks old.geometry (progress_of old) (appended ps (Err (Disk fault))))) (appended ps (Err (Disk fault))) (MayGive (progress_of old) (appended ps (Err (Disk fault)))) (known-none old.geometry (progress_of old) ps (Err (Disk fault)) failed.fine failed.unspent) (inr refl);
   moments = failed.moments;
 })
+
+-- a place that is there for one recording is there for each with its numbers
+pub place-alike : (g : Geometry) (r t : Recording) → IsSame r t → HasPlace g r → HasPlace g t
+place-alike g r t same place = record { unspent = λ spent. place.unspent (same.next ∙ spent); some = λ none. place.some (place-same g r t same ∙ none) }

@@ -1,5 +1,5 @@
 -- A read of a frame.
-use Rattle.std.proofs.Common.{◌≡◌, ◌⊎◌, inl, inr, ℕ, ◌+◌, Bool, true, false, not, ◌&&◌, is_some, IfErr, Option, None, Some, Result, Ok, Err, List, [], ◌∷◌, refl, sym, ◌∙◌, ap, subst, arith}
+use Rattle.std.proofs.Common.{◌≡◌, ◌⊎◌, inl, inr, ℕ, ◌+◌, Bool, true, false, not, ◌&&◌, IfErr, Option, None, Some, Result, Ok, Err, List, [], ◌∷◌, refl, sym, ◌∙◌, ap, subst, arith}
 use Rattle.std.specs.Prelude.{◌||◌}
 use Rattle.loop_disk.specs.declared.fault.DiskFault.{DiskFault}
 use Rattle.loop_disk.specs.Calls.{Called, Stays}
@@ -8,10 +8,11 @@ use Rattle.loop_record.specs.declared.clip.Span.{Span}
 use Rattle.loop_record.specs.declared.damage.Damage.TheVariants.{SlotHead}
 use Rattle.loop_record.specs.declared.geometry.Geometry.{Geometry}
 use Rattle.loop_record.specs.declared.frame.FrameHead.{FrameHead}
-use Rattle.loop_record.specs.Recording.{Picture, Recording, Step, frame_under, holds, plain, ring_of}
+use Rattle.loop_record.specs.Recording.{Step, holds, plain, ring_of}
+use Rattle.loop_record.proofs.Decided.{clash}
 use Rattle.loop_store.specs.declared.fault.StoreFault.{StoreFault}
 use Rattle.loop_store.specs.declared.fault.StoreFault.TheVariants.{Damaged, MustReopen, NoMemory, NotHeld}
-use Rattle.loop_store.specs.Calls.{AnswersDue, Call, IsAllowed, IsAnswered, MayGive, Progress, StoreState, begun, checks_on, clips_after, count_stored, due, failed_for, first_of, has_failed, known_checks, made, part_with, read_with, was_read, was_read_part, was_refused}
+use Rattle.loop_store.specs.Calls.{AnswersDue, Call, ReadFails, IsAllowed, IsAnswered, MayGive, Progress, StoreState, begun, checks_on, clips_after, count_stored, due, failed_for, first_of, has_failed, known_checks, made, part_with, read_with, was_read, was_read_part, was_refused}
 use Rattle.loop_store.specs.Faults.{answers_disk, failed_in, fault_in, is_damage, is_disk, is_early}
 use Rattle.loop_store.specs.Goes.{Goes, Stands, progress_of}
 use Rattle.loop_store.specs.Reads.{AnswersFrame, AnswersFramePart}
@@ -47,7 +48,7 @@ look-part number at result = record { steps = λ g s. made-either (fault_in resu
 
 -- what is known of a read
 pub record Looked {D : Type 0} (medium : D → Medium) (old : Seen D) (disk : D) (c : Call) : Type 0 where
-  pub answers : (s : StoreState) → Stands medium old s → (medium old.disk).honest → IsAnswered old.geometry s c
+  pub answers : (s : StoreState) → Stands medium old s → IsAnswered (medium old.disk).honest old.geometry s c
   pub allowed : IsAllowed old.geometry (progress_of old) c
   pub stays : (medium old.disk).honest → Stays (medium old.disk) (medium disk)
   pub called : Called (medium old.disk) (medium disk) (failed_for c)
@@ -57,7 +58,7 @@ pub goes-looked : {D : Type 0} (medium : D → Medium) (old : Seen D) (disk : D)
     → Goes medium old (record old { disk = disk }) (c ∷ [])
 goes-looked {D} medium old disk c look sound looked = goes-once medium old (record old { disk = disk }) c (record {
   answers = looked.answers;
-  stands = λ s stands now. record {
+  stands = λ s stands. record {
     recording = subst (λ (l : List Step). StandsFor medium (record old { disk = disk }) (plain (ring_of old.geometry) s.recording l)) (sym (look.steps old.geometry s)) (looked-stands medium old disk s.recording stands.recording looked.called.honest.1 looked.stays);
     must_reopen = stands.must_reopen ∙ unfailed s.must_reopen;
   };
@@ -82,7 +83,7 @@ goes-looked {D} medium old disk c look sound looked = goes-once medium old (reco
 
 -- refused before the disk was called
 pub goes-unread : {D : Type 0} (medium : D → Medium) (s : Seen D) (c : Call) → IsLook c → ((medium s.disk).honest → IsSound (medium s.disk)) → failed_for c ≡ None
-    → ((t : StoreState) → Stands medium s t → (medium s.disk).honest → IsAnswered s.geometry t c) → IsAllowed s.geometry (progress_of s) c → Goes medium s s (c ∷ [])
+    → ((t : StoreState) → Stands medium s t → IsAnswered (medium s.disk).honest s.geometry t c) → IsAllowed s.geometry (progress_of s) c → Goes medium s s (c ∷ [])
 goes-unread medium s c look sound none answers allowed = goes-looked medium s s.disk c look sound (record {
   answers = answers;
   allowed = allowed;
@@ -99,26 +100,29 @@ held-none g s number result held = passed (not (holds s.recording number)) NotHe
 held-none-part : (g : Geometry) (s : StoreState) (number at : ℕ) (result : Result (List ℕ) StoreFault) → holds s.recording number ≡ true → first_of (checks_on g s.recording (was_read_part number at result)) ≡ None
 held-none-part g s number at result held = passed (not (holds s.recording number)) NotHeld [] (ap not held)
 
-frame-held : (r : Recording) (number : ℕ) (p : Picture) → frame_under r.frames number ≡ Some p → holds r number ≡ true
-frame-held r number p there = ap (λ (o : Option Picture). is_some o) there
+-- a read that failed, where the call of an honest disk did
+read-fails : (H : Type 0) (fault : StoreFault) → (fault ≡ Damaged SlotHead) ⊎ (is_disk fault ≡ true) → (H → is_disk fault ≡ true) → ReadFails H fault
+read-fails H fault (inl is) honest = inr (is, λ h. clash (is_disk fault) (honest h) (ap is_disk is))
+read-fails H fault (inr is) honest = inl is
 
 -- ---- answers
 
 -- a number that isn't held
-pub read-missing : (g : Geometry) (s : StoreState) (number : ℕ) → s.must_reopen ≡ false → holds s.recording number ≡ false → IsAnswered g s (was_read number (Err NotHeld))
-read-missing g s number fine none = answer-due g s (was_read number (Err NotHeld)) NotHeld fine (failed (not (holds s.recording number)) NotHeld [] (ap not none)) refl
+pub read-missing : (H : Type 0) (g : Geometry) (s : StoreState) (number : ℕ) → s.must_reopen ≡ false → holds s.recording number ≡ false → IsAnswered H g s (was_read number (Err NotHeld))
+read-missing H g s number fine none = answer-due H g s (was_read number (Err NotHeld)) NotHeld fine (failed (not (holds s.recording number)) NotHeld [] (ap not none)) refl
 
-pub part-missing : (g : Geometry) (s : StoreState) (number at : ℕ) → s.must_reopen ≡ false → holds s.recording number ≡ false → IsAnswered g s (was_read_part number at (Err NotHeld))
-part-missing g s number at fine none = answer-due g s (was_read_part number at (Err NotHeld)) NotHeld fine (failed (not (holds s.recording number)) NotHeld [] (ap not none)) refl
+pub part-missing : (H : Type 0) (g : Geometry) (s : StoreState) (number at : ℕ) → s.must_reopen ≡ false → holds s.recording number ≡ false → IsAnswered H g s (was_read_part number at (Err NotHeld))
+part-missing H g s number at fine none = answer-due H g s (was_read_part number at (Err NotHeld)) NotHeld fine (failed (not (holds s.recording number)) NotHeld [] (ap not none)) refl
 
 -- one for which there is no memory
-pub read-unread : (g : Geometry) (s : StoreState) (number : ℕ) → s.must_reopen ≡ false → holds s.recording number ≡ true → IsAnswered g s (was_read number (Err NoMemory))
-read-unread g s number fine held = answer-given g s (was_read number (Err NoMemory)) fine (held-none g s number (Err NoMemory) held) (inl refl)
+pub read-unread : (H : Type 0) (g : Geometry) (s : StoreState) (number : ℕ) → s.must_reopen ≡ false → holds s.recording number ≡ true → IsAnswered H g s (was_read number (Err NoMemory))
+read-unread H g s number fine held = answer-given H g s (was_read number (Err NoMemory)) fine (held-none g s number (Err NoMemory) held) (inl refl)
 
 -- what a read into lent memory answers
-pub read-answered : (g : Geometry) (s : StoreState) (number : ℕ) (result : Result FrameHead StoreFault) (out : List ℕ) → s.must_reopen ≡ false → AnswersFrame s.recording number result out → IsAnswered g s (was_read number (read_with result out))
-read-answered g s number (Ok h) out fine said = answer-given g s (was_read number (Ok (h, out))) fine (held-none g s number (Ok (h, out)) (frame-held s.recording number said.picture said.there)) said
-read-answered g s number (Err fault) out fine said = answer-given g s (was_read number (Err fault)) fine (held-none g s number (Err fault) said.1) (inr said.0)
+pub read-answered : (H : Type 0) (g : Geometry) (s : StoreState) (number : ℕ) (result : Result FrameHead StoreFault) (out : List ℕ) → s.must_reopen ≡ false → holds s.recording number ≡ true → IfErr result (λ fault. (fault ≡ Damaged SlotHead) ⊎ (is_disk fault ≡ true))
+    → (H → AnswersFrame s.recording number result out) → IsAnswered H g s (was_read number (read_with result out))
+read-answered H g s number (Ok h) out fine held refusals said = answer-given H g s (was_read number (Ok (h, out))) fine (held-none g s number (Ok (h, out)) held) said
+read-answered H g s number (Err fault) out fine held refusals said = answer-given H g s (was_read number (Err fault)) fine (held-none g s number (Err fault) held) (inr (read-fails H fault refusals (λ h. (said h).0)))
 
 known-fine : (g : Geometry) (o : Progress) (c : Call) (Given : Type 0) → known_checks g o c ≡ due o.must_reopen MustReopen ∷ [] → o.must_reopen ≡ false → Given → AnswersDue (first_of (known_checks g o c)) c Given
 known-fine g o c Given are fine is = given (first_of (known_checks g o c)) c Given (ap first_of are ∙ passed o.must_reopen MustReopen [] fine) is
@@ -153,9 +157,10 @@ part-late number at (Ok done) out said = refl
 part-late number at (Err fault) out said = late-fault fault said
 
 -- so it is with a read of a part
-pub part-answered : (g : Geometry) (s : StoreState) (number at : ℕ) (result : Result (Unit {0}) StoreFault) (out : List ℕ) → s.must_reopen ≡ false → AnswersFramePart s.recording number at result out → IsAnswered g s (was_read_part number at (part_with result out))
-part-answered g s number at (Ok done) out fine said = answer-given g s (was_read_part number at (Ok out)) fine (held-none-part g s number at (Ok out) (frame-held s.recording number said.picture said.there)) said
-part-answered g s number at (Err fault) out fine said = answer-given g s (was_read_part number at (Err fault)) fine (held-none-part g s number at (Err fault) said.1) said.0
+pub part-answered : (H : Type 0) (g : Geometry) (s : StoreState) (number at : ℕ) (result : Result (Unit {0}) StoreFault) (out : List ℕ) → s.must_reopen ≡ false → holds s.recording number ≡ true → IfErr result (λ fault. (fault ≡ Damaged SlotHead) ⊎ (is_disk fault ≡ true))
+    → (H → AnswersFramePart s.recording number at result out) → IsAnswered H g s (was_read_part number at (part_with result out))
+part-answered H g s number at (Ok done) out fine held refusals said = answer-given H g s (was_read_part number at (Ok out)) fine (held-none-part g s number at (Ok out) held) said
+part-answered H g s number at (Err fault) out fine held refusals said = answer-given H g s (was_read_part number at (Err fault)) fine (held-none-part g s number at (Err fault) held) (read-fails H fault refusals (λ h. (said h).0))
 
 pub part-allowed : (g : Geometry) (o : Progress) (number at : ℕ) (result : Result (Unit {0}) StoreFault) (out : List ℕ) → o.must_reopen ≡ false → IfErr result (λ fault. (fault ≡ Damaged SlotHead) ⊎ (is_disk fault ≡ true)) → IsAllowed g o (was_read_part number at (part_with result out))
 part-allowed g o number at (Ok done) out fine said = known-fine g o (was_read_part number at (Ok out)) (Unit {0}) refl fine tt

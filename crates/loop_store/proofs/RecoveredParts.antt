@@ -10,7 +10,7 @@ use Rattle.loop_record.specs.declared.geometry.Geometry.{Geometry}
 use Rattle.loop_record.specs.declared.image.Found.{Found}
 use Rattle.loop_record.specs.declared.segment.SegmentHead.{SegmentHead}
 use Rattle.loop_record.specs.Geometry.{frame_bytes, is_good, segment_at, slot_at}
-use Rattle.loop_record.specs.Layout.{Segment, Slot, open_gates, checked_header, geometry_in, header_at, is_open, is_slot_of, is_too_high, segment_in, slot_head, slot_in, whole_frames}
+use Rattle.loop_record.specs.Layout.{entry_at, Segment, Slot, open_gates, checked_header, geometry_in, header_at, is_open, is_slot_of, is_too_high, segment_in, slot_head, slot_in, whole_frames}
 use Rattle.loop_record.specs.Plain.{AreIn, IsSomeHigh, found_of, lacks_number, segment_of, segments_of, table_clips, with_segment}
 use Rattle.loop_record.specs.Reading.{by_block, hold_from, is_bad_slot, is_high, opened, parts_of, reading}
 use Rattle.std.proofs.lemmas.List.{length-map, map-append}
@@ -25,6 +25,7 @@ use Rattle.loop_record.specs.Recording.{head}
 use Rattle.byteorder.specs.Endian.{little_from}
 use Rattle.loop_ring.proofs.Held.{length-in_place}
 use Rattle.loop_ring.proofs.SlotReads.{head_read}
+use Rattle.loop_record.proofs.Readings.{length-range}
 use Rattle.loop_store.specs.declared.fault.StoreFault.{StoreFault}
 use Rattle.loop_ring.specs.Heads.{heads_of}
 use Rattle.loop_store.specs.Recovered.{IsHeadIn, Recovers, clips_of, refusal, segment_said, some_bad_clip}
@@ -212,3 +213,6 @@ table-bad g image table fs t good within read e = bad-lacks g image fs t (limits
 
 pub table-read : (image table : List ℕ) (clips : List (Option Span)) → table ≡ piece 512 2048 image → clips ≡ table_clips table → clips ≡ clips_of image
 table-read image table clips read are = are ∙ ap table_clips read ∙ clips-table image
+
+pub table-length : (table : List ℕ) → length (table_clips table) ≡ 64
+table-length table = length-map (range_with_len 0 64) (λ id. entry_at table (id * 32)) ∙ length-range 0 64

@@ -221,7 +221,7 @@ present-opened medium disk index before some within present alike =
       recording = r;
       held = sym alike ∙ known.held;
       stands = record {
-        told = λ now. told-by disk index false r (medium disk).bytes some within known;
+        told = told-by disk index false r (medium disk).bytes some within known;
         settled = λ fine now. present.settled;
         held = λ fine now. known.held;
       };

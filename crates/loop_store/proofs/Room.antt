@@ -38,10 +38,10 @@ one-recording g r s image e f = ap (λ (c : Contents). c.recording) (same_conten
 
 -- ---- the steps before the stores
 
-before-none : (g : Geometry) (r : Recording) → needs_recycling (ring_of g) r ≡ false → steps_before g r ≡ []
+pub before-none : (g : Geometry) (r : Recording) → needs_recycling (ring_of g) r ≡ false → steps_before g r ≡ []
 before-none g r e = ap (λ (b : Bool). steps_or_none (recycling_first b (victim (ring_of g) r))) e
 
-before-one : (g : Geometry) (r : Recording) (b : ℕ) → needs_recycling (ring_of g) r ≡ true → victim (ring_of g) r ≡ Some b → steps_before g r ≡ recycle b ∷ []
+pub before-one : (g : Geometry) (r : Recording) (b : ℕ) → needs_recycling (ring_of g) r ≡ true → victim (ring_of g) r ≡ Some b → steps_before g r ≡ recycle b ∷ []
 before-one g r b e v = λ i. steps_or_none (recycling_first (e i) (v i))
 
 -- ---- the other segments

@@ -149,27 +149,33 @@ pub record IsPart (r : Recording) (number at : ℕ) (bytes : List ℕ) : Type 0 
   pub there : frame_under r.frames number ≡ Some picture
   pub bytes_are : bytes ≡ piece at (length bytes) picture.bytes
 
--- what a call answers where no check is due: the disk failed, a read lacks memory, or it is done
-abbrev pub AnswersOtherwise : Recording → Call → Type 0
-AnswersOtherwise r (appended group (Ok number)) = number ≡ r.next
-AnswersOtherwise r (locked span (Ok id)) = id ≡ free_id r
-AnswersOtherwise r (unlocked id (Ok x)) = Unit {0}
-AnswersOtherwise r (was_read number (Ok x)) = IsHeldFrame r number x.0 x.1
-AnswersOtherwise r (was_read_part number at (Ok bytes)) = IsPart r number at bytes
-AnswersOtherwise r (was_read number (Err fault)) = (fault ≡ NoMemory) ⊎ (is_disk fault ≡ true)
-AnswersOtherwise r (appended group (Err fault)) = is_disk fault ≡ true
-AnswersOtherwise r (locked span (Err fault)) = is_disk fault ≡ true
-AnswersOtherwise r (unlocked id (Err fault)) = is_disk fault ≡ true
-AnswersOtherwise r (was_read_part number at (Err fault)) = is_disk fault ≡ true
+-- how a read of a held number fails: a call of the disk has failed, or the slot holds something else, which can't be
+-- where the disk is honest
+abbrev pub ReadFails : Type 0 → StoreFault → Type 0
+ReadFails Honest fault = (is_disk fault ≡ true) ⊎ ((fault ≡ Damaged SlotHead) × (Honest → ⊥))
+
+-- What a call answers where no check is due: the disk failed, a read lacks memory, or it is done. Only what a read
+-- gives is known of honest disks alone.
+abbrev pub AnswersOtherwise : Type 0 → Recording → Call → Type 0
+AnswersOtherwise Honest r (appended group (Ok number)) = number ≡ r.next
+AnswersOtherwise Honest r (locked span (Ok id)) = id ≡ free_id r
+AnswersOtherwise Honest r (unlocked id (Ok x)) = Unit {0}
+AnswersOtherwise Honest r (was_read number (Ok x)) = Honest → IsHeldFrame r number x.0 x.1
+AnswersOtherwise Honest r (was_read_part number at (Ok bytes)) = Honest → IsPart r number at bytes
+AnswersOtherwise Honest r (was_read number (Err fault)) = (fault ≡ NoMemory) ⊎ ReadFails Honest fault
+AnswersOtherwise Honest r (was_read_part number at (Err fault)) = ReadFails Honest fault
+AnswersOtherwise Honest r (appended group (Err fault)) = is_disk fault ≡ true
+AnswersOtherwise Honest r (locked span (Err fault)) = is_disk fault ≡ true
+AnswersOtherwise Honest r (unlocked id (Err fault)) = is_disk fault ≡ true
 
 -- the answer is the refusal that is due, and where none is, one of these
 abbrev pub AnswersDue : Option StoreFault → Call → Type 0 → Type 0
 AnswersDue (Some fault) call Given = fault_answered call ≡ Some fault
 AnswersDue None call Given = Given
 
--- a call was answered so
-abbrev pub IsAnswered : Geometry → StoreState → Call → Type 0
-IsAnswered g s call = AnswersDue (first_of (checks g s call)) call (AnswersOtherwise s.recording call)
+-- a call was answered so, where `Honest` says that the disk is honest
+abbrev pub IsAnswered : Type 0 → Geometry → StoreState → Call → Type 0
+IsAnswered Honest g s call = AnswersDue (first_of (checks g s call)) call (AnswersOtherwise Honest s.recording call)
 
 -- ---- lists of calls
 
@@ -178,8 +184,8 @@ abbrev pub after_calls : Geometry → StoreState → List Call → StoreState
 after_calls g s calls = after_all (after g) s calls
 
 -- each was answered so at its point
-abbrev pub AreAnswered : Geometry → StoreState → List Call → Type 0
-AreAnswered g s calls = EachIn (after g) (IsAnswered g) s calls
+abbrev pub AreAnswered : Type 0 → Geometry → StoreState → List Call → Type 0
+AreAnswered Honest g s calls = EachIn (after g) (IsAnswered Honest g) s calls
 
 -- the steps that were made, in order
 abbrev pub made_in : Geometry → StoreState → List Call → List Step

@@ -30,14 +30,13 @@ pub record Stands {D : Type 0} (medium : D → Medium) (store : Seen D) (s : Sto
 abbrev pub progress_of : {D : Type 0} → Seen D → Progress
 progress_of store = record { next = store.next; clips = store.clips; must_reopen = store.must_reopen }
 
--- The first four are said of an honest disk, and three of them of each state that the store stood for; the others of
--- every disk.
+-- The first three are said of each state that the store stood for. What a crash leaves, and that looks leave the disk
+-- as it was, is said of an honest disk; all else of every disk, but for the bytes that a read gives.
 pub record Goes {D : Type 0} (medium : D → Medium) (old new : Seen D) (calls : List Call) : Type 0 where
   -- each answer is the model's
-  pub answers : (s : StoreState) → Stands medium old s → (medium old.disk).honest → AreAnswered old.geometry s calls
+  pub answers : (s : StoreState) → Stands medium old s → AreAnswered (medium old.disk).honest old.geometry s calls
   -- the store stands for the state after them
-  pub stands : (s : StoreState) → Stands medium old s → (medium old.disk).honest
-      → Stands medium new (after_calls old.geometry s calls)
+  pub stands : (s : StoreState) → Stands medium old s → Stands medium new (after_calls old.geometry s calls)
   -- whatever the moment of a crash, the image reads as the recording after a beginning of the steps, and at the
   -- end after all that were made
   pub leaves : (s : StoreState) → Stands medium old s → (medium old.disk).honest → s.must_reopen ≡ false

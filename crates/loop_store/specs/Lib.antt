@@ -12,3 +12,4 @@ pub mod Calls
 pub mod Goes
 pub mod Reads
 pub mod Locks
+pub mod Drawn

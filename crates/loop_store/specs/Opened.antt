@@ -5,7 +5,7 @@ use Rattle.loop_record.specs.declared.damage.LayoutFault.{LayoutFault}
 use Rattle.loop_record.specs.Reading.{Holds, reading}
 use Rattle.loop_record.specs.Recording.{Recording}
 use Rattle.loop_store.specs.declared.fault.StoreFault.{StoreFault}
-use Rattle.loop_store.specs.Seen.{Seen, StandsFor}
+use Rattle.loop_store.specs.Seen.{Seen, StandsFor, Tells}
 
 -- ---- the call
 
@@ -16,6 +16,10 @@ ReadsAlike old new = reading new ≡ reading old
 -- an image that a crash might have left before, or one that reads as the present bytes do
 abbrev pub WasOrReadsAlike : Medium → List ℕ → Type 0
 WasOrReadsAlike m c = m.may_leave c ⊎ ReadsAlike m.bytes c
+
+-- what a store tells is what some recording says
+abbrev pub TellsOne : {D : Type 0} → Seen D → Type 0
+TellsOne store = (r : Recording) × Tells store r
 
 -- the image reads as a recording of the store's geometry, for which the store stands
 pub record IsOpened {D : Type 0} (medium : D → Medium) (image : List ℕ) (store : Seen D) : Type 0 where

@@ -12,7 +12,7 @@ use Rattle.loop_store.specs.declared.fault.StoreFault.TheVariants.{Disk}
 use Rattle.loop_store.specs.declared.index.Index.{Index}
 use Rattle.loop_store.specs.Held.{HasNoneStray}
 use Rattle.loop_store.specs.Numbers.{is_among, numbers_under}
-use Rattle.loop_store.specs.Recovered.{IsFitting, IsRecovered}
+use Rattle.loop_store.specs.Recovered.{IsFitting, IsRecovered, SaysRecording}
 
 -- the disk and the geometry, and what a store tells of its recording: the number that comes next, the numbers
 -- that are held, the clip of each id; and whether a call that writes has failed
@@ -43,10 +43,10 @@ pub record Tells {D : Type 0} (s : Seen D) (r : Recording) : Type 0 where
   pub count_is : length s.numbers ≡ length r.frames
   pub clips_are : s.clips ≡ r.clips
 
--- The store stands for a recording, where its disk is honest: it tells of that recording, after a failed call
--- too; and where it needn't be reopened, the disk holds it, and a crash leaves nothing else.
+-- The store stands for a recording: it tells of that recording, after a failed call too; and where it needn't be
+-- reopened, an honest disk holds it, and a crash leaves nothing else.
 pub record StandsFor {D : Type 0} (medium : D → Medium) (s : Seen D) (r : Recording) : Type 0 where
-  pub told : (medium s.disk).honest → Tells s r
+  pub told : Tells s r
   pub settled : s.must_reopen ≡ false → (medium s.disk).honest → IsSettled (medium s.disk)
   pub held : s.must_reopen ≡ false → (medium s.disk).honest → Holds s.geometry r (medium s.disk).bytes
 
@@ -71,10 +71,11 @@ pub record IsPresent {A : Type 0} (index : Index A) (m : Medium) : Type 0 where
   pub settled : IsSettled m
   pub unstray : HasNoneStray index.ring.geometry m.bytes
 
--- the index fits the disk, says what an image held, and where the store needn't be reopened, what an honest disk holds
+-- the index fits the disk; with frames that are made up it says a whole recording; and where the store needn't be
+-- reopened, it says what an honest disk holds
 pub record IsKept {D A : Type 0} (medium : D → Medium) (disk : D) (index : Index A) (must_reopen : Bool) : Type 0 where
   pub fits : IsFitting index (medium disk).size
-  pub known : (medium disk).honest → (image : List ℕ) × IsRecovered index image
+  pub known : SaysRecording index
   pub present : must_reopen ≡ false → (medium disk).honest → IsPresent index (medium disk)
 
 -- the group is for frames of the index's geometry, with memory for as many as may be stored at once

@@ -24,7 +24,7 @@ pub fn format_and_append<D: Disk + Drop, A: Allocator + Copy>(
     requires few { length frames.now ≤ 8 }
     requires room { length frames.now ≤ geometry.slots }
     requires sizes { All (λ frame. length frame.bytes.items ≡ frame_bytes geometry) frames.now }
-    ensures { (D.medium disk).honest → IfOk result (λ store. Stands D.medium store (record {
+    ensures { IfOk result (λ store. Stands D.medium store (record {
       recording = plain (ring_of geometry) empty (asked geometry empty (pictures frames.now));
       must_reopen = false;
     })) }

@@ -11,7 +11,7 @@ ghost use Rattle.loop_record.specs.declared.damage.LayoutFault.{LayoutFault};
 ghost use Rattle.loop_record.specs.declared.geometry.Geometry.{Geometry};
 ghost use Rattle.loop_record.specs.Geometry.{disk_size, frame_bytes, is_good, segment_at, slot_at};
 ghost use Rattle.loop_record.specs.Layout.{checked_header, geometry_in, header_at, is_slot_of, is_too_high, segment_in, slot_in};
-ghost use Rattle.loop_record.specs.Plain.{AreIn, IsSomeHigh, segment_of, segments_of, with_segment};
+ghost use Rattle.loop_record.specs.Plain.{AreIn, IsSomeHigh, lacks_number, segment_of, segments_of, with_segment};
 ghost use Rattle.loop_record.specs.Reading.{by_block, is_bad_slot, is_high, opened, parts_of, reading};
 ghost use Rattle.loop_ring.specs.Heads.{heads_of};
 ghost use Rattle.loop_store.specs.Faults.{failed_in};
@@ -241,6 +241,8 @@ pub(crate) fn read_table<D: Disk>(
         (D.medium disk.old).honest
         → Recovers result (λ clips. (clips ≡ clips_of (D.medium disk.old).bytes) × (bad ≡ false))
         (λ fault. (fault ≡ LayoutFault.Damaged Damage.ClipRange) × (bad ≡ true)) }
+    ensures held { IfOk result (λ clips. (length clips ≡ 64)
+        × (list_any (lacks_number geometry.now open.now) clips ≡ false)) }
     ensures disk { (D.medium disk.old).honest → Stays (D.medium disk.old) (D.medium disk.new) }
     ensures called { Called (D.medium disk.old) (D.medium disk.new) (failed_in result) }
 {

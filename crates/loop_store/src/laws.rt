@@ -4,7 +4,7 @@
 ghost use Rattle.std.specs.Prelude.{◌≡◌, ◌++◌, List, false};
 ghost use Rattle.loop_store.specs.Calls.{Call};
 ghost use Rattle.loop_store.specs.Goes.{Goes};
-ghost use Rattle.loop_store.specs.Opened.{IsOpened};
+ghost use Rattle.loop_store.specs.Opened.{IsOpened, TellsOne};
 
 use crate::Store;
 use loop_disk::Disk;
@@ -21,6 +21,14 @@ pub fn calls_join<D: Disk + Drop, A: Allocator>(
         → Goes D.medium between.now after.now second
         → Goes D.medium before.now after.now (first ++ second) }
 {}
+
+/// Whatever its disk, and after a failed call too, what a store tells is what some recording says: of that one alone
+/// each answer but a read's is decided (`Goes`).
+pub fn a_store_tells<D: Disk + Drop, A: Allocator>(store: &Store<D, A>)
+    ensures { TellsOne store.now }
+{
+    let _index = &store.index;
+}
 
 /// A store that needn't be reopened stands, where its disk is honest, for the recording that the disk holds, as if it
 /// had been opened on these bytes.

@@ -6,7 +6,7 @@ ghost use Rattle.loop_record.specs.Geometry.{disk_size, is_good};
 ghost use Rattle.loop_record.specs.Layout.{geometry_in};
 ghost use Rattle.loop_record.specs.Reading.{reading};
 ghost use Rattle.loop_store.specs.Faults.{failed_in};
-ghost use Rattle.loop_store.specs.Recovered.{IsFitting, IsRecovered, Recovers};
+ghost use Rattle.loop_store.specs.Recovered.{IsFitting, IsRecovered, Recovers, SaysRecording};
 
 use crate::StoreFault;
 use crate::found::{check_slots, in_order, read_geometry, read_heads, read_table};
@@ -25,6 +25,7 @@ fn recover_parts<D: Disk, A: Allocator + Copy>(
     requires size { (D.medium disk.old).size ≡ disk_size geometry }
     requires geometry { (D.medium disk.old).honest → geometry_in (D.medium disk.old).bytes ≡ Ok geometry }
     ensures fits { IfOk result (λ index. IsFitting index (D.medium disk.old).size) }
+    ensures known { IfOk result SaysRecording }
     ensures recovered { (D.medium disk.old).honest
         → Recovers result (λ index. IsRecovered index (D.medium disk.old).bytes)
         (λ fault. reading (D.medium disk.old).bytes ≡ Err fault) }
@@ -60,6 +61,7 @@ pub(crate) fn recover<D: Disk, A: Allocator + Copy>(
     disk: &mut D,
 ) -> Result<Index<A>, StoreFault>
     ensures fits { IfOk result (λ index. IsFitting index (D.medium disk.old).size) }
+    ensures known { IfOk result SaysRecording }
     ensures recovered { (D.medium disk.old).honest
         → Recovers result (λ index. IsRecovered index (D.medium disk.old).bytes)
         (λ fault. reading (D.medium disk.old).bytes ≡ Err fault) }

@@ -6,8 +6,8 @@ ghost use Rattle.loop_disk.specs.Medium.{IsSettled, LeavesOnly};
 ghost use Rattle.loop_record.specs.Reading.{reading};
 ghost use Rattle.loop_store.specs.Faults.{is_disk, failed_in};
 ghost use Rattle.loop_store.specs.Formatted.{disk_after, failed_opening};
-ghost use Rattle.loop_store.specs.Opened.{IsOpened, IsRefusedOpen, ReadsAlike, WasOrReadsAlike};
-ghost use Rattle.loop_store.specs.Recovered.{IsFitting, IsRecovered, Recovers};
+ghost use Rattle.loop_store.specs.Opened.{IsOpened, IsRefusedOpen, ReadsAlike, TellsOne, WasOrReadsAlike};
+ghost use Rattle.loop_store.specs.Recovered.{IsFitting, IsRecovered, Recovers, SaysRecording};
 ghost use Rattle.loop_store.specs.Seen.{IsGroupFor, IsPresent};
 
 use crate::index::Index;
@@ -20,6 +20,7 @@ use std::alloc::Allocator;
 /// Syncs, so that a stop leaves what a read gives, and finds what the disk's image reads as.
 fn reread<D: Disk, A: Allocator + Copy>(alloc: A, disk: &mut D) -> Result<Index<A>, StoreFault>
     ensures fits { IfOk result (λ index. IsFitting index (D.medium disk.old).size) }
+    ensures known { IfOk result SaysRecording }
     ensures recovered { (D.medium disk.old).honest
         → Recovers result (λ index. IsRecovered index (D.medium disk.old).bytes)
         (λ fault. reading (D.medium disk.old).bytes ≡ Err fault) }
@@ -57,6 +58,7 @@ fn reopen<D: Disk, A: Allocator + Copy>(
     disk: &mut D,
 ) -> Result<(Index<A>, Group<A>), StoreFault>
     ensures fits { IfOk result (λ found. IsFitting found.0 (D.medium disk.new).size × IsGroupFor found.0 found.1) }
+    ensures known { IfOk result (λ found. SaysRecording found.0) }
     ensures present { (D.medium disk.old).honest → Recovers result (λ found. IsPresent found.0 (D.medium disk.new))
         (λ fault. reading (D.medium disk.old).bytes ≡ Err fault) }
     ensures moments { (D.medium disk.old).honest
@@ -87,6 +89,7 @@ impl<D: Disk + Drop, A: Allocator + Copy> Store<D, A> {
     /// call could have left it.
     pub fn open(alloc: A, disk: D) -> Result<Store<D, A>, OpenRefused<D>>
         ensures opened { (D.medium disk).honest → IfOk result (λ store. IsOpened D.medium (D.medium disk).bytes store) }
+        ensures tells { IfOk result TellsOne }
         ensures fine { IfOk result (λ store. store.must_reopen ≡ false) }
         ensures refused { (D.medium disk).honest
             → IfErr result (λ refused. IsRefusedOpen (D.medium disk).bytes refused.fault) }

@@ -69,7 +69,7 @@ impl<D: Disk + Drop, A: Allocator> Store<D, A> {
     pub fn room(&self) -> u32
         ensures room { result ≡ self.now.geometry.slots - self.now.next % self.now.geometry.slots }
         ensures some { 1 ≤ result }
-        ensures recording { (r : Recording) → StandsFor D.medium self.now r → (D.medium self.now.disk).honest
+        ensures recording { (r : Recording) → StandsFor D.medium self.now r
             → result ≡ room (ring_of self.now.geometry) r }
     {
         let slots = self.index.ring.geometry.slots;
@@ -87,8 +87,7 @@ impl<D: Disk + Drop, A: Allocator> Store<D, A> {
     /// How many frames are held.
     pub fn held(&self) -> u64
         ensures count { result ≡ length self.now.numbers }
-        ensures recording { (r : Recording) → StandsFor D.medium self.now r → (D.medium self.now.disk).honest
-            → result ≡ length r.frames }
+        ensures recording { (r : Recording) → StandsFor D.medium self.now r → result ≡ length r.frames }
     {
         count_held(&self.index)
     }
@@ -114,8 +113,7 @@ impl<D: Disk + Drop, A: Allocator> Store<D, A> {
     /// that isn't the newest's. Nothing where none may go. Where the store must be reopened, it is that of
     /// before the call that failed.
     pub fn victim(&self) -> Option<u64>
-        ensures { (r : Recording) → StandsFor D.medium self.now r → (D.medium self.now.disk).honest
-            → result ≡ victim (ring_of self.now.geometry) r }
+        ensures { (r : Recording) → StandsFor D.medium self.now r → result ≡ victim (ring_of self.now.geometry) r }
     {
         self.index.table.victim()
     }
@@ -266,7 +264,7 @@ impl<D: Disk + Drop, A: Allocator> Store<D, A> {
     /// `NoMemory`.
     pub fn frames<B: Allocator + Copy>(&self, alloc: B) -> Result<Vec<u64, B>, StoreFault>
         ensures must_reopen { (result ≡ Err StoreFault.MustReopen) ↔ IsTrue self.now.must_reopen }
-        ensures numbers { (r : Recording) → StandsFor D.medium self.now r → (D.medium self.now.disk).honest
+        ensures numbers { (r : Recording) → StandsFor D.medium self.now r
             → IfOk result (λ numbers. numbers.items ≡ map (λ f. f.0) r.frames) }
         ensures refusals { IfErr result (λ fault. (fault ≡ StoreFault.MustReopen) ⊎ (fault ≡ StoreFault.NoMemory)) }
     {

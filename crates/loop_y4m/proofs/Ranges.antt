@@ -15,7 +15,7 @@ use Rattle.loop_record.proofs.Decided.{clash, equal, equal_test}
 use Rattle.loop_record.proofs.Rising.{among-range, held-among}
 use Rattle.loop_store.specs.declared.fault.StoreFault.{StoreFault}
 use Rattle.loop_store.specs.declared.fault.StoreFault.TheVariants as store
-use Rattle.loop_store.specs.Calls.{IsAnswered, IsPart, StoreState, checks, first_of, was_read_part}
+use Rattle.loop_store.specs.Calls.{IsAnswered, IsPart, ReadFails, StoreState, checks, first_of, was_read_part}
 use Rattle.loop_store.specs.Faults.{is_disk}
 use Rattle.loop_store.specs.Numbers.{IsLeastFrom}
 use Rattle.loop_store.specs.declared.fault.StoreFault.TheVariants.{NotHeld}
@@ -184,8 +184,8 @@ abbrev pub running : Recording → StoreState
 running r = record { recording = r; must_reopen = false }
 
 -- a read of a held frame is refused only where the disk failed
-pub part_refused : (g : Geometry) (r : Recording) (number at : ℕ) (p : Picture) (fault : StoreFault) (held : Option (List ℕ)) (bytes : List ℕ) → frame_under r.frames number ≡ Some p → IsAnswered g (running r) (was_read_part number at (Err fault)) → Stopped (Store fault) held held bytes
-part_refused g r number at p fault held bytes there said = go fault (due-some (first_of (checks g (running r) (was_read_part number at (Err fault)))) (was_read_part number at (Err fault)) (is_disk fault ≡ true) said)
+pub part_refused : (H : Type 0) → H → (g : Geometry) (r : Recording) (number at : ℕ) (p : Picture) (fault : StoreFault) (held : Option (List ℕ)) (bytes : List ℕ) → frame_under r.frames number ≡ Some p → IsAnswered H g (running r) (was_read_part number at (Err fault)) → Stopped (Store fault) held held bytes
+part_refused H honest g r number at p fault held bytes there said = go fault (due-some (first_of (checks g (running r) (was_read_part number at (Err fault)))) (was_read_part number at (Err fault)) (ReadFails H fault) said)
   where
     none : first_of (checks g (running r) (was_read_part number at (Err fault))) ≡ None
     none = passed (not (holds r number)) NotHeld [] (ap (λ (o : Option Picture). not (is_some o)) there)
@@ -197,13 +197,17 @@ part_refused g r number at p fault held bytes there said = go fault (due-some (f
     failed (store.Disk f) e = nothing_yet held bytes
     failed f e = absurd cc
 
-    go : (f : StoreFault) → (first_of (checks g (running r) (was_read_part number at (Err fault))) ≡ Some f) ⊎ ((first_of (checks g (running r) (was_read_part number at (Err fault))) ≡ None) × (is_disk f ≡ true)) → Stopped (Store f) held held bytes
+    go : (f : StoreFault) → (first_of (checks g (running r) (was_read_part number at (Err fault))) ≡ Some f) ⊎ ((first_of (checks g (running r) (was_read_part number at (Err fault))) ≡ None) × ReadFails H f) → Stopped (Store f) held held bytes
     go f (inl e) = absurd (apart f (sym none ∙ e))
-    go f (inr x) = failed f x.1
+    go f (inr x) = fails x.1
+      where
+        fails : ReadFails H f → Stopped (Store f) held held bytes
+        fails (inl is) = failed f is
+        fails (inr damaged) = absurd (damaged.1 honest)
 
 -- a part that was read is one of the frame
-pub part_given : (g : Geometry) (r : Recording) (number at : ℕ) (bytes : List ℕ) → IsAnswered g (running r) (was_read_part number at (Ok bytes)) → IsPart r number at bytes
-part_given g r number at bytes said = (due-none (first_of (checks g (running r) (was_read_part number at (Ok bytes)))) (was_read_part number at (Ok bytes)) (IsPart r number at bytes) said refl).1
+pub part_given : (H : Type 0) → H → (g : Geometry) (r : Recording) (number at : ℕ) (bytes : List ℕ) → IsAnswered H g (running r) (was_read_part number at (Ok bytes)) → IsPart r number at bytes
+part_given H honest g r number at bytes said = (due-none (first_of (checks g (running r) (was_read_part number at (Ok bytes)))) (was_read_part number at (Ok bytes)) (H → IsPart r number at bytes) said refl).1 honest
 
 -- the bytes that were read are those of the frame
 pub part_is : (r : Recording) (number at : ℕ) (p : Picture) (bytes : List ℕ) (m : ℕ) → frame_under r.frames number ≡ Some p → IsPart r number at bytes → length bytes ≡ m → bytes ≡ piece at m p.bytes

@@ -59,8 +59,7 @@ fn held_between<D: Disk + Drop, A: Allocator>(
     to: u64,
 ) -> Option<u64>
     ensures within { IfSome result (λ n. (from ≤ n) × ((n ≤ to) × (n < 2 ^ 62))) }
-    ensures frames { (r : Recording) → StandsFor D.medium store.now r → (D.medium store.now.disk).honest
-        → IsFirstBetween r from to result }
+    ensures frames { (r : Recording) → StandsFor D.medium store.now r → IsFirstBetween r from to result }
 {
     match store.next_held(from) {
         Some(number) if number <= to => Some(number),

@@ -11,4 +11,5 @@ returns-then-out-frame_bytes g c = λ s stands fine honest crashed there.
 pub returns : goal.returns
 returns g c = λ s stands fine honest crashed there.
     let same = opened-same g.D.Disk.medium g.E.Disk.medium c.args.store.now c.in-Ok.opened (g.E.Disk.medium c.args.crashed).bytes s stands fine honest c.requires.left (c.in-Ok.ensures.opened crashed) c.in-Ok.ensures.fine in
-    read-held c.in-Ok.opened.geometry s c.args.number c.read.result c.read.new.out fine there (c.read.ensures.goes.answers s same.stands (c.in-Ok.ensures.called.honest.0 crashed)).0
+    let now = c.in-Ok.ensures.called.honest.0 crashed in
+    read-held _ c.in-Ok.opened.geometry s c.args.number c.read.result c.read.new.out now fine there (c.read.ensures.goes.answers s same.stands).0

@@ -1,7 +1,10 @@
-use Rattle.std.proofs.Common.{true, false, ap}
+use Rattle.std.proofs.Common.{List, Option, length, true, false, ap, ◌∙◌}
+use Rattle.std.specs.List.{list_any}
+use Rattle.loop_record.specs.declared.clip.Span.{Span}
+use Rattle.loop_record.specs.Plain.{lacks_number}
 use Rattle.loop_record.specs.declared.damage.Damage.{Damage}
 use Rattle.loop_record.specs.declared.damage.LayoutFault.{LayoutFault}
-use Rattle.loop_store.proofs.RecoveredParts.{recovers-damage, table-bad, table-read}
+use Rattle.loop_store.proofs.RecoveredParts.{recovers-damage, table-bad, table-length, table-read}
 use Rattle.loop_store.proofs.found.read_table.Goals as goal
 
 pub returns-in_err-clips-clause-clips : goal.returns-in_err-clips-clause-clips
@@ -14,4 +17,10 @@ pub returns-clause-clips : goal.returns-clause-clips
 returns-clause-clips g c = λ honest. (
   table-read (g.D.Disk.medium c.args.disk.now).bytes c.read.new.buf c.in_ok-clips.clips (c.in_ok-read.ensures.read honest) c.in_ok-clips.ensures.0,
   table-bad c.args.geometry.now (g.D.Disk.medium c.args.disk.now).bytes c.read.new.buf c.args.open.now false c.requires.good c.requires.within (c.in_ok-read.ensures.read honest) c.in_ok-clips.ensures.1,
+)
+
+pub returns-clause-held : goal.returns-clause-held
+returns-clause-held g c = (
+  ap (λ (cs : List (Option Span)). length cs) c.in_ok-clips.ensures.0 ∙ table-length c.read.new.buf,
+  ap (λ (cs : List (Option Span)). list_any (lacks_number c.args.geometry.now c.args.open.now) cs) c.in_ok-clips.ensures.0 ∙ c.in_ok-clips.ensures.1,
 )

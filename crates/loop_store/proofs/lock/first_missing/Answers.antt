@@ -1,4 +1,4 @@
-use Rattle.std.proofs.Common.{◌≡◌, ◌⊎◌, inl, inr, ◌+◌, ◌<◌, ◌≤◌, ℕ, true, arith}
+use Rattle.std.proofs.Common.{◌≡◌, ◌⊎◌, inl, inr, ◌<◌, ◌≤◌, ℕ, true, arith}
 use Rattle.std.proofs.lemmas.Bool.{cases_lt}
 use Rattle.loop_record.specs.Recording.{Recording, holds}
 use Rattle.loop_store.specs.Locks.{AreHeld}

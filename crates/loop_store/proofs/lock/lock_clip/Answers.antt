@@ -1,9 +1,8 @@
-use Rattle.std.proofs.Common.{◌≡◌, ◌<◌, ℕ, Ok, Err, None, Some, set, inr, refl, sym, ap, subst}
+use Rattle.std.proofs.Common.{◌≡◌, ◌<◌, ℕ, Ok, Err, None, Some, set, inr, refl, sym, ap, ◌∙◌, subst}
 use Rattle.std.proofs.lemmas.Result.{err_from_is_err_and}
 use Rattle.loop_record.specs.declared.clip.Span.{Span}
 use Rattle.loop_record.specs.declared.geometry.Geometry.{Geometry}
 use Rattle.loop_record.specs.Recording.{Recording, free_id, lock, ring_of}
-use Rattle.loop_record.proofs.Bounds.{limits}
 use Rattle.loop_store.specs.declared.fault.StoreFault.TheVariants.{Disk}
 use Rattle.loop_store.specs.Calls.{first_of, locked, span_checks}
 use Rattle.loop_store.specs.Goes.{progress_of}
@@ -11,8 +10,10 @@ use Rattle.loop_store.specs.Locks.{CanTake}
 use Rattle.loop_store.specs.declared.index.Index.{Index}
 use Rattle.loop_store.specs.Seen.{seen_with}
 use Rattle.loop_store.proofs.Checked.{answer-given}
-use Rattle.loop_store.proofs.Locked.{goes-noted, goes-unnoted, kept-noted, lock-allowed, lock-refused}
-use Rattle.loop_store.proofs.Looks.{failed-kept, known-by}
+use Rattle.loop_store.proofs.Locked.{goes-noted, goes-unnoted, kept-noted, lock-redrawn, lock-allowed, lock-refused}
+use Rattle.loop_store.specs.Drawn.{drawn}
+use Rattle.loop_store.proofs.Alike.{span-same}
+use Rattle.loop_store.proofs.Looks.{alike-by, failed-kept}
 use Rattle.loop_store.proofs.Missing.{fits-legal}
 use Rattle.loop_store.proofs.lock.lock_clip.Goals as goal
 
@@ -26,7 +27,9 @@ returns-in_err-id-clause-goes g c =
     let medium = g.D.Disk.medium in
     let p = err_from_is_err_and c.from_residual.result c.from_residual.ensures.1 in
     rw (p.1, p.2) (lock-refused medium (seen_with c.args.disk.now i c.args.must_reopen.now) c.args.span c.in_err-id.field-0.0 (λ honest. g.met.D.Disk.sound c.args.disk.now honest) c.if-must_reopen.false c.in_err-id.ensures.refusals
-    (λ r stands honest. c.in_err-id.ensures.answers r (medium c.args.disk.now).bytes (known-by medium c.args.disk.now i c.args.must_reopen.now r c.requires stands c.if-must_reopen.false honest)))
+    (λ r stands.
+    let known = c.requires.known in
+    sym (span-same known.recording r c.args.span (alike-by medium c.args.disk.now i c.args.must_reopen.now r c.requires stands)) ∙ c.in_err-id.ensures.answers known.recording (drawn i.ring.geometry i.table.heads i.clips) known.known))
 
 pub returns-in-Ok-clause-kept : goal.returns-in-Ok-clause-kept
 returns-in-Ok-clause-kept g c =
@@ -38,7 +41,7 @@ returns-in-Ok-clause-kept g c =
     let makes = c.in-Ok.ensures.makes in
     let noted = c.in-Ok.ensures.noted in (
       kept-noted medium c.args.disk.now c.add_clip.new.disk i c.add_clip.new.index id (Some span) (CanTake h span id) (lock span) c.args.must_reopen.now c.requires c.if-must_reopen.false
-          (λ r honest known. takes h r span id c.in_ok-id.ensures.id.0.0 (c.in_ok-id.ensures.answers r (medium c.args.disk.now).bytes known))
+          (λ r image known. takes h r span id c.in_ok-id.ensures.id.0.0 (c.in_ok-id.ensures.answers r image known))
           (record {
             noted = noted;
             called = makes.called;
@@ -47,6 +50,7 @@ returns-in-Ok-clause-kept g c =
             held = makes.held;
             next = λ r. refl;
             clips = λ r one. ap (λ (k : ℕ). set r.clips k (Some span)) (sym one.id_is);
+            redrawn = lock-redrawn h id span c.in_ok-id.ensures.id.0.0;
           }),
       noted.ring,
     )
@@ -59,7 +63,7 @@ returns-in-Ok-clause-goes g c =
     let id = c.in_ok-id.id in
     let span = c.args.span in
     let makes = c.in-Ok.ensures.makes in
-    goes-noted medium c.args.disk.now c.add_clip.new.disk i c.add_clip.new.index c.args.must_reopen.now id (Some span) (CanTake h span id) (lock span) (locked span (Ok id)) c.requires c.if-must_reopen.false (limits h i.ring.good).slots.0
+    goes-noted medium c.args.disk.now c.add_clip.new.disk i c.add_clip.new.index c.args.must_reopen.now id (Some span) (CanTake h span id) (lock span) (locked span (Ok id)) c.requires c.if-must_reopen.false
     (record {
       noted = c.in-Ok.ensures.noted;
       called = makes.called;
@@ -68,10 +72,11 @@ returns-in-Ok-clause-goes g c =
       held = makes.held;
       next = λ r. refl;
       clips = λ r one. ap (λ (k : ℕ). set r.clips k (Some span)) (sym one.id_is);
+      redrawn = lock-redrawn h id span c.in_ok-id.ensures.id.0.0;
     })
     makes.moments
-    (λ r honest known. takes h r span id c.in_ok-id.ensures.id.0.0 (c.in_ok-id.ensures.answers r (medium c.args.disk.now).bytes known))
-    (record { writes = refl; late = refl; stored = refl; answers = λ s still one. answer-given h s (locked span (Ok id)) still one.fits one.id_is }) refl refl refl (λ s. refl) (λ s. refl)
+    (λ r image known. takes h r span id c.in_ok-id.ensures.id.0.0 (c.in_ok-id.ensures.answers r image known))
+    (record { writes = refl; late = refl; stored = refl; answers = λ s still one. answer-given (medium c.args.disk.now).honest h s (locked span (Ok id)) still one.fits one.id_is }) refl refl refl (λ s. refl) (λ s. refl)
     (lock-allowed h (progress_of (seen_with c.args.disk.now i c.args.must_reopen.now)) span (Ok id) c.if-must_reopen.false c.in_ok-id.ensures.id.1 c.in_ok-id.ensures.id.0)
 
 pub returns-in-Err-clause-kept : goal.returns-in-Err-clause-kept
@@ -86,8 +91,8 @@ returns-in-Err-clause-goes g c =
     let id = c.in_ok-id.id in
     let span = c.args.span in
     let makes = c.in-Err.ensures.makes in
-    goes-unnoted medium c.args.disk.now c.add_clip.new.disk i c.add_clip.new.index c.args.must_reopen.now (CanTake h span id) (lock span) (locked span (Err (Disk c.in-Err.fault))) c.in-Err.fault c.requires c.if-must_reopen.false c.in-Err.ensures.same
+    goes-unnoted medium c.args.disk.now c.add_clip.new.disk i c.add_clip.new.index c.args.must_reopen.now (CanTake h span id) (lock span) (locked span (Err (Disk c.in-Err.fault))) c.in-Err.fault c.requires c.if-must_reopen.false c.in-Err.ensures.same (lock-redrawn h id span c.in_ok-id.ensures.id.0.0).alike
     (λ honest. g.met.D.Disk.sound c.add_clip.new.disk honest) makes.called makes.moments
-    (λ r honest known. takes h r span id c.in_ok-id.ensures.id.0.0 (c.in_ok-id.ensures.answers r (medium c.args.disk.now).bytes known))
-    (record { writes = refl; late = refl; stored = refl; answers = λ s still one. answer-given h s (locked span (Err (Disk c.in-Err.fault))) still one.fits refl }) (λ cs. refl) refl refl (λ s. refl) (λ s. refl)
+    (λ r image known. takes h r span id c.in_ok-id.ensures.id.0.0 (c.in_ok-id.ensures.answers r image known))
+    (record { writes = refl; late = refl; stored = refl; answers = λ s still one. answer-given (medium c.args.disk.now).honest h s (locked span (Err (Disk c.in-Err.fault))) still one.fits refl }) (λ cs. refl) refl refl (λ s. refl) (λ s. refl)
     (lock-allowed h (progress_of (seen_with c.args.disk.now i c.args.must_reopen.now)) span (Err (Disk c.in-Err.fault)) c.if-must_reopen.false c.in_ok-id.ensures.id.1 (inr (inr refl)))

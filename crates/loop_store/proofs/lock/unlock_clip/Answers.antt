@@ -1,14 +1,13 @@
-use Rattle.std.proofs.Common.{◌≡◌, ◌≢◌, Option, Ok, Err, None, Some, inr, refl, sym, ap, ◌∙◌}
+use Rattle.std.proofs.Common.{◌≡◌, ◌≢◌, Option, List, get_or, Ok, Err, None, Some, refl, sym, ap, ◌∙◌}
 use Rattle.loop_record.specs.declared.clip.Span.{Span}
 use Rattle.loop_record.specs.Recording.{clip_of, unlock}
-use Rattle.loop_record.proofs.Bounds.{limits}
 use Rattle.loop_store.specs.declared.fault.StoreFault.TheVariants.{Disk}
 use Rattle.loop_store.specs.Calls.{unlocked}
 use Rattle.loop_store.specs.Goes.{progress_of}
 use Rattle.loop_store.specs.declared.index.Index.{Index}
 use Rattle.loop_store.specs.Seen.{seen_with}
-use Rattle.loop_store.proofs.Locked.{clip-known, goes-noted, goes-unnoted, kept-noted, unlock-allowed, unlock-answered, unlock-refused}
-use Rattle.loop_store.proofs.Looks.{failed-kept, known-by}
+use Rattle.loop_store.proofs.Locked.{clip-known, goes-noted, goes-unnoted, kept-noted, unlock-allowed, unlock-answered, unlock-redrawn, unlock-refused}
+use Rattle.loop_store.proofs.Looks.{failed-kept}
 use Rattle.loop_store.proofs.lock.unlock_clip.Goals as goal
 
 some : (o : Option Span) (s : Span) → o ≡ Some s → o ≢ None
@@ -20,7 +19,7 @@ returns-in_default-clause-goes g c =
     let i = c.args.index.now in
     let medium = g.D.Disk.medium in
     unlock-refused medium (seen_with c.args.disk.now i c.args.must_reopen.now) c.args.id (λ honest. g.met.D.Disk.sound c.args.disk.now honest) c.if-must_reopen.false (sym c.in_default.ensures.clip)
-    (λ r stands honest. clip-known i r (medium c.args.disk.now).bytes c.args.id (known-by medium c.args.disk.now i c.args.must_reopen.now r c.requires stands c.if-must_reopen.false honest) ∙ sym c.in_default.ensures.clip)
+    (λ r stands. ap (λ (cs : List (Option Span)). get_or cs c.args.id None) (sym stands.told.clips_are) ∙ sym c.in_default.ensures.clip)
 
 pub remove_clip-requires-clause-id : goal.remove_clip-requires-clause-id
 remove_clip-requires-clause-id g c = (c.in-Some.ensures.within, some _ c.in-Some.field-0 (sym c.in-Some.ensures.clip))
@@ -35,7 +34,7 @@ returns-in-Ok-clause-kept g c =
     let id = c.args.id in
     let makes = c.in-Ok.ensures.makes in (
       kept-noted medium c.args.disk.now c.remove_clip.new.disk i c.remove_clip.new.index id None (λ r. clip_of r id ≢ None) (unlock id) c.args.must_reopen.now c.requires c.if-must_reopen.false
-          (λ r honest known. some _ c.in-Some.field-0 (clip-known i r (medium c.args.disk.now).bytes id known ∙ sym c.in-Some.ensures.clip)) (record {
+          (λ r image known. some _ c.in-Some.field-0 (clip-known i r image id known ∙ sym c.in-Some.ensures.clip)) (record {
             noted = c.in-Ok.ensures.noted;
             called = makes.called;
             segments = makes.such;
@@ -43,6 +42,7 @@ returns-in-Ok-clause-kept g c =
             held = makes.held;
             next = λ r. refl;
             clips = λ r one. refl;
+            redrawn = unlock-redrawn i.ring.geometry id c.in-Some.ensures.within;
           }),
       c.in-Ok.ensures.noted.ring,
     )
@@ -53,7 +53,7 @@ returns-in-Ok-clause-goes g c =
     let medium = g.D.Disk.medium in
     let id = c.args.id in
     let makes = c.in-Ok.ensures.makes in
-    goes-noted medium c.args.disk.now c.remove_clip.new.disk i c.remove_clip.new.index c.args.must_reopen.now id None (λ r. clip_of r id ≢ None) (unlock id) (unlocked id (Ok tt)) c.requires c.if-must_reopen.false (limits i.ring.geometry i.ring.good).slots.0
+    goes-noted medium c.args.disk.now c.remove_clip.new.disk i c.remove_clip.new.index c.args.must_reopen.now id None (λ r. clip_of r id ≢ None) (unlock id) (unlocked id (Ok tt)) c.requires c.if-must_reopen.false
     (record {
       noted = c.in-Ok.ensures.noted;
       called = makes.called;
@@ -62,9 +62,10 @@ returns-in-Ok-clause-goes g c =
       held = makes.held;
       next = λ r. refl;
       clips = λ r one. refl;
+      redrawn = unlock-redrawn i.ring.geometry id c.in-Some.ensures.within;
     }) makes.moments
-    (λ r honest known. some _ c.in-Some.field-0 (clip-known i r (medium c.args.disk.now).bytes id known ∙ sym c.in-Some.ensures.clip))
-    (record { writes = refl; late = refl; stored = refl; answers = λ s still one. unlock-answered i.ring.geometry s id (Ok tt) still one tt }) refl refl refl (λ s. refl) (λ s. refl)
+    (λ r image known. some _ c.in-Some.field-0 (clip-known i r image id known ∙ sym c.in-Some.ensures.clip))
+    (record { writes = refl; late = refl; stored = refl; answers = λ s still one. unlock-answered (medium c.args.disk.now).honest i.ring.geometry s id (Ok tt) still one tt }) refl refl refl (λ s. refl) (λ s. refl)
     (unlock-allowed i.ring.geometry (progress_of (seen_with c.args.disk.now i c.args.must_reopen.now)) id (Ok tt) c.if-must_reopen.false (some _ c.in-Some.field-0 (sym c.in-Some.ensures.clip)) tt)
 
 pub returns-in-Err-clause-kept : goal.returns-in-Err-clause-kept
@@ -77,8 +78,8 @@ returns-in-Err-clause-goes g c =
     let medium = g.D.Disk.medium in
     let id = c.args.id in
     let makes = c.in-Err.ensures.makes in
-    goes-unnoted medium c.args.disk.now c.remove_clip.new.disk i c.remove_clip.new.index c.args.must_reopen.now (λ r. clip_of r id ≢ None) (unlock id) (unlocked id (Err (Disk c.in-Err.fault))) c.in-Err.fault c.requires c.if-must_reopen.false c.in-Err.ensures.same
+    goes-unnoted medium c.args.disk.now c.remove_clip.new.disk i c.remove_clip.new.index c.args.must_reopen.now (λ r. clip_of r id ≢ None) (unlock id) (unlocked id (Err (Disk c.in-Err.fault))) c.in-Err.fault c.requires c.if-must_reopen.false c.in-Err.ensures.same (unlock-redrawn i.ring.geometry id c.in-Some.ensures.within).alike
     (λ honest. g.met.D.Disk.sound c.remove_clip.new.disk honest) makes.called makes.moments
-    (λ r honest known. some _ c.in-Some.field-0 (clip-known i r (medium c.args.disk.now).bytes id known ∙ sym c.in-Some.ensures.clip))
-    (record { writes = refl; late = refl; stored = refl; answers = λ s still one. unlock-answered i.ring.geometry s id (Err (Disk c.in-Err.fault)) still one refl }) (λ cs. refl) refl refl (λ s. refl) (λ s. refl)
+    (λ r image known. some _ c.in-Some.field-0 (clip-known i r image id known ∙ sym c.in-Some.ensures.clip))
+    (record { writes = refl; late = refl; stored = refl; answers = λ s still one. unlock-answered (medium c.args.disk.now).honest i.ring.geometry s id (Err (Disk c.in-Err.fault)) still one refl }) (λ cs. refl) refl refl (λ s. refl) (λ s. refl)
     (unlock-allowed i.ring.geometry (progress_of (seen_with c.args.disk.now i c.args.must_reopen.now)) id (Err (Disk c.in-Err.fault)) c.if-must_reopen.false (some _ c.in-Some.field-0 (sym c.in-Some.ensures.clip)) refl)

@@ -1,9 +1,8 @@
-use Rattle.std.proofs.Common.{◌≡◌, ◌≢◌, ◌+◌, ◌%◌, ◌≤◌, ℕ, Result, Ok, Err, List, length, refl, sym, ap, ◌∙◌, subst, arith}
+use Rattle.std.proofs.Common.{◌≡◌, ◌≢◌, ◌+◌, ℕ, Result, Ok, Err, List, length, refl, sym, ap, ◌∙◌, subst, arith}
 use Rattle.std.proofs.lemmas.Result.{err_from_is_err_and}
 use Rattle.loop_disk.specs.Medium.{LeavesOnly, Medium}
 use Rattle.loop_record.specs.declared.geometry.Geometry.{Geometry}
 use Rattle.loop_record.specs.Recording.{Picture, Step, last_number, ring_of}
-use Rattle.loop_record.proofs.Bounds.{limits}
 use Rattle.loop_ring.specs.declared.ring.Ring.{Ring}
 use Rattle.loop_store.specs.declared.fault.StoreFault.{StoreFault}
 use Rattle.loop_store.specs.declared.fault.StoreFault.TheVariants.{AllLocked, NumbersSpent}
@@ -11,9 +10,11 @@ use Rattle.loop_store.specs.declared.place.Place.{Place}
 use Rattle.loop_store.specs.Held.{HoldsSome}
 use Rattle.loop_store.specs.Places.{IsKnown, place_segment}
 use Rattle.loop_store.specs.Seen.{seen_with}
-use Rattle.loop_store.proofs.Appended.{Grew, kept-grown, noted-at, place-known, place-some, stands-grown, steps-are}
-use Rattle.loop_store.proofs.Looks.{failed-kept, known-by}
-use Rattle.loop_store.proofs.Putting.{place-refused, put-failed, put-stored}
+use Rattle.loop_store.specs.Drawn.{drawn}
+use Rattle.loop_store.proofs.Alike.{refuses-same}
+use Rattle.loop_store.proofs.Appended.{Grew, IsPlaced, kept-grown, noted-at, place-known, place-some, stands-grown, steps-are}
+use Rattle.loop_store.proofs.Looks.{alike-by, failed-kept, known-by}
+use Rattle.loop_store.proofs.Putting.{place-alike, place-refused, put-failed, put-stored}
 use Rattle.loop_store.proofs.put.put.Goals as goal
 
 not-locked : (fault : StoreFault) → fault ≡ AllLocked → let x : Result Place StoreFault = Err fault in let y : Result Place StoreFault = Err NumbersSpent in x ≡ y → ⊥
@@ -33,7 +34,9 @@ returns-in_err-place-clause-goes g c =
     let p = err_from_is_err_and c.from_residual.result c.from_residual.ensures.1 in
     rw (p.1, p.2) (place-refused medium (seen_with c.args.disk.now i c.args.must_reopen.now) c.args.group.now.frames fault (λ honest. g.met.D.Disk.sound c.args.disk.now honest) c.if-must_reopen.false c.in_err-place.ensures.refusals
     (λ is. c.in_err-place.ensures.spent.0 (as_err fault is)) (λ is same. not-locked fault is (c.in_err-place.ensures.spent.1 same))
-    (λ r stands honest. c.in_err-place.ensures.answers r (medium c.args.disk.now).bytes (known-by medium c.args.disk.now i c.args.must_reopen.now r c.requires.kept stands c.if-must_reopen.false honest)))
+    (λ r stands.
+    let known = c.requires.kept.known in
+    refuses-same i.ring.geometry known.recording r fault (alike-by medium c.args.disk.now i c.args.must_reopen.now r c.requires.kept stands) (c.in_err-place.ensures.answers known.recording (drawn i.ring.geometry i.table.heads i.clips) known.known)))
 
 pub append_group-requires-clause-settled : goal.append_group-requires-clause-settled
 append_group-requires-clause-settled g c = λ honest. (c.requires.kept.present c.if-must_reopen.false honest).settled
@@ -67,8 +70,13 @@ returns-in-Ok-clause-kept g c =
     } in
     let grew = grew-by medium h c.args.disk.now c.append_group.new.disk c.args.group.now.first i.next n j ps c.requires.first c.len.ensures.count first in
     let noted = noted-at i c.note.new.self c.segment.result j n c.segment.ensures c.note.ensures in
-    kept-grown medium c.args.disk.now c.append_group.new.disk i c.note.new.self n j ps c.args.must_reopen.now c.requires.kept c.if-must_reopen.false noted (limits h i.ring.good).slots.0
-    (λ same. not-refused c.in_ok-place.place (c.in_ok-place.ensures.spent.1 same)) (omega (arith, c.requires.room, c.len.ensures.count)) c.append_group.ensures.called.size grew
+    let placed : IsPlaced i c.in_ok-place.place n = record {
+      within = c.in_ok-place.ensures.within;
+      at = c.in_ok-place.ensures.answers;
+      unspent = λ same. not-refused c.in_ok-place.place (c.in_ok-place.ensures.spent.1 same);
+      room = omega (arith, c.requires.room, c.len.ensures.count);
+    } in
+    kept-grown medium c.args.disk.now c.append_group.new.disk i c.note.new.self c.in_ok-place.place n j ps c.args.must_reopen.now c.requires.kept c.if-must_reopen.false refl placed noted c.append_group.ensures.called.size grew
 
 pub returns-in-Ok-clause-goes : goal.returns-in-Ok-clause-goes
 returns-in-Ok-clause-goes g c =
@@ -80,7 +88,6 @@ returns-in-Ok-clause-goes g c =
     let medium = g.D.Disk.medium in
     let must = c.args.must_reopen.now in
     let fine = c.if-must_reopen.false in
-    let some = (limits h i.ring.good).slots.0 in
     let unspent : i.next ≢ last_number (ring_of h) = λ same. not-refused c.in_ok-place.place (c.in_ok-place.ensures.spent.1 same) in
     let first : Grew medium h c.args.disk.now c.append_group.new.disk c.args.group.now.first (length ps) j ps = record {
       back = c.append_group.ensures.called.honest.1;
@@ -91,7 +98,12 @@ returns-in-Ok-clause-goes g c =
     } in
     let grew = grew-by medium h c.args.disk.now c.append_group.new.disk c.args.group.now.first i.next n j ps c.requires.first c.len.ensures.count first in
     let noted = noted-at i c.note.new.self c.segment.result j n c.segment.ensures c.note.ensures in
-    let room : i.next % h.slots + n ≤ h.slots = omega (arith, c.requires.room, c.len.ensures.count) in
+    let placed : IsPlaced i c.in_ok-place.place n = record {
+      within = c.in_ok-place.ensures.within;
+      at = c.in_ok-place.ensures.answers;
+      unspent = unspent;
+      room = omega (arith, c.requires.room, c.len.ensures.count);
+    } in
     put-stored medium (seen_with c.args.disk.now i must) (seen_with c.append_group.new.disk c.note.new.self must) ps (record {
       fine = fine;
       still = fine;
@@ -100,19 +112,17 @@ returns-in-Ok-clause-goes g c =
       geometry = ap (λ (x : Ring). x.geometry) noted.ring;
       called = c.in-Ok.ensures.called;
       clips = noted.clips;
-      place = λ r stands honest.
-          let known = known-by medium c.args.disk.now i must r c.requires.kept stands fine honest in
-          let at = c.in_ok-place.ensures.answers r (medium c.args.disk.now).bytes known in
-          record { unspent = at.0; some = place-some h r (medium c.args.disk.now).bytes c.in_ok-place.place at.1 };
+      place = λ r stands.
+          let known = c.requires.kept.known in
+          let image = drawn h i.table.heads i.clips in
+          let at = c.in_ok-place.ensures.answers known.recording image known.known in
+          place-alike h known.recording r (alike-by medium c.args.disk.now i must r c.requires.kept stands) (record { unspent = at.0; some = place-some h known.recording image c.in_ok-place.place at.1 });
       moments = λ r stands honest.
           let known = known-by medium c.args.disk.now i must r c.requires.kept stands fine honest in
           let at = c.in_ok-place.ensures.answers r (medium c.args.disk.now).bytes known in
           subst (λ (l : List Step). LeavesOnly (medium c.args.disk.now) (medium c.append_group.new.disk) (HoldsSome h r l)) (steps-are h r ps at.0 (place-some h r (medium c.args.disk.now).bytes c.in_ok-place.place at.1))
           (c.append_group.ensures.moments r (sym known.next_is ∙ sym c.requires.first) honest known.held);
-      stands = λ r stands honest.
-          let known = known-by medium c.args.disk.now i must r c.requires.kept stands fine honest in
-          let at = c.in_ok-place.ensures.answers r (medium c.args.disk.now).bytes known in
-          stands-grown medium c.args.disk.now c.append_group.new.disk i c.note.new.self n j ps must r honest known noted c.requires.kept.fits.whole some unspent room grew at.0 (place-some h r (medium c.args.disk.now).bytes c.in_ok-place.place at.1);
+      stands = λ r stands. stands-grown medium c.args.disk.now c.append_group.new.disk i c.note.new.self c.in_ok-place.place n j ps must r c.requires.kept fine stands refl placed noted grew;
     })
 
 pub returns-in-Err-clause-kept : goal.returns-in-Err-clause-kept
@@ -133,10 +143,11 @@ returns-in-Err-clause-goes g c =
       has_failed = refl;
       called = c.in-Err.ensures.called;
       sound = λ now. g.met.D.Disk.sound c.append_group.new.disk now;
-      place = λ r stands honest.
-          let known = known-by medium c.args.disk.now i must r c.requires.kept stands c.if-must_reopen.false honest in
-          let at = c.in_ok-place.ensures.answers r (medium c.args.disk.now).bytes known in
-          record { unspent = at.0; some = place-some h r (medium c.args.disk.now).bytes c.in_ok-place.place at.1 };
+      place = λ r stands.
+          let known = c.requires.kept.known in
+          let image = drawn h i.table.heads i.clips in
+          let at = c.in_ok-place.ensures.answers known.recording image known.known in
+          place-alike h known.recording r (alike-by medium c.args.disk.now i must r c.requires.kept stands) (record { unspent = at.0; some = place-some h known.recording image c.in_ok-place.place at.1 });
       moments = λ r stands honest.
           let known = known-by medium c.args.disk.now i must r c.requires.kept stands c.if-must_reopen.false honest in
           let at = c.in_ok-place.ensures.answers r (medium c.args.disk.now).bytes known in

@@ -4,6 +4,7 @@ use Rattle.loop_record.specs.Recording.{last_number, ring_of}
 use Rattle.loop_record.proofs.Bounds.{limits}
 use Rattle.loop_record.proofs.FoundSegments.{AreFull, IsFoundIn, read-lacks, read-repeats}
 use Rattle.loop_ring.proofs.SlotReads.{stays_on}
+use Rattle.loop_store.proofs.Opening.{says-recording}
 use Rattle.loop_store.proofs.RecoveredParts.{recovers-on}
 use Rattle.loop_store.proofs.RecoveredWhole.{fitting, full, recovered, refused-clip, refused-head, refused-slot}
 use Rattle.loop_store.proofs.Reopened.{next-few}
@@ -124,3 +125,25 @@ returns-clause-fits g c =
     fitting c.in_ok-index_of.field-0 h c.in_ok-heads.heads.items c.in_ok-clips.clips c.next_after-next.result (g.D.Disk.medium c.args.disk.now).size
     c.in_ok-index_of.ensures c.requires.size c.in_ok-heads.ensures.count c.in_ok-heads.ensures.within
     (subst (λ (n : ℕ). n ≤ last_number (ring_of h)) (sym (c.next_after-next.ensures [])) (next-few h [] xs (limits h c.requires.good).slots.0 within))
+
+pub returns-clause-known : goal.returns-clause-known
+returns-clause-known g c =
+    let h = c.args.geometry in
+    says-recording c.in_ok-index_of.field-0 h c.in_ok-heads.heads.items c.in_ok-clips.clips c.in_ok-segments.segments.items c.as_slice-open.result.now c.next_after-next.result c.in_ok-index_of.ensures (record {
+      good = c.requires.good;
+      count = c.in_ok-heads.ensures.count;
+      stand = c.in_ok-heads.ensures.within;
+      order = λ image are. c.in_ok-segments.ensures.order image (c.as_slice.ensures.value ∙ are);
+      within = c.in_ok-segments.ensures.within;
+      same = c.as_slice-open.ensures.value;
+      single = λ image. sym (c.repeats.ensures h image) ∙ c.if-repeats.false;
+      full = λ image. sym (c.lacks_frame.ensures image) ∙ c.if-lacks_frame.false;
+      ids = c.in_ok-clips.ensures.held.0;
+      held = c.in_ok-clips.ensures.held.1;
+      next_is = λ image. c.next_after-next.ensures image;
+    })
+
+pub returns-in_err-index_of-clause-disk : goal.returns-in_err-index_of-clause-disk
+returns-in_err-index_of-clause-disk g c = λ honest.
+    let second = c.read_heads.ensures.called.honest.0 honest in
+    stays_on _ _ _ (stays_on _ _ _ (c.in_ok-heads.ensures.disk honest) (c.in_ok-check_slots.ensures.disk second)) (c.in_ok-clips.ensures.disk (c.check_slots.ensures.called.honest.0 second))

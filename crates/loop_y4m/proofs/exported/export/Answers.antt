@@ -14,7 +14,7 @@ returns-in_err-piece-clause-exported g c = λ r stands honest.
     let fine : c.args.store.now.must_reopen ≡ false = sym c.must_reopen.ensures ∙ c.if-must_reopen.false in
     let is = c.in_ok-first.ensures.ok_part in
     let within = subst (λ (o : Option ℕ). IfSome o (λ n. (c.args.from ≤ n) × ((n ≤ c.args.to) × (n < 2 ^ 62)))) is c.held_between.ensures.within in
-    let frames = subst (λ (o : Option ℕ). IsFirstBetween r c.args.from c.args.to o) is (c.held_between.ensures.frames r stands honest) in
+    let frames = subst (λ (o : Option ℕ). IsFirstBetween r c.args.from c.args.to o) is (c.held_between.ensures.frames r stands) in
     let rising = (reading-well_formed c.args.store.now.geometry r (g.D.Disk.medium c.args.store.now.disk).bytes (stands.held fine honest)).rising in
     unwritten c.args.store.now.geometry c.args.store.now.must_reopen (frames_between c.args.from c.args.to r.frames) (g.W.Write.contents c.args.out.now) c.from_residual-in_err-piece.result fine
     (some_frames r c.args.from c.in_ok-first.first c.args.to within.1.0 rising frames) c.from_residual-in_err-piece.ensures.1
@@ -24,7 +24,7 @@ returns-in_err-write_header-clause-exported g c = λ r stands honest.
     let fine : c.args.store.now.must_reopen ≡ false = sym c.must_reopen.ensures ∙ c.if-must_reopen.false in
     let is = c.in_ok-first.ensures.ok_part in
     let within = subst (λ (o : Option ℕ). IfSome o (λ n. (c.args.from ≤ n) × ((n ≤ c.args.to) × (n < 2 ^ 62)))) is c.held_between.ensures.within in
-    let frames = subst (λ (o : Option ℕ). IsFirstBetween r c.args.from c.args.to o) is (c.held_between.ensures.frames r stands honest) in
+    let frames = subst (λ (o : Option ℕ). IsFirstBetween r c.args.from c.args.to o) is (c.held_between.ensures.frames r stands) in
     let rising = (reading-well_formed c.args.store.now.geometry r (g.D.Disk.medium c.args.store.now.disk).bytes (stands.held fine honest)).rising in
     let given = subst (λ (h : Geometry). AppendsSome (g.W.Write.contents c.args.out.now) (g.W.Write.contents c.write_header.new.out) (header h)) c.geometry-geometry.ensures.geometry c.in_err-write_header.ensures in
     unheaded c.args.store.now.geometry c.args.store.now.must_reopen (frames_between c.args.from c.args.to r.frames) (g.W.Write.contents c.args.out.now) (g.W.Write.contents c.write_header.new.out) c.from_residual-in_err-write_header.result fine
@@ -35,7 +35,7 @@ returns-clause-exported g c = λ r stands honest.
     let fine : c.args.store.now.must_reopen ≡ false = sym c.must_reopen.ensures ∙ c.if-must_reopen.false in
     let is = c.in_ok-first.ensures.ok_part in
     let within = subst (λ (o : Option ℕ). IfSome o (λ n. (c.args.from ≤ n) × ((n ≤ c.args.to) × (n < 2 ^ 62)))) is c.held_between.ensures.within in
-    let frames = subst (λ (o : Option ℕ). IsFirstBetween r c.args.from c.args.to o) is (c.held_between.ensures.frames r stands honest) in
+    let frames = subst (λ (o : Option ℕ). IsFirstBetween r c.args.from c.args.to o) is (c.held_between.ensures.frames r stands) in
     let rising = (reading-well_formed c.args.store.now.geometry r (g.D.Disk.medium c.args.store.now.disk).bytes (stands.held fine honest)).rising in
     let given = subst (λ (h : Geometry). Appends (g.W.Write.contents c.args.out.now) (g.W.Write.contents c.write_header.new.out) (header h)) c.geometry-geometry.ensures.geometry c.in_ok-write_header.ensures in
     headed c.args.store.now.geometry c.args.store.now.must_reopen (frames_between c.args.from c.args.to r.frames) (g.W.Write.contents c.args.out.now) (g.W.Write.contents c.write_header.new.out) (g.W.Write.contents c.write_frames.new.out) c.write_frames.result fine

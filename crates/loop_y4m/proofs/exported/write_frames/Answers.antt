@@ -40,12 +40,12 @@ loop-next-preserved g c =
     let low = subst (λ (o : Option ℕ). IfSome o (λ k. (c.loop-next.count ≤ k) × ((k ≤ c.args.to) × (k < 2 ^ 62)))) c.in-Some.is c.loop-next.invariant.low in record {
       store = all;
       low = if_some _ _ c.held_between-next.result (λ k inner. (omega (arith, low.0, inner.0), (inner.1.0, inner.1.1))) c.held_between-next.ensures.within;
-      held = λ r stands honest there. (c.held_between-next.ensures.frames r (only_stands medium c.args.store.now c.write_held.new.store _ r all stands) (all.called.honest.0 honest)).0;
+      held = λ r stands honest there. (c.held_between-next.ensures.frames r (only_stands medium c.args.store.now c.write_held.new.store _ r all stands)).0;
       moved = λ r stands honest there.
           let now = only_stands medium c.args.store.now c.loop-next.store _ r only stands in
           let before : Given r c.args.first c.args.to c.loop-next.count (Some n) old mid = subst (λ (o : Option ℕ). Given r c.args.first c.args.to c.loop-next.count o old mid) c.in-Some.is (c.loop-next.invariant.moved r stands honest there) in
           let f = frame_there r n (subst (λ (o : Option ℕ). IfSome o (λ k. holds r k ≡ true)) c.in-Some.is (c.loop-next.invariant.held r stands honest there)) in
           let rising = (reading-well_formed c.args.store.now.geometry r (medium c.args.store.now.disk).bytes (stands.held c.requires.open honest)).rising in
           given_more r c.args.first c.args.to c.loop-next.count n r.next f.0 c.held_between-next.result old mid new low.1.0 rising f.1 before (c.in_ok-write_held.ensures.moved r f.0 now (only.called.honest.0 honest) f.1)
-          (c.held_between-next.ensures.frames r (only_stands medium c.args.store.now c.write_held.new.store _ r all stands) (all.called.honest.0 honest));
+          (c.held_between-next.ensures.frames r (only_stands medium c.args.store.now c.write_held.new.store _ r all stands));
     }
