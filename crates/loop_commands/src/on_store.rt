@@ -58,7 +58,7 @@ pub fn list<D: Disk + Drop, A: Allocator + Copy, W: Write>(
     out: &mut W,
 ) -> Told<Listing<A>>
     ensures next { IfOk result.answer (λ listing. listing.next ≡ store.now.next) }
-    ensures numbers { (r : Recording) → StandsFor D.medium store.now r → (D.medium store.now.disk).honest
+    ensures numbers { (r : Recording) → StandsFor D.medium store.now r
         → IfOk result.answer (λ listing. listing.numbers.items ≡ map (λ f. f.0) r.frames) }
     ensures clips { IfOk result.answer (λ listing. listing.clips.items ≡ listed 0 store.now.clips) }
     ensures refusals { IfErr result.answer

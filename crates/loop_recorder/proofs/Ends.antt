@@ -17,7 +17,7 @@ module _ {D A B : Type 0} (medium : D → Medium) (one : Outline A) (other : Out
     next = sym same.next ∙ tells.next;
     pending = sym same.pending ∙ tells.pending;
     clips = sym same.clips ∙ tells.clips;
-    frames = λ r stands now. sym same.frames ∙ tells.frames r stands now;
+    frames = λ r stands. sym same.frames ∙ tells.frames r stands;
   }
 
   faithful-same : (history : List Entry) (desk : SeenDesk D) → IsFaithful medium one history desk → IsFaithful medium other history desk
