@@ -1,9 +1,9 @@
-// Frames of a camera that go through a queue of two buffers of mapped memory to the store in a file.
+// Frames of a camera that go through a queue of two buffers of mapped memory to a store.
 use crate::memory::set_of;
 use crate::words::{number, open_file, path, refused};
 use anyhow::{Error, Result, anyhow};
 use loop_desk::{Desk, DeskLimits, Hand, Lane, LaneEvent, LaneFault, LaneReply, lane_run};
-use loop_file::FileDisk;
+use loop_disk::Disk;
 use loop_ioctl::{BufferMemory, BufferType, Ioctl, QueueEvent, QueueReply};
 use loop_pages::PageLedger;
 use loop_plane::{FdTable, Memory, MmapPlane, PAGE_BYTES};
@@ -24,11 +24,11 @@ const PAGES: u32 = 1024;
 /// The most frames of a group.
 const MAX_GROUP: u32 = 8;
 
-/// A lane to a store in a file, from mapped memory.
-type FileLane = Lane<FileDisk, MmapPlane>;
+/// A lane to a store, from mapped memory.
+pub(crate) type Mapped<D> = Lane<D, MmapPlane>;
 
 /// An event of such a lane.
-type Event = LaneEvent<MmapPlane>;
+pub(crate) type Event = LaneEvent<MmapPlane>;
 
 // Mapped memory of two buffers, for frames of so many bytes.
 fn supply(alloc: Global, size: u32) -> Result<Vec<PlaneSet<MmapPlane>>> {
@@ -50,8 +50,8 @@ fn queued(index: u32) -> Event {
     }))
 }
 
-// What starts a lane for frames of so many bytes: REQBUFS of two buffers, QBUF of each, STREAMON.
-fn start_events(alloc: Global, size: u32) -> Result<Vec<Event>> {
+/// What starts a lane for frames of so many bytes: REQBUFS of two buffers, QBUF of each, STREAMON.
+pub(crate) fn start_events(alloc: Global, size: u32) -> Result<Vec<Event>> {
     let mut events = Vec::new(alloc);
     events.push(LaneEvent::Queue(QueueEvent::Ioctl(Ioctl::ReqBufs {
         buf_type: GREY,
@@ -136,8 +136,12 @@ fn did(reply: &LaneReply<MmapPlane>) -> Result<()> {
     }
 }
 
-// Does a list of events, of which none may be refused.
-fn run(alloc: Global, lane: &mut FileLane, events: Vec<Event>) -> Result<()> {
+/// Does a list of events, of which none may be refused.
+pub(crate) fn run<D: Disk + Drop>(
+    alloc: Global,
+    lane: &mut Mapped<D>,
+    events: Vec<Event>,
+) -> Result<()> {
     let replies = match lane_run(alloc, lane, events) {
         Ok(replies) => replies,
         Err((fault, _)) => return Err(refused(fault)),
@@ -148,8 +152,12 @@ fn run(alloc: Global, lane: &mut FileLane, events: Vec<Event>) -> Result<()> {
     Ok(())
 }
 
-// A lane to a store, whose queue has no buffers yet.
-fn lane_to(alloc: Global, store: Store<FileDisk>, group: u32) -> Result<FileLane> {
+/// A lane to a store, whose queue has no buffers yet.
+pub(crate) fn lane_to<D: Disk + Drop>(
+    alloc: Global,
+    store: Store<D>,
+    group: u32,
+) -> Result<Mapped<D>> {
     if group == 0 || group > MAX_GROUP {
         return Err(anyhow!("1 to 8 frames a group"));
     }
@@ -178,9 +186,19 @@ fn grey_bytes(geometry: &Geometry) -> Result<u32> {
     }
 }
 
-// Records so many groups of frames through a lane, and answers the number of the next frame.
-fn record_groups(alloc: Global, lane: &mut FileLane, group: u32, groups: u32) -> Result<u64> {
-    let size = grey_bytes(&lane.desk.geometry())?;
+/// The bytes of a frame of a lane.
+pub(crate) fn frame_of<D: Disk + Drop>(lane: &Mapped<D>) -> Result<u32> {
+    grey_bytes(&lane.desk.geometry())
+}
+
+/// Records so many groups of frames through a lane, and answers the number of the next frame.
+pub(crate) fn record_groups<D: Disk + Drop>(
+    alloc: Global,
+    lane: &mut Mapped<D>,
+    group: u32,
+    groups: u32,
+) -> Result<u64> {
+    let size = frame_of(lane)?;
     run(alloc, lane, start_events(alloc, size)?)?;
     let mut first: u32 = 0;
     for _ in 0..groups {

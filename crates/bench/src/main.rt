@@ -44,6 +44,12 @@
 //! and runs so many lists of events through the lane, one after the other: each brings GROUP frames of the store's
 //! size, and flushes them. A flush that leaves a frame waiting, and every event that is refused, ends the program.
 //!
+//!     device WIDTH HEIGHT SEGMENTS SLOTS GROUP GROUPS
+//!
+//! makes a lane to a disk in memory for GREY frames, and brings GROUPS groups of GROUP frames to it as `lane` does; then
+//! the same with a device, whose ticks fill the buffers with the frames of the pattern. It prints how many frames a
+//! second the device's lane stored, how many the other, and the first as a part of the second;
+//!
 //!     recorder COUNT WIDTH HEIGHT SEGMENTS SLOTS GROUP GROUPS
 //!
 //! makes a recorder of one camera, and then one of COUNT cameras, each over a disk in memory of its own for GREY
@@ -58,6 +64,7 @@
 //! Without a word it does nothing, since what it measures is never the same twice.
 #![tactic(auto)]
 
+mod device;
 mod lane;
 mod memory;
 mod planes;
@@ -98,9 +105,10 @@ fn measure(rt: &HostRuntime, word: &str, words: &mut Args) -> Result<()> {
         "lock-file" => told(rt, "locked, next", store::lock_file(rt, rt.alloc(), words)),
         "list" => told(rt, "listed", store::list(rt, rt.alloc(), words)),
         "record" => store::record(rt, words),
+        "device" => device::measure(rt, rt.alloc(), words),
         "lane" => told(rt, "stored, next", lane::record(rt, rt.alloc(), words)),
         _ => Err(anyhow!(
-            "planes, queue, recorder, recorder-files, append, append-file, open, list, lock-file, record or lane"
+            "planes, queue, recorder(-files), append(-file), open, list, lock-file, record, lane or device"
         )),
     }
 }
