@@ -47,18 +47,22 @@ fn answer<W: Write>(case: &mut Case, line: &str, out: &mut W) -> Result<()> {
     Ok(())
 }
 
-fn main(rt: HostRuntime) -> Result<()> {
-    let calls = Cell::new(0);
-    let mut case = Case::new(rt.alloc(), &calls);
-    let mut out = BufWriter::new(rt.alloc(), rt.stdout())?;
-    for line in rt.reader().lines(rt.alloc()) {
+// Answers each line. It has the returns of an error, since `main` would drop its case and its output at each.
+fn answers<R: BufRead + Drop, W: Write>(case: &mut Case, input: R, out: &mut W) -> Result<()> {
+    for line in input.lines(case.alloc) {
         let line = line?;
         if line.is_empty() || line.starts_with("#") {
             writeln!(out, "{line}")?;
         } else {
-            answer(&mut case, &line, &mut out)?;
+            answer(case, &line, out)?;
         }
     }
     out.flush()?;
     Ok(())
+}
+
+fn main(rt: HostRuntime) -> Result<()> {
+    let mut out = BufWriter::new(rt.alloc(), rt.stdout())?;
+    let calls = Cell::new(0);
+    answers(&mut Case::new(rt.alloc(), &calls), rt.reader(), &mut out)
 }

@@ -285,22 +285,27 @@ fn calls(case: &mut Case, words: &mut SplitWhitespace, told: &mut Vec<u8>) -> Re
     Ok(())
 }
 
-// Makes the remembered calls, and prints a letter for each.
+// The disks over the bytes of the next word, made as the words behind it say.
+fn read_pile<'a>(case: &Case<'a>, words: &mut SplitWhitespace) -> Result<Pile<'a>> {
+    let bytes = text::bytes(case.alloc, word(words)?)?;
+    make_pile(case.alloc, case.calls, bytes, read_making(words)?)
+}
+
+// Makes the remembered calls, and prints a letter for each, with a comma behind them.
 fn play_all(case: &Case, pile: &mut Pile, told: &mut Vec<u8>) -> Result<()> {
     let mut unsaid = Vec::new(case.alloc);
     for call in &case.list {
         let answer = does(case.alloc, pile, call, &mut unsaid)?;
         told.push(letter(answer))?;
     }
+    told.write_all(b", ")?;
     Ok(())
 }
 
 // `disk play BYTES MAKING`: the remembered calls over these bytes, a letter each, and what is left.
 fn play(case: &mut Case, words: &mut SplitWhitespace, told: &mut Vec<u8>) -> Result<()> {
-    let bytes = text::bytes(case.alloc, word(words)?)?;
-    let mut pile = make_pile(case.alloc, case.calls, bytes, read_making(words)?)?;
+    let mut pile = read_pile(case, words)?;
     play_all(case, &mut pile, told)?;
-    told.write_all(b", ")?;
     apart(case, pile, told)?;
     told.write_all(b": ")?;
     print_bytes(told, tape(case)?.bytes())?;
