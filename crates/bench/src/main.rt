@@ -46,16 +46,16 @@
 //!
 //!     device WIDTH HEIGHT SEGMENTS SLOTS GROUP GROUPS
 //!
-//! makes a lane to a disk in memory for GREY frames, and brings GROUPS groups of GROUP frames to it as `lane` does; then
-//! the same with a device, whose ticks fill the buffers with the frames of the pattern. It prints how many frames a
-//! second the device's lane stored, how many the other, and the first as a part of the second;
+//! makes a lane to a disk in memory for GREY frames, and brings GROUPS groups of GROUP frames to it as `lane` does;
+//! then the same with a device, whose ticks fill the buffers with the frames of the pattern. It prints how many frames
+//! a second the device's lane stored, how many the other, and the first as a part of the second;
 //!
 //!     recorder COUNT WIDTH HEIGHT SEGMENTS SLOTS GROUP GROUPS
 //!
 //! makes a recorder of one camera, and then one of COUNT cameras, each over a disk in memory of its own for GREY
 //! frames, and in each stores GROUPS groups of GROUP frames a camera, from a thread for each camera, with a flush a
-//! group. It prints how many frames a second the cameras stored together, how many the one alone, and the first as a part of the
-//! second: with as many processors as cameras, 100 % a camera is the most;
+//! group. It prints how many frames a second the cameras stored together, how many the one alone, and the first as a
+//! part of the second: with as many processors as cameras, 100 % a camera is the most;
 //!
 //!     recorder-files GROUP GROUPS COUNT ALONE PATH..
 //!
