@@ -14,7 +14,7 @@ use Rattle.loop_vb2.specs.declared.reason.Refused.{Refused}
 use Rattle.loop_vb2.specs.Buffers.{handed}
 use Rattle.loop_vb2.specs.Errnos.{errno}
 use Rattle.loop_vb2.specs.Events as model
-use Rattle.loop_vb2.specs.Events.{Event, IsRefusal, unless, refusal_in}
+use Rattle.loop_vb2.specs.Events.{Event, IsRefusal, unless}
 use Rattle.loop_vb2.specs.Planes.{same_memory, are_kind, read_given}
 use Rattle.loop_vb2.specs.State.{Body, QueueState, StandsQueue}
 use Rattle.loop_vb2.proofs.Ordered.{dequeues_in_order}
