@@ -11,6 +11,7 @@ pub mod Looks
 pub mod Numbers
 pub mod Least
 pub mod Sized
+pub mod Standing
 pub mod Stands
 pub mod Appended
 pub mod Reopened

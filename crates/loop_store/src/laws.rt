@@ -1,10 +1,12 @@
 //! What holds of any store, and what calls leave, one after the other. The functions do nothing: their contracts are
 //! the laws.
 
-ghost use Rattle.std.specs.Prelude.{◌≡◌, ◌++◌, List, false};
+ghost use Rattle.std.specs.Prelude.{◌≡◌, ◌⊎◌, ◌++◌, List, false};
 ghost use Rattle.loop_store.specs.Calls.{Call};
 ghost use Rattle.loop_store.specs.Goes.{Goes};
+ghost use Rattle.loop_record.specs.Recording.{Recording};
 ghost use Rattle.loop_store.specs.Opened.{IsOpened, TellsOne};
+ghost use Rattle.loop_store.specs.Seen.{StandsFor};
 
 use crate::Store;
 use loop_disk::Disk;
@@ -26,6 +28,14 @@ pub fn calls_join<D: Disk + Drop, A: Allocator>(
 /// each answer but a read's is decided (`Goes`).
 pub fn a_store_tells<D: Disk + Drop, A: Allocator>(store: &Store<D, A>)
     ensures { TellsOne store.now }
+{
+    let _index = &store.index;
+}
+
+/// A store stands for some recording, whether its disk is known to be honest or known not to be, as a file's is.
+pub fn a_store_stands<D: Disk + Drop, A: Allocator>(store: &Store<D, A>)
+    ensures { (D.medium store.now.disk).honest ⊎ ((D.medium store.now.disk).honest → ⊥)
+        → (r : Recording) × StandsFor D.medium store.now r }
 {
     let _index = &store.index;
 }
