@@ -2,7 +2,7 @@
 use Rattle.std.specs.Prelude.{◌≡◌, Bool, true, ◌&&◌, ◌==◌, length, List, [], ◌∷◌, ◌++◌}
 use Rattle.loop_plane.specs.Plane.{Plane}
 use Rattle.loop_plane.specs.Fds.{Fds}
-use Rattle.loop_record.specs.Turns.{after_all, EachIn}
+use Rattle.loop_record.specs.Turns.{Machine, Turns, Plays}
 use Rattle.loop_vb2.specs.declared.planes.Shape.{Shape}
 use Rattle.loop_vb2.specs.Checks.{end_refusal}
 use Rattle.loop_vb2.specs.Effects.{completed, failed, fatal_state}
@@ -63,20 +63,22 @@ module _ {P A : Type 0} (meaning : P → Plane) where
   abbrev pub turned : IoctlState → QueueEvent P A × QueueReply P A → IoctlState
   turned j turn = state_after turn.0 turn.1 j
 
+  -- the model of the ioctls and of the device's calls
+  abbrev pub ioctl_machine : Machine IoctlState (QueueEvent P A × QueueReply P A)
+  ioctl_machine = record { after = turned; May = IsTurn }
+
   -- one event: the reply is the model's, and queue and table stand for the state after it
   abbrev pub Reacts : QueueEvent P A → QueueReply P A → Lined P → Fds P → Lined P → Fds P → Type 0
   Reacts e r queue table new_queue new_table =
-      (j : IoctlState) → StandsIoctl meaning queue table j
-      → IsTold e r j × StandsIoctl meaning new_queue new_table (state_after e r j)
+      Turns ioctl_machine (StandsIoctl meaning queue table) (StandsIoctl meaning new_queue new_table) (e, r)
 
   -- a list of events: there are as many replies, each is the model's at its point, and queue and table stand
   -- for the state after all
   pub record Runs (events : List (QueueEvent P A)) (replies : List (QueueReply P A)) (queue : Lined P) (table : Fds P)
       (new_queue : Lined P) (new_table : Fds P) : Type 0 where
     pub count : length replies ≡ length events
-    pub told : (j : IoctlState) → StandsIoctl meaning queue table j
-        → EachIn turned IsTurn j (turns events replies)
-        × StandsIoctl meaning new_queue new_table (after_all turned j (turns events replies))
+    pub told : Plays ioctl_machine (StandsIoctl meaning queue table) (StandsIoctl meaning new_queue new_table)
+        (turns events replies)
 
 -- Two runs, one after the other, are the run of the joined lists.
 abbrev pub RunsJoin : {P : Type 0} → Type 0 → (P → Plane) → Type 0
