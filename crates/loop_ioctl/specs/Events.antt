@@ -1,23 +1,17 @@
 -- Lists of events of application and device, each with its reply.
-use Rattle.std.specs.Prelude.{◌≡◌, Bool, true, ◌&&◌, ◌==◌, length, List, [], ◌∷◌, ◌++◌}
+use Rattle.std.specs.Prelude.{◌≡◌, Bool, true, ◌&&◌, ◌==◌, length, List, [], ◌∷◌, ◌++◌, Option, Some, None}
 use Rattle.loop_plane.specs.Plane.{Plane}
 use Rattle.loop_plane.specs.Fds.{Fds}
 use Rattle.loop_record.specs.Turns.{Machine, Turns, Plays}
 use Rattle.loop_vb2.specs.declared.planes.Shape.{Shape}
-use Rattle.loop_vb2.specs.Checks.{end_refusal}
-use Rattle.loop_vb2.specs.Effects.{completed, failed, fatal_state}
+use Rattle.loop_vb2.specs.Events.{Event, refusal_of, complete, fail, fatal}
 use Rattle.loop_vb2.specs.Planes.{frame_size}
-use Rattle.loop_vb2.specs.State.{QueueState, Lined}
+use Rattle.loop_vb2.specs.State.{Lined}
 use Rattle.loop_ioctl.specs.declared.events.QueueEvent.{QueueEvent}
 use Rattle.loop_ioctl.specs.declared.events.QueueEvent.TheVariants as event
 use Rattle.loop_ioctl.specs.declared.events.QueueReply.{QueueReply}
 use Rattle.loop_ioctl.specs.declared.events.QueueReply.TheVariants as answer
-use Rattle.loop_ioctl.specs.Calls.{IoctlState, StandsIoctl, IsReplied, after_ioctl}
-use Rattle.loop_ioctl.specs.Parts.{Judged, either}
-
--- the device changes the queue alone
-abbrev pub with_queue : (QueueState → QueueState) → IoctlState → IoctlState
-with_queue change j = record j { queue = change j.queue }
+use Rattle.loop_ioctl.specs.Calls.{IoctlState, StandsIoctl, MayHappenIf, after_event_if, IsReplied, after_ioctl}
 
 module _ {P A : Type 0} where
   -- the bytes of a Complete are one whole frame
@@ -38,23 +32,24 @@ module _ {P A : Type 0} where
   turns (e ∷ es) [] = []
   turns (e ∷ es) (r ∷ rs) = (e, r) ∷ turns es rs
 
+  -- the event of the queue that a call of the device with its answer is
+  abbrev pub device_event : QueueEvent P A → QueueReply P A → Option Event
+  device_event (event.Complete index stamp bytes) (answer.Ended result) =
+      Some (complete index stamp bytes.items (refusal_of result))
+  device_event (event.Fail index stamp) (answer.Ended result) = Some (fail index stamp (refusal_of result))
+  device_event event.Fatal answer.Fatal = Some fatal
+  device_event e r = None
+
 module _ {P A : Type 0} (meaning : P → Plane) where
   -- the reply is the model's
   abbrev pub IsTold : QueueEvent P A → QueueReply P A → IoctlState → Type 0
   IsTold (event.Ioctl call) (answer.Ioctl result) j = IsReplied meaning call j result
-  IsTold (event.Complete index stamp bytes) (answer.Ended result) j = Judged (end_refusal index j.queue.body) result
-  IsTold (event.Fail index stamp) (answer.Ended result) j = Judged (end_refusal index j.queue.body) result
-  IsTold event.Fatal answer.Fatal j = Unit {0}
-  IsTold e r j = ⊥
+  IsTold e r j = MayHappenIf j.queue (device_event e r)
 
-  -- the state after the event
+  -- the state after the event: the device changes the queue alone
   abbrev pub state_after : QueueEvent P A → QueueReply P A → IoctlState → IoctlState
   state_after (event.Ioctl call) (answer.Ioctl result) j = after_ioctl meaning call j result
-  state_after (event.Complete index stamp bytes) (answer.Ended result) j =
-      either result (with_queue (completed index stamp bytes.items) j) j
-  state_after (event.Fail index stamp) (answer.Ended result) j = either result (with_queue (failed index stamp) j) j
-  state_after event.Fatal answer.Fatal j = with_queue fatal_state j
-  state_after e r j = j
+  state_after e r j = record j { queue = after_event_if j.queue (device_event e r) }
 
   -- of an event and its reply as one value
   abbrev pub IsTurn : IoctlState → QueueEvent P A × QueueReply P A → Type 0
