@@ -11,11 +11,10 @@ use Rattle.loop_vb2.specs.declared.buffer.Buffer.{Buffer}
 use Rattle.loop_vb2.specs.declared.buffer.Dequeued.{Dequeued}
 use Rattle.loop_vb2.specs.declared.planes.PlaneSet.{PlaneSet}
 use Rattle.loop_vb2.specs.declared.reason.Errno.{Errno}
-use Rattle.loop_vb2.specs.declared.reason.Reason.TheVariants.{Streaming, Mapped, BadSupply}
 use Rattle.loop_vb2.specs.declared.reason.Refused.{Refused}
 use Rattle.loop_vb2.specs.declared.request.Granted.{Granted}
 use Rattle.loop_vb2.specs.Buffers.{changed, handed, dequeued_from}
-use Rattle.loop_vb2.specs.Checks.{is_supply, granted, serves, request_refusal}
+use Rattle.loop_vb2.specs.Checks.{is_supply, granted, serves, request_checks, request_refusal}
 use Rattle.loop_vb2.specs.Planes.{read_set, read_given}
 use Rattle.loop_vb2.specs.Requests.{grants_or_none, new_buffer, new_buffers, held, left_in, body_requested}
 use Rattle.loop_vb2.specs.State.{Body, Lined}
@@ -26,9 +25,10 @@ use Rattle.loop_ioctl.specs.Names.{Names, names_in, values_in, values_of, given_
 use Rattle.loop_ioctl.specs.Attached.{fd_times, values_by_fd, values_held, IsLinked}
 use Rattle.loop_ioctl.specs.Calls.{StandsIoctl, read_names, planes_at, names_left, handed_out, HandsBack}
 use Rattle.loop_ioctl.specs.Parts.{LetsOut, AppliesAt, AppliesOfAny}
+use Rattle.loop_vb2.proofs.Passing.{Passed, all_passed, true_of}
 use Rattle.loop_ioctl.proofs.Attached.{in_buffers, let_out, last_none, AreOnce, once_same, IsLetOut, given_once, in_more}
 use Rattle.loop_ioctl.proofs.Read.{read_value, values_of_read, back_read, away_read}
-use Rattle.loop_ioctl.proofs.Putting.{stays, passed_here, passed_on, true_of}
+use Rattle.loop_ioctl.proofs.Putting.{stays}
 
 pub gives_one : {T : Type 0} (set : PlaneSet T) (before after : Fds T) → GivesBack (values_in set) before after → GivesBack (values_of (set ∷ [])) before after
 gives_one set before after h = subst (λ vs. GivesBack vs before after) (sym (last_none (values_in set))) h
@@ -142,18 +142,13 @@ no_supply : (t u : Bool) (sets : List (PlaneSet Plane)) → cond (t && false) u 
 no_supply true u sets e = no_sets sets e
 no_supply false u sets e = no_sets sets e
 
-supply_passed : (a b t : Bool) → cond a (Some Streaming) (cond b (Some Mapped) (cond (not t) (Some BadSupply) None)) ≡ None → t ≡ true
-supply_passed a b t e =
-    let e1 : cond b (Some Mapped) (cond (not t) (Some BadSupply) None) ≡ None = passed_on a Streaming (cond b (Some Mapped) (cond (not t) (Some BadSupply) None)) e in
-    let e2 : cond (not t) (Some BadSupply) None ≡ None = passed_on b Mapped (cond (not t) (Some BadSupply) None) e1 in
-    true_of t (passed_here (not t) BadSupply None e2)
-
 -- a new queue of DMA-BUF memory has no planes yet
 new_none : (count : ℕ) (kind : Memory) (sets : List (PlaneSet Plane)) (b : Body Plane) → request_refusal count kind sets b ≡ None → (fd : ℕ) → fd_times fd (values_held kind (body_requested count kind sets b).buffers) ≡ 0
 new_none count Mmap sets b e fd = refl
 new_none count UserPtr sets b e fd = refl
 new_none count DmaBuf sets b e fd =
-    let serves_it : is_supply b.shape b.min_queued count DmaBuf sets ≡ true = supply_passed (nat_lt 0 count && b.streaming) (list_any (λ x. x.mapped) b.buffers) (is_supply b.shape b.min_queued count DmaBuf sets) e in
+    let p : Passed (request_checks count DmaBuf sets b) = all_passed (request_checks count DmaBuf sets b) e in
+    let serves_it : is_supply b.shape b.min_queued count DmaBuf sets ≡ true = true_of (is_supply b.shape b.min_queued count DmaBuf sets) p.1.1.0 in
     let none : sets ≡ [] = no_supply (nat_lt 0 count) ((length sets == granted b.min_queued count) && list_all (serves b.shape) sets) sets serves_it in
     ap (λ l. in_buffers fd (new_buffers (grants_or_none b.min_queued count) l)) none ∙ none_in_new (grants_or_none b.min_queued count) fd
 

@@ -1,7 +1,6 @@
 -- Steps of queue and table: calls that answer nothing but Done, QBUF and PREPARE_BUF among them.
 use Rattle.std.proofs.Common.{◌≡◌, ℕ, suc, ◌+◌, ◌<◌, Bool, true, false, not, ◌||◌, nat_le, cond, List, [], ◌∷◌, length, map, Option, Some, None, option_map, Ok, Err, refl, sym, ◌∙◌, ap, subst, arith}
 use Rattle.std.specs.Prelude.{Result, OnErr, IfOk, IfErr}
-use Rattle.std.proofs.lemmas.Bool.Decides.{nat_tests}
 use Rattle.slab.specs.Slab.{SameValues}
 use Rattle.loop_plane.specs.Plane.{Plane}
 use Rattle.loop_plane.specs.Fds.{Fds}
@@ -11,16 +10,18 @@ use Rattle.loop_vb2.specs.declared.buffer.Buffer.{Buffer}
 use Rattle.loop_vb2.specs.declared.planes.PlaneSet.{PlaneSet}
 use Rattle.loop_vb2.specs.declared.reason.Errno.{Errno}
 use Rattle.loop_vb2.specs.declared.reason.Reason.{Reason}
-use Rattle.loop_vb2.specs.declared.reason.Reason.TheVariants.{BadIndex, BadMemory, BadPlanes}
+use Rattle.loop_vb2.specs.declared.reason.Reason.TheVariants.{BadIndex, BadMemory}
 use Rattle.loop_vb2.specs.declared.reason.Refused.{Refused}
 use Rattle.loop_vb2.specs.Errnos.{errno}
-use Rattle.loop_vb2.specs.Planes.{read_set, read_given, same_memory, are_kind, has_count}
+use Rattle.loop_vb2.specs.Planes.{read_set, read_given, same_memory, are_kind, misfits}
 use Rattle.loop_vb2.specs.Buffers.{holds_at, woken, queued_with, prepared_with, read_buffer}
-use Rattle.loop_vb2.specs.Checks.{first_reason, prepare_late_checks, queue_late_checks, prepare_refusal, queue_refusal}
+use Rattle.loop_vb2.specs.Checks.{prepare_checks, queue_checks, prepare_refusal, queue_refusal}
 use Rattle.loop_vb2.specs.Effects.{device_runs, awake, settled, with_buffer, prepared, queued}
 use Rattle.loop_vb2.specs.State.{Body, QueueState, Lined, StandsQueue}
 use Rattle.loop_vb2.specs.Events.{Event, MayHappen, Happens, after_event, refusal_in, prepare_buf, qbuf}
 use Rattle.loop_vb2.proofs.Ordered.{not_refused}
+use Rattle.loop_vb2.proofs.Passing.{Passed, all_passed, true_of}
+use Rattle.loop_vb2.proofs.Steps.{first_false, prepare_within, prepare_empty, queue_within, queue_empty}
 use Rattle.loop_ioctl.specs.declared.call.BufferMemory.{BufferMemory}
 use Rattle.loop_ioctl.specs.declared.call.BufferMemory.TheVariants as memory
 use Rattle.loop_ioctl.specs.declared.call.BufferType.{BufferType}
@@ -41,30 +42,14 @@ use Rattle.loop_ioctl.proofs.Read.{set_refusal_read, set_named_read, set_taken_r
 
 -- ---- checks that have passed
 
-pub passed_here : (test : Bool) (reason : Reason) (rest : Option Reason) → cond test (Some reason) rest ≡ None → test ≡ false
-passed_here true reason rest e = absurd (cc)
-passed_here false reason rest e = refl
-
-pub passed_on : (test : Bool) (reason : Reason) (rest : Option Reason) → cond test (Some reason) rest ≡ None → rest ≡ None
-passed_on true reason rest e = absurd (cc)
-passed_on false reason rest e = e
-
-first_false : (a b : Bool) → (a || b) ≡ false → a ≡ false
-first_false true b e = e
-first_false false b e = refl
-
-pub true_of : (b : Bool) → not b ≡ false → b ≡ true
-true_of true e = refl
-true_of false e = absurd (cc)
-
-above : (n i : ℕ) → nat_le n i ≡ false → i < n
-above n i e = grind (arith, nat_tests)
-
 pub same_kind : (k l : Memory) → same_memory k l ≡ true → k ≡ l
 same_kind Mmap Mmap e = refl
 same_kind UserPtr UserPtr e = refl
 same_kind DmaBuf DmaBuf e = refl
 same_kind k l e = absurd (cc)
+
+own_kind : (kind : Memory) (b : Body Plane) (set : PlaneSet Plane) → (not (same_memory kind b.kind) || misfits (are_kind b.kind) (Some set)) ≡ false → b.kind ≡ kind
+own_kind kind b set e = sym (same_kind kind b.kind (true_of (same_memory kind b.kind) (first_false (not (same_memory kind b.kind)) (misfits (are_kind b.kind) (Some set)) e)))
 
 -- PREPARE_BUF or QBUF: why it is refused, and the state where it isn't
 abbrev pub use_refusal : Use → ℕ → Memory → Option (PlaneSet Plane) → Body Plane → Option Reason
@@ -81,22 +66,17 @@ pub record IsFit (index : ℕ) (k : Memory) (b : Body Plane) : Type 0 where
   pub kind : b.kind ≡ k
   pub empty : holds_at b.buffers index ≡ false
 
-fit_of : (index : ℕ) (k : Memory) (set : PlaneSet Plane) (b : Body Plane) (late : Option Reason) → cond (nat_le (length b.buffers) index) (Some BadIndex) (cond (not (same_memory k b.kind) || not (are_kind b.kind set)) (Some BadMemory) (cond (holds_at b.buffers index || not (has_count b.shape.count set)) (Some BadPlanes) late)) ≡ None → IsFit index k b
-fit_of index k set b late e =
-    let t1 = nat_le (length b.buffers) index in
-    let t2 = not (same_memory k b.kind) || not (are_kind b.kind set) in
-    let t3 = holds_at b.buffers index || not (has_count b.shape.count set) in
-    let e1 : cond t2 (Some BadMemory) (cond t3 (Some BadPlanes) late) ≡ None = passed_on t1 BadIndex (cond t2 (Some BadMemory) (cond t3 (Some BadPlanes) late)) e in
-    let e2 : cond t3 (Some BadPlanes) late ≡ None = passed_on t2 BadMemory (cond t3 (Some BadPlanes) late) e1 in
-    record {
-      within = above (length b.buffers) index (passed_here t1 BadIndex (cond t2 (Some BadMemory) (cond t3 (Some BadPlanes) late)) e);
-      kind = sym (same_kind k b.kind (true_of (same_memory k b.kind) (first_false (not (same_memory k b.kind)) (not (are_kind b.kind set)) (passed_here t2 BadMemory (cond t3 (Some BadPlanes) late) e1))));
-      empty = first_false (holds_at b.buffers index) (not (has_count b.shape.count set)) (passed_here t3 BadPlanes late e2);
-    }
-
 pub fit : (way : Use) (index : ℕ) (kind : Memory) (set : PlaneSet Plane) (b : Body Plane) → use_refusal way index kind (Some set) b ≡ None → IsFit index kind b
-fit Prepare index kind set b e = fit_of index kind set b (first_reason (prepare_late_checks index (Some set) b)) e
-fit Queue index kind set b e = fit_of index kind set b (first_reason (queue_late_checks index (Some set) b)) e
+fit Prepare index kind set b e = let p : Passed (prepare_checks index kind (Some set) b) = all_passed (prepare_checks index kind (Some set) b) e in record {
+  within = prepare_within index kind (Some set) b e;
+  kind = own_kind kind b set p.1.0;
+  empty = prepare_empty index kind set b e;
+}
+fit Queue index kind set b e = let p : Passed (queue_checks index kind (Some set) b) = all_passed (queue_checks index kind (Some set) b) e in record {
+  within = queue_within index kind (Some set) b e;
+  kind = own_kind kind b set p.1.0;
+  empty = queue_empty index kind set b e;
+}
 
 -- ---- the fds of a queue through such a call
 

@@ -51,9 +51,8 @@ pub record StandsIoctl {P : Type 0} (meaning : P → Plane) (code : Lined P) (ta
 
 -- the planes that QBUF or PREPARE_BUF brings by value
 abbrev pub planes_of : {P : Type 0} → BufferMemory P → Option (PlaneSet P)
-planes_of memory.Mmap = None
 planes_of (memory.UserPtr given) = given
-planes_of (memory.DmaBuf named) = None
+planes_of given = None
 
 -- the kind of memory that it names
 abbrev pub kind_named : {P : Type 0} → BufferMemory P → Memory
@@ -124,11 +123,9 @@ early_refusal index b =
 
 -- planes by fd: those, then the first fd that fails
 abbrev pub memory_refusal : {P : Type 0} → ℕ → BufferMemory P → IoctlState → Option Reason
-memory_refusal index memory.Mmap j = None
-memory_refusal index (memory.UserPtr given) j = None
-memory_refusal index (memory.DmaBuf None) j = None
 memory_refusal index (memory.DmaBuf (Some named)) j =
     or_else (early_refusal index j.queue.body) (set_refusal named j.names)
+memory_refusal index given j = None
 
 module _ {P A : Type 0} where
   -- the buffer type comes first
@@ -159,10 +156,8 @@ handed_out none DmaBuf planes = none
 
 -- the fds of a set that is named are attached
 abbrev pub names_taken : {P : Type 0} → BufferMemory P → Names Plane → Names Plane
-names_taken memory.Mmap before = before
-names_taken (memory.UserPtr given) before = before
-names_taken (memory.DmaBuf None) before = before
 names_taken (memory.DmaBuf (Some named)) before = set_taken named before
+names_taken given before = before
 
 module _ {P A : Type 0} where
   -- the planes and the supply that a call brings

@@ -1,5 +1,5 @@
 -- A set of planes is in one place, before and after an event.
-use Rattle.std.proofs.Common.{◌≡◌, ℕ, zero, suc, ◌+◌, ◌<◌, Bool, true, false, not, ◌||◌, cond, List, [], ◌∷◌, ◌++◌, length, map, replicate, Option, Some, None, option_map, Ok, Err, refl, sym, ◌∙◌, ap, arith}
+use Rattle.std.proofs.Common.{◌≡◌, ℕ, zero, suc, ◌+◌, ◌<◌, Bool, true, false, cond, List, [], ◌∷◌, ◌++◌, length, map, replicate, Option, Some, None, option_map, Ok, Err, refl, sym, ◌∙◌, ap, arith}
 use Rattle.std.proofs.lemmas.List.Sums.{sum_by-append}
 use Rattle.std.specs.Prelude.{count_by, option_to_list, slice_get, is_some}
 use Rattle.loop_plane.specs.Plane.{Plane}
@@ -9,16 +9,15 @@ use Rattle.loop_vb2.specs.declared.buffer.Buffer.{Buffer}
 use Rattle.loop_vb2.specs.declared.planes.PlaneSet.{PlaneSet}
 use Rattle.loop_vb2.specs.declared.planes.Shape.{Shape}
 use Rattle.loop_vb2.specs.Buffers.{changed, holds_at, kept, handed, prepared_with, queued_with, completed_with, failed_with, dequeued_from, mapped_as, emptied, woken, stopped}
-use Rattle.loop_vb2.specs.Checks.{queue_checks, queue_refusal, prepare_checks, prepare_refusal}
+use Rattle.loop_vb2.specs.Checks.{queue_refusal, prepare_refusal}
 use Rattle.loop_vb2.specs.Effects.{device_runs, awake, settled, with_buffer, body_streaming}
-use Rattle.loop_vb2.specs.Planes.{same_memory, set_filled, has_count}
+use Rattle.loop_vb2.specs.Planes.{same_memory, set_filled}
 use Rattle.loop_vb2.specs.Requests.{grants_or_none, held, left_in, new_buffer, new_buffers}
 use Rattle.loop_vb2.specs.State.{Body, QueueState}
 use Rattle.loop_vb2.specs.Events.{Event, MayHappen, after_event, reqbufs, prepare_buf, qbuf, dqbuf, streamon, streamoff, querybuf, mmap, munmap, take_planes, copy_plane, complete, fail, fatal, take_fresh}
 use Rattle.loop_vb2.specs.Laws.{IsBlindTo, LeavesNone, SetsAreInOnePlace, brought_by, handed_by, dropped_by}
 use Rattle.loop_vb2.proofs.Ordered.{not_refused}
-use Rattle.loop_vb2.proofs.Passing.{Passed, all_passed}
-use Rattle.loop_vb2.proofs.Steps.{queue_within, prepare_within, take_within, held_there}
+use Rattle.loop_vb2.proofs.Steps.{queue_within, queue_empty, prepare_within, prepare_empty, take_within, held_there}
 use Rattle.loop_vb2.proofs.Owners.{first_is_ended}
 
 -- ---- counts
@@ -112,17 +111,6 @@ all_left : (test : PlaneSet Plane → Bool) (kind : Memory) (bs : List (Buffer P
 all_left test Mmap bs = nothing_first (count_by test (held bs))
 all_left test UserPtr bs = nothing (count_by test (held bs))
 all_left test DmaBuf bs = nothing (count_by test (held bs))
-
-first_false : (a b : Bool) → (a || b) ≡ false → a ≡ false
-first_false true b e = e
-first_false false b e = refl
-
--- a buffer that gets a set held none
-queue_empty : (index : ℕ) (kind : Memory) (set : PlaneSet Plane) (b : Body Plane) → queue_refusal index kind (Some set) b ≡ None → holds_at b.buffers index ≡ false
-queue_empty index kind set b e = let p : Passed (queue_checks index kind (Some set) b) = all_passed (queue_checks index kind (Some set) b) e in first_false (holds_at b.buffers index) (not (has_count b.shape.count set)) p.1.1.0
-
-prepare_empty : (index : ℕ) (kind : Memory) (set : PlaneSet Plane) (b : Body Plane) → prepare_refusal index kind (Some set) b ≡ None → holds_at b.buffers index ≡ false
-prepare_empty index kind set b e = let p : Passed (prepare_checks index kind (Some set) b) = all_passed (prepare_checks index kind (Some set) b) e in first_false (holds_at b.buffers index) (not (has_count b.shape.count set)) p.1.1.0
 
 -- the buffer of an index is one
 one_buffer : (bs : List (Buffer Plane)) (i : ℕ) (x b : Buffer Plane) → slice_get bs i ≡ Some x → slice_get bs i ≡ Some b → b.planes ≡ x.planes
