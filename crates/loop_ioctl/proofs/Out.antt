@@ -1,7 +1,7 @@
 -- Planes that leave a queue: DQBUF and REQBUFS, of queue and table.
-use Rattle.std.proofs.Common.{◌≡◌, ℕ, zero, suc, ◌+◌, ◌==◌, Bool, true, false, not, ◌&&◌, nat_lt, cond, List, [], ◌∷◌, length, map, replicate, Option, Some, None, Ok, Err, refl, sym, ◌∙◌, ap, subst, arith}
+use Rattle.std.proofs.Common.{◌≡◌, ℕ, zero, suc, ◌+◌, ◌==◌, Bool, true, false, ◌&&◌, nat_lt, cond, List, [], ◌∷◌, length, map, replicate, Option, Some, None, Ok, Err, refl, sym, ◌∙◌, ap, subst, arith}
 use Rattle.std.specs.Prelude.{Vec, option_to_list, slice_get}
-use Rattle.std.specs.List.{list_all, list_any}
+use Rattle.std.specs.List.{list_all}
 use Rattle.std.proofs.lemmas.Bool.{eqb-true}
 use Rattle.loop_plane.specs.Plane.{Plane}
 use Rattle.loop_plane.specs.Fds.{Fds}
@@ -23,7 +23,7 @@ use Rattle.loop_ioctl.specs.declared.call.Ioctl.TheVariants as call
 use Rattle.loop_ioctl.specs.declared.call.IoctlReply.TheVariants as reply
 use Rattle.loop_ioctl.specs.Names.{Names, names_in, values_in, values_of, given_back, AreAway, GivesBack}
 use Rattle.loop_ioctl.specs.Attached.{fd_times, values_by_fd, values_held, IsLinked}
-use Rattle.loop_ioctl.specs.Calls.{StandsIoctl, read_names, planes_at, names_left, handed_out, HandsBack}
+use Rattle.loop_ioctl.specs.Calls.{read_names, planes_at, names_left, handed_out, HandsBack}
 use Rattle.loop_ioctl.specs.Parts.{LetsOut, AppliesAt, AppliesOfAny}
 use Rattle.loop_vb2.proofs.Passing.{Passed, all_passed, true_of}
 use Rattle.loop_ioctl.proofs.Attached.{in_buffers, let_out, last_none, AreOnce, once_same, IsLetOut, given_once, in_more}

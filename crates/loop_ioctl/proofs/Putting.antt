@@ -1,5 +1,5 @@
 -- Steps of queue and table: calls that answer nothing but Done, QBUF and PREPARE_BUF among them.
-use Rattle.std.proofs.Common.{◌≡◌, ℕ, suc, ◌+◌, ◌<◌, Bool, true, false, not, ◌||◌, nat_le, cond, List, [], ◌∷◌, length, map, Option, Some, None, option_map, Ok, Err, refl, sym, ◌∙◌, ap, subst, arith}
+use Rattle.std.proofs.Common.{◌≡◌, ℕ, suc, ◌+◌, ◌<◌, true, false, not, ◌||◌, nat_le, cond, List, [], ◌∷◌, length, map, Option, Some, None, Ok, Err, refl, sym, ◌∙◌, ap, subst, arith}
 use Rattle.std.specs.Prelude.{Result, OnErr, IfOk, IfErr}
 use Rattle.slab.specs.Slab.{SameValues}
 use Rattle.loop_plane.specs.Plane.{Plane}
@@ -34,7 +34,7 @@ use Rattle.loop_ioctl.specs.declared.put.Use.{Use}
 use Rattle.loop_ioctl.specs.declared.put.Use.TheVariants.{Prepare, Queue}
 use Rattle.loop_ioctl.specs.Names.{Names, names_in, or_else, set_refusal, set_named, set_taken, values_in, GivesIfRefused, TakesSet}
 use Rattle.loop_ioctl.specs.Attached.{fd_times, values_held, IsOnce, IsLinked}
-use Rattle.loop_ioctl.specs.Calls.{IoctlState, StandsIoctl, read_names, planes_of, kind_named, planes_brought, plain_event, call_event, MayHappenIf, after_event_if, early_refusal, memory_refusal, fds_refusal, names_taken, names_after, planes_given, supply_given, HandsBack, HandsOut, ComesBack, IsAnsweredFor, after_ioctl}
+use Rattle.loop_ioctl.specs.Calls.{IoctlState, StandsIoctl, read_names, planes_of, kind_named, planes_brought, plain_event, call_event, MayHappenIf, after_event_if, early_refusal, memory_refusal, fds_refusal, names_taken, names_after, planes_given, supply_given, HandsBack, HandsOut, IsAnsweredFor}
 use Rattle.loop_ioctl.specs.Parts.{use_event, use_call, AppliesAt, AppliesTyped, AppliesOfAny}
 use Rattle.loop_ioctl.proofs.Names.{same_names, same_values, set_undone}
 use Rattle.loop_ioctl.proofs.Attached.{in_buffer, in_buffers, kept_changed, kept_mapped, added, AreOnce, once_same, set_once, last_none}
