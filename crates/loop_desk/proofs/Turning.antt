@@ -30,7 +30,7 @@ use Rattle.loop_ioctl.specs.Attached.{fd_times, values_by_fd, values_held, IsLin
 use Rattle.loop_ioctl.specs.Calls.{IoctlState, StandsIoctl, planes_at}
 use Rattle.loop_ioctl.specs.Events.{is_whole, state_after, Reacts}
 use Rattle.loop_ioctl.proofs.Attached.{in_buffers, in_buffer, once_same}
-use Rattle.loop_ioctl.proofs.Aside.{queued_kind, queued_none, queued_some, IsAside, is_request, event_aside, call_out, new_queues_stand}
+use Rattle.loop_ioctl.proofs.Aside.{queued_kind, queued_none, queued_some, IsAside, is_request, event_aside, event_out, new_queues_stand}
 use Rattle.loop_ioctl.proofs.Out.{planes_got, out_count}
 use Rattle.loop_ioctl.proofs.Putting.{stays}
 use Rattle.loop_desk.specs.declared.hand.Hand.{Hand}
@@ -75,7 +75,7 @@ module _ {P A : Type 0} (m : P → Plane) where
   -- the hand is empty where REQBUFS isn't forbidden
   out_after : (e : QueueEvent P A) (r : QueueReply P A) (j : IoctlState) (h : HandState) → forbids (index_in h) e ≡ false → IsOut j h → IsOut (state_after m e r j) h
   out_after (event.Ioctl (call.ReqBufs type count kind supply)) r j h free out =
-      nothing_out j (state_after m (event.Ioctl (call.ReqBufs type count kind supply)) r j) h (call_out m type count kind supply r j) free out
+      nothing_out j (state_after m (event.Ioctl (call.ReqBufs type count kind supply)) r j) h (event_out m (event.Ioctl (call.ReqBufs type count kind supply)) r j) free out
   out_after e r j h free out = aside_out e r j h refl out
 
   -- ---- events of the queue
