@@ -1,5 +1,5 @@
 -- What the calls of an honest disk do, and what each call keeps of every disk.
-use Rattle.std.specs.Prelude.{◌≡◌, ◌↔◌, ℕ, ◌+◌, ◌-◌, ◌^◌, min, max, List, length, Option, Some, None, Result, Ok, Err, OnOk}
+use Rattle.std.specs.Prelude.{◌≡◌, ◌↔◌, ℕ, ◌+◌, ◌-◌, ◌^◌, Bool, true, false, min, max, List, length, Option, Some, None, Result, Ok, Err, OnOk}
 use Rattle.loop_disk.specs.declared.fault.Failures.{Failures}
 use Rattle.loop_disk.specs.declared.fault.DiskFault.{DiskFault}
 use Rattle.loop_disk.specs.declared.fault.DiskFault.TheVariants.{Read, Write, Sync}
@@ -24,6 +24,12 @@ with_failed (Some Sync) failures = record failures { syncs = one_more failures.s
 abbrev pub failed_call : {T : Type 0} → Result T DiskFault → Option DiskFault
 failed_call (Ok x) = None
 failed_call (Err fault) = Some fault
+
+-- it is a write or a sync
+abbrev pub is_write_or_sync : DiskFault → Bool
+is_write_or_sync Read = false
+is_write_or_sync Write = true
+is_write_or_sync Sync = true
 
 -- What each call keeps, and each run of calls in which this one failed, or none did. It holds of every disk,
 -- honest or not.

@@ -94,5 +94,5 @@ returns-in-Err-clause-goes g c =
     goes-unnoted medium c.args.disk.now c.add_clip.new.disk i c.add_clip.new.index c.args.must_reopen.now (CanTake h span id) (lock span) (locked span (Err (Disk c.in-Err.fault))) c.in-Err.fault c.requires c.if-must_reopen.false c.in-Err.ensures.same (lock-redrawn h id span c.in_ok-id.ensures.id.0.0).alike
     (λ honest. g.met.D.Disk.sound c.add_clip.new.disk honest) makes.called makes.moments
     (λ r image known. takes h r span id c.in_ok-id.ensures.id.0.0 (c.in_ok-id.ensures.answers r image known))
-    (record { writes = refl; late = refl; stored = refl; answers = λ s still one. answer-given (medium c.args.disk.now).honest h s (locked span (Err (Disk c.in-Err.fault))) still one.fits refl }) (λ cs. refl) refl refl (λ s. refl) (λ s. refl)
+    (record { writes = refl; late = refl; stored = refl; answers = λ s still one. answer-given (medium c.args.disk.now).honest h s (locked span (Err (Disk c.in-Err.fault))) still one.fits makes.fault }) (λ cs. refl) refl refl (λ s. refl) (λ s. refl)
     (lock-allowed h (progress_of (seen_with c.args.disk.now i c.args.must_reopen.now)) span (Err (Disk c.in-Err.fault)) c.if-must_reopen.false c.in_ok-id.ensures.id.1 (inr (inr refl)))

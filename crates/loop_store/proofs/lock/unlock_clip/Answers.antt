@@ -81,5 +81,5 @@ returns-in-Err-clause-goes g c =
     goes-unnoted medium c.args.disk.now c.remove_clip.new.disk i c.remove_clip.new.index c.args.must_reopen.now (λ r. clip_of r id ≢ None) (unlock id) (unlocked id (Err (Disk c.in-Err.fault))) c.in-Err.fault c.requires c.if-must_reopen.false c.in-Err.ensures.same (unlock-redrawn i.ring.geometry id c.in-Some.ensures.within).alike
     (λ honest. g.met.D.Disk.sound c.remove_clip.new.disk honest) makes.called makes.moments
     (λ r image known. some _ c.in-Some.field-0 (clip-known i r image id known ∙ sym c.in-Some.ensures.clip))
-    (record { writes = refl; late = refl; stored = refl; answers = λ s still one. unlock-answered (medium c.args.disk.now).honest i.ring.geometry s id (Err (Disk c.in-Err.fault)) still one refl }) (λ cs. refl) refl refl (λ s. refl) (λ s. refl)
+    (record { writes = refl; late = refl; stored = refl; answers = λ s still one. unlock-answered (medium c.args.disk.now).honest i.ring.geometry s id (Err (Disk c.in-Err.fault)) still one makes.fault }) (λ cs. refl) refl refl (λ s. refl) (λ s. refl)
     (unlock-allowed i.ring.geometry (progress_of (seen_with c.args.disk.now i c.args.must_reopen.now)) id (Err (Disk c.in-Err.fault)) c.if-must_reopen.false (some _ c.in-Some.field-0 (sym c.in-Some.ensures.clip)) refl)

@@ -141,6 +141,7 @@ returns-in-Err-clause-goes g c =
       fine = c.if-must_reopen.false;
       unspent = λ same. not-refused c.in_ok-place.place (c.in_ok-place.ensures.spent.1 same);
       has_failed = refl;
+      writes = c.in-Err.ensures.fault;
       called = c.in-Err.ensures.called;
       sound = λ now. g.met.D.Disk.sound c.append_group.new.disk now;
       place = λ r stands.
