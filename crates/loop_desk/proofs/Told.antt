@@ -7,6 +7,7 @@ use Rattle.loop_record.specs.declared.clip.Span.{Span}
 use Rattle.loop_record.specs.declared.geometry.PixelFormat.{PixelFormat}
 use Rattle.loop_store.specs.declared.command.ReadFrame.{ReadFrame}
 use Rattle.loop_store.specs.declared.fault.StoreFault.{StoreFault}
+use Rattle.loop_store.specs.Opened.{TellsOne}
 use Rattle.loop_store.specs.Runs.{read_of}
 use Rattle.loop_vb2.specs.State.{Body}
 use Rattle.std.specs.Prelude.{option_to_list}
@@ -60,35 +61,35 @@ module _ {D P A : Type 0} (m : P → Plane) (medium : D → Medium) where
   -- ---- the front
 
   -- a turn of the front alone
-  at-front : (old new : Lane D P A) (e : LaneEvent P A) (p : LaneReply P A) (t : Turn P A) → ((medium old.desk.store.disk).honest → IsSound (medium old.desk.store.disk)) → AreCallsOf e p [] → new.desk ≡ old.desk
+  at-front : (old new : Lane D P A) (e : LaneEvent P A) (p : LaneReply P A) (t : Turn P A) → TellsOne old.desk.store → ((medium old.desk.store.disk).honest → IsSound (medium old.desk.store.disk)) → AreCallsOf e p [] → new.desk ≡ old.desk
       → ((f : Front) → calls_of_turn f (at_front t) ≡ []) → ((f : Front) → StandsLane m old f → turn_at f (e, p) ≡ at_front t)
       → Turns m old.queue old.table old.hand t new.queue new.table new.hand → LaneRan m medium old new (e ∷ []) (p ∷ [])
-  at-front old new e p t sound are same none is turns =
-      one old new e p [] are (subst (λ d. DeskGoes medium old.desk d []) (sym same) (desk-none medium old.desk sound))
+  at-front old new e p t one_told sound are same none is turns =
+      one old new e p [] are (subst (λ d. DeskGoes medium old.desk d []) (sym same) (desk-none medium old.desk one_told sound))
       (λ f stands. let h = turns f stands in (at_front t, (is f stands, (h.0, (h.1, sym (none f))))))
 
   format-of : (old : Lane D P A) (f : Front) → StandsLane m old f → f.queue.queue.body.format ≡ old.queue.body.format
   format-of old f stands = ap (λ (b : Body Plane). b.format) (sym stands.queue.queue.shown.body)
 
-  pub told-queue : (old new : Lane D P A) (e : QueueEvent P A) (result : Result (QueueReply P A) LaneFault) → ((medium old.desk.store.disk).honest → IsSound (medium old.desk.store.disk)) → new.desk ≡ old.desk
+  pub told-queue : (old new : Lane D P A) (e : QueueEvent P A) (result : Result (QueueReply P A) LaneFault) → TellsOne old.desk.store → ((medium old.desk.store.disk).honest → IsSound (medium old.desk.store.disk)) → new.desk ≡ old.desk
       → is_dequeue old.queue.body.format e ≡ false → Turns m old.queue old.table old.hand (on_queue e result) new.queue new.table new.hand → LaneRan m medium old new (event.Queue e ∷ []) (reply.Queue result ∷ [])
-  told-queue old new e result sound same other turns =
-      at-front old new (event.Queue e) (reply.Queue result) (on_queue e result) sound refl same (λ f. refl)
+  told-queue old new e result one_told sound same other turns =
+      at-front old new (event.Queue e) (reply.Queue result) (on_queue e result) one_told sound refl same (λ f. refl)
       (λ (f : Front) (stands : StandsLane m old f). ap (λ (b : Bool). if b then mixed else at_front (on_queue e result)) (ap (λ (format : PixelFormat). is_dequeue format e) (format-of old f stands) ∙ other)) turns
 
-  pub told-dqbuf : (old new : Lane D P A) (e : QueueEvent P A) (result : Result ℕ LaneFault) → ((medium old.desk.store.disk).honest → IsSound (medium old.desk.store.disk)) → new.desk ≡ old.desk
+  pub told-dqbuf : (old new : Lane D P A) (e : QueueEvent P A) (result : Result ℕ LaneFault) → TellsOne old.desk.store → ((medium old.desk.store.disk).honest → IsSound (medium old.desk.store.disk)) → new.desk ≡ old.desk
       → is_dequeue old.queue.body.format e ≡ true → Turns m old.queue old.table old.hand (dequeued result) new.queue new.table new.hand → LaneRan m medium old new (event.Queue e ∷ []) (reply.Dequeue result ∷ [])
-  told-dqbuf old new e result sound same is turns =
-      at-front old new (event.Queue e) (reply.Dequeue result) (dequeued result) sound refl same (λ f. refl)
+  told-dqbuf old new e result one_told sound same is turns =
+      at-front old new (event.Queue e) (reply.Dequeue result) (dequeued result) one_told sound refl same (λ f. refl)
       (λ (f : Front) (stands : StandsLane m old f). ap (λ (b : Bool). if b then at_front (dequeued result) else mixed) (ap (λ (format : PixelFormat). is_dequeue format e) (format-of old f stands) ∙ is)) turns
 
-  pub told-dequeue : (old new : Lane D P A) (result : Result ℕ LaneFault) → ((medium old.desk.store.disk).honest → IsSound (medium old.desk.store.disk)) → new.desk ≡ old.desk
+  pub told-dequeue : (old new : Lane D P A) (result : Result ℕ LaneFault) → TellsOne old.desk.store → ((medium old.desk.store.disk).honest → IsSound (medium old.desk.store.disk)) → new.desk ≡ old.desk
       → Turns m old.queue old.table old.hand (dequeued result) new.queue new.table new.hand → LaneRan m medium old new (event.Dequeue ∷ []) (reply.Dequeue result ∷ [])
-  told-dequeue old new result sound same turns = at-front old new event.Dequeue (reply.Dequeue result) (dequeued result) sound refl same (λ f. refl) (λ f stands. refl) turns
+  told-dequeue old new result one_told sound same turns = at-front old new event.Dequeue (reply.Dequeue result) (dequeued result) one_told sound refl same (λ f. refl) (λ f stands. refl) turns
 
-  pub told-requeue : (old new : Lane D P A) (result : Result ℕ LaneFault) → ((medium old.desk.store.disk).honest → IsSound (medium old.desk.store.disk)) → new.desk ≡ old.desk
+  pub told-requeue : (old new : Lane D P A) (result : Result ℕ LaneFault) → TellsOne old.desk.store → ((medium old.desk.store.disk).honest → IsSound (medium old.desk.store.disk)) → new.desk ≡ old.desk
       → Turns m old.queue old.table old.hand (requeued result) new.queue new.table new.hand → LaneRan m medium old new (event.Requeue ∷ []) (reply.Requeue result ∷ [])
-  told-requeue old new result sound same turns = at-front old new event.Requeue (reply.Requeue result) (requeued result) sound refl same (λ f. refl) (λ f stands. refl) turns
+  told-requeue old new result one_told sound same turns = at-front old new event.Requeue (reply.Requeue result) (requeued result) one_told sound refl same (λ f. refl) (λ f stands. refl) turns
 
   -- ---- the desk
 

@@ -68,11 +68,10 @@ abbrev Held : {D : Type 0} (medium : D → Medium) (store : Seen D) → StoreSta
 Held medium store s = (medium store.disk).honest × Stands medium store s
 
 -- the state of a store that tells of a recording
-pub state-of : {D : Type 0} (store : Seen D) → TellsOne store → StoreState
+abbrev pub state-of : {D : Type 0} (store : Seen D) → TellsOne store → StoreState
 state-of store one = record { recording = one.0; must_reopen = store.must_reopen }
 
 pub state-told : {D : Type 0} (store : Seen D) (one : TellsOne store) → TellsState store (state-of store one)
-unfolding state-of
 state-told store one = record { recording = one.1; must_reopen = refl }
 
 -- a store tells what the state says for which it stands
@@ -81,7 +80,6 @@ told-of medium store s stands = record { recording = stands.recording.told; must
 
 -- and so nothing is moved
 pub idle : {D : Type 0} (medium : D → Medium) (old new : Seen D) (calls : List Call) → Goes medium old new calls → old.must_reopen ≡ true → new ≡ old
-unfolding state-of
 idle medium old new calls goes must =
     let s = state-of old goes.one in
     goes.unmoved (all-refused (Held medium old s) old.geometry s calls must (goes.answers s (state-told old goes.one)))
