@@ -6,6 +6,7 @@ use Rattle.loop_plane.specs.Plane.{Plane}
 use Rattle.loop_disk.specs.Medium.{Medium, IsSound}
 use Rattle.loop_record.specs.Turns.{Plays, after_all, told_in}
 use Rattle.loop_record.proofs.Turned.{plays-joined, plays-none, told-behind}
+use Rattle.loop_store.specs.Opened.{TellsOne}
 use Rattle.loop_desk.specs.declared.event.LaneEvent.{LaneEvent}
 use Rattle.loop_desk.specs.declared.event.LaneReply.{LaneReply}
 use Rattle.loop_desk.specs.declared.lane.Lane.{Lane}
@@ -43,11 +44,11 @@ module _ {P A : Type 0} where
   shown-one e p calls are = (calls, ([], (sym (append-nil calls), (are, refl))))
 
 module _ {D P A : Type 0} (m : P → Plane) (medium : D → Medium) where
-  pub ran-none : (lane : Lane D P A) → ((medium lane.desk.store.disk).honest → IsSound (medium lane.desk.store.disk)) → LaneRan m medium lane lane [] []
-  ran-none lane sound = record {
+  pub ran-none : (lane : Lane D P A) → TellsOne lane.desk.store → ((medium lane.desk.store.disk).honest → IsSound (medium lane.desk.store.disk)) → LaneRan m medium lane lane [] []
+  ran-none lane one sound = record {
     calls = [];
     shown = refl;
-    desk = desk-none medium lane.desk sound;
+    desk = desk-none medium lane.desk one sound;
     front = plays-none (lane_machine {P = P} {A = A} m) (StandsLane m lane);
     are = λ f stands. refl;
   }

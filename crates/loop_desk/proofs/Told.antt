@@ -8,6 +8,7 @@ use Rattle.loop_record.specs.declared.geometry.PixelFormat.{PixelFormat}
 use Rattle.loop_record.proofs.Turned.{plays-once}
 use Rattle.loop_store.specs.declared.command.ReadFrame.{ReadFrame}
 use Rattle.loop_store.specs.declared.fault.StoreFault.{StoreFault}
+use Rattle.loop_store.specs.Opened.{TellsOne}
 use Rattle.loop_store.specs.Runs.{read_of}
 use Rattle.loop_vb2.specs.State.{Body}
 use Rattle.loop_ioctl.specs.declared.events.QueueEvent.{QueueEvent}
@@ -53,27 +54,27 @@ module _ {D P A : Type 0} (m : P → Plane) (medium : D → Medium) where
   -- ---- the front
 
   -- a turn of the front alone
-  at-front : (old new : Lane D P A) (e : LaneEvent P A) (p : LaneReply P A) (t : Turn P A) → ((medium old.desk.store.disk).honest → IsSound (medium old.desk.store.disk)) → turn_of old.queue.body.format e p ≡ at_front t → AreCallsAt (hand_state m old.hand) (at_front t) []
+  at-front : (old new : Lane D P A) (e : LaneEvent P A) (p : LaneReply P A) (t : Turn P A) → TellsOne old.desk.store → ((medium old.desk.store.disk).honest → IsSound (medium old.desk.store.disk)) → turn_of old.queue.body.format e p ≡ at_front t → AreCallsAt (hand_state m old.hand) (at_front t) []
       → new.desk ≡ old.desk → FrontTurns m old.queue old.table old.hand t new.queue new.table new.hand → LaneRan m medium old new (e ∷ []) (p ∷ [])
-  at-front old new e p t sound is none same turns = one old new e p (at_front t) [] is none (subst (λ d. DeskGoes medium old.desk d []) (sym same) (desk-none medium old.desk sound)) turns
+  at-front old new e p t one_told sound is none same turns = one old new e p (at_front t) [] is none (subst (λ d. DeskGoes medium old.desk d []) (sym same) (desk-none medium old.desk one_told sound)) turns
 
-  pub told-queue : (old new : Lane D P A) (e : QueueEvent P A) (result : Result (QueueReply P A) LaneFault) → ((medium old.desk.store.disk).honest → IsSound (medium old.desk.store.disk)) → new.desk ≡ old.desk
+  pub told-queue : (old new : Lane D P A) (e : QueueEvent P A) (result : Result (QueueReply P A) LaneFault) → TellsOne old.desk.store → ((medium old.desk.store.disk).honest → IsSound (medium old.desk.store.disk)) → new.desk ≡ old.desk
       → is_dequeue old.queue.body.format e ≡ false → FrontTurns m old.queue old.table old.hand (on_queue e result) new.queue new.table new.hand → LaneRan m medium old new (event.Queue e ∷ []) (reply.Queue result ∷ [])
-  told-queue old new e result sound same other turns =
-      at-front old new (event.Queue e) (reply.Queue result) (on_queue e result) sound (ap (λ (b : Bool). if b then mixed else at_front (on_queue e result)) other) refl same turns
+  told-queue old new e result one_told sound same other turns =
+      at-front old new (event.Queue e) (reply.Queue result) (on_queue e result) one_told sound (ap (λ (b : Bool). if b then mixed else at_front (on_queue e result)) other) refl same turns
 
-  pub told-dqbuf : (old new : Lane D P A) (e : QueueEvent P A) (result : Result ℕ LaneFault) → ((medium old.desk.store.disk).honest → IsSound (medium old.desk.store.disk)) → new.desk ≡ old.desk
+  pub told-dqbuf : (old new : Lane D P A) (e : QueueEvent P A) (result : Result ℕ LaneFault) → TellsOne old.desk.store → ((medium old.desk.store.disk).honest → IsSound (medium old.desk.store.disk)) → new.desk ≡ old.desk
       → is_dequeue old.queue.body.format e ≡ true → FrontTurns m old.queue old.table old.hand (dequeued result) new.queue new.table new.hand → LaneRan m medium old new (event.Queue e ∷ []) (reply.Dequeue result ∷ [])
-  told-dqbuf old new e result sound same is turns =
-      at-front old new (event.Queue e) (reply.Dequeue result) (dequeued result) sound (ap (λ (b : Bool). if b then at_front (dequeued result) else mixed) is) refl same turns
+  told-dqbuf old new e result one_told sound same is turns =
+      at-front old new (event.Queue e) (reply.Dequeue result) (dequeued result) one_told sound (ap (λ (b : Bool). if b then at_front (dequeued result) else mixed) is) refl same turns
 
-  pub told-dequeue : (old new : Lane D P A) (result : Result ℕ LaneFault) → ((medium old.desk.store.disk).honest → IsSound (medium old.desk.store.disk)) → new.desk ≡ old.desk
+  pub told-dequeue : (old new : Lane D P A) (result : Result ℕ LaneFault) → TellsOne old.desk.store → ((medium old.desk.store.disk).honest → IsSound (medium old.desk.store.disk)) → new.desk ≡ old.desk
       → FrontTurns m old.queue old.table old.hand (dequeued result) new.queue new.table new.hand → LaneRan m medium old new (event.Dequeue ∷ []) (reply.Dequeue result ∷ [])
-  told-dequeue old new result sound same turns = at-front old new event.Dequeue (reply.Dequeue result) (dequeued result) sound refl refl same turns
+  told-dequeue old new result one_told sound same turns = at-front old new event.Dequeue (reply.Dequeue result) (dequeued result) one_told sound refl refl same turns
 
-  pub told-requeue : (old new : Lane D P A) (result : Result ℕ LaneFault) → ((medium old.desk.store.disk).honest → IsSound (medium old.desk.store.disk)) → new.desk ≡ old.desk
+  pub told-requeue : (old new : Lane D P A) (result : Result ℕ LaneFault) → TellsOne old.desk.store → ((medium old.desk.store.disk).honest → IsSound (medium old.desk.store.disk)) → new.desk ≡ old.desk
       → FrontTurns m old.queue old.table old.hand (requeued result) new.queue new.table new.hand → LaneRan m medium old new (event.Requeue ∷ []) (reply.Requeue result ∷ [])
-  told-requeue old new result sound same turns = at-front old new event.Requeue (reply.Requeue result) (requeued result) sound refl refl same turns
+  told-requeue old new result one_told sound same turns = at-front old new event.Requeue (reply.Requeue result) (requeued result) one_told sound refl refl same turns
 
   -- ---- the desk
 

@@ -18,10 +18,14 @@ holds-all g r steps more image held = record {
   held = subst (λ (l : List Step). Holds g (plain (ring_of g) r l) image) (sym (take_at steps more (length steps) refl)) held;
 }
 
--- a store after a failed call stands for what it stood for
+-- a store after a failed call tells what it told, and stands for what it stood for
+pub failed-told : {D : Type 0} (old new : Seen D) (r : Recording) → HasFailed old new → Tells old r → Tells new r
+failed-told {D} old new r failed told =
+    subst (λ (s : Seen D). Tells s r) (sym failed) (record { formed = told.formed; next_is = told.next_is; numbers_are = told.numbers_are; count_is = told.count_is; clips_are = told.clips_are })
+
 pub failed-stands : {D : Type 0} (medium : D → Medium) (old new : Seen D) (r : Recording) → HasFailed old new → StandsFor medium old r → StandsFor medium new r
 failed-stands {D} medium old new r failed stands = record {
-  told = subst (λ (s : Seen D). Tells s r) (sym failed) (let told = stands.told in record { formed = told.formed; next_is = told.next_is; numbers_are = told.numbers_are; count_is = told.count_is; clips_are = told.clips_are });
+  told = failed-told old new r failed stands.told;
   settled = λ fine now. absurd (clash new.must_reopen (ap (λ (s : Seen D). s.must_reopen) failed) fine);
   held = λ fine now. absurd (clash new.must_reopen (ap (λ (s : Seen D). s.must_reopen) failed) fine);
 }
