@@ -3,7 +3,7 @@ use Rattle.std.specs.Prelude.{◌≡◌, ◌↔◌, ℕ, ◌+◌, ◌-◌, ◌^�
 use Rattle.loop_disk.specs.declared.fault.Failures.{Failures}
 use Rattle.loop_disk.specs.declared.fault.DiskFault.{DiskFault}
 use Rattle.loop_disk.specs.declared.fault.DiskFault.TheVariants.{Read, Write, Sync}
-use Rattle.loop_disk.specs.Medium.{Medium, written, SameOutside, TornAt, Only, Elapses}
+use Rattle.loop_disk.specs.Medium.{Medium, written, SameOutside, TornAt, Only, Meanwhile, Remembers}
 
 -- a count after one more; it stops at the greatest u64
 abbrev pub one_more : ℕ → ℕ
@@ -42,14 +42,16 @@ pub record Called (old new : Medium) (failed : Option DiskFault) : Type 0 where
 pub record Stays (old new : Medium) : Type 0 where
   pub bytes : new.bytes ≡ old.bytes
   pub images : (c : List ℕ) → new.may_leave c → old.may_leave c
-  pub time : Elapses old new old.may_leave
+  pub time : Meanwhile old new old.may_leave
+  pub keeps : Remembers old new
 
 -- A write, done or failed. The range may hold anything after a crash, and after a failure.
 pub record Writes {T : Type 0} (at : ℕ) (bytes : List ℕ) (old new : Medium) (result : Result T DiskFault) : Type 0 where
   pub done : OnOk result (new.bytes ≡ written at bytes old.bytes)
   pub elsewhere : SameOutside at (length bytes) old.bytes new.bytes
   pub images : (c : List ℕ) → new.may_leave c → TornAt at (length bytes) old c
-  pub time : Elapses old new (TornAt at (length bytes) old)
+  pub time : Meanwhile old new (TornAt at (length bytes) old)
+  pub keeps : Remembers old new
 
 -- A sync. One that fails settles nothing.
 pub record Syncs {T : Type 0} (old new : Medium) (result : Result T DiskFault) : Type 0 where
