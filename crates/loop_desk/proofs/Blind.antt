@@ -15,7 +15,7 @@ use Rattle.loop_store.specs.Steps.{if_answered, steps_or_none}
 use Rattle.loop_desk.specs.declared.limits.Flushed.{Flushed}
 use Rattle.loop_desk.specs.declared.limits.Outline.{Outline}
 use Rattle.loop_desk.specs.Bare.{IsBlind, IsOutlineOf, bare, bare_call, bare_frame, bare_read, bare_recording, bare_state, bare_store}
-use Rattle.loop_desk.specs.Desk.{AreDeskAnswers, DeskCall, DeskState, IsCounted, IsDeskAnswer, IsDeskTold, IsFlush, Rules, append_of, clip_locked, clip_unlocked, desk_after, desk_after_calls, flushed, frame_read, group_of, pending_after, status_told, store_calls, submitted, waiting_at}
+use Rattle.loop_desk.specs.Desk.{AreDeskAnswers, DeskCall, DeskState, IsDeskAnswer, IsDeskTold, IsFlush, Rules, append_of, clip_locked, clip_unlocked, desk_after, desk_after_calls, flushed, frame_read, group_of, pending_after, status_told, store_calls, submitted}
 use Rattle.loop_desk.specs.Seen.{SeenDesk, StandsAt, TellsOutline}
 
 abbrev bare_step : Step → Step
@@ -197,22 +197,22 @@ store-blind g s (c ∷ calls) =
 
 -- ---- the desk
 
-group-bare : (k : Rules) (s : DeskState) → group_of k (waiting_at (bare_state s)) ≡ map bare (group_of k (waiting_at s))
+group-bare : (k : Rules) (s : DeskState) → group_of k (bare_state s) ≡ map bare (group_of k s)
 group-bare k s = take-map bare (min k.limits.group (k.geometry.slots - s.store.recording.next % k.geometry.slots)) s.pending
 
 append-of-bare : (group : List Picture) (result : Result Flushed StoreFault) → append_of (map bare group) result ≡ map bare_stored (append_of group result)
 append-of-bare [] result = refl
 append-of-bare (p ∷ ps) result = refl
 
-calls-bare : (k : Rules) (s : DeskState) (c : DeskCall) → store_calls k (waiting_at (bare_state s)) (bare_call c) ≡ map bare_stored (store_calls k (waiting_at s) c)
+calls-bare : (k : Rules) (s : DeskState) (c : DeskCall) → store_calls k (bare_state s) (bare_call c) ≡ map bare_stored (store_calls k s c)
 calls-bare k s (submitted p size result) = refl
-calls-bare k s (flushed result) = ap (λ (l : List Picture). append_of l result) (group-bare k s) ∙ append-of-bare (group_of k (waiting_at s)) result
+calls-bare k s (flushed result) = ap (λ (l : List Picture). append_of l result) (group-bare k s) ∙ append-of-bare (group_of k s) result
 calls-bare k s (clip_locked span result) = refl
 calls-bare k s (clip_unlocked id result) = refl
 calls-bare k s (frame_read number result) = refl
 calls-bare k s (status_told status) = refl
 
-flush-bare : (s : DeskState) (group : List Picture) (result : Result Flushed StoreFault) → IsFlush (waiting_at s) group result → IsFlush (waiting_at (bare_state s)) (map bare group) result
+flush-bare : (s : DeskState) (group : List Picture) (result : Result Flushed StoreFault) → IsFlush s group result → IsFlush (bare_state s) (map bare group) result
 flush-bare s group (Ok f) said =
     let count = length-map s.pending bare in
     let size = length-map group bare in
@@ -221,25 +221,17 @@ flush-bare s [] (Err fault) said = said
 flush-bare s (p ∷ ps) (Err fault) said = tt
 
 call-bare : (k : Rules) (s : DeskState) (c : DeskCall) → IsDeskAnswer k s c → IsDeskAnswer k (bare_state s) (bare_call c)
-call-bare k s c said = (told c said.0, (counted c said.1.0, subst (λ (l : List Call). AreAnswered (Unit {0}) k.geometry (bare_store s.store) l) (sym (calls-bare k s c)) ((store-blind k.geometry s.store (store_calls k (waiting_at s) c)).answers said.1.1)))
+call-bare k s c said = (told c said.0, subst (λ (l : List Call). AreAnswered (Unit {0}) k.geometry (bare_store s.store) l) (sym (calls-bare k s c)) ((store-blind k.geometry s.store (store_calls k s c)).answers said.1))
   where
-    told : (d : DeskCall) → IsDeskTold k (waiting_at s) d → IsDeskTold k (waiting_at (bare_state s)) (bare_call d)
+    told : (d : DeskCall) → IsDeskTold k s d → IsDeskTold k (bare_state s) (bare_call d)
     told (submitted p size result) is =
         let count = length-map s.pending bare in
         is ∙ (λ i. if s.store.must_reopen then Err StoreFault.MustReopen else if not (size == frame_bytes k.geometry) then Err StoreFault.WrongSize else if sym count i == k.limits.pending then Err StoreFault.PendingFull else if (s.store.recording.next + sym count i) == last_number (ring_of k.geometry) then Err StoreFault.NumbersSpent else Ok (s.store.recording.next + sym count i))
-    told (flushed result) is = subst (λ (l : List Picture). IsFlush (waiting_at (bare_state s)) l result) (sym (group-bare k s)) (flush-bare s (group_of k (waiting_at s)) result is)
+    told (flushed result) is = subst (λ (l : List Picture). IsFlush (bare_state s) l result) (sym (group-bare k s)) (flush-bare s (group_of k s) result is)
     told (clip_locked span result) is = tt
     told (clip_unlocked id result) is = tt
     told (frame_read number result) is = tt
-    told (status_told status) is = (is.0, (is.1.0 ∙ sym (length-map s.pending bare), is.1.1))
-
-    counted : (d : DeskCall) → IsCounted s d → IsCounted (bare_state s) (bare_call d)
-    counted (submitted p size result) is = tt
-    counted (flushed result) is = tt
-    counted (clip_locked span result) is = tt
-    counted (clip_unlocked id result) is = tt
-    counted (frame_read number result) is = tt
-    counted (status_told status) is = is ∙ sym (length-map s.store.recording.frames bare_frame)
+    told (status_told status) is = record { next = is.next; held = is.held ∙ sym (length-map s.store.recording.frames bare_frame); pending = is.pending ∙ sym (length-map s.pending bare); must_reopen = is.must_reopen }
 
 pending-bare : (waiting : List Picture) (c : DeskCall) → pending_after (map bare waiting) (bare_call c) ≡ map bare (pending_after waiting c)
 pending-bare waiting (submitted p size (Ok number)) = sym (map-append bare waiting (p ∷ []))
@@ -253,7 +245,7 @@ pending-bare waiting (status_told status) = refl
 
 after-bare : (k : Rules) (s : DeskState) (c : DeskCall) → desk_after k (bare_state s) (bare_call c) ≡ bare_state (desk_after k s c)
 after-bare k s c =
-    let store = ap (λ (l : List Call). after_calls k.geometry (bare_store s.store) l) (calls-bare k s c) ∙ (store-blind k.geometry s.store (store_calls k (waiting_at s) c)).state in
+    let store = ap (λ (l : List Call). after_calls k.geometry (bare_store s.store) l) (calls-bare k s c) ∙ (store-blind k.geometry s.store (store_calls k s c)).state in
     let waiting = pending-bare s.pending c in
     λ i. record { store = store i; pending = waiting i }
 

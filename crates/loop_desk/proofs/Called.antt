@@ -10,15 +10,16 @@ use Rattle.loop_record.specs.Geometry.{frame_bytes}
 use Rattle.loop_record.specs.Recording.{Picture, last_number, ring_of}
 use Rattle.loop_store.specs.declared.fault.StoreFault.{StoreFault}
 use Rattle.loop_store.specs.declared.fault.StoreFault.TheVariants.{MustReopen, NumbersSpent, PendingFull, WrongSize}
-use Rattle.loop_store.specs.Calls.{Call, appended, locked, unlocked, was_read}
-use Rattle.loop_store.specs.Goes.{Goes, progress_of}
+use Rattle.loop_store.specs.Calls.{Call, after_calls, appended, locked, unlocked, was_read}
+use Rattle.loop_store.specs.Goes.{Goes, Stands, TellsState}
+use Rattle.loop_store.specs.Opened.{TellsOne}
 use Rattle.loop_store.specs.Seen.{Seen}
 use Rattle.loop_store.proofs.Gone.{goes-none}
-use Rattle.loop_store.proofs.Putting.{allowed-number}
+use Rattle.loop_store.proofs.Putting.{answered-fine, answered-number}
 use Rattle.loop_desk.specs.declared.limits.Flushed.{Flushed}
-use Rattle.loop_desk.specs.Desk.{DeskCall, DeskState, IsCounted, IsFlush, IsDeskTold, Rules, Waiting, append_of, appended_as, clip_locked, clip_unlocked, flushed, flushed_of, frame_read, group_of, pending_after, status_told, store_calls, submit_answer, submitted}
+use Rattle.loop_desk.specs.Desk.{DeskCall, DeskState, IsFlush, IsDeskTold, append_of, appended_as, clip_locked, clip_unlocked, flushed, frame_read, group_of, pending_after, status_told, store_calls, submit_answer, submitted}
 use Rattle.loop_desk.specs.declared.limits.Status.{Status}
-use Rattle.loop_desk.specs.Seen.{DeskGoes, SeenDesk, StandsAt, TellsStatus, rules_of, waiting_of}
+use Rattle.loop_desk.specs.Seen.{DeskGoes, SeenDesk, TellsDesk, TellsStatus, rules_of}
 
 -- the desk with this store and these frames
 abbrev pub with_store : {D : Type 0} → SeenDesk D → Seen D → List Picture → SeenDesk D
@@ -26,58 +27,77 @@ with_store d store pending = record { store = store; pending = pending; limits =
 
 module _ {D : Type 0} (medium : D → Medium) (d : SeenDesk D) where
   -- a call that makes these calls of the store, and is told so
-  pub called : (new : Seen D) (pending : List Picture) (c : DeskCall) (calls : List Call) → Goes medium d.store new calls → store_calls (rules_of d) (waiting_of d) c ≡ calls → IsDeskTold (rules_of d) (waiting_of d) c → pending ≡ pending_after d.pending c
-      → ((s : DeskState) → StandsAt medium d s → (medium d.store.disk).honest → IsCounted s c)
+  pub called : (new : Seen D) (pending : List Picture) (c : DeskCall) (calls : List Call) → Goes medium d.store new calls → ((s : DeskState) → TellsDesk d s → (store_calls (rules_of d) s c ≡ calls) × IsDeskTold (rules_of d) s c) → pending ≡ pending_after d.pending c
       → DeskGoes medium d (with_store d new pending) (c ∷ [])
-  called new pending c calls goes are told waits held = record {
-    store = subst (λ (l : List Call). Goes medium d.store new l) (sym (append-nil (store_calls (rules_of d) (waiting_of d) c) ∙ are)) goes;
-    told = (told, tt);
-    pending = waits;
+  called new pending c calls goes said waits = record {
+    one = goes.one;
+    store = λ s at. subst (λ (l : List Call). Goes medium d.store new l) (sym (append-nil (store_calls (rules_of d) s c) ∙ (said s at).0)) goes;
+    plays = λ s at. (
+      ((said s at).1, tt),
+      record {
+        store = subst (λ (l : List Call). TellsState new (after_calls d.store.geometry s.store l)) (sym (said s at).0) (goes.tells s.store at.store);
+        pending = waits ∙ ap (λ (ps : List Picture). pending_after ps c) at.pending;
+      },
+    );
     limits = refl;
-    counted = λ s stands now. (held s stands now, tt);
   }
 
   -- ---- a submit
 
-  pub goes-submit : (pending : List Picture) (p : Picture) (n : ℕ) (result : Result ℕ StoreFault) → ((medium d.store.disk).honest → IsSound (medium d.store.disk)) → result ≡ submit_answer (rules_of d) (waiting_of d) n → pending ≡ pending_after d.pending (submitted p n result)
+  pub goes-submit : (pending : List Picture) (p : Picture) (n : ℕ) (result : Result ℕ StoreFault) → TellsOne d.store → ((medium d.store.disk).honest → IsSound (medium d.store.disk)) → ((s : DeskState) → TellsDesk d s → result ≡ submit_answer (rules_of d) s n) → pending ≡ pending_after d.pending (submitted p n result)
       → DeskGoes medium d (with_store d d.store pending) (submitted p n result ∷ [])
-  goes-submit pending p n result sound answer waits = called d.store pending (submitted p n result) [] (goes-none medium d.store sound) refl answer waits (λ s stands now. tt)
+  goes-submit pending p n result one sound answer waits = called d.store pending (submitted p n result) [] (goes-none medium d.store one sound) (λ s at. (refl, answer s at)) waits
 
   -- ---- calls of the store alone
 
   pub goes-locked : (new : Seen D) (span : Span) (result : Result ℕ StoreFault) → Goes medium d.store new (locked span result ∷ []) → DeskGoes medium d (with_store d new d.pending) (clip_locked span result ∷ [])
-  goes-locked new span result goes = called new d.pending (clip_locked span result) (locked span result ∷ []) goes refl tt refl (λ s stands now. tt)
+  goes-locked new span result goes = called new d.pending (clip_locked span result) (locked span result ∷ []) goes (λ s at. (refl, tt)) refl
 
   pub goes-unlocked : (new : Seen D) (id : ℕ) (result : Result (Unit {0}) StoreFault) → Goes medium d.store new (unlocked id result ∷ []) → DeskGoes medium d (with_store d new d.pending) (clip_unlocked id result ∷ [])
-  goes-unlocked new id result goes = called new d.pending (clip_unlocked id result) (unlocked id result ∷ []) goes refl tt refl (λ s stands now. tt)
+  goes-unlocked new id result goes = called new d.pending (clip_unlocked id result) (unlocked id result ∷ []) goes (λ s at. (refl, tt)) refl
 
   pub goes-read : (new : Seen D) (number : ℕ) (result : Result (FrameHead × List ℕ) StoreFault) → Goes medium d.store new (was_read number result ∷ []) → DeskGoes medium d (with_store d new d.pending) (frame_read number result ∷ [])
-  goes-read new number result goes = called new d.pending (frame_read number result) (was_read number result ∷ []) goes refl tt refl (λ s stands now. tt)
+  goes-read new number result goes = called new d.pending (frame_read number result) (was_read number result ∷ []) goes (λ s at. (refl, tt)) refl
 
   -- ---- a status
 
-  pub goes-status : (status : Status) → ((medium d.store.disk).honest → IsSound (medium d.store.disk)) → TellsStatus medium d status → DeskGoes medium d d (status_told status ∷ [])
-  goes-status status sound tells = called d.store d.pending (status_told status) [] (goes-none medium d.store sound) refl (tells.next, (tells.pending, tells.must_reopen)) refl (λ s stands now. tells.held s.store.recording stands.store.recording)
+  pub goes-status : (status : Status) → TellsOne d.store → ((medium d.store.disk).honest → IsSound (medium d.store.disk)) → TellsStatus medium d status → DeskGoes medium d d (status_told status ∷ [])
+  goes-status status one sound tells = called d.store d.pending (status_told status) [] (goes-none medium d.store one sound)
+      (λ s at. (
+        refl,
+        record {
+          next = tells.next ∙ at.store.recording.next_is;
+          held = tells.count ∙ at.store.recording.count_is;
+          pending = tells.pending ∙ ap (λ (ps : List Picture). length ps) at.pending;
+          must_reopen = tells.must_reopen ∙ at.store.must_reopen;
+        },
+      )) refl
 
   -- ---- a flush where nothing waits
 
-  none-waits : d.pending ≡ [] → group_of (rules_of d) (waiting_of d) ≡ []
-  none-waits none =
-      let n = min d.limits.group (d.store.geometry.slots - d.store.next % d.store.geometry.slots) in
-      ap (λ (l : List Picture). take n l) none ∙ take-nil n
+  none-waits : (s : DeskState) → TellsDesk d s → d.pending ≡ [] → group_of (rules_of d) s ≡ []
+  none-waits s at none =
+      let n = min d.limits.group (d.store.geometry.slots - s.store.recording.next % d.store.geometry.slots) in
+      ap (λ (l : List Picture). take n l) (sym at.pending ∙ none) ∙ take-nil n
 
-  pub flush-must : d.pending ≡ [] → d.store.must_reopen ≡ true → ((medium d.store.disk).honest → IsSound (medium d.store.disk)) → DeskGoes medium d d (flushed (Err MustReopen) ∷ [])
-  flush-must none must sound =
-      called d.store d.pending (flushed (Err MustReopen)) [] (goes-none medium d.store sound) (ap (λ (l : List Picture). append_of l (Err MustReopen)) (none-waits none))
-      (subst (λ (l : List Picture). IsFlush (waiting_of d) l (Err MustReopen)) (sym (none-waits none)) (refl, must)) refl (λ s stands now. tt)
+  -- such a flush makes no call of the store
+  flush-nothing : (result : Result Flushed StoreFault) → d.pending ≡ [] → TellsOne d.store → ((medium d.store.disk).honest → IsSound (medium d.store.disk)) → ((s : DeskState) → TellsDesk d s → IsFlush s [] result) → d.pending ≡ pending_after d.pending (flushed result)
+      → DeskGoes medium d d (flushed result ∷ [])
+  flush-nothing result none one sound told waits =
+      called d.store d.pending (flushed result) [] (goes-none medium d.store one sound)
+      (λ s at. let empty = none-waits s at none in (ap (λ (l : List Picture). append_of l result) empty, subst (λ (l : List Picture). IsFlush s l result) (sym empty) (told s at))) waits
 
-  pub flush-none : (number : ℕ) → number ≡ d.store.next → d.pending ≡ [] → d.store.must_reopen ≡ false → ((medium d.store.disk).honest → IsSound (medium d.store.disk))
+  pub flush-must : d.pending ≡ [] → d.store.must_reopen ≡ true → TellsOne d.store → ((medium d.store.disk).honest → IsSound (medium d.store.disk)) → DeskGoes medium d d (flushed (Err MustReopen) ∷ [])
+  flush-must none must one sound = flush-nothing (Err MustReopen) none one sound (λ s at. (refl, sym at.store.must_reopen ∙ must)) refl
+
+  pub flush-none : (number : ℕ) → number ≡ d.store.next → d.pending ≡ [] → d.store.must_reopen ≡ false → TellsOne d.store → ((medium d.store.disk).honest → IsSound (medium d.store.disk))
       → DeskGoes medium d d (flushed (Ok (record { first = number; stored = 0; left = 0 })) ∷ [])
-  flush-none number is none fine sound =
-      let f : Flushed = record { first = number; stored = 0; left = 0 } in
-      let left : 0 ≡ length d.pending - 0 = omega (arith, ap length none) in
-      called d.store d.pending (flushed (Ok f)) [] (goes-none medium d.store sound) (ap (λ (l : List Picture). append_of l (Ok f)) (none-waits none))
-      (subst (λ (l : List Picture). IsFlush (waiting_of d) l (Ok f)) (sym (none-waits none)) (fine, λ i. record { first = is i; stored = 0; left = left i })) refl (λ s stands now. tt)
+  flush-none number is none fine one sound =
+      flush-nothing (Ok (record { first = number; stored = 0; left = 0 })) none one sound
+      (λ s at.
+      let first = is ∙ at.store.recording.next_is in
+      let left : 0 ≡ length s.pending - 0 = omega (arith, ap length (sym at.pending ∙ none)) in
+      (sym at.store.must_reopen ∙ fine, λ i. record { first = first i; stored = 0; left = left i })) refl
 
   -- ---- a flush of a group
 
@@ -87,9 +107,10 @@ module _ {D : Type 0} (medium : D → Medium) (d : SeenDesk D) where
     pub counted : count ≡ min most (length d.pending)
     pub some : 0 < count
 
-  group-is : (most count : ℕ) → IsGroup most count → group_of (rules_of d) (waiting_of d) ≡ take count d.pending
-  group-is most count group =
-      ap (λ (n : ℕ). take n d.pending) (sym group.least) ∙ sym (take_min most d.pending) ∙ ap (λ (n : ℕ). take n d.pending) (sym group.counted)
+  group-is : (s : DeskState) → TellsDesk d s → (most count : ℕ) → IsGroup most count → group_of (rules_of d) s ≡ take count d.pending
+  group-is s at most count group =
+      (λ i. take (min d.limits.group (d.store.geometry.slots - sym at.store.recording.next_is i % d.store.geometry.slots)) (sym at.pending i))
+      ∙ ap (λ (n : ℕ). take n d.pending) (sym group.least) ∙ sym (take_min most d.pending) ∙ ap (λ (n : ℕ). take n d.pending) (sym group.counted)
 
   group-size : (most count : ℕ) → IsGroup most count → length (take count d.pending) ≡ count
   group-size most count group = length-take-le count d.pending (omega (arith, group.counted))
@@ -98,44 +119,61 @@ module _ {D : Type 0} (medium : D → Medium) (d : SeenDesk D) where
   append-some [] result some = absurd (omega (arith, some))
   append-some (p ∷ ps) result some = refl
 
-  flush-calls : (most count : ℕ) (result : Result Flushed StoreFault) → IsGroup most count → append_of (group_of (rules_of d) (waiting_of d)) result ≡ appended (take count d.pending) (appended_as result) ∷ []
-  flush-calls most count result group =
-      ap (λ (l : List Picture). append_of l result) (group-is most count group)
+  flush-calls : (s : DeskState) → TellsDesk d s → (most count : ℕ) (result : Result Flushed StoreFault) → IsGroup most count → append_of (group_of (rules_of d) s) result ≡ appended (take count d.pending) (appended_as result) ∷ []
+  flush-calls s at most count result group =
+      ap (λ (l : List Picture). append_of l result) (group-is s at most count group)
       ∙ append-some (take count d.pending) result (omega (arith, group-size most count group, group.some))
 
-  told-err : (group : List Picture) (fault : StoreFault) → 0 < length group → IsFlush (waiting_of d) group (Err fault)
-  told-err [] fault some = absurd (omega (arith, some))
-  told-err (p ∷ ps) fault some = tt
+  told-err : (s : DeskState) (group : List Picture) (fault : StoreFault) → 0 < length group → IsFlush s group (Err fault)
+  told-err s [] fault some = absurd (omega (arith, some))
+  told-err s (p ∷ ps) fault some = tt
 
   pub flush-refused : (new : Seen D) (most count : ℕ) (fault : StoreFault) → IsGroup most count → Goes medium d.store new (appended (take count d.pending) (Err fault) ∷ [])
       → DeskGoes medium d (with_store d new d.pending) (flushed (Err fault) ∷ [])
   flush-refused new most count fault group goes =
-      called new d.pending (flushed (Err fault)) (appended (take count d.pending) (Err fault) ∷ []) goes (flush-calls most count (Err fault) group)
-      (told-err (group_of (rules_of d) (waiting_of d)) fault (omega (arith, ap length (group-is most count group), group-size most count group, group.some))) refl (λ s stands now. tt)
+      called new d.pending (flushed (Err fault)) (appended (take count d.pending) (Err fault) ∷ []) goes
+      (λ s at. (flush-calls s at most count (Err fault) group, told-err s (group_of (rules_of d) s) fault (omega (arith, ap length (group-is s at most count group), group-size most count group, group.some)))) refl
 
   pub flush-stored : (new : Seen D) (most count first waiting : ℕ) → IsGroup most count → waiting ≡ length d.pending → Goes medium d.store new (appended (take count d.pending) (Ok first) ∷ [])
       → DeskGoes medium d (with_store d new (drop count d.pending)) (flushed (Ok (record { first = first; stored = count; left = waiting - count })) ∷ [])
   flush-stored new most count first waiting group waits goes =
       let f : Flushed = record { first = first; stored = count; left = waiting - count } in
-      let allowed = allowed-number d.store.geometry (progress_of d.store) (take count d.pending) first goes.allowed.0 in
-      let size : count ≡ length (group_of (rules_of d) (waiting_of d)) = sym (ap length (group-is most count group) ∙ group-size most count group) in
-      let number = allowed.number_is in
-      let is : f ≡ flushed_of (waiting_of d) (length (group_of (rules_of d) (waiting_of d))) = λ i. record { first = number i; stored = size i; left = waits i - size i } in
-      called new (drop count d.pending) (flushed (Ok f)) (appended (take count d.pending) (Ok first) ∷ []) goes (flush-calls most count (Ok f) group) (allowed.fine, is) refl (λ s stands now. tt)
+      called new (drop count d.pending) (flushed (Ok f)) (appended (take count d.pending) (Ok first) ∷ []) goes
+      (λ s at.
+      let H = (medium d.store.disk).honest × Stands medium d.store s.store in
+      let said = (goes.answers s.store at.store).0 in
+      let size : count ≡ length (group_of (rules_of d) s) = sym (ap length (group-is s at most count group) ∙ group-size most count group) in
+      let number = answered-number H d.store.geometry s.store (take count d.pending) first said in
+      let left = waits ∙ ap (λ (ps : List Picture). length ps) at.pending in (
+        flush-calls s at most count (Ok f) group,
+        (answered-fine H d.store.geometry s.store (take count d.pending) first said, λ i. record { first = number i; stored = size i; left = left i - size i }),
+      )) refl
 
 -- ---- the answer to a submit, case by case
 
-pub answers-must : (k : Rules) (w : Waiting) (n : ℕ) → w.store.must_reopen ≡ true → Err MustReopen ≡ submit_answer k w n
-answers-must k w n must = rw must refl
+module _ {D : Type 0} (d : SeenDesk D) (s : DeskState) (at : TellsDesk d s) (n : ℕ) where
+  pub answers-must : d.store.must_reopen ≡ true → Err MustReopen ≡ submit_answer (rules_of d) s n
+  answers-must must = let m = sym at.store.must_reopen ∙ must in rw m refl
 
-pub answers-size : (k : Rules) (w : Waiting) (n : ℕ) → w.store.must_reopen ≡ false → (n == frame_bytes k.geometry) ≡ false → Err WrongSize ≡ submit_answer k w n
-answers-size k w n fine other = rw (fine, other) refl
+  pub answers-size : d.store.must_reopen ≡ false → (n == frame_bytes d.store.geometry) ≡ false → Err WrongSize ≡ submit_answer (rules_of d) s n
+  answers-size fine other = let m = sym at.store.must_reopen ∙ fine in rw (m, other) refl
 
-pub answers-full : (k : Rules) (w : Waiting) (n : ℕ) → w.store.must_reopen ≡ false → (n == frame_bytes k.geometry) ≡ true → (length w.pending == k.limits.pending) ≡ true → Err PendingFull ≡ submit_answer k w n
-answers-full k w n fine right all = rw (fine, right, all) refl
+  pub answers-full : d.store.must_reopen ≡ false → (n == frame_bytes d.store.geometry) ≡ true → (length d.pending == d.limits.pending) ≡ true → Err PendingFull ≡ submit_answer (rules_of d) s n
+  answers-full fine right all =
+      let m = sym at.store.must_reopen ∙ fine in
+      let full = ap (λ (ps : List Picture). length ps == d.limits.pending) (sym at.pending) ∙ all in
+      rw (m, right, full) refl
 
-pub answers-spent : (k : Rules) (w : Waiting) (n : ℕ) → w.store.must_reopen ≡ false → (n == frame_bytes k.geometry) ≡ true → (length w.pending == k.limits.pending) ≡ false → ((w.store.next + length w.pending) == last_number (ring_of k.geometry)) ≡ true → Err NumbersSpent ≡ submit_answer k w n
-answers-spent k w n fine right some last = rw (fine, right, some, last) refl
+  pub answers-spent : d.store.must_reopen ≡ false → (n == frame_bytes d.store.geometry) ≡ true → (length d.pending == d.limits.pending) ≡ false → ((d.store.next + length d.pending) == last_number (ring_of d.store.geometry)) ≡ true → Err NumbersSpent ≡ submit_answer (rules_of d) s n
+  answers-spent fine right some last =
+      let m = sym at.store.must_reopen ∙ fine in
+      let room = ap (λ (ps : List Picture). length ps == d.limits.pending) (sym at.pending) ∙ some in
+      let spent = (λ i. (sym at.store.recording.next_is i + length (sym at.pending i)) == last_number (ring_of d.store.geometry)) ∙ last in
+      rw (m, right, room, spent) refl
 
-pub answers-number : (k : Rules) (w : Waiting) (n : ℕ) → w.store.must_reopen ≡ false → (n == frame_bytes k.geometry) ≡ true → (length w.pending == k.limits.pending) ≡ false → ((w.store.next + length w.pending) == last_number (ring_of k.geometry)) ≡ false → Ok (w.store.next + length w.pending) ≡ submit_answer k w n
-answers-number k w n fine right some low = rw (fine, right, some, low) refl
+  pub answers-number : d.store.must_reopen ≡ false → (n == frame_bytes d.store.geometry) ≡ true → (length d.pending == d.limits.pending) ≡ false → ((d.store.next + length d.pending) == last_number (ring_of d.store.geometry)) ≡ false → Ok (d.store.next + length d.pending) ≡ submit_answer (rules_of d) s n
+  answers-number fine right some low =
+      let m = sym at.store.must_reopen ∙ fine in
+      let room = ap (λ (ps : List Picture). length ps == d.limits.pending) (sym at.pending) ∙ some in
+      let unspent = (λ i. (sym at.store.recording.next_is i + length (sym at.pending i)) == last_number (ring_of d.store.geometry)) ∙ low in
+      (λ i. Ok (at.store.recording.next_is i + length (at.pending i))) ∙ (rw (m, right, room, unspent) refl)

@@ -8,11 +8,11 @@ use Rattle.loop_record.specs.Recording.{Picture, Recording, Ring, Step, store, l
 use Rattle.loop_record.specs.Turns.{after_all, EachIn}
 use Rattle.loop_record.proofs.Turned.{told-behind}
 use Rattle.loop_store.specs.declared.fault.StoreFault.{StoreFault}
-use Rattle.loop_store.specs.Calls.{AreAnswered, IsAnswered, StoreState, after, after_calls, made, made_in}
+use Rattle.loop_store.specs.Calls.{AreAnswered, IsAnswered, StoreState, after, made, made_in}
 use Rattle.loop_store.specs.Steps.{steps_or_none}
 use Rattle.loop_store.proofs.Putting.{answered-some}
 use Rattle.loop_desk.specs.declared.limits.Flushed.{Flushed}
-use Rattle.loop_desk.specs.Desk.{AreTold, DeskCall, IsFlush, IsDeskTold, Rules, Waiting, accepted, accepted_in, append_of, clip_locked, clip_unlocked, flushed, frame_read, frames_stored, group_of, pending_after, status_told, store_calls, store_calls_in, stored_by, submitted, waiting_after, waiting_after_calls}
+use Rattle.loop_desk.specs.Desk.{AreTold, DeskCall, DeskState, IsFlush, IsDeskTold, Rules, accepted, accepted_in, append_of, clip_locked, clip_unlocked, desk_after, desk_after_calls, flushed, frame_read, frames_stored, group_of, pending_after, status_told, store_calls, store_calls_in, stored_by, submitted}
 
 pub each-parts : {S X : Type 0} (next : S → X → S) (P : S → X → Type 0) (s : S) (xs ys : List X) → EachIn next P s (xs ++ ys) → EachIn next P s xs × EachIn next P (after_all next s xs) ys
 each-parts next P s [] ys both = (tt, both)
@@ -42,7 +42,7 @@ group-and-rest most waiting =
     let front = take_min most waiting in
     (λ i. sym front i ++ drop (count i) waiting) ∙ take-append-drop (min most (length waiting)) waiting
 
-flush-frames : (g : Geometry) (w : Waiting) (s : StoreState) (group : List Picture) (f : Flushed) → IsFlush w group (Ok f) → AreAnswered (Unit {0}) g s (append_of group (Ok f)) → group ++ drop (length group) w.pending ≡ w.pending
+flush-frames : (g : Geometry) (w : DeskState) (s : StoreState) (group : List Picture) (f : Flushed) → IsFlush w group (Ok f) → AreAnswered (Unit {0}) g s (append_of group (Ok f)) → group ++ drop (length group) w.pending ≡ w.pending
     → frames_stored (made_in g s (append_of group (Ok f))) ++ drop f.stored w.pending ≡ w.pending
 flush-frames g w s [] f told said whole = (λ i. drop (told.1 i).stored w.pending) ∙ whole
 flush-frames g w s (p ∷ ps) f told said whole =
@@ -55,35 +55,34 @@ none-stored : (g : Geometry) (s : StoreState) (group : List Picture) (fault : St
 none-stored g s [] fault = refl
 none-stored g s (p ∷ ps) fault = refl
 
-call-frames : (k : Rules) (w : Waiting) (s : StoreState) (c : DeskCall) → IsDeskTold k w c → AreAnswered (Unit {0}) k.geometry s (store_calls k w c) → w.pending ++ accepted c ≡ frames_stored (made_in k.geometry s (store_calls k w c)) ++ pending_after w.pending c
-call-frames k w s (submitted p size (Ok number)) told said = refl
-call-frames k w s (submitted p size (Err fault)) told said = append-nil w.pending
-call-frames k w s (flushed (Ok f)) told said =
-    append-nil w.pending ∙ sym (flush-frames k.geometry w s (group_of k w) f told said (group-and-rest (min k.limits.group (k.geometry.slots - w.store.next % k.geometry.slots)) w.pending))
-call-frames k w s (flushed (Err fault)) told said = append-nil w.pending ∙ ap (λ (l : List Picture). l ++ w.pending) (sym (none-stored k.geometry s (group_of k w) fault))
-call-frames k w s (clip_locked span (Ok id)) told said = append-nil w.pending
-call-frames k w s (clip_locked span (Err fault)) told said = append-nil w.pending
-call-frames k w s (clip_unlocked id (Ok x)) told said = append-nil w.pending
-call-frames k w s (clip_unlocked id (Err fault)) told said = append-nil w.pending
-call-frames k w s (frame_read number (Ok x)) told said = append-nil w.pending
-call-frames k w s (frame_read number (Err fault)) told said = append-nil w.pending
-call-frames k w s (status_told status) told said = append-nil w.pending
+call-frames : (k : Rules) (w : DeskState) (c : DeskCall) → IsDeskTold k w c → AreAnswered (Unit {0}) k.geometry w.store (store_calls k w c) → w.pending ++ accepted c ≡ frames_stored (made_in k.geometry w.store (store_calls k w c)) ++ pending_after w.pending c
+call-frames k w (submitted p size (Ok number)) told said = refl
+call-frames k w (submitted p size (Err fault)) told said = append-nil w.pending
+call-frames k w (flushed (Ok f)) told said =
+    append-nil w.pending ∙ sym (flush-frames k.geometry w w.store (group_of k w) f told said (group-and-rest (min k.limits.group (k.geometry.slots - w.store.recording.next % k.geometry.slots)) w.pending))
+call-frames k w (flushed (Err fault)) told said = append-nil w.pending ∙ ap (λ (l : List Picture). l ++ w.pending) (sym (none-stored k.geometry w.store (group_of k w) fault))
+call-frames k w (clip_locked span (Ok id)) told said = append-nil w.pending
+call-frames k w (clip_locked span (Err fault)) told said = append-nil w.pending
+call-frames k w (clip_unlocked id (Ok x)) told said = append-nil w.pending
+call-frames k w (clip_unlocked id (Err fault)) told said = append-nil w.pending
+call-frames k w (frame_read number (Ok x)) told said = append-nil w.pending
+call-frames k w (frame_read number (Err fault)) told said = append-nil w.pending
+call-frames k w (status_told status) told said = append-nil w.pending
 
 -- what waited, and then what was accepted, is what was stored, and then what waits
-pub none-lost : (k : Rules) (w : Waiting) (s : StoreState) (calls : List DeskCall) → AreTold k w calls → AreAnswered (Unit {0}) k.geometry s (store_calls_in k w calls) → w.pending ++ accepted_in calls ≡ frames_stored (made_in k.geometry s (store_calls_in k w calls)) ++ (waiting_after_calls k w calls).pending
-none-lost k w s [] told said = append-nil w.pending
-none-lost k w s (c ∷ calls) told said =
+pub none-lost : (k : Rules) (s : DeskState) (calls : List DeskCall) → AreTold k s calls → AreAnswered (Unit {0}) k.geometry s.store (store_calls_in k s calls) → s.pending ++ accepted_in calls ≡ frames_stored (made_in k.geometry s.store (store_calls_in k s calls)) ++ (desk_after_calls k s calls).pending
+none-lost k s [] told said = append-nil s.pending
+none-lost k s (c ∷ calls) told said =
     let g = k.geometry in
-    let here = store_calls k w c in
-    let v = waiting_after k w c in
-    let there = store_calls_in k v calls in
-    let t = after_calls g s here in
-    let parts = each-parts (after g) (IsAnswered (Unit {0}) g) s here there said in
-    let one = call-frames k w s c told.0 parts.0 in
-    let rest = none-lost k v t calls told.1 parts.1 in
-    let split : frames_stored (made_in g s (here ++ there)) ≡ frames_stored (made_in g s here) ++ frames_stored (made_in g t there) = ap frames_stored (told-behind (after g) (made g) s here there) ∙ frames-both (made_in g s here) (made_in g t there) in
-    sym (append_assoc w.pending (accepted c) (accepted_in calls)) ∙ (λ i. one i ++ accepted_in calls)
-    ∙ append_assoc (frames_stored (made_in g s here)) v.pending (accepted_in calls)
-    ∙ ap (λ l. frames_stored (made_in g s here) ++ l) rest
-    ∙ sym (append_assoc (frames_stored (made_in g s here)) (frames_stored (made_in g t there)) (waiting_after_calls k v calls).pending)
-    ∙ ap (λ l. l ++ (waiting_after_calls k v calls).pending) (sym split)
+    let here = store_calls k s c in
+    let t = desk_after k s c in
+    let there = store_calls_in k t calls in
+    let parts = each-parts (after g) (IsAnswered (Unit {0}) g) s.store here there said in
+    let one = call-frames k s c told.0 parts.0 in
+    let rest = none-lost k t calls told.1 parts.1 in
+    let split : frames_stored (made_in g s.store (here ++ there)) ≡ frames_stored (made_in g s.store here) ++ frames_stored (made_in g t.store there) = ap frames_stored (told-behind (after g) (made g) s.store here there) ∙ frames-both (made_in g s.store here) (made_in g t.store there) in
+    sym (append_assoc s.pending (accepted c) (accepted_in calls)) ∙ (λ i. one i ++ accepted_in calls)
+    ∙ append_assoc (frames_stored (made_in g s.store here)) t.pending (accepted_in calls)
+    ∙ ap (λ l. frames_stored (made_in g s.store here) ++ l) rest
+    ∙ sym (append_assoc (frames_stored (made_in g s.store here)) (frames_stored (made_in g t.store there)) (desk_after_calls k t calls).pending)
+    ∙ ap (λ l. l ++ (desk_after_calls k t calls).pending) (sym split)

@@ -1,56 +1,52 @@
 -- Calls of a desk, one after the other.
-use Rattle.std.proofs.Common.{◌≡◌, List, [], ◌∷◌, ◌++◌, refl, sym, ap, ◌∙◌, subst}
+use Rattle.std.proofs.Common.{◌≡◌, List, [], ◌++◌, refl, sym, ◌∙◌, subst}
 use Rattle.loop_disk.specs.Medium.{Medium, IsSound}
-use Rattle.loop_record.specs.Turns.{EachIn, after_all}
-use Rattle.loop_record.proofs.Turned.{after-behind, each-behind, told-behind}
-use Rattle.loop_store.specs.Calls.{Call, progress_after}
+use Rattle.loop_record.specs.Turns.{Plays}
+use Rattle.loop_record.proofs.Turned.{plays-joined, plays-none, told-behind}
+use Rattle.loop_store.specs.Calls.{Call}
 use Rattle.loop_store.specs.Goes.{Goes}
+use Rattle.loop_store.specs.Opened.{TellsOne}
 use Rattle.loop_store.proofs.Gone.{goes-joined, goes-none}
-use Rattle.loop_desk.specs.Desk.{AreTold, DeskCall, IsCounted, IsDeskTold, Rules, Waiting, desk_after, desk_after_calls, store_calls, store_calls_in, waiting_after, waiting_after_calls}
-use Rattle.loop_desk.specs.Seen.{DeskGoes, SeenDesk, rules_of, waiting_of}
-use Rattle.loop_desk.proofs.Modelling.{answers-are}
+use Rattle.loop_desk.specs.Desk.{DeskCall, DeskState, Rules, desk_after, desk_after_calls, desk_model, store_calls, store_calls_in}
+use Rattle.loop_desk.specs.Seen.{DeskGoes, SeenDesk, TellsDesk, rules_of}
 
--- the store is as far as its calls bring it
-pub progress-behind : (k : Rules) (w : Waiting) (calls : List DeskCall) → (waiting_after_calls k w calls).store ≡ after_all progress_after w.store (store_calls_in k w calls)
-progress-behind k w [] = refl
-progress-behind k w (c ∷ cs) = progress-behind k (waiting_after k w c) cs ∙ sym (after-behind progress_after w.store (store_calls k w c) (store_calls_in k (waiting_after k w c) cs))
+-- the state of a desk that tells of a recording
+abbrev pub state-of : {D : Type 0} (d : SeenDesk D) → TellsOne d.store → DeskState
+state-of d one = record { store = record { recording = one.0; must_reopen = d.store.must_reopen }; pending = d.pending }
+
+pub state-told : {D : Type 0} (d : SeenDesk D) (one : TellsOne d.store) → TellsDesk d (state-of d one)
+state-told d one = record { store = record { recording = one.1; must_reopen = refl }; pending = refl }
 
 module _ {D : Type 0} (medium : D → Medium) where
-  -- what decides on the next call
-  pub waiting-now : (old new : SeenDesk D) (calls : List DeskCall) → DeskGoes medium old new calls → waiting_of new ≡ waiting_after_calls (rules_of old) (waiting_of old) calls
-  waiting-now old new calls goes =
-      let store = goes.store.progress ∙ sym (progress-behind (rules_of old) (waiting_of old) calls) in
-      λ i. record { store = store i; pending = goes.pending i }
+  -- the calls of its store
+  pub store-goes : (old new : SeenDesk D) (calls : List DeskCall) (goes : DeskGoes medium old new calls) → Goes medium old.store new.store (store_calls_in (rules_of old) (state-of old goes.one) calls)
+  store-goes old new calls goes = goes.store (state-of old goes.one) (state-told old goes.one)
+
+  -- the state of which it tells then
+  pub told-then : (old new : SeenDesk D) (calls : List DeskCall) (goes : DeskGoes medium old new calls) → TellsDesk new (desk_after_calls (rules_of old) (state-of old goes.one) calls)
+  told-then old new calls goes = (goes.plays (state-of old goes.one) (state-told old goes.one)).1
+
+  pub one-then : (old new : SeenDesk D) (calls : List DeskCall) → DeskGoes medium old new calls → TellsOne new.store
+  one-then old new calls goes = (_, (told-then old new calls goes).store.recording)
 
   pub rules-now : (old new : SeenDesk D) (calls : List DeskCall) → DeskGoes medium old new calls → rules_of new ≡ rules_of old
-  rules-now old new calls goes = λ i. record { geometry = goes.store.geometry i; limits = goes.limits i }
+  rules-now old new calls goes = let same = (store-goes old new calls goes).geometry in λ i. record { geometry = same i; limits = goes.limits i }
 
   -- no call
-  pub desk-none : (desk : SeenDesk D) → ((medium desk.store.disk).honest → IsSound (medium desk.store.disk)) → DeskGoes medium desk desk []
-  desk-none desk sound = record { store = goes-none medium desk.store sound; told = tt; pending = refl; limits = refl; counted = λ s stands now. tt }
+  pub desk-none : (desk : SeenDesk D) → TellsOne desk.store → ((medium desk.store.disk).honest → IsSound (medium desk.store.disk)) → DeskGoes medium desk desk []
+  desk-none desk one sound = record { one = one; store = λ s told. goes-none medium desk.store one sound; plays = plays-none (desk_model (rules_of desk)) (TellsDesk desk); limits = refl }
 
   -- calls, and calls behind them
   pub desk-joined : (old mid new : SeenDesk D) (xs ys : List DeskCall) → DeskGoes medium old mid xs → DeskGoes medium mid new ys → DeskGoes medium old new (xs ++ ys)
-  desk-joined old mid new xs ys first second = record {
-    store = subst (λ (l : List Call). Goes medium old.store new.store l) (sym (told-behind (waiting_after k) (store_calls k) w xs ys)) (goes-joined medium old.store mid.store new.store (store_calls_in k w xs) (store_calls_in k v ys) first.store (subst (λ (x : Rules × Waiting). Goes medium mid.store new.store (store_calls_in x.0 x.1 ys)) same second.store));
-    told = each-behind (waiting_after k) (IsDeskTold k) w xs ys first.told (subst (λ (x : Rules × Waiting). AreTold x.0 x.1 ys) same second.told);
-    pending = subst (λ (x : Rules × Waiting). new.pending ≡ (waiting_after_calls x.0 x.1 ys).pending) same second.pending ∙ ap (λ (x : Waiting). x.pending) (sym (after-behind (waiting_after k) w xs ys));
-    limits = second.limits ∙ first.limits;
-    counted = λ s stands now.
-        let t = desk_after_calls k s xs in
-        let there = (answers-are medium old mid xs s first stands now).1 in
-        each-behind (desk_after k) IsCounted s xs ys (first.counted s stands now)
-        (subst (λ (x : Rules). EachIn (desk_after x) IsCounted t ys) (rules-now old mid xs first) (second.counted t there (first.store.called.honest.0 now)));
-  }
-    where
-      k : Rules
-      k = rules_of old
-
-      w : Waiting
-      w = waiting_of old
-
-      v : Waiting
-      v = waiting_after_calls k w xs
-
-      same : ◌≡◌ {A = Rules × Waiting} (rules_of mid, waiting_of mid) (k, v)
-      same = let rules = rules-now old mid xs first in let waiting = waiting-now old mid xs first in λ i. (rules i, waiting i)
+  desk-joined old mid new xs ys first second =
+      let k = rules_of old in
+      let same = rules-now old mid xs first in record {
+        one = first.one;
+        store = λ s told.
+            let t = desk_after_calls k s xs in
+            subst (λ (l : List Call). Goes medium old.store new.store l) (sym (told-behind (desk_after k) (store_calls k) s xs ys))
+            (goes-joined medium old.store mid.store new.store (store_calls_in k s xs) (store_calls_in k t ys) (first.store s told)
+            (subst (λ (x : Rules). Goes medium mid.store new.store (store_calls_in x t ys)) same (second.store t (first.plays s told).1)));
+        plays = plays-joined (desk_model k) (TellsDesk old) (TellsDesk mid) (TellsDesk new) xs ys first.plays (subst (λ (x : Rules). Plays (desk_model x) (TellsDesk mid) (TellsDesk new) ys) same second.plays);
+        limits = second.limits ∙ first.limits;
+      }

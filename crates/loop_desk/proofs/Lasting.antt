@@ -1,5 +1,5 @@
 -- What calls of a desk leave of the footage.
-use Rattle.std.proofs.Common.{◌≡◌, ℕ, false, List, ◌++◌, take, sym, ap, ◌∙◌, subst}
+use Rattle.std.proofs.Common.{◌≡◌, ℕ, false, List, ◌++◌, take, refl, sym, ap, ◌∙◌, subst}
 use Rattle.loop_disk.specs.Medium.{Medium}
 use Rattle.loop_disk.proofs.Moments.{weaker}
 use Rattle.loop_record.specs.declared.geometry.Geometry.{Geometry}
@@ -11,11 +11,12 @@ use Rattle.loop_store.specs.Goes.{Stands}
 use Rattle.loop_store.specs.Held.{HoldsSome}
 use Rattle.loop_store.specs.Steps.{LeavesSteps}
 use Rattle.loop_store.proofs.Checked.{are-answered-as}
+use Rattle.loop_store.proofs.Gone.{told-of}
 use Rattle.loop_store.proofs.Modelled.{recording-after}
 use Rattle.loop_store.specs.Seen.{StandsFor}
-use Rattle.loop_desk.specs.Desk.{DeskCall, frames_stored}
+use Rattle.loop_desk.specs.Desk.{DeskCall, DeskState, frames_stored}
 use Rattle.loop_desk.specs.Footage.{HoldsWhole, KeepsFootage, steps_begun, steps_made, stored_calls}
-use Rattle.loop_desk.specs.Seen.{DeskGoes, SeenDesk, rules_of, waiting_of}
+use Rattle.loop_desk.specs.Seen.{DeskGoes, SeenDesk, TellsDesk, rules_of}
 use Rattle.loop_desk.proofs.Frames.{none-lost}
 use Rattle.loop_desk.proofs.Whole.{clips-whole, formed-below}
 
@@ -32,14 +33,18 @@ pub keeps-footage : {D : Type 0} (medium : D → Medium) (old new : SeenDesk D) 
 keeps-footage medium old new calls s goes stands now =
     let g = old.store.geometry in
     let k = rules_of old in
-    let list = stored_calls old calls in
-    let leaves : s.must_reopen ≡ false → LeavesSteps g s.recording (steps_made old s calls) (steps_begun old s calls) (medium old.store.disk) (medium new.store.disk) = λ fine. goes.store.leaves s stands now fine in
+    let t : DeskState = record { store = s; pending = old.pending } in
+    let at : TellsDesk old t = record { store = told-of medium old.store s stands; pending = refl } in
+    let store = goes.store t at in
+    let plays = goes.plays t at in
+    let list = stored_calls old s calls in
+    let leaves : s.must_reopen ≡ false → LeavesSteps g s.recording (steps_made old s calls) (steps_begun old s calls) (medium old.store.disk) (medium new.store.disk) = λ fine. store.leaves s stands now fine in
     record {
       now = λ fine. (leaves fine).now;
       moments = λ fine.
           let still : old.store.must_reopen ≡ false = stands.must_reopen ∙ fine in
           weaker (medium old.store.disk) (medium new.store.disk) (HoldsSome g s.recording (steps_made old s calls ++ steps_begun old s calls)) (HoldsWhole g s.recording (steps_made old s calls ++ steps_begun old s calls)) (leaves fine).moments
           (λ image some. reads-whole g s.recording (steps_made old s calls ++ steps_begun old s calls) (medium old.store.disk).bytes image (stands.recording.held still now) some);
-      recording = subst (λ (r : Recording). StandsFor medium new.store r) (recording-after g s list) (goes.store.stands s stands).recording;
-      none_lost = none-lost k (waiting_of old) s calls goes.told (are-answered-as (medium old.store.disk).honest (Unit {0}) g s list (λ u. now) (goes.store.answers s stands)) ∙ ap (λ (l : List Picture). frames_stored (steps_made old s calls) ++ l) (sym goes.pending);
+      recording = subst (λ (r : Recording). StandsFor medium new.store r) (recording-after g s list) (store.stands s stands).recording;
+      none_lost = none-lost k t calls plays.0 (are-answered-as ((medium old.store.disk).honest × Stands medium old.store s) (Unit {0}) g s list (λ u. (now, stands)) (store.answers s at.store)) ∙ ap (λ (l : List Picture). frames_stored (steps_made old s calls) ++ l) (sym plays.1.pending);
     }

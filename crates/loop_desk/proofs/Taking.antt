@@ -12,6 +12,7 @@ use Rattle.loop_record.specs.Turns.{EachIn, after_all, told_in}
 use Rattle.loop_record.proofs.Turned.{after-behind, told-behind}
 use Rattle.loop_vb2.specs.declared.buffer.Buffer.{Buffer}
 use Rattle.loop_vb2.specs.declared.reason.Errno.{Errno}
+use Rattle.loop_vb2.specs.declared.planes.PlaneSet.{PlaneSet}
 use Rattle.loop_vb2.specs.declared.reason.Reason.{Reason}
 use Rattle.loop_vb2.specs.declared.reason.Reason.TheVariants.{BadType}
 use Rattle.loop_vb2.specs.declared.reason.Refused.{Refused}
@@ -44,11 +45,11 @@ use Rattle.loop_desk.specs.declared.event.LaneReply.TheVariants as reply
 use Rattle.loop_desk.specs.declared.hand.LaneFault.{LaneFault}
 use Rattle.loop_desk.specs.declared.hand.LaneFault.TheVariants.{Queue, Store}
 use Rattle.loop_desk.specs.declared.lane.Lane.{Lane}
-use Rattle.loop_desk.specs.Front.{Front, HandState, dequeued, empty, forbids, full, hand_with, index_in, kind_of, on_queue, requeued, spent, taken_frame, was_given_up}
-use Rattle.loop_desk.specs.Lane.{IsAtFront, IsLaneTurn, LaneRan, LaneTurn, StandsLane, TakesCompleted, TakesFrames, at_front, event_at, event_at_turn, frame_at, front_behind, frame_of_turn, frames_taken, hand_frame, is_dequeue, lane_after, mixed, queue_events, turn_at, turn_of}
-use Rattle.loop_desk.specs.Modelled.{dqbuf_event, qbuf_event, unflagged}
+use Rattle.loop_desk.specs.Front.{dequeued, empty, forbids, Front, full, hand_with, HandState, index_in, kind_of, on_queue, requeue_event, requeued, spent, taken_frame, was_given_up}
+use Rattle.loop_desk.specs.Lane.{IsAtFront, IsLaneTurn, LaneRan, LaneTurn, StandsLane, TakesCompleted, TakesFrames, at_front, event_at, event_at_turn, frame_at, front_behind, frame_of_turn, frames_taken, hand_frame, is_dequeue, lane_after, mixed, queue_events, turn_at, turn_of, unflagged}
 use Rattle.loop_desk.proofs.Completing.{IsCounted, IsHolding, IsWhole, all_fit, all_shaped, frames_along, held_none, shot, stopped_waits, taken_by}
 use Rattle.loop_desk.proofs.Queued.{lane-told}
+use Rattle.loop_desk.proofs.Turning.{taken_event}
 
 -- ---- lists
 
@@ -77,10 +78,12 @@ quiet-if : (s : QueueState) (b : Bool) (es : List Event) → Quiet s es → Quie
 quiet-if s true es quiet = (tt, refl)
 quiet-if s false es quiet = quiet
 
-quiet-qbuf : (s : QueueState) (kind : Memory) (h : HandState) (refusal : Option Errno) → Quiet s (qbuf_event kind h refusal)
-quiet-qbuf s kind empty refusal = (tt, refl)
-quiet-qbuf s kind (full i p planes) refusal = (tt, refl)
-quiet-qbuf s kind (spent i planes) refusal = ((tt, tt), refl)
+quiet-requeue : (s : QueueState) (kind : Memory) (h : HandState) (result : Result ℕ LaneFault) → Quiet s (requeue_event kind h result)
+quiet-requeue s kind empty result = (tt, refl)
+quiet-requeue s kind (full i p planes) result = (tt, refl)
+quiet-requeue s kind (spent i planes) (Ok index) = ((tt, tt), refl)
+quiet-requeue s kind (spent i planes) (Err (Queue e)) = ((tt, tt), refl)
+quiet-requeue s kind (spent i planes) (Err (Store fault)) = (tt, refl)
 
 module _ {P A : Type 0} (m : P → Plane) where
   quiet-plain : (s : QueueState) (e : Option Errno → Event) (result : Result (IoctlReply P A) (Refused P A)) → ((refusal : Option Errno) → Quiet s (e refusal ∷ [])) → Quiet s (option_to_list (plain_event e result))
@@ -127,7 +130,7 @@ module _ {P A : Type 0} (m : P → Plane) where
 -- ---- one turn
 
 taken-tells : (f : Front) (index : ℕ) (o : Option (Buffer Plane)) → slice_get f.queue.queue.body.buffers index ≡ o
-    → EachIn model.after_event IsWhole f.queue.queue (dqbuf_event (kind_of f.queue) index o) × (map unflagged (hand_frame (hand_with f.queue.queue.body index o)) ≡ told_in model.after_event taken_by f.queue.queue (dqbuf_event (kind_of f.queue) index o))
+    → EachIn model.after_event IsWhole f.queue.queue (taken_event (kind_of f.queue) index o) × (map unflagged (hand_frame (hand_with f.queue.queue.body index o)) ≡ told_in model.after_event taken_by f.queue.queue (taken_event (kind_of f.queue) index o))
 taken-tells f index None got = (tt, refl)
 taken-tells f index (Some b) got =
     let body : Body Plane = f.queue.queue.body in
@@ -153,9 +156,8 @@ module _ {P : Type 0} (A : Type 0) (m : P → Plane) where
   dqbuf-tells f result false said = absurd said
 
   requeue-tells : (f : Front) (result : Result ℕ LaneFault) → Tells {P = P} {A = A} m f (at_front (requeued result))
-  requeue-tells f (Ok index) = let quiet = quiet-qbuf f.queue.queue (kind_of f.queue) f.hand None in (quiet.0, sym quiet.1)
-  requeue-tells f (Err (Queue e)) = let quiet = quiet-qbuf f.queue.queue (kind_of f.queue) f.hand (Some e) in (quiet.0, sym quiet.1)
-  requeue-tells f (Err (Store fault)) = (tt, refl)
+  requeue-tells f (Ok index) = let quiet = quiet-requeue f.queue.queue (kind_of f.queue) f.hand (Ok index) in (quiet.0, sym quiet.1)
+  requeue-tells f (Err fault) = let quiet = quiet-requeue f.queue.queue (kind_of f.queue) f.hand (Err fault) in (quiet.0, sym quiet.1)
 
 module _ {P A : Type 0} (m : P → Plane) where
   queue-tells : (f : Front) (e : QueueEvent P A) (result : Result (QueueReply P A) LaneFault) (b : Bool) → is_dequeue f.queue.queue.body.format e ≡ b → IsAtFront m f (if b then mixed else at_front (on_queue e result)) → Tells m f (if b then mixed else at_front (on_queue e result))
@@ -208,7 +210,7 @@ module _ {P A : Type 0} (m : P → Plane) where
 pub completes : {D P A : Type 0} (m : P → Plane) (medium : D → Medium) (old new : Lane D P A) (es : List (LaneEvent P A)) (ps : List (LaneReply P A)) → LaneRan m medium old new es ps
     → (f : Front) → StandsLane m old f → (format : PixelFormat) (width height : ℕ) → old.queue.body.shape ≡ shape_of format width height → TakesFrames m f (zip es ps)
 completes {D} {P} {A} m medium old new es ps run f stands format width height shaped =
-    let told = (run.front f stands).told in
+    let told = (run.front f stands).0 in
     let s : QueueState = f.queue.queue in
     let own : s.body.shape ≡ shape_of format width height = sym (ap (λ (b : Body Plane). b.shape) stands.queue.queue.shown.body) ∙ shaped in
     record {

@@ -8,8 +8,8 @@ use Rattle.loop_record.specs.declared.frame.FrameHead.{FrameHead}
 use Rattle.loop_record.specs.declared.geometry.Geometry.{Geometry}
 use Rattle.loop_record.specs.Geometry.{frame_bytes}
 use Rattle.loop_record.specs.Recording.{Picture, Step, last_number, lock, recycle, ring_of, store, unlock}
-use Rattle.loop_record.specs.Turns.{after_all, told_in, EachIn}
-use Rattle.loop_store.specs.Calls.{AreAnswered, Call, Progress, StoreState, after_calls, appended, locked, progress_after, unlocked, was_read}
+use Rattle.loop_record.specs.Turns.{after_all, told_in, EachIn, Machine}
+use Rattle.loop_store.specs.Calls.{AreAnswered, Call, StoreState, after_calls, appended, locked, unlocked, was_read}
 use Rattle.loop_store.specs.Faults.{failed_in}
 use Rattle.loop_store.specs.declared.fault.StoreFault.{StoreFault}
 use Rattle.loop_store.specs.declared.fault.StoreFault.TheVariants.{MustReopen, NumbersSpent, PendingFull, WrongSize}
@@ -32,28 +32,18 @@ pub data DeskCall : Type 0 where
   frame_read : ℕ → Result (FrameHead × List ℕ) StoreFault → DeskCall
   status_told : Status → DeskCall
 
--- what decides on a call, whatever is recorded: how far the store is, and what waits
-pub record Waiting : Type 0 where
-  pub store : Progress
-  pub pending : List Picture
-
 -- what is recorded, whether a call that writes has failed, and what waits
 pub record DeskState : Type 0 where
   pub store : StoreState
   pub pending : List Picture
 
-abbrev pub waiting_at : DeskState → Waiting
-waiting_at s = record {
-  store = record { next = s.store.recording.next; clips = s.store.recording.clips; must_reopen = s.store.must_reopen };
-  pending = s.pending;
-}
-
 -- ---- the calls of the store
 
 -- the frames that a flush stores: the first that wait, as many as a group may have and the block of the next number
 -- takes
-abbrev pub group_of : Rules → Waiting → List Picture
-group_of k w = take (min k.limits.group (k.geometry.slots - w.store.next % k.geometry.slots)) w.pending
+abbrev pub group_of : Rules → DeskState → List Picture
+group_of k s =
+    take (min k.limits.group (k.geometry.slots - s.store.recording.next % k.geometry.slots)) s.pending
 
 -- what the append of a flush answered
 abbrev pub appended_as : Result Flushed StoreFault → Result ℕ StoreFault
@@ -66,13 +56,13 @@ append_of [] result = []
 append_of (p ∷ ps) result = appended (p ∷ ps) (appended_as result) ∷ []
 
 -- the calls of the store that a call makes, with their answers
-abbrev pub store_calls : Rules → Waiting → DeskCall → List Call
-store_calls k w (submitted p size result) = []
-store_calls k w (flushed result) = append_of (group_of k w) result
-store_calls k w (clip_locked span result) = locked span result ∷ []
-store_calls k w (clip_unlocked id result) = unlocked id result ∷ []
-store_calls k w (frame_read number result) = was_read number result ∷ []
-store_calls k w (status_told status) = []
+abbrev pub store_calls : Rules → DeskState → DeskCall → List Call
+store_calls k s (submitted p size result) = []
+store_calls k s (flushed result) = append_of (group_of k s) result
+store_calls k s (clip_locked span result) = locked span result ∷ []
+store_calls k s (clip_unlocked id result) = unlocked id result ∷ []
+store_calls k s (frame_read number result) = was_read number result ∷ []
+store_calls k s (status_told status) = []
 
 -- the call of the disk that failed, if the answer says that one did
 abbrev pub desk_failed_for : DeskCall → Option DiskFault
@@ -83,7 +73,7 @@ desk_failed_for (clip_unlocked id result) = failed_in result
 desk_failed_for (frame_read number result) = failed_in result
 desk_failed_for (status_told status) = None
 
--- ---- what waits after a call
+-- ---- a desk after a call
 
 -- a submitted frame waits behind the others, and those that were stored wait no more
 abbrev pub pending_after : List Picture → DeskCall → List Picture
@@ -91,78 +81,66 @@ pending_after pending (submitted p size (Ok number)) = pending ++ p ∷ []
 pending_after pending (flushed (Ok f)) = drop f.stored pending
 pending_after pending _ = pending
 
-abbrev pub waiting_after : Rules → Waiting → DeskCall → Waiting
-waiting_after k w call = record {
-  store = after_all progress_after w.store (store_calls k w call);
-  pending = pending_after w.pending call;
+abbrev pub desk_after : Rules → DeskState → DeskCall → DeskState
+desk_after k s call = record {
+  store = after_calls k.geometry s.store (store_calls k s call);
+  pending = pending_after s.pending call;
 }
 
 -- ---- the answers
 
 -- the answer to a submit of so many bytes: the number that the frame will have, or the first refusal that is due
-abbrev pub submit_answer : Rules → Waiting → ℕ → Result ℕ StoreFault
-submit_answer k w size =
-    if w.store.must_reopen then Err MustReopen
+abbrev pub submit_answer : Rules → DeskState → ℕ → Result ℕ StoreFault
+submit_answer k s size =
+    if s.store.must_reopen then Err MustReopen
     else if not (size == frame_bytes k.geometry) then Err WrongSize
-    else if length w.pending == k.limits.pending then Err PendingFull
-    else if (w.store.next + length w.pending) == last_number (ring_of k.geometry) then Err NumbersSpent
-    else Ok (w.store.next + length w.pending)
+    else if length s.pending == k.limits.pending then Err PendingFull
+    else if (s.store.recording.next + length s.pending) == last_number (ring_of k.geometry) then Err NumbersSpent
+    else Ok (s.store.recording.next + length s.pending)
 
 -- what a flush answers that stored so many
-abbrev pub flushed_of : Waiting → ℕ → Flushed
-flushed_of w count = record { first = w.store.next; stored = count; left = length w.pending - count }
+abbrev pub flushed_of : DeskState → ℕ → Flushed
+flushed_of s count = record { first = s.store.recording.next; stored = count; left = length s.pending - count }
 
 -- the answer to a flush of a group: all of it was stored; where it has no frame it is refused only because the store
 -- must be reopened, and otherwise as the append was
-abbrev pub IsFlush : Waiting → List Picture → Result Flushed StoreFault → Type 0
-IsFlush w group (Ok f) = (w.store.must_reopen ≡ false) × (f ≡ flushed_of w (length group))
-IsFlush w [] (Err fault) = (fault ≡ MustReopen) × (w.store.must_reopen ≡ true)
-IsFlush w (p ∷ ps) (Err fault) = Unit {0}
+abbrev pub IsFlush : DeskState → List Picture → Result Flushed StoreFault → Type 0
+IsFlush s group (Ok f) = (s.store.must_reopen ≡ false) × (f ≡ flushed_of s (length group))
+IsFlush s [] (Err fault) = (fault ≡ MustReopen) × (s.store.must_reopen ≡ true)
+IsFlush s (p ∷ ps) (Err fault) = Unit {0}
 
--- a status tells how far the store is, and how many frames wait
-abbrev pub IsStatus : Waiting → Status → Type 0
-IsStatus w status =
-    (status.next ≡ w.store.next) × ((status.pending ≡ length w.pending) × (status.must_reopen ≡ w.store.must_reopen))
+-- a status tells how far the store is, and how many frames are held and wait
+pub record IsStatus (s : DeskState) (status : Status) : Type 0 where
+  pub next : status.next ≡ s.store.recording.next
+  pub held : status.held ≡ length s.store.recording.frames
+  pub pending : status.pending ≡ length s.pending
+  pub must_reopen : status.must_reopen ≡ s.store.must_reopen
 
 -- the desk's own part of an answer; all else is the answer of the store's call
-abbrev pub IsDeskTold : Rules → Waiting → DeskCall → Type 0
-IsDeskTold k w (submitted p size result) = result ≡ submit_answer k w size
-IsDeskTold k w (flushed result) = IsFlush w (group_of k w) result
-IsDeskTold k w (status_told status) = IsStatus w status
-IsDeskTold k w _ = Unit {0}
+abbrev pub IsDeskTold : Rules → DeskState → DeskCall → Type 0
+IsDeskTold k s (submitted p size result) = result ≡ submit_answer k s size
+IsDeskTold k s (flushed result) = IsFlush s (group_of k s) result
+IsDeskTold k s (status_told status) = IsStatus s status
+IsDeskTold k s _ = Unit {0}
 
--- ---- the model: a desk's state, what a call makes of it, and whether it was answered so
+-- a desk by its states and its own part of the answers
+abbrev pub desk_model : Rules → Machine DeskState DeskCall
+desk_model k = record { after = desk_after k; May = IsDeskTold k }
 
-abbrev pub desk_after : Rules → DeskState → DeskCall → DeskState
-desk_after k s call = record {
-  store = after_calls k.geometry s.store (store_calls k (waiting_at s) call);
-  pending = pending_after s.pending call;
-}
-
--- a status tells how many frames are held, too
-abbrev pub IsCounted : DeskState → DeskCall → Type 0
-IsCounted s (status_told status) = status.held ≡ length s.store.recording.frames
-IsCounted s _ = Unit {0}
-
--- of an honest disk
+-- the whole answer of a desk whose disk is honest
 abbrev pub IsDeskAnswer : Rules → DeskState → DeskCall → Type 0
 IsDeskAnswer k s call =
-    IsDeskTold k (waiting_at s) call
-    × (IsCounted s call × AreAnswered (Unit {0}) k.geometry s.store (store_calls k (waiting_at s) call))
+    IsDeskTold k s call × AreAnswered (Unit {0}) k.geometry s.store (store_calls k s call)
 
 -- ---- lists of calls
 
 -- the calls of the store, one behind the other
-abbrev pub store_calls_in : Rules → Waiting → List DeskCall → List Call
-store_calls_in k w calls = told_in (waiting_after k) (store_calls k) w calls
-
--- what decides on the next call
-abbrev pub waiting_after_calls : Rules → Waiting → List DeskCall → Waiting
-waiting_after_calls k w calls = after_all (waiting_after k) w calls
+abbrev pub store_calls_in : Rules → DeskState → List DeskCall → List Call
+store_calls_in k s calls = told_in (desk_after k) (store_calls k) s calls
 
 -- each was told so at its point
-abbrev pub AreTold : Rules → Waiting → List DeskCall → Type 0
-AreTold k w calls = EachIn (waiting_after k) (IsDeskTold k) w calls
+abbrev pub AreTold : Rules → DeskState → List DeskCall → Type 0
+AreTold k s calls = EachIn (desk_after k) (IsDeskTold k) s calls
 
 -- the state after calls, and that each was answered so at its point
 abbrev pub desk_after_calls : Rules → DeskState → List DeskCall → DeskState

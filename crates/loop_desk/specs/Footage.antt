@@ -10,7 +10,7 @@ use Rattle.loop_store.specs.Calls.{Call, StoreState, begun_in, made_in}
 use Rattle.loop_store.specs.Held.{EachNow, HoldsFrom}
 use Rattle.loop_store.specs.Seen.{StandsFor}
 use Rattle.loop_desk.specs.Desk.{DeskCall, accepted_in, frames_stored, store_calls_in}
-use Rattle.loop_desk.specs.Seen.{SeenDesk, rules_of, waiting_of}
+use Rattle.loop_desk.specs.Seen.{SeenDesk, rules_of}
 
 -- ---- a clip, and all its frames
 
@@ -40,15 +40,15 @@ pub record HoldsWhole (g : Geometry) (r : Recording) (steps : List Step) (image 
 -- ---- the footage
 
 -- the store's calls that calls of a desk make
-abbrev pub stored_calls : {D : Type 0} → SeenDesk D → List DeskCall → List Call
-stored_calls d calls = store_calls_in (rules_of d) (waiting_of d) calls
+abbrev pub stored_calls : {D : Type 0} → SeenDesk D → StoreState → List DeskCall → List Call
+stored_calls d s calls = store_calls_in (rules_of d) (record { store = s; pending = d.pending }) calls
 
 -- the steps that calls made, as they were answered, and those that they began
 abbrev pub steps_made : {D : Type 0} → SeenDesk D → StoreState → List DeskCall → List Step
-steps_made d s calls = made_in d.store.geometry s (stored_calls d calls)
+steps_made d s calls = made_in d.store.geometry s (stored_calls d s calls)
 
 abbrev pub steps_begun : {D : Type 0} → SeenDesk D → StoreState → List DeskCall → List Step
-steps_begun d s calls = begun_in d.store.geometry s (stored_calls d calls)
+steps_begun d s calls = begun_in d.store.geometry s (stored_calls d s calls)
 
 -- What calls leave of the footage of a desk whose store stood for a state, with an honest disk.
 pub record KeepsFootage {D : Type 0} (medium : D → Medium) (old new : SeenDesk D) (calls : List DeskCall)

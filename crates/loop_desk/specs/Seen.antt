@@ -6,15 +6,16 @@ use Rattle.loop_disk.specs.Medium.{Medium}
 use Rattle.loop_record.specs.declared.frame.Frame.{Frame}
 use Rattle.loop_record.specs.Geometry.{frame_bytes}
 use Rattle.loop_record.specs.Recording.{Picture, Recording, last_number, ring_of}
-use Rattle.loop_record.specs.Turns.{EachIn}
+use Rattle.loop_record.specs.Turns.{Plays}
 use Rattle.loop_store.specs.declared.fault.StoreFault.{StoreFault}
 use Rattle.loop_store.specs.declared.fault.StoreFault.TheVariants.{MustReopen, NoMemory}
-use Rattle.loop_store.specs.Goes.{Goes, Stands, progress_of}
+use Rattle.loop_store.specs.Goes.{Goes, Stands, TellsState}
+use Rattle.loop_store.specs.Opened.{TellsOne}
 use Rattle.loop_store.specs.Seen.{Seen, StandsFor}
 use Rattle.loop_desk.specs.declared.limits.DeskLimits.{DeskLimits}
 use Rattle.loop_desk.specs.declared.limits.Outline.{Outline}
 use Rattle.loop_desk.specs.declared.limits.Status.{Status}
-use Rattle.loop_desk.specs.Desk.{AreTold, DeskCall, DeskState, IsCounted, Rules, Waiting, desk_after, store_calls_in, waiting_after_calls}
+use Rattle.loop_desk.specs.Desk.{DeskCall, DeskState, Rules, desk_model, store_calls_in}
 
 -- the store, the frames that wait, and the limits
 pub record SeenDesk (D : Type 0) : Type 0 where
@@ -31,9 +32,10 @@ answer_of (Err refused) = Err refused.0
 abbrev pub rules_of : {D : Type 0} → SeenDesk D → Rules
 rules_of d = record { geometry = d.store.geometry; limits = d.limits }
 
--- what decides on a call, of every disk
-abbrev pub waiting_of : {D : Type 0} → SeenDesk D → Waiting
-waiting_of d = record { store = progress_of d.store; pending = d.pending }
+-- the desk tells what a state says
+pub record TellsDesk {D : Type 0} (d : SeenDesk D) (s : DeskState) : Type 0 where
+  pub store : TellsState d.store s.store
+  pub pending : d.pending ≡ s.pending
 
 -- the desk stands for a state
 pub record StandsAt {D : Type 0} (medium : D → Medium) (d : SeenDesk D) (s : DeskState) : Type 0 where
@@ -46,18 +48,15 @@ pub record Opens {D : Type 0} (medium : D → Medium) (d : SeenDesk D) : Type 0 
   pub stands : (now : (medium d.store.disk).honest) → StandsFor medium d.store (recording now)
   pub writable : d.store.must_reopen ≡ false
 
--- What calls, one after the other, make of a desk, whatever its disk. All that they leave on the disk, and what they
--- are answered of it, is said by the store's calls.
+-- What calls, one after the other, make of a desk, whatever its disk, from each state of which it tells, and it tells of
+-- one. All that they leave on the disk, and what they are answered of it, is said by the store's calls.
 pub record DeskGoes {D : Type 0} (medium : D → Medium) (old new : SeenDesk D) (calls : List DeskCall) : Type 0 where
+  pub one : TellsOne old.store
   -- the store went on by its own calls
-  pub store : Goes medium old.store new.store (store_calls_in (rules_of old) (waiting_of old) calls)
-  -- each answer is the model's
-  pub told : AreTold (rules_of old) (waiting_of old) calls
-  pub pending : new.pending ≡ (waiting_after_calls (rules_of old) (waiting_of old) calls).pending
+  pub store : (s : DeskState) → TellsDesk old s → Goes medium old.store new.store (store_calls_in (rules_of old) s calls)
+  -- each answer is the model's, and the desk tells of the state after them
+  pub plays : Plays (desk_model (rules_of old)) (TellsDesk old) (TellsDesk new) calls
   pub limits : new.limits ≡ old.limits
-  -- and from each state that the desk stood for, each status tells how many frames are held
-  pub counted : (s : DeskState) → StandsAt medium old s → (medium old.store.disk).honest
-      → EachIn (desk_after (rules_of old)) IsCounted s calls
 
 -- ---- what a desk tells without a call of the disk
 

@@ -5,8 +5,9 @@ ghost use Rattle.circular_buffer.specs.Buffer.{buffer};
 ghost use Rattle.loop_record.specs.Geometry.{frame_bytes};
 ghost use Rattle.loop_record.specs.Plain.{pictures};
 ghost use Rattle.loop_record.specs.Recording.{last_number, picture, ring_of};
-ghost use Rattle.loop_desk.specs.Desk.{clip_locked, clip_unlocked, flushed, frame_read, submit_answer, submitted};
-ghost use Rattle.loop_desk.specs.Seen.{DeskGoes, IsDesk, Opens, OutlineRefuses, SeenDesk, TellsOutline, TellsStatus, answer_of, rules_of, waiting_of};
+ghost use Rattle.loop_desk.specs.Desk.{DeskState, clip_locked, clip_unlocked, flushed, frame_read, submit_answer, submitted};
+ghost use Rattle.loop_desk.specs.Seen.{DeskGoes, IsDesk, Opens, OutlineRefuses, SeenDesk, TellsDesk, TellsOutline, TellsStatus, answer_of, rules_of};
+ghost use Rattle.loop_store.specs.Opened.{TellsOne};
 ghost use Rattle.loop_store.specs.Runs.{read_of};
 ghost use Rattle.loop_store.specs.Seen.{Refused};
 
@@ -15,7 +16,7 @@ use crate::{DeskLimits, Flushed, Outline, Status};
 use circular_buffer::HeapCircularBuffer;
 use loop_disk::Disk;
 use loop_record::{Frame, Geometry};
-use loop_store::laws::a_store_is_opened;
+use loop_store::laws::{a_store_is_opened, a_store_tells};
 use loop_store::{ReadFrame, Store, StoreFault};
 use std::alloc::{Allocator, Global};
 use std::marker::Model;
@@ -103,11 +104,13 @@ impl<D: Disk + Drop, A: Allocator> Desk<D, A> {
         None
     }
 
-    /// Where the desk needn't be reopened and its disk is honest, its store stands for a recording. The function does
-    /// nothing: its contract is the law.
+    /// A desk tells what some recording says; and where it needn't be reopened and its disk is honest, its store stands
+    /// for the recording that the disk holds. The function does nothing: its contract is the law.
     pub fn opens(&self)
-        ensures { self.now.store.must_reopen ≡ false → Opens D.medium self.now }
+        ensures tells { TellsOne self.now.store }
+        ensures opens { self.now.store.must_reopen ≡ false → Opens D.medium self.now }
     {
+        a_store_tells(&self.store);
         a_store_is_opened(&self.store);
     }
 
@@ -127,8 +130,8 @@ impl<D: Disk + Drop, A: Allocator> Desk<D, A> {
 
     /// The number that a frame will have, or why it isn't taken in.
     fn number_for(&self, frame: &Frame<A>) -> Result<u64, StoreFault>
-        ensures answer { result
-            ≡ submit_answer (rules_of self.now) (waiting_of self.now) (length frame.now.bytes.items) }
+        ensures answer { (s : DeskState) → TellsDesk self.now s
+            → result ≡ submit_answer (rules_of self.now) s (length frame.now.bytes.items) }
         ensures size { IfOk result (λ _. length frame.now.bytes.items ≡ frame_bytes self.now.store.geometry) }
         ensures room { IfOk result (λ _. length self.now.pending ≢ self.now.limits.pending) }
         ensures low { IfOk result (λ _. self.now.store.next + length self.now.pending
@@ -162,6 +165,7 @@ impl<D: Disk + Drop, A: Allocator> Desk<D, A> {
         ensures back { IfErr result (λ refused. refused.1 ≡ frame) }
         ensures same { self.new ≡ record self.old { pending = self.new.pending } }
     {
+        a_store_tells(&self.store);
         match self.number_for(&frame) {
             Ok(number) => {
                 self.pending.push_back(frame);
@@ -181,6 +185,7 @@ impl<D: Disk + Drop, A: Allocator> Desk<D, A> {
         ensures refused { Refused self.old.store self.new.store result }
         ensures idle { self.old.pending ≡ [] → self.new ≡ self.old }
     {
+        a_store_tells(&self.store);
         let waiting = self.pending.len();
         let most = self.limits.group.min(self.store.room()) as usize;
         let count = most.min(waiting);

@@ -50,6 +50,7 @@ fn submit<D: Disk + Drop, P: PlaneMemory, A: Allocator + Copy>(
     ensures hand { hand_state P.plane hand.new ≡ hand_given (hand_state P.plane hand.old) result }
     ensures goes { DeskGoes D.medium desk.old desk.new (submit_calls (hand_state P.plane hand.old) result) }
 {
+    desk.opens();
     match mem::replace(hand, Hand::Empty) {
         Hand::Frame {
             index,
@@ -101,6 +102,7 @@ fn answer<D: Disk + Drop, P: PlaneMemory, A: Allocator + Copy>(
 ) -> LaneReply<P, A>
     ensures { LaneRan P.plane D.medium lane.old lane.new (event ∷ []) (result ∷ []) }
 {
+    lane.desk.opens();
     match event {
         LaneEvent::Queue(event) => {
             if is_dequeue(lane.queue.format(), &event) {
@@ -138,6 +140,7 @@ pub fn lane_run<D: Disk + Drop, P: PlaneMemory, A: Allocator + Copy>(
     ensures refused { IfErr result (λ refused. (refused.0 ≡ StoreFault.NoMemory)
         × ((refused.1 ≡ events) × (lane.new ≡ lane.old))) }
 {
+    lane.desk.opens();
     let mut replies = match Vec::with_capacity(alloc, events.len()) {
         Ok(replies) => replies,
         Err(_) => return Err((StoreFault::NoMemory, events)),

@@ -257,13 +257,13 @@ kept-grown medium old new was now place n j ps must kept fine at placed noted si
         }
 
 -- each recording that the store told of before, with the steps of the append
-pub told-grown : {D A : Type 0} (medium : D → Medium) (old new : D) (was now : Index A) (place : Place) (n j : ℕ) (ps : List Picture) (must : Bool) (r : Recording) → (kept : IsKept medium old was must) → StandsFor medium (seen_with old was must) r → j ≡ place_segment place
+pub told-grown : {D A : Type 0} (medium : D → Medium) (old new : D) (was now : Index A) (place : Place) (n j : ℕ) (ps : List Picture) (must : Bool) (r : Recording) → (kept : IsKept medium old was must) → Tells (seen_with old was must) r → j ≡ place_segment place
     → IsPlaced was place n → IsNoted was now j n → n ≡ length ps → Tells (seen_with new now must) (plain (ring_of was.ring.geometry) r (steps_or_none (steps (ring_of was.ring.geometry) r ps)))
-told-grown medium old new was now place n j ps must r kept stands at placed noted count =
+told-grown medium old new was now place n j ps must r kept told_before at placed noted count =
     let g = was.ring.geometry in
     let some = (limits g was.ring.good).slots.0 in
     let r0 = kept.known.recording in
-    let same = alike-by medium old was must r kept stands in
+    let same = alike-by medium old was must r kept told_before in
     let grown = has-grown was now place n kept.known kept.fits.whole (noted-at was now j (place_segment place) n at noted) placed in
     let is = placed.at r0 (drawn g was.table.heads was.clips) kept.known.known in
     let steps_are : steps_before g r ++ map store ps ≡ steps_or_none (steps (ring_of g) r ps) = steps-are g r ps (λ spent. is.0 (same.next ∙ spent)) (λ none. place-some g r0 (drawn g was.table.heads was.clips) place is.1 (place-same g r0 r same ∙ none)) in
@@ -279,7 +279,7 @@ pub stands-grown : {D A : Type 0} (medium : D → Medium) (old new : D) (was now
 stands-grown medium old new was now place n j ps must r kept fine stands at placed noted grew =
     let g = was.ring.geometry in
     let t : Recording = plain (ring_of g) r (steps_or_none (steps (ring_of g) r ps)) in record {
-      told = told-grown medium old new was now place n j ps must r kept stands at placed noted grew.count;
+      told = told-grown medium old new was now place n j ps must r kept stands.told at placed noted grew.count;
       settled = λ still there. grew.settled (grew.back there);
       held = λ still there.
           let back = grew.back there in

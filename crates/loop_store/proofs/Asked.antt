@@ -1,12 +1,12 @@
 -- What a disk's images hold after a call, and a store after one that failed.
 use Rattle.std.proofs.Common.{◌++◌, ℕ, refl, List, length, sym, ap, subst, arith}
 use Rattle.std.proofs.lemmas.List.{length-append, take_at}
-use Rattle.loop_disk.specs.Medium.{Medium, IsSound, LeavesOnly}
+use Rattle.loop_disk.specs.Medium.{Medium}
 use Rattle.loop_record.specs.declared.geometry.Geometry.{Geometry}
 use Rattle.loop_record.specs.Reading.{Holds}
 use Rattle.loop_record.specs.Recording.{Recording, Step, plain, ring_of}
 use Rattle.loop_record.proofs.Decided.{clash}
-use Rattle.loop_store.specs.Held.{EachNow, HoldsFrom}
+use Rattle.loop_store.specs.Held.{HoldsFrom}
 use Rattle.loop_store.specs.Seen.{HasFailed, Seen, StandsFor, Tells}
 
 -- all of some steps, with none behind them
@@ -18,14 +18,14 @@ holds-all g r steps more image held = record {
   held = subst (λ (l : List Step). Holds g (plain (ring_of g) r l) image) (sym (take_at steps more (length steps) refl)) held;
 }
 
--- what a crash now may leave is one of the images since then
-pub each-now : (old new : Medium) (P : List ℕ → Type 0) → IsSound new → LeavesOnly old new P → EachNow new P
-each-now old new P sound run = λ c left. run.each c (sound.counts_now old.moment c run.later left)
+-- a store after a failed call tells what it told, and stands for what it stood for
+pub failed-told : {D : Type 0} (old new : Seen D) (r : Recording) → HasFailed old new → Tells old r → Tells new r
+failed-told {D} old new r failed told =
+    subst (λ (s : Seen D). Tells s r) (sym failed) (record { formed = told.formed; next_is = told.next_is; numbers_are = told.numbers_are; count_is = told.count_is; clips_are = told.clips_are })
 
--- a store after a failed call stands for what it stood for
 pub failed-stands : {D : Type 0} (medium : D → Medium) (old new : Seen D) (r : Recording) → HasFailed old new → StandsFor medium old r → StandsFor medium new r
 failed-stands {D} medium old new r failed stands = record {
-  told = subst (λ (s : Seen D). Tells s r) (sym failed) (let told = stands.told in record { formed = told.formed; next_is = told.next_is; numbers_are = told.numbers_are; count_is = told.count_is; clips_are = told.clips_are });
+  told = failed-told old new r failed stands.told;
   settled = λ fine now. absurd (clash new.must_reopen (ap (λ (s : Seen D). s.must_reopen) failed) fine);
   held = λ fine now. absurd (clash new.must_reopen (ap (λ (s : Seen D). s.must_reopen) failed) fine);
 }

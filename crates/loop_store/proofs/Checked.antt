@@ -4,7 +4,7 @@ use Rattle.loop_record.specs.declared.geometry.Geometry.{Geometry}
 use Rattle.loop_store.specs.declared.fault.StoreFault.{StoreFault}
 use Rattle.loop_store.specs.declared.fault.StoreFault.TheVariants.{MustReopen}
 use Rattle.loop_record.specs.Recording.{Recording}
-use Rattle.loop_store.specs.Calls.{AnswersDue, AreAnswered, Call, IsAnswered, AnswersOtherwise, Progress, StoreState, after, appended, locked, unlocked, was_read, was_read_part, checks, checks_on, due, fault_answered, first_of}
+use Rattle.loop_store.specs.Calls.{AnswersDue, AreAnswered, Call, IsAnswered, AnswersOtherwise, StoreState, after, appended, locked, unlocked, was_read, was_read_part, checks, checks_on, due, fault_answered, first_of}
 
 -- ---- which is the first
 
@@ -105,11 +105,3 @@ answered-as H K g s c f said = go (first_of (checks g s c)) said
 pub are-answered-as : (H K : Type 0) (g : Geometry) (s : StoreState) (calls : List Call) → (K → H) → AreAnswered H g s calls → AreAnswered K g s calls
 are-answered-as H K g s [] f said = tt
 are-answered-as H K g s (c ∷ calls) f said = (answered-as H K g s c f said.0, are-answered-as H K g (after g s c) calls f said.1)
-
--- what is known of every disk says so too
-pub must-known : (o : Progress) (more : List (Option StoreFault)) (c : Call) (Given : Type 0) → o.must_reopen ≡ true → AnswersDue (first_of (due o.must_reopen MustReopen ∷ more)) c Given → fault_answered c ≡ Some MustReopen
-must-known o more c Given must said = go (first_of (due o.must_reopen MustReopen ∷ more)) (failed o.must_reopen MustReopen more must) said
-  where
-    go : (x : Option StoreFault) → x ≡ Some MustReopen → AnswersDue x c Given → fault_answered c ≡ Some MustReopen
-    go None e is = absurd cc
-    go (Some fault) e is = is ∙ e

@@ -1,25 +1,24 @@
 -- Calls of a store, one after the other.
-use Rattle.std.proofs.Common.{◌≡◌, inl, Bool, true, false, not, ◌&&◌, is_some, Option, None, Some, List, [], ◌∷◌, ◌++◌, map, refl, sym, ap, ◌∙◌, subst, arith}
+use Rattle.std.proofs.Common.{◌≡◌, inl, Bool, true, false, ◌&&◌, Option, List, [], ◌∷◌, ◌++◌, map, refl, sym, ap, ◌∙◌, subst, arith}
 use Rattle.std.proofs.lemmas.List.{append-nil, map-append}
-use Rattle.std.specs.Prelude.{◌||◌, ◌==◌, nat_lt, slice_index_or}
+use Rattle.std.specs.Prelude.{◌||◌}
 use Rattle.std.specs.List.{list_all}
 use Rattle.loop_disk.specs.declared.fault.DiskFault.{DiskFault}
 use Rattle.loop_disk.specs.declared.fault.Failures.{Failures}
 use Rattle.loop_disk.specs.Calls.{Called, Stays, with_failed}
 use Rattle.loop_disk.specs.Medium.{Medium, IsSound}
 use Rattle.loop_record.specs.declared.geometry.Geometry.{Geometry}
-use Rattle.loop_record.specs.Recording.{Recording, last_number, plain, ring_of}
-use Rattle.loop_record.specs.Turns.{EachIn, after_all}
+use Rattle.loop_record.specs.Recording.{Recording, plain, ring_of}
 use Rattle.loop_record.proofs.Decided.{both}
 use Rattle.loop_record.proofs.Turned.{after-behind, each-behind, told-behind}
 use Rattle.loop_ring.proofs.SlotReads.{stays_on}
-use Rattle.loop_store.specs.declared.fault.StoreFault.TheVariants.{ClipEmpty, MustReopen, NoSuchClip, NumbersSpent}
-use Rattle.loop_store.specs.Calls.{AreAnswered, Call, IsAllowed, IsAnswered, MayGive, Progress, StoreState, after, after_calls, appended, begun, begun_in, due, failed_for, fault_answered, has_failed, is_look, locked, made, made_in, progress_after, unlocked, was_read, was_read_part, was_refused}
+use Rattle.loop_store.specs.Calls.{AreAnswered, Call, IsAnswered, StoreState, after, after_calls, begun, begun_in, failed_for, has_failed, is_look, made, made_in, was_refused}
 use Rattle.loop_store.specs.Faults.{is_early}
-use Rattle.loop_store.specs.Goes.{CalledEach, Goes, Stands, progress_of, with_each}
+use Rattle.loop_store.specs.Goes.{CalledEach, Goes, Stands, TellsState, with_each}
+use Rattle.loop_store.specs.Opened.{TellsOne}
 use Rattle.loop_store.specs.Seen.{Seen}
 use Rattle.loop_store.specs.Steps.{LeavesSteps}
-use Rattle.loop_store.proofs.Checked.{are-answered-as, must-known}
+use Rattle.loop_store.proofs.Checked.{are-answered-as, must-answer}
 use Rattle.loop_store.proofs.Leaves.{leaves-joined, leaves-none, leaves-same}
 use Rattle.loop_store.proofs.Modelled.{fine-all, idle-all, recording-after}
 
@@ -44,7 +43,7 @@ called-joined old mid new xs ys first second = record {
 
 -- nothing was called
 pub stays-still : (m : Medium) → Stays m m
-stays-still m = record { bytes = refl; images = λ c left. left; time = record { later = omega arith; nothing_else = λ t c before left. inl left; keeps = λ t c before left. left } }
+stays-still m = record { bytes = refl; images = λ c left. left; time = record { later = omega arith; nothing_else = λ t c le left. inl left }; keeps = λ t c le left. left }
 
 -- so it is of each of two lists
 all-both : (p : Call → Bool) (xs ys : List Call) → list_all p (xs ++ ys) ≡ true → (list_all p xs ≡ true) × (list_all p ys ≡ true)
@@ -56,67 +55,77 @@ all-both p (x ∷ xs) ys all =
 
 -- ---- a store that must be reopened
 
-known-must : (g : Geometry) (o : Progress) (c : Call) → o.must_reopen ≡ true → IsAllowed g o c → fault_answered c ≡ Some MustReopen
-known-must g o (appended group result) must said = must-known o (due (o.next == last_number (ring_of g)) NumbersSpent ∷ []) (appended group result) (MayGive o (appended group result)) must said
-known-must g o (locked span result) must said = must-known o (due (nat_lt span.to span.from) ClipEmpty ∷ []) (locked span result) (MayGive o (locked span result)) must said
-known-must g o (unlocked id result) must said = must-known o (due (not (is_some (slice_index_or o.clips id None))) NoSuchClip ∷ []) (unlocked id result) (MayGive o (unlocked id result)) must said
-known-must g o (was_read number result) must said = must-known o [] (was_read number result) (MayGive o (was_read number result)) must said
-known-must g o (was_read_part number at result) must said = must-known o [] (was_read_part number at result) (MayGive o (was_read_part number at result)) must said
-
 -- each call of it is refused
-all-refused : (g : Geometry) (o : Progress) (calls : List Call) → o.must_reopen ≡ true → EachIn progress_after (IsAllowed g) o calls → list_all was_refused calls ≡ true
-all-refused g o [] must said = refl
-all-refused g o (c ∷ calls) must said =
-    let early = ap is_early (known-must g o c must said.0) in
-    let rest = all-refused g (progress_after o c) calls (ap (λ (b : Bool). b || has_failed c) must) said.1 in
+all-refused : (H : Type 0) (g : Geometry) (s : StoreState) (calls : List Call) → s.must_reopen ≡ true → AreAnswered H g s calls → list_all was_refused calls ≡ true
+all-refused H g s [] must said = refl
+all-refused H g s (c ∷ calls) must said =
+    let early = ap is_early (must-answer H g s c must said.0) in
+    let rest = all-refused H g (after g s c) calls (ap (λ (b : Bool). b || has_failed c) must) said.1 in
     λ i. early i && rest i
+
+-- the store stands for a state, and its disk is honest
+abbrev Held : {D : Type 0} (medium : D → Medium) (store : Seen D) → StoreState → Type 0
+Held medium store s = (medium store.disk).honest × Stands medium store s
+
+-- the state of a store that tells of a recording
+abbrev pub state-of : {D : Type 0} (store : Seen D) → TellsOne store → StoreState
+state-of store one = record { recording = one.0; must_reopen = store.must_reopen }
+
+pub state-told : {D : Type 0} (store : Seen D) (one : TellsOne store) → TellsState store (state-of store one)
+state-told store one = record { recording = one.1; must_reopen = refl }
+
+-- a store tells what the state says for which it stands
+pub told-of : {D : Type 0} (medium : D → Medium) (store : Seen D) (s : StoreState) → Stands medium store s → TellsState store s
+told-of medium store s stands = record { recording = stands.recording.told; must_reopen = stands.must_reopen }
 
 -- and so nothing is moved
 pub idle : {D : Type 0} (medium : D → Medium) (old new : Seen D) (calls : List Call) → Goes medium old new calls → old.must_reopen ≡ true → new ≡ old
-idle medium old new calls goes must = goes.unmoved (all-refused old.geometry (progress_of old) calls must goes.allowed)
+idle medium old new calls goes must =
+    let s = state-of old goes.one in
+    goes.unmoved (all-refused (Held medium old s) old.geometry s calls must (goes.answers s (state-told old goes.one)))
 
 -- ---- calls
 
 -- no call
-pub goes-none : {D : Type 0} (medium : D → Medium) (store : Seen D) → ((medium store.disk).honest → IsSound (medium store.disk)) → Goes medium store store []
-goes-none medium store sound = record {
-  answers = λ s stands. tt;
+pub goes-none : {D : Type 0} (medium : D → Medium) (store : Seen D) → TellsOne store → ((medium store.disk).honest → IsSound (medium store.disk)) → Goes medium store store []
+goes-none medium store one sound = record {
+  one = one;
+  answers = λ s told. tt;
+  tells = λ s told. told;
   stands = λ s stands. stands;
   leaves = λ s stands now fine.
       let still : store.must_reopen ≡ false = stands.must_reopen ∙ fine in
       leaves-none store.geometry s.recording (medium store.disk) (sound now) (stands.recording.settled still now) (stands.recording.held still now);
   looks = λ all now. stays-still (medium store.disk);
   unmoved = λ all. refl;
-  allowed = tt;
-  progress = refl;
   geometry = refl;
   called = called-none (medium store.disk);
 }
 
 -- One call, by what it says of its own steps.
 pub record GoesOnce {D : Type 0} (medium : D → Medium) (old new : Seen D) (c : Call) : Type 0 where
-  pub answers : (s : StoreState) → Stands medium old s → IsAnswered (medium old.disk).honest old.geometry s c
+  pub one : TellsOne old
+  pub answers : (s : StoreState) → TellsState old s → IsAnswered ((medium old.disk).honest × Stands medium old s) old.geometry s c
+  pub tells : (s : StoreState) → TellsState old s → TellsState new (after old.geometry s c)
   pub stands : (s : StoreState) → Stands medium old s → Stands medium new (after old.geometry s c)
   pub leaves : (s : StoreState) → Stands medium old s → (medium old.disk).honest → s.must_reopen ≡ false
       → LeavesSteps old.geometry s.recording (made old.geometry s c) (begun old.geometry s c) (medium old.disk) (medium new.disk)
   pub looks : is_look c ≡ true → (medium old.disk).honest → Stays (medium old.disk) (medium new.disk)
   pub unmoved : was_refused c ≡ true → new ≡ old
-  pub allowed : IsAllowed old.geometry (progress_of old) c
-  pub progress : progress_of new ≡ progress_after (progress_of old) c
   pub geometry : new.geometry ≡ old.geometry
   pub called : Called (medium old.disk) (medium new.disk) (failed_for c)
 
 pub goes-once : {D : Type 0} (medium : D → Medium) (old new : Seen D) (c : Call) → GoesOnce medium old new c → Goes medium old new (c ∷ [])
 goes-once medium old new c one = record {
-  answers = λ s stands. (one.answers s stands, tt);
+  one = one.one;
+  answers = λ s told. (one.answers s told, tt);
+  tells = one.tells;
   stands = one.stands;
   leaves = λ s stands now fine.
       let g = old.geometry in
       leaves-same g s.recording (made g s c) (made g s c ++ []) (begun g s c) (begun g s c ++ []) (medium old.disk) (medium new.disk) (sym (append-nil (made g s c))) (sym (append-nil (begun g s c))) (one.leaves s stands now fine);
   looks = λ all now. one.looks (both (is_look c) true all).0 now;
   unmoved = λ all. one.unmoved (both (was_refused c) true all).0;
-  allowed = (one.allowed, tt);
-  progress = one.progress;
   geometry = one.geometry;
   called = called-one (medium old.disk) (medium new.disk) (failed_for c) one.called;
 }
@@ -124,7 +133,11 @@ goes-once medium old new c one = record {
 -- Calls, and calls behind them.
 pub goes-joined : {D : Type 0} (medium : D → Medium) (old mid new : Seen D) (xs ys : List Call) → Goes medium old mid xs → Goes medium mid new ys → Goes medium old new (xs ++ ys)
 goes-joined {D} medium old mid new xs ys first second = record {
-  answers = λ s stands. each-behind (after g) (IsAnswered (medium old.disk).honest g) s xs ys (first.answers s stands) (later s stands);
+  one = first.one;
+  answers = λ s told. each-behind (after g) (IsAnswered (Held medium old s) g) s xs ys (first.answers s told) (later s told);
+  tells = λ s told.
+      subst (λ (t : StoreState). TellsState new t) (sym (after-behind (after g) s xs ys))
+      (subst (λ (h : Geometry). TellsState new (after_calls h (mid_state s) ys)) first.geometry (second.tells (mid_state s) (first.tells s told)));
   stands = λ s stands.
       subst (λ (t : StoreState). Stands medium new t) (sym (after-behind (after g) s xs ys))
       (subst (λ (h : Geometry). Stands medium new (after_calls h (mid_state s) ys)) first.geometry (second.stands (mid_state s) (first.stands s stands)));
@@ -133,10 +146,6 @@ goes-joined {D} medium old mid new xs ys first second = record {
       (sym (told-behind (after g) (made g) s xs ys)) (sym (told-behind (after g) (begun g) s xs ys)) (go s stands now fine (mid_state s).must_reopen refl);
   looks = λ all now. let k = all-both is_look xs ys all in stays_on (medium old.disk) (medium mid.disk) (medium new.disk) (first.looks k.0 now) (second.looks k.1 (first.called.honest.0 now));
   unmoved = λ all. let k = all-both was_refused xs ys all in second.unmoved k.1 ∙ first.unmoved k.0;
-  allowed =
-      each-behind progress_after (IsAllowed g) (progress_of old) xs ys first.allowed
-      (subst (λ (o : Progress). EachIn progress_after (IsAllowed g) o ys) first.progress (subst (λ (h : Geometry). EachIn progress_after (IsAllowed h) (progress_of mid) ys) first.geometry second.allowed));
-  progress = second.progress ∙ ap (λ (o : Progress). after_all progress_after o ys) first.progress ∙ sym (after-behind progress_after (progress_of old) xs ys);
   geometry = second.geometry ∙ first.geometry;
   called =
       subst (λ (l : List (Option DiskFault)). CalledEach (medium old.disk) (medium new.disk) l) (sym (map-append failed_for xs ys))
@@ -149,15 +158,15 @@ goes-joined {D} medium old mid new xs ys first second = record {
     mid_state : StoreState → StoreState
     mid_state s = after_calls g s xs
 
-    later : (s : StoreState) → Stands medium old s → AreAnswered (medium old.disk).honest g (mid_state s) ys
-    later s stands =
-        are-answered-as (medium mid.disk).honest (medium old.disk).honest g (mid_state s) ys first.called.honest.0
-        (subst (λ (h : Geometry). AreAnswered (medium mid.disk).honest h (mid_state s) ys) first.geometry (second.answers (mid_state s) (first.stands s stands)))
+    later : (s : StoreState) → TellsState old s → AreAnswered (Held medium old s) g (mid_state s) ys
+    later s told =
+        are-answered-as (Held medium mid (mid_state s)) (Held medium old s) g (mid_state s) ys (λ held. (first.called.honest.0 held.0, first.stands s held.1))
+        (subst (λ (h : Geometry). AreAnswered (Held medium mid (mid_state s)) h (mid_state s) ys) first.geometry (second.answers (mid_state s) (first.tells s told)))
 
     go : (s : StoreState) → Stands medium old s → (medium old.disk).honest → s.must_reopen ≡ false → (b : Bool) → (mid_state s).must_reopen ≡ b
         → LeavesSteps g s.recording (made_in g s xs ++ made_in g (mid_state s) ys) (begun_in g s xs ++ begun_in g (mid_state s) ys) (medium old.disk) (medium new.disk)
     go s stands now fine true must =
-        let none = idle-all (medium old.disk).honest g (mid_state s) ys must (later s stands) in
+        let none = idle-all (Held medium old s) g (mid_state s) ys must (later s (told-of medium old s stands)) in
         let there = first.stands s stands in
         let same : new ≡ mid = idle medium mid new ys second (there.must_reopen ∙ must) in
         subst (λ (t : Seen D). LeavesSteps g s.recording (made_in g s xs ++ made_in g (mid_state s) ys) (begun_in g s xs ++ begun_in g (mid_state s) ys) (medium old.disk) (medium t.disk)) (sym same)

@@ -24,6 +24,7 @@ pub mod Checked
 pub mod Missing
 pub mod Modelled
 pub mod Gone
+pub mod NextNumber
 pub mod Once
 pub mod Putting
 pub mod Locked

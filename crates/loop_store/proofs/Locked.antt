@@ -23,7 +23,7 @@ use Rattle.loop_record.proofs.Clips.{clip_of-entry, clips-are, parts-clip, readi
 use Rattle.loop_record.proofs.Bounds.{limits}
 use Rattle.loop_record.proofs.Form.{reading-well_formed}
 use Rattle.loop_record.proofs.Rising.{all_range-each, among-range as rising-range, held-among}
-use Rattle.loop_record.proofs.Decided.{at_most, at_most_test, both, equal, not_below_test}
+use Rattle.loop_record.proofs.Decided.{at_most, at_most_test, both, equal}
 use Rattle.loop_record.proofs.Framing.{same_open, same_segment, same_whole_frames}
 use Rattle.loop_record.proofs.Parts.{reading-stages, within_behind}
 use Rattle.loop_record.proofs.Readings.{get_or-map_range, length-range}
@@ -33,26 +33,27 @@ use Rattle.loop_ring.specs.Heads.{clip_counts, has_number, heads_of}
 use Rattle.loop_ring.proofs.Heads.{head_of, heads-are, heads-length}
 use Rattle.loop_store.specs.declared.index.Index.{Index}
 use Rattle.loop_store.specs.declared.fault.StoreFault.{StoreFault}
-use Rattle.loop_store.specs.declared.fault.StoreFault.TheVariants.{ClipEmpty, MustReopen, NoSuchClip}
-use Rattle.loop_store.specs.Calls.{Call, IsAllowed, IsAnswered, AnswersOtherwise, MayGive, Progress, StoreState, begun, checks, clips_after, count_stored, failed_for, first_of, has_failed, is_look, known_checks, locked, made, span_checks, unlocked, was_refused}
+use Rattle.loop_store.specs.declared.fault.StoreFault.TheVariants.{NoSuchClip}
+use Rattle.loop_store.specs.Calls.{Call, IsAnswered, AnswersOtherwise, StoreState, begun, checks, failed_for, first_of, has_failed, is_look, locked, made, span_checks, unlocked, was_refused}
 use Rattle.loop_store.specs.Faults.{failed_by, is_disk, is_early}
-use Rattle.loop_store.specs.Goes.{Goes, progress_of}
+use Rattle.loop_store.specs.Goes.{Goes, Stands}
+use Rattle.loop_store.specs.Opened.{TellsOne}
 use Rattle.loop_store.specs.Drawn.{drawn}
 use Rattle.loop_store.specs.Held.{HasNoneStray, HoldsSome, Makes}
 use Rattle.loop_store.specs.Locks.{CanRefuseSpan, CanTake, EndsRun, KeepsSegments}
 use Rattle.loop_store.specs.Recovered.{IsClipNoted, IsHeadIn, IsIndex, IsIndexOf, IsRecovered}
-use Rattle.loop_store.specs.Seen.{IsKept, IsPresent, Seen, StandsFor, seen_with}
+use Rattle.loop_store.specs.Seen.{IsKept, IsPresent, Seen, StandsFor, Tells, seen_with}
 use Rattle.loop_store.proofs.Grown.{held-some}
 use Rattle.loop_store.specs.Numbers.{is_among}
 use Rattle.loop_store.proofs.Looked.{missing-behind}
 use Rattle.loop_store.proofs.Alike.{clip-same, free-same, locked-same, span-same, unlocked-same}
 use Rattle.loop_store.proofs.Drawn.{FitsEntry}
-use Rattle.loop_store.proofs.Looks.{alike-by, known-by, same-tells, there-held, told-by}
+use Rattle.loop_store.proofs.Looks.{alike-by, known-by, one-kept, same-tells, there-held, told-by}
 use Rattle.loop_store.proofs.Missing.{fits-legal}
 use Rattle.loop_store.proofs.Redrawn.{drawn-clip}
 use Rattle.loop_store.proofs.Regrown.{known-drawn}
 use Rattle.loop_store.proofs.Same.{IsSame}
-use Rattle.loop_store.proofs.Checked.{answer-due, answer-given, due-none, failed, given, passed, refused}
+use Rattle.loop_store.proofs.Checked.{answer-due, answer-given, due-none, failed, passed}
 use Rattle.loop_store.proofs.Once.{goes-done, goes-failed, goes-refused}
 use Rattle.loop_store.proofs.Numbers.{among-block, among-range}
 
@@ -104,6 +105,7 @@ lock-makes g span id old new result few l clean changes = record {
   held = λ r one honest held. on_ok_weaker result (λ shows. lock-held g r span id old.bytes new.bytes held one shows) (changes.such honest);
   such = λ honest. on_ok_weaker result (λ shows. segments-kept g id (Some span) old.bytes new.bytes few l shows (clean honest)) (changes.such honest);
   settled = changes.settled;
+  fault = changes.fault;
   called = changes.called;
 }
 
@@ -114,6 +116,7 @@ unlock-makes g id old new result few l clean changes = record {
   held = λ r one honest held. on_ok_weaker result (λ shows. unlock-held g r id old.bytes new.bytes held l shows) (changes.such honest);
   such = λ honest. on_ok_weaker result (λ shows. segments-kept g id None old.bytes new.bytes few l shows (clean honest)) (changes.such honest);
   settled = changes.settled;
+  fault = changes.fault;
   called = changes.called;
 }
 
@@ -229,17 +232,24 @@ kept-noted {A = A} medium old new was now id clip IsOne step must kept fine one 
           known = known-noted medium old new was now id clip IsOne step there.recording n (one there.recording (medium old).bytes there.known) back there.known;
         }
 
-pub stands-noted : {D A : Type 0} (medium : D → Medium) (old new : D) (was now : Index A) (id : ℕ) (clip : Option Span) (IsOne : Recording → Type 0) (step : Step) (must : Bool) (r : Recording) → (kept : IsKept medium old was must) → must ≡ false → StandsFor medium (seen_with old was must) r
-    → ((r : Recording) (image : List ℕ) → IsIndexOf was r image → IsOne r) → Noted medium old new was now id clip IsOne step → StandsFor medium (seen_with new now must) (plain (ring_of was.ring.geometry) r (step ∷ []))
-stands-noted medium old new was now id clip IsOne step must r kept fine stands one n =
+-- each recording that the store told of before, with the step
+pub told-noted : {D A : Type 0} (medium : D → Medium) (old new : D) (was now : Index A) (id : ℕ) (clip : Option Span) (IsOne : Recording → Type 0) (step : Step) (must : Bool) (r : Recording) → (kept : IsKept medium old was must) → Tells (seen_with old was must) r
+    → ((r : Recording) (image : List ℕ) → IsIndexOf was r image → IsOne r) → Noted medium old new was now id clip IsOne step → Tells (seen_with new now must) (plain (ring_of was.ring.geometry) r (step ∷ []))
+told-noted medium old new was now id clip IsOne step must r kept told one n =
     let g = was.ring.geometry in
     let r0 = kept.known.recording in
     let one0 = one r0 (drawn g was.table.heads was.clips) kept.known.known in
     let some = (limits g was.ring.good).slots.0 in
     let slots : 1 ≤ now.ring.geometry.slots = subst (λ (h : Geometry). 1 ≤ h.slots) (sym (geometry-same was now id clip n.noted)) some in
     let drawn_on = drawn-noted was now id clip IsOne step kept.known kept.fits.whole one0 n.noted n.redrawn (n.next r0) (n.clips r0 one0) in
-    let told0 = told-by new now must (after (ring_of g) r0 step) (drawn now.ring.geometry now.table.heads now.clips) slots (index-noted was now id clip n.noted kept.fits.whole).within drawn_on in record {
-      told = same-tells (seen_with new now must) (after (ring_of g) r0 step) (after (ring_of g) r step) told0 (n.redrawn.stepped r0 r (alike-by medium old was must r kept stands));
+    let told0 = told-by new now must (after (ring_of g) r0 step) (drawn now.ring.geometry now.table.heads now.clips) slots (index-noted was now id clip n.noted kept.fits.whole).within drawn_on in
+    same-tells (seen_with new now must) (after (ring_of g) r0 step) (after (ring_of g) r step) told0 (n.redrawn.stepped r0 r (alike-by medium old was must r kept told))
+
+pub stands-noted : {D A : Type 0} (medium : D → Medium) (old new : D) (was now : Index A) (id : ℕ) (clip : Option Span) (IsOne : Recording → Type 0) (step : Step) (must : Bool) (r : Recording) → (kept : IsKept medium old was must) → must ≡ false → StandsFor medium (seen_with old was must) r
+    → ((r : Recording) (image : List ℕ) → IsIndexOf was r image → IsOne r) → Noted medium old new was now id clip IsOne step → StandsFor medium (seen_with new now must) (plain (ring_of was.ring.geometry) r (step ∷ []))
+stands-noted medium old new was now id clip IsOne step must r kept fine stands one n =
+    record {
+      told = told-noted medium old new was now id clip IsOne step must r kept stands.told one n;
       settled = λ still there. n.settled (n.called.honest.1 there);
       held = λ still there.
           let back = n.called.honest.1 there in
@@ -316,57 +326,53 @@ run-ends g r image table j n end h held same within l there has is = go (cases_l
 pub record IsClipCall (H : Type 0) (g : Geometry) (c : Call) (IsOne : Recording → Type 0) : Type 0 where
   pub writes : is_look c ≡ false
   pub late : was_refused c ≡ false
-  pub stored : count_stored c ≡ 0
   pub answers : (s : StoreState) → s.must_reopen ≡ false → IsOne s.recording → IsAnswered H g s c
 
 pub goes-noted : {D A : Type 0} (medium : D → Medium) (old new : D) (was now : Index A) (must : Bool) (id : ℕ) (clip : Option Span) (IsOne : Recording → Type 0) (step : Step) (c : Call) → IsKept medium old was must → must ≡ false
     → Noted medium old new was now id clip IsOne step → ((r : Recording) → IsOne r → (medium old).honest → Holds was.ring.geometry r (medium old).bytes → LeavesOnly (medium old) (medium new) (HoldsSome was.ring.geometry r (step ∷ [])))
-    → ((r : Recording) (image : List ℕ) → IsIndexOf was r image → IsOne r) → IsClipCall (medium old).honest was.ring.geometry c IsOne → clips_after was.clips c ≡ set was.clips id clip → has_failed c ≡ false → failed_for c ≡ None → ((s : StoreState) → made was.ring.geometry s c ≡ step ∷ []) → ((s : StoreState) → begun was.ring.geometry s c ≡ [])
-    → IsAllowed was.ring.geometry (progress_of (seen_with old was must)) c → Goes medium (seen_with old was must) (seen_with new now must) (c ∷ [])
-goes-noted medium old new was now must id clip IsOne step c kept fine n moments one call clips unfailed none made_all begun_none allowed =
+    → ((r : Recording) (image : List ℕ) → IsIndexOf was r image → IsOne r) → ((H : Type 0) → IsClipCall H was.ring.geometry c IsOne) → has_failed c ≡ false → failed_for c ≡ None → ((s : StoreState) → made was.ring.geometry s c ≡ step ∷ []) → ((s : StoreState) → begun was.ring.geometry s c ≡ [])
+    → Goes medium (seen_with old was must) (seen_with new now must) (c ∷ [])
+goes-noted medium old new was now must id clip IsOne step c kept fine n moments one call unfailed none made_all begun_none =
     goes-done medium (seen_with old was must) (seen_with new now must) c (λ r. step ∷ []) (record {
-      writes = call.writes;
-      late = call.late;
+      writes = (call (Unit {0})).writes;
+      late = (call (Unit {0})).late;
+      one = one-kept medium old was must kept;
       fine = fine;
       still = fine;
-      next = omega (arith, n.noted.next, call.stored);
-      clips = n.noted.clips ∙ sym clips;
       geometry = geometry-same was now id clip n.noted;
       called = n.called;
       unfailed = unfailed;
       none = none;
       made_all = made_all;
       begun_none = begun_none;
-      answers = λ s stands.
-          call.answers s (sym stands.must_reopen ∙ fine)
-          (n.redrawn.alike kept.known.recording s.recording (alike-by medium old was must s.recording kept stands.recording) (one kept.known.recording (drawn was.ring.geometry was.table.heads was.clips) kept.known.known));
-      allowed = allowed;
+      answers = λ s told.
+          (call ((medium old).honest × Stands medium (seen_with old was must) s)).answers s (sym told.must_reopen ∙ fine)
+          (n.redrawn.alike kept.known.recording s.recording (alike-by medium old was must s.recording kept told.recording) (one kept.known.recording (drawn was.ring.geometry was.table.heads was.clips) kept.known.known));
       moments = λ r stands honest. let known = known-by medium old was must r kept stands fine honest in moments r (one r (medium old).bytes known) honest known.held;
+      tells = λ r told. told-noted medium old new was now id clip IsOne step must r kept told one n;
       stands = λ r stands. stands-noted medium old new was now id clip IsOne step must r kept fine stands one n;
     })
 
 pub goes-unnoted : {D A : Type 0} (medium : D → Medium) (old new : D) (was now : Index A) (must : Bool) (IsOne : Recording → Type 0) (step : Step) (c : Call) (fault : DiskFault) → IsKept medium old was must → must ≡ false → now ≡ was → ((r t : Recording) → IsSame r t → IsOne r → IsOne t)
     → ((medium new).honest → IsSound (medium new)) → Called (medium old) (medium new) (Some fault) → ((r : Recording) → IsOne r → (medium old).honest → Holds was.ring.geometry r (medium old).bytes → LeavesOnly (medium old) (medium new) (HoldsSome was.ring.geometry r (step ∷ [])))
-    → ((r : Recording) (image : List ℕ) → IsIndexOf was r image → IsOne r) → IsClipCall (medium old).honest was.ring.geometry c IsOne → ((cs : List (Option Span)) → clips_after cs c ≡ cs) → has_failed c ≡ true → failed_for c ≡ Some fault → ((s : StoreState) → made was.ring.geometry s c ≡ []) → ((s : StoreState) → begun was.ring.geometry s c ≡ step ∷ [])
-    → IsAllowed was.ring.geometry (progress_of (seen_with old was must)) c → Goes medium (seen_with old was must) (seen_with new now true) (c ∷ [])
-goes-unnoted medium old new was now must IsOne step c fault kept fine same alike sound called moments one call clips has some made_none begun_all allowed =
+    → ((r : Recording) (image : List ℕ) → IsIndexOf was r image → IsOne r) → ((H : Type 0) → IsClipCall H was.ring.geometry c IsOne) → has_failed c ≡ true → failed_for c ≡ Some fault → ((s : StoreState) → made was.ring.geometry s c ≡ []) → ((s : StoreState) → begun was.ring.geometry s c ≡ step ∷ [])
+    → Goes medium (seen_with old was must) (seen_with new now true) (c ∷ [])
+goes-unnoted medium old new was now must IsOne step c fault kept fine same alike sound called moments one call has some made_none begun_all =
     goes-failed medium (seen_with old was must) (seen_with new now true) c (λ r. step ∷ []) fault (record {
-      writes = call.writes;
-      late = call.late;
-      clips = clips;
+      writes = (call (Unit {0})).writes;
+      late = (call (Unit {0})).late;
+      one = one-kept medium old was must kept;
       fine = fine;
       failed = λ i. seen_with new (same i) true;
       called = called;
       sound = sound;
       has = has;
       some = some;
-      stored = call.stored;
       made_none = made_none;
       begun_all = begun_all;
-      answers = λ s stands.
-          call.answers s (sym stands.must_reopen ∙ fine)
-          (alike kept.known.recording s.recording (alike-by medium old was must s.recording kept stands.recording) (one kept.known.recording (drawn was.ring.geometry was.table.heads was.clips) kept.known.known));
-      allowed = allowed;
+      answers = λ s told.
+          (call ((medium old).honest × Stands medium (seen_with old was must) s)).answers s (sym told.must_reopen ∙ fine)
+          (alike kept.known.recording s.recording (alike-by medium old was must s.recording kept told.recording) (one kept.known.recording (drawn was.ring.geometry was.table.heads was.clips) kept.known.known));
       moments = λ r stands honest. let known = known-by medium old was must r kept stands fine honest in moments r (one r (medium old).bytes known) honest known.held;
     })
 
@@ -383,33 +389,17 @@ span-quiet span clips fault (inl x) = let e = x.0 in record { early = ap (λ (f 
 span-quiet span clips fault (inr (inl x)) = let e = x.0.1.0 in record { early = ap (λ (f : StoreFault). is_early (Some f)) e; unfailed = ap is_disk e; none = ap failed_by e }
 span-quiet span clips fault (inr (inr x)) = let e = x.0 in record { early = ap (λ (f : StoreFault). is_early (Some f)) e; unfailed = ap is_disk e; none = ap failed_by e }
 
-known-span : (g : Geometry) (o : Progress) (span : Span) (result : Result ℕ StoreFault) → o.must_reopen ≡ false → span.from ≤ span.to → first_of (known_checks g o (locked span result)) ≡ None
-known-span g o span result fine some = passed o.must_reopen MustReopen _ fine ∙ passed (ltb span.to span.from) ClipEmpty [] (not_below_test span.to span.from some)
-
--- what the call may give, where the span isn't empty
-pub lock-allowed : (g : Geometry) (o : Progress) (span : Span) (result : Result ℕ StoreFault) → o.must_reopen ≡ false → span.from ≤ span.to → MayGive o (locked span result) → IsAllowed g o (locked span result)
-lock-allowed g o span result fine some may = given (first_of (known_checks g o (locked span result))) (locked span result) (MayGive o (locked span result)) (known-span g o span result fine some) may
-
-span-allowed : (g : Geometry) (o : Progress) (span : Span) (fault : StoreFault) → o.must_reopen ≡ false → CanRefuseSpan span o.clips fault → IsAllowed g o (locked span (Err fault))
-span-allowed g o span fault fine (inl x) =
-    refused (first_of (known_checks g o (locked span (Err fault)))) (locked span (Err fault)) (MayGive o (locked span (Err fault))) ClipEmpty
-    (passed o.must_reopen MustReopen _ fine ∙ failed (ltb span.to span.from) ClipEmpty [] (at_most_test (suc span.to) span.from x.1)) (ap (λ (f : StoreFault). Some f) x.0)
-span-allowed g o span fault fine (inr (inl x)) = lock-allowed g o span (Err fault) fine x.1 (inl (x.0.0, (x.0.1.0, x.0.1.1)))
-span-allowed g o span fault fine (inr (inr x)) = lock-allowed g o span (Err fault) fine x.1.0 (inr (inl (x.0, x.1.1)))
-
-pub lock-refused : {D : Type 0} (medium : D → Medium) (s : Seen D) (span : Span) (fault : StoreFault) → ((medium s.disk).honest → IsSound (medium s.disk)) → s.must_reopen ≡ false → CanRefuseSpan span s.clips fault
-    → ((r : Recording) → StandsFor medium s r → first_of (span_checks r span) ≡ Some fault) → Goes medium s s (locked span (Err fault) ∷ [])
-lock-refused medium s span fault sound fine can first =
+pub lock-refused : {D : Type 0} (medium : D → Medium) (s : Seen D) (span : Span) (fault : StoreFault) → TellsOne s → ((medium s.disk).honest → IsSound (medium s.disk)) → s.must_reopen ≡ false → CanRefuseSpan span s.clips fault
+    → ((r : Recording) → Tells s r → first_of (span_checks r span) ≡ Some fault) → Goes medium s s (locked span (Err fault) ∷ [])
+lock-refused medium s span fault one sound fine can first =
     let quiet = span-quiet span s.clips fault can in
-    goes-refused medium s (locked span (Err fault)) sound (record {
+    goes-refused medium s (locked span (Err fault)) one sound (record {
       early = quiet.early;
-      clips = λ cs. refl;
       unfailed = quiet.unfailed;
       none = quiet.none;
-      stored = refl;
       made_none = λ g t. refl;
       begun_none = λ g t. ap (λ (b : Bool). if b then lock span ∷ [] else []) quiet.unfailed;
-    }) (λ t stands. answer-due (medium s.disk).honest s.geometry t (locked span (Err fault)) fault (sym stands.must_reopen ∙ fine) (first t.recording stands.recording) refl) (span-allowed s.geometry (progress_of s) span fault fine can)
+    }) (λ H t told. answer-due H s.geometry t (locked span (Err fault)) fault (sym told.must_reopen ∙ fine) (first t.recording told.recording) refl)
 
 -- the id that was answered is the least free one
 pub answered-id : (H : Type 0) (g : Geometry) (s : StoreState) (span : Span) (id : ℕ) → IsAnswered H g s (locked span (Ok id)) → id ≡ free_id s.recording
@@ -429,25 +419,16 @@ none-is (Some s) e = absurd cc
 pub unlock-answered : (H : Type 0) (g : Geometry) (s : StoreState) (id : ℕ) (result : Result (Unit {0}) StoreFault) → s.must_reopen ≡ false → clip_of s.recording id ≢ None → AnswersOtherwise H s.recording (unlocked id result) → IsAnswered H g s (unlocked id result)
 unlock-answered H g s id result fine some is = answer-given H g s (unlocked id result) fine (passed (not (is_some (clip_of s.recording id))) NoSuchClip [] (some-is (clip_of s.recording id) some)) is
 
-pub unlock-allowed : (g : Geometry) (o : Progress) (id : ℕ) (result : Result (Unit {0}) StoreFault) → o.must_reopen ≡ false → get_or o.clips id None ≢ None → MayGive o (unlocked id result) → IsAllowed g o (unlocked id result)
-unlock-allowed g o id result fine some may =
-    given (first_of (known_checks g o (unlocked id result))) (unlocked id result) (MayGive o (unlocked id result))
-    (passed o.must_reopen MustReopen _ fine ∙ passed (not (is_some (get_or o.clips id None))) NoSuchClip [] (some-is (get_or o.clips id None) some)) may
-
-pub unlock-refused : {D : Type 0} (medium : D → Medium) (s : Seen D) (id : ℕ) → ((medium s.disk).honest → IsSound (medium s.disk)) → s.must_reopen ≡ false → get_or s.clips id None ≡ None
-    → ((r : Recording) → StandsFor medium s r → clip_of r id ≡ None) → Goes medium s s (unlocked id (Err NoSuchClip) ∷ [])
-unlock-refused medium s id sound fine seen none =
-    goes-refused medium s (unlocked id (Err NoSuchClip)) sound (record {
+pub unlock-refused : {D : Type 0} (medium : D → Medium) (s : Seen D) (id : ℕ) → TellsOne s → ((medium s.disk).honest → IsSound (medium s.disk)) → s.must_reopen ≡ false
+    → ((r : Recording) → Tells s r → clip_of r id ≡ None) → Goes medium s s (unlocked id (Err NoSuchClip) ∷ [])
+unlock-refused medium s id one sound fine none =
+    goes-refused medium s (unlocked id (Err NoSuchClip)) one sound (record {
       early = refl;
-      clips = λ cs. refl;
       unfailed = refl;
       none = refl;
-      stored = refl;
       made_none = λ g t. refl;
       begun_none = λ g t. refl;
-    }) (λ t stands. answer-due (medium s.disk).honest s.geometry t (unlocked id (Err NoSuchClip)) NoSuchClip (sym stands.must_reopen ∙ fine) (failed (not (is_some (clip_of t.recording id))) NoSuchClip [] (none-is (clip_of t.recording id) (none t.recording stands.recording))) refl)
-    (refused (first_of (known_checks s.geometry (progress_of s) (unlocked id (Err NoSuchClip)))) (unlocked id (Err NoSuchClip)) (MayGive (progress_of s) (unlocked id (Err NoSuchClip))) NoSuchClip
-    (passed s.must_reopen MustReopen _ fine ∙ failed (not (is_some (get_or s.clips id None))) NoSuchClip [] (none-is (get_or s.clips id None) seen)) refl)
+    }) (λ H t told. answer-due H s.geometry t (unlocked id (Err NoSuchClip)) NoSuchClip (sym told.must_reopen ∙ fine) (failed (not (is_some (clip_of t.recording id))) NoSuchClip [] (none-is (clip_of t.recording id) (none t.recording told.recording))) refl)
 
 -- what an index says of an id is what its recording does
 pub clip-known : {A : Type 0} (index : Index A) (r : Recording) (image : List ℕ) (id : ℕ) → IsIndexOf index r image → clip_of r id ≡ get_or index.clips id None

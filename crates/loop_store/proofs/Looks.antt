@@ -18,6 +18,7 @@ use Rattle.loop_store.specs.Held.{HasNoneStray}
 use Rattle.loop_store.specs.declared.index.Index.{Index}
 use Rattle.loop_store.specs.Recovered.{IsFitting, IsHeadIn, IsIndexOf, IsRecovered}
 use Rattle.loop_store.specs.Numbers.{numbers_under}
+use Rattle.loop_store.specs.Opened.{TellsOne}
 use Rattle.loop_store.specs.Seen.{IsKept, IsPresent, Seen, StandsFor, Tells, seen_with}
 use Rattle.loop_store.proofs.HeldCount.{count-held}
 use Rattle.loop_store.proofs.Looked.{held-slot}
@@ -43,9 +44,12 @@ looked-kept medium old new index must_reopen kept size back stays = record {
   present = λ fine now. looked-present index (medium old) (medium new) (stays (back now)) (kept.present fine (back now));
 }
 
+pub looked-told : {D : Type 0} (old : Seen D) (disk : D) (r : Recording) → Tells old r → Tells (record old { disk = disk }) r
+looked-told old disk r told = record { formed = told.formed; next_is = told.next_is; numbers_are = told.numbers_are; count_is = told.count_is; clips_are = told.clips_are }
+
 pub looked-stands : {D : Type 0} (medium : D → Medium) (old : Seen D) (disk : D) (r : Recording) → StandsFor medium old r → ((medium disk).honest → (medium old.disk).honest) → ((medium old.disk).honest → Stays (medium old.disk) (medium disk)) → StandsFor medium (record old { disk = disk }) r
 looked-stands medium old disk r stands back stays = record {
-  told = let told = stands.told in record { formed = told.formed; next_is = told.next_is; numbers_are = told.numbers_are; count_is = told.count_is; clips_are = told.clips_are };
+  told = looked-told old disk r stands.told;
   settled = λ fine now. stays-settled (medium old.disk) (medium disk) (stays (back now)) (stands.settled fine (back now));
   held = λ fine now. subst (λ (image : List ℕ). Holds old.geometry r image) (sym (stays (back now)).bytes) (stands.held fine (back now));
 }
@@ -72,6 +76,12 @@ pub told-drawn : {D A : Type 0} (medium : D → Medium) (disk : D) (index : Inde
 told-drawn medium disk index must_reopen kept =
     told-by disk index must_reopen kept.known.recording (drawn index.ring.geometry index.table.heads index.clips) (limits index.ring.geometry index.ring.good).slots.0 kept.fits.whole.within kept.known.known
 
+pub one-kept : {D A : Type 0} (medium : D → Medium) (disk : D) (index : Index A) (must_reopen : Bool) → IsKept medium disk index must_reopen → TellsOne (seen_with disk index must_reopen)
+one-kept medium disk index must_reopen kept = (kept.known.recording, told-drawn medium disk index must_reopen kept)
+
+pub one-seen : {D A : Type 0} (medium : D → Medium) (disk : D) (index : Index A) (must_reopen : Bool) {s : Seen D} → IsKept medium disk index must_reopen → seen_with disk index must_reopen ≡ s → TellsOne s
+one-seen medium disk index must_reopen kept is = subst TellsOne is (one-kept medium disk index must_reopen kept)
+
 -- each recording that it tells of has their numbers
 pub tells-same : {D : Type 0} (s : Seen D) (r t : Recording) → Tells s r → Tells s t → IsSame r t
 tells-same s r t a b = held-same r t a.formed b.formed (λ n. sym (a.numbers_are n) ∙ b.numbers_are n) (sym a.next_is ∙ b.next_is) (sym a.clips_are ∙ b.clips_are)
@@ -85,14 +95,14 @@ same-tells s r t a same = record {
   clips_are = a.clips_are ∙ same.clips;
 }
 
-pub alike-by : {D A : Type 0} (medium : D → Medium) (disk : D) (index : Index A) (must_reopen : Bool) (r : Recording) → (kept : IsKept medium disk index must_reopen) → StandsFor medium (seen_with disk index must_reopen) r → IsSame kept.known.recording r
-alike-by medium disk index must_reopen r kept stands = tells-same (seen_with disk index must_reopen) kept.known.recording r (told-drawn medium disk index must_reopen kept) stands.told
+pub alike-by : {D A : Type 0} (medium : D → Medium) (disk : D) (index : Index A) (must_reopen : Bool) (r : Recording) → (kept : IsKept medium disk index must_reopen) → Tells (seen_with disk index must_reopen) r → IsSame kept.known.recording r
+alike-by medium disk index must_reopen r kept told = tells-same (seen_with disk index must_reopen) kept.known.recording r (told-drawn medium disk index must_reopen kept) told
 
 -- a number whose frame a segment has is held by each of these
-pub there-alike : {D A : Type 0} (medium : D → Medium) (disk : D) (index : Index A) (must_reopen : Bool) (r : Recording) (n j : ℕ) → (kept : IsKept medium disk index must_reopen) → StandsFor medium (seen_with disk index must_reopen) r → j < index.ring.geometry.segments
+pub there-alike : {D A : Type 0} (medium : D → Medium) (disk : D) (index : Index A) (must_reopen : Bool) (r : Recording) (n j : ℕ) → (kept : IsKept medium disk index must_reopen) → Tells (seen_with disk index must_reopen) r → j < index.ring.geometry.segments
     → has_number index.ring.geometry.slots n (get_or index.table.heads j None) ≡ true → holds r n ≡ true
-there-alike medium disk index must_reopen r n j kept stands l has =
-    sym (holds-same kept.known.recording r n (alike-by medium disk index must_reopen r kept stands))
+there-alike medium disk index must_reopen r n j kept told l has =
+    sym (holds-same kept.known.recording r n (alike-by medium disk index must_reopen r kept told))
     ∙ there-held index.ring.geometry kept.known.recording (drawn index.ring.geometry index.table.heads index.clips) index.table.heads j n kept.known.known.held kept.known.known.heads_are l has
 
 -- where the store needn't be reopened, its index says all of the recording that it stands for

@@ -1,21 +1,24 @@
 -- One call that writes: it was refused before the disk was called, or it was done, or the disk failed.
-use Rattle.std.proofs.Common.{◌≡◌, ℕ, ◌+◌, Bool, true, false, Option, None, Some, List, [], ◌∷◌, ◌++◌, length, refl, sym, ap, ◌∙◌, subst, arith}
+use Rattle.std.proofs.Common.{◌≡◌, ℕ, Bool, true, false, Option, None, Some, List, [], ◌∷◌, ◌++◌, length, refl, sym, ap, ◌∙◌, subst}
 use Rattle.std.proofs.lemmas.List.{append-nil}
 use Rattle.std.specs.Prelude.{◌||◌}
 use Rattle.loop_disk.specs.declared.fault.DiskFault.{DiskFault}
 use Rattle.loop_disk.specs.Calls.{Called}
 use Rattle.loop_disk.specs.Medium.{Medium, IsSettled, IsSound, LeavesOnly}
-use Rattle.loop_record.specs.declared.clip.Span.{Span}
+use Rattle.loop_disk.proofs.Moments.{each_now}
 use Rattle.loop_record.specs.declared.geometry.Geometry.{Geometry}
 use Rattle.loop_record.specs.Reading.{Holds}
 use Rattle.loop_record.specs.Recording.{Recording, Step, plain, ring_of}
 use Rattle.loop_record.proofs.Decided.{clash}
-use Rattle.loop_store.specs.Calls.{Call, IsAllowed, IsAnswered, StoreState, begun, clips_after, count_stored, failed_for, has_failed, is_look, made, was_refused}
-use Rattle.loop_store.specs.Goes.{Goes, Stands, progress_of}
+use Rattle.loop_store.specs.Calls.{AnswersOtherwise, Call, IsAnswered, StoreState, begun, checks, failed_for, fault_answered, first_of, has_failed, is_look, made, was_refused}
+use Rattle.loop_store.specs.Goes.{Goes, Stands, TellsState}
 use Rattle.loop_store.specs.Held.{HoldsFrom, HoldsSome}
-use Rattle.loop_store.specs.Seen.{HasFailed, Seen, StandsFor}
+use Rattle.loop_store.specs.Opened.{TellsOne}
+use Rattle.loop_store.specs.Seen.{HasFailed, Seen, StandsFor, Tells}
 use Rattle.loop_store.specs.Steps.{LeavesSteps}
-use Rattle.loop_store.proofs.Asked.{each-now, failed-stands, holds-all}
+use Rattle.loop_store.proofs.Asked.{failed-stands, failed-told, holds-all}
+use Rattle.loop_store.specs.declared.fault.StoreFault.TheVariants.{MustReopen}
+use Rattle.loop_store.proofs.Checked.{must-first, refused}
 use Rattle.loop_store.proofs.Gone.{goes-once, stays-still}
 use Rattle.loop_store.proofs.Leaves.{leaves-none, leaves-same}
 
@@ -38,17 +41,20 @@ or-loud b t loud = ap (λ (x : Bool). b || x) loud ∙ or-true b
 -- the answer says that nothing was done, and that no call of the disk failed
 pub record IsQuiet (c : Call) : Type 0 where
   pub early : was_refused c ≡ true
-  pub clips : (cs : List (Option Span)) → clips_after cs c ≡ cs
   pub unfailed : has_failed c ≡ false
   pub none : failed_for c ≡ None
-  pub stored : count_stored c ≡ 0
   pub made_none : (g : Geometry) (s : StoreState) → made g s c ≡ []
   pub begun_none : (g : Geometry) (s : StoreState) → begun g s c ≡ []
 
-pub goes-refused : {D : Type 0} (medium : D → Medium) (s : Seen D) (c : Call) → ((medium s.disk).honest → IsSound (medium s.disk)) → IsQuiet c
-    → ((t : StoreState) → Stands medium s t → IsAnswered (medium s.disk).honest s.geometry t c) → IsAllowed s.geometry (progress_of s) c → Goes medium s s (c ∷ [])
-goes-refused {D} medium s c sound quiet answers allowed = goes-once medium s s c (record {
-  answers = answers;
+pub goes-refused : {D : Type 0} (medium : D → Medium) (s : Seen D) (c : Call) → TellsOne s → ((medium s.disk).honest → IsSound (medium s.disk)) → IsQuiet c
+    → ((H : Type 0) (t : StoreState) → TellsState s t → IsAnswered H s.geometry t c) → Goes medium s s (c ∷ [])
+goes-refused {D} medium s c one sound quiet answers = goes-once medium s s c (record {
+  one = one;
+  answers = λ t told. answers ((medium s.disk).honest × Stands medium s t) t told;
+  tells = λ t told. record {
+    recording = subst (λ (steps : List Step). Tells s (plain (ring_of s.geometry) t.recording steps)) (sym (quiet.made_none s.geometry t)) told.recording;
+    must_reopen = told.must_reopen ∙ sym (or-quiet t.must_reopen (has_failed c) quiet.unfailed);
+  };
   stands = λ t stands. record {
     recording = subst (λ (steps : List Step). StandsFor medium s (plain (ring_of s.geometry) t.recording steps)) (sym (quiet.made_none s.geometry t)) stands.recording;
     must_reopen = stands.must_reopen ∙ sym (or-quiet t.must_reopen (has_failed c) quiet.unfailed);
@@ -59,14 +65,14 @@ goes-refused {D} medium s c sound quiet answers allowed = goes-once medium s s c
       (leaves-none s.geometry t.recording (medium s.disk) (sound now) (stands.recording.settled still now) (stands.recording.held still now));
   looks = λ look now. stays-still (medium s.disk);
   unmoved = λ early. refl;
-  allowed = allowed;
-  progress =
-      let zero : s.next ≡ s.next + count_stored c = omega (arith, quiet.stored) in
-      let same = sym (quiet.clips s.clips) in
-      λ i. record { next = zero i; clips = same i; must_reopen = sym (or-quiet s.must_reopen (has_failed c) quiet.unfailed) i };
   geometry = refl;
   called = subst (λ (f : Option DiskFault). Called (medium s.disk) (medium s.disk) f) (sym quiet.none) (record { size = refl; honest = (λ h. h, λ h. h); failures = refl });
 })
+
+-- where the store must be reopened, each call is refused so
+pub goes-must : {D : Type 0} (medium : D → Medium) (s : Seen D) (c : Call) → TellsOne s → ((medium s.disk).honest → IsSound (medium s.disk)) → s.must_reopen ≡ true → IsQuiet c → fault_answered c ≡ Some MustReopen → Goes medium s s (c ∷ [])
+goes-must medium s c one sound must quiet is =
+    goes-refused medium s c one sound quiet (λ H t told. refused (first_of (checks s.geometry t c)) c (AnswersOtherwise H t.recording c) MustReopen (must-first s.geometry t c (sym told.must_reopen ∙ must)) is)
 
 -- ---- done
 
@@ -82,22 +88,26 @@ pub record Done {D : Type 0} (medium : D → Medium) (old new : Seen D) (c : Cal
   pub late : was_refused c ≡ false
   pub fine : old.must_reopen ≡ false
   pub still : new.must_reopen ≡ false
-  pub next : new.next ≡ old.next + count_stored c
-  pub clips : new.clips ≡ clips_after old.clips c
   pub geometry : new.geometry ≡ old.geometry
   pub called : Called (medium old.disk) (medium new.disk) None
   pub unfailed : has_failed c ≡ false
   pub none : failed_for c ≡ None
   pub made_all : (s : StoreState) → made old.geometry s c ≡ steps s.recording
   pub begun_none : (s : StoreState) → begun old.geometry s c ≡ []
-  pub answers : (s : StoreState) → Stands medium old s → IsAnswered (medium old.disk).honest old.geometry s c
-  pub allowed : IsAllowed old.geometry (progress_of old) c
+  pub one : TellsOne old
+  pub answers : (s : StoreState) → TellsState old s → IsAnswered ((medium old.disk).honest × Stands medium old s) old.geometry s c
   pub moments : (r : Recording) → StandsFor medium old r → (medium old.disk).honest → LeavesOnly (medium old.disk) (medium new.disk) (HoldsSome old.geometry r (steps r))
+  pub tells : (r : Recording) → Tells old r → Tells new (plain (ring_of old.geometry) r (steps r))
   pub stands : (r : Recording) → StandsFor medium old r → StandsFor medium new (plain (ring_of old.geometry) r (steps r))
 
 pub goes-done : {D : Type 0} (medium : D → Medium) (old new : Seen D) (c : Call) (steps : Recording → List Step) → Done medium old new c steps → Goes medium old new (c ∷ [])
 goes-done {D} medium old new c steps done = goes-once medium old new c (record {
+  one = done.one;
   answers = done.answers;
+  tells = λ s told. record {
+    recording = subst (λ (l : List Step). Tells new (plain (ring_of old.geometry) s.recording l)) (sym (done.made_all s)) (done.tells s.recording told.recording);
+    must_reopen = done.still ∙ sym (or-quiet s.must_reopen (has_failed c) done.unfailed ∙ sym told.must_reopen ∙ done.fine);
+  };
   stands = λ s stands. record {
     recording = subst (λ (l : List Step). StandsFor medium new (plain (ring_of old.geometry) s.recording l)) (sym (done.made_all s)) (done.stands s.recording stands.recording);
     must_reopen = done.still ∙ sym (or-quiet s.must_reopen (has_failed c) done.unfailed ∙ sym stands.must_reopen ∙ done.fine);
@@ -111,8 +121,6 @@ goes-done {D} medium old new c steps done = goes-once medium old new c (record {
       (subst (λ (g : Geometry). Holds g (plain (ring_of old.geometry) r (steps r)) (medium new.disk).bytes) done.geometry (later.held done.still there)));
   looks = λ look now. absurd (clash (is_look c) look done.writes);
   unmoved = λ early. absurd (clash (was_refused c) early done.late);
-  allowed = done.allowed;
-  progress = λ i. record { next = done.next i; clips = done.clips i; must_reopen = (done.still ∙ sym (or-quiet old.must_reopen (has_failed c) done.unfailed ∙ done.fine)) i };
   geometry = done.geometry;
   called = subst (λ (f : Option DiskFault). Called (medium old.disk) (medium new.disk) f) (sym done.none) done.called;
 })
@@ -123,23 +131,26 @@ goes-done {D} medium old new c steps done = goes-once medium old new c (record {
 pub record Failed {D : Type 0} (medium : D → Medium) (old new : Seen D) (c : Call) (steps : Recording → List Step) (fault : DiskFault) : Type 0 where
   pub writes : is_look c ≡ false
   pub late : was_refused c ≡ false
-  pub clips : (cs : List (Option Span)) → clips_after cs c ≡ cs
   pub fine : old.must_reopen ≡ false
   pub failed : HasFailed old new
   pub called : Called (medium old.disk) (medium new.disk) (Some fault)
   pub sound : (medium new.disk).honest → IsSound (medium new.disk)
   pub has : has_failed c ≡ true
   pub some : failed_for c ≡ Some fault
-  pub stored : count_stored c ≡ 0
   pub made_none : (s : StoreState) → made old.geometry s c ≡ []
   pub begun_all : (s : StoreState) → begun old.geometry s c ≡ steps s.recording
-  pub answers : (s : StoreState) → Stands medium old s → IsAnswered (medium old.disk).honest old.geometry s c
-  pub allowed : IsAllowed old.geometry (progress_of old) c
+  pub one : TellsOne old
+  pub answers : (s : StoreState) → TellsState old s → IsAnswered ((medium old.disk).honest × Stands medium old s) old.geometry s c
   pub moments : (r : Recording) → StandsFor medium old r → (medium old.disk).honest → LeavesOnly (medium old.disk) (medium new.disk) (HoldsSome old.geometry r (steps r))
 
 pub goes-failed : {D : Type 0} (medium : D → Medium) (old new : Seen D) (c : Call) (steps : Recording → List Step) (fault : DiskFault) → Failed medium old new c steps fault → Goes medium old new (c ∷ [])
 goes-failed {D} medium old new c steps fault failed = goes-once medium old new c (record {
+  one = failed.one;
   answers = failed.answers;
+  tells = λ s told. record {
+    recording = subst (λ (l : List Step). Tells new (plain (ring_of old.geometry) s.recording l)) (sym (failed.made_none s)) (failed-told old new s.recording failed.failed told.recording);
+    must_reopen = ap (λ (x : Seen D). x.must_reopen) failed.failed ∙ sym (or-loud s.must_reopen (has_failed c) failed.has);
+  };
   stands = λ s stands. record {
     recording =
         subst (λ (l : List Step). StandsFor medium new (plain (ring_of old.geometry) s.recording l)) (sym (failed.made_none s))
@@ -150,15 +161,10 @@ goes-failed {D} medium old new c steps fault failed = goes-once medium old new c
       let run = failed.moments s.recording stands.recording now in
       leaves-same old.geometry s.recording [] (made old.geometry s c) (steps s.recording) (begun old.geometry s c) (medium old.disk) (medium new.disk) (sym (failed.made_none s)) (sym (failed.begun_all s)) (record {
         moments = run;
-        now = each-now (medium old.disk) (medium new.disk) (HoldsSome old.geometry s.recording (steps s.recording)) (failed.sound (failed.called.honest.0 now)) run;
+        now = each_now (medium old.disk) (medium new.disk) (HoldsSome old.geometry s.recording (steps s.recording)) (failed.sound (failed.called.honest.0 now)) run;
       });
   looks = λ look now. absurd (clash (is_look c) look failed.writes);
   unmoved = λ early. absurd (clash (was_refused c) early failed.late);
-  allowed = failed.allowed;
-  progress =
-      let zero : old.next ≡ old.next + count_stored c = omega (arith, failed.stored) in
-      let same = sym (failed.clips old.clips) in
-      λ i. record { next = (ap (λ (x : Seen D). x.next) failed.failed ∙ zero) i; clips = (ap (λ (x : Seen D). x.clips) failed.failed ∙ same) i; must_reopen = (ap (λ (x : Seen D). x.must_reopen) failed.failed ∙ sym (or-loud old.must_reopen (has_failed c) failed.has)) i };
   geometry = ap (λ (x : Seen D). x.geometry) failed.failed;
   called = subst (λ (f : Option DiskFault). Called (medium old.disk) (medium new.disk) f) (sym failed.some) failed.called;
 })

@@ -1,21 +1,22 @@
 -- A group that was appended, or wasn't.
-use Rattle.std.proofs.Common.{◌≡◌, ◌≢◌, ◌⊎◌, inl, inr, ◌+◌, ℕ, Bool, true, false, not, ◌&&◌, eqb, is_some, Option, None, Some, Result, Ok, Err, List, [], ◌∷◌, length, if◌then◌else◌, refl, sym, ap, ◌∙◌}
+use Rattle.std.proofs.Common.{◌≡◌, ◌≢◌, ◌⊎◌, inl, inr, ℕ, Bool, true, false, not, ◌&&◌, eqb, is_some, Option, None, Some, Result, Ok, Err, List, [], ◌∷◌, if◌then◌else◌, refl, sym, ap, ◌∙◌}
 use Rattle.loop_disk.specs.declared.fault.DiskFault.{DiskFault}
-use Rattle.loop_disk.specs.Calls.{Called}
+use Rattle.loop_disk.specs.Calls.{Called, is_write_or_sync}
 use Rattle.loop_disk.specs.Medium.{Medium, IsSound, LeavesOnly}
 use Rattle.loop_record.specs.declared.geometry.Geometry.{Geometry}
 use Rattle.loop_record.specs.Recording.{Picture, Recording, last_number, needs_recycling, plain, recycling_first, ring_of, steps, victim}
 use Rattle.loop_record.proofs.Decided.{differ, differ_test, equal_test}
 use Rattle.loop_store.specs.declared.fault.StoreFault.{StoreFault}
 use Rattle.loop_store.specs.declared.fault.StoreFault.TheVariants.{AllLocked, Disk, MustReopen, NumbersSpent}
-use Rattle.loop_store.specs.Calls.{Call, IsAllowed, IsAnswered, AnswersOtherwise, MayGive, Progress, StoreState, appended, asked, checks, checks_on, first_of, known_checks, lacks_victim, was_refused}
+use Rattle.loop_store.specs.Calls.{Call, IsAnswered, AnswersOtherwise, StoreState, appended, asked, checks, checks_on, first_of, lacks_victim, was_refused}
 use Rattle.loop_store.specs.Faults.{failed_by, is_disk, is_early}
-use Rattle.loop_store.specs.Goes.{Goes, Stands, progress_of}
+use Rattle.loop_store.specs.Goes.{Goes, Stands, TellsState}
 use Rattle.loop_store.specs.Held.{HoldsSome}
 use Rattle.loop_store.specs.Places.{RefusesPlace}
-use Rattle.loop_store.specs.Seen.{HasFailed, Seen, StandsFor}
+use Rattle.loop_store.specs.Opened.{TellsOne}
+use Rattle.loop_store.specs.Seen.{HasFailed, Seen, StandsFor, Tells}
 use Rattle.loop_store.proofs.Appended.{steps-some}
-use Rattle.loop_store.proofs.Checked.{answer-due, answer-given, due-none, failed, given, passed, passes, refused}
+use Rattle.loop_store.proofs.Checked.{answer-due, answer-given, due-none, failed, passed, passes}
 use Rattle.loop_store.proofs.Alike.{place-same}
 use Rattle.loop_store.proofs.Same.{IsSame}
 use Rattle.loop_store.proofs.Once.{goes-done, goes-failed, goes-refused}
@@ -48,12 +49,6 @@ first-none g r ps result unspent some =
     passed (eqb r.next (last_number (ring_of g))) NumbersSpent _ (differ_test r.next (last_number (ring_of g)) unspent)
     ∙ passed (lacks_victim (ring_of g) r) AllLocked [] (has (needs_recycling (ring_of g) r) (victim (ring_of g) r) some)
 
-known-spent : (g : Geometry) (o : Progress) (ps : List Picture) (result : Result ℕ StoreFault) → o.must_reopen ≡ false → o.next ≡ last_number (ring_of g) → first_of (known_checks g o (appended ps result)) ≡ Some NumbersSpent
-known-spent g o ps result fine spent = passed o.must_reopen MustReopen _ fine ∙ failed (eqb o.next (last_number (ring_of g))) NumbersSpent [] (equal_test o.next (last_number (ring_of g)) spent)
-
-pub known-none : (g : Geometry) (o : Progress) (ps : List Picture) (result : Result ℕ StoreFault) → o.must_reopen ≡ false → o.next ≢ last_number (ring_of g) → first_of (known_checks g o (appended ps result)) ≡ None
-known-none g o ps result fine unspent = passed o.must_reopen MustReopen _ fine ∙ passed (eqb o.next (last_number (ring_of g))) NumbersSpent [] (differ_test o.next (last_number (ring_of g)) unspent)
-
 some-first : (recycles : Bool) (v : Option ℕ) → (recycles && not (is_some v)) ≡ false → recycling_first recycles v ≢ None
 some-first false v e none = absurd cc
 some-first true None e none = absurd cc
@@ -72,31 +67,22 @@ answered-some H g s ps number said =
 pub answered-number : (H : Type 0) (g : Geometry) (s : StoreState) (ps : List Picture) (number : ℕ) → IsAnswered H g s (appended ps (Ok number)) → number ≡ s.recording.next
 answered-number H g s ps number said = (due-none (first_of (checks g s (appended ps (Ok number)))) (appended ps (Ok number)) (number ≡ s.recording.next) said refl).1
 
--- of every disk
-pub record IsNumbered (o : Progress) (number : ℕ) : Type 0 where
-  pub fine : o.must_reopen ≡ false
-  pub number_is : number ≡ o.next
-
-pub allowed-number : (g : Geometry) (o : Progress) (ps : List Picture) (number : ℕ) → IsAllowed g o (appended ps (Ok number)) → IsNumbered o number
-allowed-number g o ps number said =
-    let x = due-none (first_of (known_checks g o (appended ps (Ok number)))) (appended ps (Ok number)) (number ≡ o.next) said refl in
-    record { fine = (passes o.must_reopen MustReopen _ x.0).0; number_is = x.1 }
+-- and the store needn't be reopened
+pub answered-fine : (H : Type 0) (g : Geometry) (s : StoreState) (ps : List Picture) (number : ℕ) → IsAnswered H g s (appended ps (Ok number)) → s.must_reopen ≡ false
+answered-fine H g s ps number said = (passes s.must_reopen MustReopen _ (due-none (first_of (checks g s (appended ps (Ok number)))) (appended ps (Ok number)) (AnswersOtherwise H s.recording (appended ps (Ok number))) said refl).0).0
 
 -- ---- refused before the disk was called
 
 -- where there is no place
-pub place-refused : {D : Type 0} (medium : D → Medium) (s : Seen D) (ps : List Picture) (fault : StoreFault) → ((medium s.disk).honest → IsSound (medium s.disk)) → s.must_reopen ≡ false → (fault ≡ NumbersSpent) ⊎ (fault ≡ AllLocked)
-    → (fault ≡ NumbersSpent → s.next ≡ last_number (ring_of s.geometry)) → (fault ≡ AllLocked → s.next ≢ last_number (ring_of s.geometry))
-    → ((r : Recording) → StandsFor medium s r → RefusesPlace s.geometry r fault) → Goes medium s s (appended ps (Err fault) ∷ [])
-place-refused {D} medium s ps fault sound fine either spent unspent known = goes-refused medium s (appended ps (Err fault)) sound (record {
+pub place-refused : {D : Type 0} (medium : D → Medium) (s : Seen D) (ps : List Picture) (fault : StoreFault) → TellsOne s → ((medium s.disk).honest → IsSound (medium s.disk)) → s.must_reopen ≡ false → (fault ≡ NumbersSpent) ⊎ (fault ≡ AllLocked)
+    → ((r : Recording) → Tells s r → RefusesPlace s.geometry r fault) → Goes medium s s (appended ps (Err fault) ∷ [])
+place-refused {D} medium s ps fault one sound fine either known = goes-refused medium s (appended ps (Err fault)) one sound (record {
   early = early either;
-  clips = λ cs. refl;
   unfailed = quiet either;
   none = none either;
-  stored = refl;
   made_none = λ g t. refl;
   begun_none = λ g t. ap (λ (b : Bool). if b then asked g t.recording ps else []) (quiet either);
-}) answers (allowed either)
+}) answers
   where
     call : Call
     call = appended ps (Err fault)
@@ -113,16 +99,12 @@ place-refused {D} medium s ps fault sound fine either spent unspent known = goes
     none (inl e) = ap failed_by e
     none (inr e) = ap failed_by e
 
-    allowed : (fault ≡ NumbersSpent) ⊎ (fault ≡ AllLocked) → IsAllowed s.geometry (progress_of s) call
-    allowed (inl e) = refused (first_of (known_checks s.geometry (progress_of s) call)) call (MayGive (progress_of s) call) NumbersSpent (known-spent s.geometry (progress_of s) ps (Err fault) fine (spent e)) (ap (λ (f : StoreFault). Some f) e)
-    allowed (inr e) = given (first_of (known_checks s.geometry (progress_of s) call)) call (MayGive (progress_of s) call) (known-none s.geometry (progress_of s) ps (Err fault) fine (unspent e)) (inl e)
+    refuses : (H : Type 0) (t : StoreState) → t.must_reopen ≡ false → RefusesPlace s.geometry t.recording fault → IsAnswered H s.geometry t call
+    refuses H t still (inl x) = answer-due H s.geometry t call NumbersSpent still (first-spent s.geometry t.recording ps (Err fault) x.1) (ap (λ (f : StoreFault). Some f) x.0)
+    refuses H t still (inr x) = answer-due H s.geometry t call AllLocked still (first-locked s.geometry t.recording ps (Err fault) x.1.0 x.1.1) (ap (λ (f : StoreFault). Some f) x.0)
 
-    refuses : (t : StoreState) → t.must_reopen ≡ false → RefusesPlace s.geometry t.recording fault → IsAnswered (medium s.disk).honest s.geometry t call
-    refuses t still (inl x) = answer-due (medium s.disk).honest s.geometry t call NumbersSpent still (first-spent s.geometry t.recording ps (Err fault) x.1) (ap (λ (f : StoreFault). Some f) x.0)
-    refuses t still (inr x) = answer-due (medium s.disk).honest s.geometry t call AllLocked still (first-locked s.geometry t.recording ps (Err fault) x.1.0 x.1.1) (ap (λ (f : StoreFault). Some f) x.0)
-
-    answers : (t : StoreState) → Stands medium s t → IsAnswered (medium s.disk).honest s.geometry t call
-    answers t stands = refuses t (sym stands.must_reopen ∙ fine) (known t.recording stands.recording)
+    answers : (H : Type 0) (t : StoreState) → TellsState s t → IsAnswered H s.geometry t call
+    answers H t told = refuses H t (sym told.must_reopen ∙ fine) (known t.recording told.recording)
 
 -- ---- stored
 
@@ -138,12 +120,11 @@ placed H g s ps result fine place is = answer-given H g s (appended ps result) f
 pub record Stored {D : Type 0} (medium : D → Medium) (old new : Seen D) (ps : List Picture) : Type 0 where
   pub fine : old.must_reopen ≡ false
   pub still : new.must_reopen ≡ false
-  pub unspent : old.next ≢ last_number (ring_of old.geometry)
-  pub next : new.next ≡ old.next + length ps
-  pub clips : new.clips ≡ old.clips
+  pub one : TellsOne old
   pub geometry : new.geometry ≡ old.geometry
   pub called : Called (medium old.disk) (medium new.disk) None
-  pub place : (r : Recording) → StandsFor medium old r → HasPlace old.geometry r
+  pub place : (r : Recording) → Tells old r → HasPlace old.geometry r
+  pub tells : (r : Recording) → Tells old r → Tells new (plain (ring_of old.geometry) r (asked old.geometry r ps))
   pub moments : (r : Recording) → StandsFor medium old r → (medium old.disk).honest → LeavesOnly (medium old.disk) (medium new.disk) (HoldsSome old.geometry r (asked old.geometry r ps))
   pub stands : (r : Recording) → StandsFor medium old r → StandsFor medium new (plain (ring_of old.geometry) r (asked old.geometry r ps))
 
@@ -153,17 +134,16 @@ put-stored medium old new ps stored = goes-done medium old new (appended ps (Ok 
   late = refl;
   fine = stored.fine;
   still = stored.still;
-  next = stored.next;
-  clips = stored.clips;
+  one = stored.one;
   geometry = stored.geometry;
   called = stored.called;
   unfailed = refl;
   none = refl;
   made_all = λ s. refl;
   begun_none = λ s. refl;
-  answers = λ s stands. placed (medium old.disk).honest old.geometry s ps (Ok old.next) (sym stands.must_reopen ∙ stored.fine) (stored.place s.recording stands.recording) stands.recording.told.next_is;
-  allowed = given (first_of (known_checks old.geometry (progress_of old) (appended ps (Ok old.next)))) (appended ps (Ok old.next)) (MayGive (progress_of old) (appended ps (Ok old.next))) (known-none old.geometry (progress_of old) ps (Ok old.next) stored.fine stored.unspent) refl;
+  answers = λ s told. placed ((medium old.disk).honest × Stands medium old s) old.geometry s ps (Ok old.next) (sym told.must_reopen ∙ stored.fine) (stored.place s.recording told.recording) told.recording.next_is;
   moments = stored.moments;
+  tells = stored.tells;
   stands = stored.stands;
 })
 
@@ -172,29 +152,28 @@ put-stored medium old new ps stored = goes-done medium old new (appended ps (Ok 
 -- what is known where the disk failed
 pub record Failed {D : Type 0} (medium : D → Medium) (old new : Seen D) (ps : List Picture) (fault : DiskFault) : Type 0 where
   pub fine : old.must_reopen ≡ false
-  pub unspent : old.next ≢ last_number (ring_of old.geometry)
+  pub one : TellsOne old
   pub has_failed : HasFailed old new
+  pub writes : is_write_or_sync fault ≡ true
   pub called : Called (medium old.disk) (medium new.disk) (Some fault)
   pub sound : (medium new.disk).honest → IsSound (medium new.disk)
-  pub place : (r : Recording) → StandsFor medium old r → HasPlace old.geometry r
+  pub place : (r : Recording) → Tells old r → HasPlace old.geometry r
   pub moments : (r : Recording) → StandsFor medium old r → (medium old.disk).honest → LeavesOnly (medium old.disk) (medium new.disk) (HoldsSome old.geometry r (asked old.geometry r ps))
 
 pub put-failed : {D : Type 0} (medium : D → Medium) (old new : Seen D) (ps : List Picture) (fault : DiskFault) → Failed medium old new ps fault → Goes medium old new (appended ps (Err (Disk fault)) ∷ [])
 put-failed medium old new ps fault failed = goes-failed medium old new (appended ps (Err (Disk fault))) (λ r. asked old.geometry r ps) fault (record {
   writes = refl;
   late = refl;
-  clips = λ cs. refl;
   fine = failed.fine;
+  one = failed.one;
   failed = failed.has_failed;
   called = failed.called;
   sound = failed.sound;
   has = refl;
   some = refl;
-  stored = refl;
   made_none = λ s. refl;
   begun_all = λ s. refl;
-  answers = λ s stands. placed (medium old.disk).honest old.geometry s ps (Err (Disk fault)) (sym stands.must_reopen ∙ failed.fine) (failed.place s.recording stands.recording) refl;
-  allowed = given (first_of (known_checks old.geometry (progress_of old) (appended ps (Err (Disk fault))))) (appended ps (Err (Disk fault))) (MayGive (progress_of old) (appended ps (Err (Disk fault)))) (known-none old.geometry (progress_of old) ps (Err (Disk fault)) failed.fine failed.unspent) (inr refl);
+  answers = λ s told. placed ((medium old.disk).honest × Stands medium old s) old.geometry s ps (Err (Disk fault)) (sym told.must_reopen ∙ failed.fine) (failed.place s.recording told.recording) failed.writes;
   moments = failed.moments;
 })
 

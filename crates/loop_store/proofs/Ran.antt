@@ -6,6 +6,7 @@ use Rattle.loop_store.specs.declared.command.Command.{Command}
 use Rattle.loop_store.specs.declared.command.Reply.{Reply}
 use Rattle.loop_store.specs.Calls.{Call}
 use Rattle.loop_store.specs.Goes.{Goes}
+use Rattle.loop_store.specs.Opened.{TellsOne}
 use Rattle.loop_store.specs.Runs.{AreCalls, IsCall, Ran}
 use Rattle.loop_store.specs.Seen.{Seen}
 use Rattle.loop_store.proofs.Gone.{goes-joined, goes-none}
@@ -19,8 +20,8 @@ calls-more (d ∷ cs) [] calls c p call are is = elim are [ ]
 calls-more (d ∷ cs) (q ∷ ps) [] c p call are is = elim are [ ]
 
 -- no command yet
-pub ran-none : {D A : Type 0} (medium : D → Medium) (store : Seen D) (ps : List (Reply A)) → ps ≡ [] → ((medium store.disk).honest → IsSound (medium store.disk)) → Ran {A = A} medium store store [] ps
-ran-none {A = A} medium store ps none sound = subst (λ (x : List (Reply A)). Ran {A = A} medium store store [] x) (sym none) (record { calls = []; are = tt; goes = goes-none medium store sound })
+pub ran-none : {D A : Type 0} (medium : D → Medium) (store : Seen D) (ps : List (Reply A)) → ps ≡ [] → TellsOne store → ((medium store.disk).honest → IsSound (medium store.disk)) → Ran {A = A} medium store store [] ps
+ran-none {A = A} medium store ps none one sound = subst (λ (x : List (Reply A)). Ran {A = A} medium store store [] x) (sym none) (record { calls = []; are = tt; goes = goes-none medium store one sound })
 
 -- one more
 pub ran-more : {D A : Type 0} (medium : D → Medium) (old now new : Seen D) (cs : List (Command A)) (ps more : List (Reply A)) (i : ℕ) (c : Command A) (p : Reply A) → i < length cs → c ≡ get_or cs i c → more ≡ ps ++ p ∷ [] → Ran medium old now (take i cs) ps

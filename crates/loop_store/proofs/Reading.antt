@@ -1,27 +1,27 @@
 -- A read of a frame.
-use Rattle.std.proofs.Common.{◌≡◌, ◌⊎◌, inl, inr, ℕ, ◌+◌, Bool, true, false, not, ◌&&◌, IfErr, Option, None, Some, Result, Ok, Err, List, [], ◌∷◌, refl, sym, ◌∙◌, ap, subst, arith}
+use Rattle.std.proofs.Common.{◌≡◌, ◌⊎◌, inl, inr, ℕ, Bool, true, false, not, ◌&&◌, IfErr, Option, None, Some, Result, Ok, Err, List, [], ◌∷◌, refl, sym, ◌∙◌, ap, subst}
 use Rattle.std.specs.Prelude.{◌||◌}
 use Rattle.loop_disk.specs.declared.fault.DiskFault.{DiskFault}
 use Rattle.loop_disk.specs.Calls.{Called, Stays}
 use Rattle.loop_disk.specs.Medium.{Medium, IsSound}
-use Rattle.loop_record.specs.declared.clip.Span.{Span}
 use Rattle.loop_record.specs.declared.damage.Damage.TheVariants.{SlotHead}
 use Rattle.loop_record.specs.declared.geometry.Geometry.{Geometry}
 use Rattle.loop_record.specs.declared.frame.FrameHead.{FrameHead}
 use Rattle.loop_record.specs.Recording.{Step, holds, plain, ring_of}
 use Rattle.loop_record.proofs.Decided.{clash}
 use Rattle.loop_store.specs.declared.fault.StoreFault.{StoreFault}
-use Rattle.loop_store.specs.declared.fault.StoreFault.TheVariants.{Damaged, MustReopen, NoMemory, NotHeld}
-use Rattle.loop_store.specs.Calls.{AnswersDue, Call, ReadFails, IsAllowed, IsAnswered, MayGive, Progress, StoreState, begun, checks_on, clips_after, count_stored, due, failed_for, first_of, has_failed, known_checks, made, part_with, read_with, was_read, was_read_part, was_refused}
+use Rattle.loop_store.specs.declared.fault.StoreFault.TheVariants.{Damaged, NoMemory, NotHeld}
+use Rattle.loop_store.specs.Calls.{Call, ReadFails, IsAnswered, StoreState, begun, checks_on, failed_for, first_of, has_failed, made, part_with, read_with, was_read, was_read_part, was_refused}
 use Rattle.loop_store.specs.Faults.{answers_disk, failed_in, fault_in, is_damage, is_disk, is_early}
-use Rattle.loop_store.specs.Goes.{Goes, Stands, progress_of}
+use Rattle.loop_store.specs.Goes.{Goes, Stands, TellsState}
+use Rattle.loop_store.specs.Opened.{TellsOne}
 use Rattle.loop_store.specs.Reads.{AnswersFrame, AnswersFramePart}
-use Rattle.loop_store.specs.Seen.{Seen, StandsFor}
+use Rattle.loop_store.specs.Seen.{Seen, StandsFor, Tells}
 use Rattle.loop_store.specs.Steps.{if_answered}
-use Rattle.loop_store.proofs.Checked.{answer-due, answer-given, failed, given, passed}
+use Rattle.loop_store.proofs.Checked.{answer-due, answer-given, failed, passed}
 use Rattle.loop_store.proofs.Gone.{goes-once, stays-still}
 use Rattle.loop_store.proofs.Leaves.{leaves-looked, leaves-same}
-use Rattle.loop_store.proofs.Looks.{looked-stands}
+use Rattle.loop_store.proofs.Looks.{looked-stands, looked-told}
 use Rattle.loop_store.proofs.Modelled.{none-either}
 
 or-false : (b : Bool) → (b || false) ≡ b
@@ -37,19 +37,17 @@ pub record IsLook (c : Call) : Type 0 where
   pub steps : (g : Geometry) (s : StoreState) → made g s c ≡ []
   pub begins : (g : Geometry) (s : StoreState) → begun g s c ≡ []
   pub fine : has_failed c ≡ false
-  pub none : count_stored c ≡ 0
-  pub clips : (cs : List (Option Span)) → clips_after cs c ≡ cs
 
 pub look-read : (number : ℕ) (result : Result (FrameHead × List ℕ) StoreFault) → IsLook (was_read number result)
-look-read number result = record { steps = λ g s. made-either (fault_in result); begins = λ g s. none-either (answers_disk result); fine = refl; none = refl; clips = λ cs. refl }
+look-read number result = record { steps = λ g s. made-either (fault_in result); begins = λ g s. none-either (answers_disk result); fine = refl }
 
 pub look-part : (number at : ℕ) (result : Result (List ℕ) StoreFault) → IsLook (was_read_part number at result)
-look-part number at result = record { steps = λ g s. made-either (fault_in result); begins = λ g s. none-either (answers_disk result); fine = refl; none = refl; clips = λ cs. refl }
+look-part number at result = record { steps = λ g s. made-either (fault_in result); begins = λ g s. none-either (answers_disk result); fine = refl }
 
 -- what is known of a read
 pub record Looked {D : Type 0} (medium : D → Medium) (old : Seen D) (disk : D) (c : Call) : Type 0 where
-  pub answers : (s : StoreState) → Stands medium old s → IsAnswered (medium old.disk).honest old.geometry s c
-  pub allowed : IsAllowed old.geometry (progress_of old) c
+  pub one : TellsOne old
+  pub answers : (s : StoreState) → TellsState old s → IsAnswered ((medium old.disk).honest × Stands medium old s) old.geometry s c
   pub stays : (medium old.disk).honest → Stays (medium old.disk) (medium disk)
   pub called : Called (medium old.disk) (medium disk) (failed_for c)
   pub unmoved : was_refused c ≡ true → disk ≡ old.disk
@@ -57,7 +55,12 @@ pub record Looked {D : Type 0} (medium : D → Medium) (old : Seen D) (disk : D)
 pub goes-looked : {D : Type 0} (medium : D → Medium) (old : Seen D) (disk : D) (c : Call) → IsLook c → ((medium old.disk).honest → IsSound (medium old.disk)) → Looked medium old disk c
     → Goes medium old (record old { disk = disk }) (c ∷ [])
 goes-looked {D} medium old disk c look sound looked = goes-once medium old (record old { disk = disk }) c (record {
+  one = looked.one;
   answers = looked.answers;
+  tells = λ s told. record {
+    recording = subst (λ (l : List Step). Tells (record old { disk = disk }) (plain (ring_of old.geometry) s.recording l)) (sym (look.steps old.geometry s)) (looked-told old disk s.recording told.recording);
+    must_reopen = told.must_reopen ∙ unfailed s.must_reopen;
+  };
   stands = λ s stands. record {
     recording = subst (λ (l : List Step). StandsFor medium (record old { disk = disk }) (plain (ring_of old.geometry) s.recording l)) (sym (look.steps old.geometry s)) (looked-stands medium old disk s.recording stands.recording looked.called.honest.1 looked.stays);
     must_reopen = stands.must_reopen ∙ unfailed s.must_reopen;
@@ -68,12 +71,6 @@ goes-looked {D} medium old disk c look sound looked = goes-once medium old (reco
       (leaves-looked old.geometry s.recording (medium old.disk) (medium disk) (sound now) (stands.recording.settled still now) (stands.recording.held still now) (looked.stays now));
   looks = λ look now. looked.stays now;
   unmoved = λ early. ap (λ (d : D). record old { disk = d }) (looked.unmoved early);
-  allowed = looked.allowed;
-  progress =
-      let zero : old.next ≡ old.next + count_stored c = omega (arith, look.none) in
-      let must = unfailed old.must_reopen in
-      let same = look.clips old.clips in
-      λ i. record { next = zero i; clips = sym same i; must_reopen = must i };
   geometry = refl;
   called = looked.called;
 })
@@ -82,11 +79,11 @@ goes-looked {D} medium old disk c look sound looked = goes-once medium old (reco
     unfailed b = sym (or-false b) ∙ ap (λ (x : Bool). b || x) (sym look.fine)
 
 -- refused before the disk was called
-pub goes-unread : {D : Type 0} (medium : D → Medium) (s : Seen D) (c : Call) → IsLook c → ((medium s.disk).honest → IsSound (medium s.disk)) → failed_for c ≡ None
-    → ((t : StoreState) → Stands medium s t → IsAnswered (medium s.disk).honest s.geometry t c) → IsAllowed s.geometry (progress_of s) c → Goes medium s s (c ∷ [])
-goes-unread medium s c look sound none answers allowed = goes-looked medium s s.disk c look sound (record {
-  answers = answers;
-  allowed = allowed;
+pub goes-unread : {D : Type 0} (medium : D → Medium) (s : Seen D) (c : Call) → IsLook c → TellsOne s → ((medium s.disk).honest → IsSound (medium s.disk)) → failed_for c ≡ None
+    → ((H : Type 0) (t : StoreState) → TellsState s t → IsAnswered H s.geometry t c) → Goes medium s s (c ∷ [])
+goes-unread medium s c look one sound none answers = goes-looked medium s s.disk c look sound (record {
+  one = one;
+  answers = λ t told. answers ((medium s.disk).honest × Stands medium s t) t told;
   stays = λ now. stays-still (medium s.disk);
   called = subst (λ (f : Option DiskFault). Called (medium s.disk) (medium s.disk) f) (sym none) (record { size = refl; honest = (λ h. h, λ h. h); failures = refl });
   unmoved = λ early. refl;
@@ -124,21 +121,6 @@ pub read-answered : (H : Type 0) (g : Geometry) (s : StoreState) (number : ℕ) 
 read-answered H g s number (Ok h) out fine held refusals said = answer-given H g s (was_read number (Ok (h, out))) fine (held-none g s number (Ok (h, out)) held) said
 read-answered H g s number (Err fault) out fine held refusals said = answer-given H g s (was_read number (Err fault)) fine (held-none g s number (Err fault) held) (inr (read-fails H fault refusals (λ h. (said h).0)))
 
-known-fine : (g : Geometry) (o : Progress) (c : Call) (Given : Type 0) → known_checks g o c ≡ due o.must_reopen MustReopen ∷ [] → o.must_reopen ≡ false → Given → AnswersDue (first_of (known_checks g o c)) c Given
-known-fine g o c Given are fine is = given (first_of (known_checks g o c)) c Given (ap first_of are ∙ passed o.must_reopen MustReopen [] fine) is
-
-pub read-allowed : (g : Geometry) (o : Progress) (number : ℕ) (result : Result FrameHead StoreFault) (out : List ℕ) → o.must_reopen ≡ false → IfErr result (λ fault. (fault ≡ Damaged SlotHead) ⊎ (is_disk fault ≡ true)) → IsAllowed g o (was_read number (read_with result out))
-read-allowed g o number (Ok h) out fine said = known-fine g o (was_read number (Ok (h, out))) (Unit {0}) refl fine tt
-read-allowed g o number (Err fault) out fine said = known-fine g o (was_read number (Err fault)) (MayGive o (was_read number (Err fault))) refl fine (inr (inr said))
-
--- refused before the disk was called
-pub unread-allowed : (g : Geometry) (o : Progress) (number : ℕ) (fault : StoreFault) → o.must_reopen ≡ false → (fault ≡ NotHeld) ⊎ (fault ≡ NoMemory) → IsAllowed g o (was_read number (Err fault))
-unread-allowed g o number fault fine (inl is) = known-fine g o (was_read number (Err fault)) (MayGive o (was_read number (Err fault))) refl fine (inl is)
-unread-allowed g o number fault fine (inr is) = known-fine g o (was_read number (Err fault)) (MayGive o (was_read number (Err fault))) refl fine (inr (inl is))
-
-pub part-unallowed : (g : Geometry) (o : Progress) (number at : ℕ) → o.must_reopen ≡ false → IsAllowed g o (was_read_part number at (Err NotHeld))
-part-unallowed g o number at fine = known-fine g o (was_read_part number at (Err NotHeld)) (MayGive o (was_read_part number at (Err NotHeld))) refl fine (inl refl)
-
 pub read-failed : (result : Result FrameHead StoreFault) (out : List ℕ) (old new : Medium) → Called old new (failed_in result) → Called old new (failed_in (read_with result out))
 read-failed (Ok h) out old new called = called
 read-failed (Err fault) out old new called = called
@@ -161,10 +143,6 @@ pub part-answered : (H : Type 0) (g : Geometry) (s : StoreState) (number at : �
     → (H → AnswersFramePart s.recording number at result out) → IsAnswered H g s (was_read_part number at (part_with result out))
 part-answered H g s number at (Ok done) out fine held refusals said = answer-given H g s (was_read_part number at (Ok out)) fine (held-none-part g s number at (Ok out) held) said
 part-answered H g s number at (Err fault) out fine held refusals said = answer-given H g s (was_read_part number at (Err fault)) fine (held-none-part g s number at (Err fault) held) (read-fails H fault refusals (λ h. (said h).0))
-
-pub part-allowed : (g : Geometry) (o : Progress) (number at : ℕ) (result : Result (Unit {0}) StoreFault) (out : List ℕ) → o.must_reopen ≡ false → IfErr result (λ fault. (fault ≡ Damaged SlotHead) ⊎ (is_disk fault ≡ true)) → IsAllowed g o (was_read_part number at (part_with result out))
-part-allowed g o number at (Ok done) out fine said = known-fine g o (was_read_part number at (Ok out)) (Unit {0}) refl fine tt
-part-allowed g o number at (Err fault) out fine said = known-fine g o (was_read_part number at (Err fault)) (MayGive o (was_read_part number at (Err fault))) refl fine (inr said)
 
 pub part-failed : (result : Result (Unit {0}) StoreFault) (out : List ℕ) (old new : Medium) → Called old new (failed_in result) → Called old new (failed_in (part_with result out))
 part-failed (Ok done) out old new called = called

@@ -1,5 +1,5 @@
 -- That a store stands for some recording.
-use Rattle.std.proofs.Common.{◌≡◌, ◌⊎◌, inl, inr, Bool, true, false, refl}
+use Rattle.std.proofs.Common.{◌⊎◌, inl, inr, Bool, true, false, refl}
 use Rattle.loop_disk.specs.Medium.{Medium}
 use Rattle.loop_record.specs.Recording.{Recording}
 use Rattle.loop_record.proofs.Bounds.{limits}

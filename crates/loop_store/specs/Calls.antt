@@ -1,5 +1,5 @@
 -- The calls of a store with their answers, and what they make of a recording: the model of the store.
-use Rattle.std.specs.Prelude.{◌≡◌, ◌⊎◌, ℕ, ◌+◌, ◌-◌, ◌<◌, ◌≤◌, Bool, true, false, not, ◌&&◌, ◌||◌, ◌==◌, nat_lt, is_some, option_map, Option, Some, None, Result, Ok, Err, List, [], ◌∷◌, length, slice_index_or, slice_set}
+use Rattle.std.specs.Prelude.{◌≡◌, ◌⊎◌, ℕ, ◌+◌, ◌-◌, Bool, true, false, not, ◌&&◌, ◌||◌, ◌==◌, nat_lt, is_some, option_map, Option, Some, None, Result, Ok, Err, List, [], ◌∷◌, length}
 use Rattle.std.specs.List.{find, range_with_len}
 use Rattle.loop_disk.specs.declared.fault.DiskFault.{DiskFault}
 use Rattle.loop_disk.specs.Medium.{piece}
@@ -7,11 +7,11 @@ use Rattle.loop_record.specs.declared.clip.Span.{Span}
 use Rattle.loop_record.specs.declared.damage.Damage.TheVariants.{SlotHead}
 use Rattle.loop_record.specs.declared.frame.FrameHead.{FrameHead}
 use Rattle.loop_record.specs.declared.geometry.Geometry.{Geometry}
-use Rattle.loop_record.specs.Recording.{Picture, Recording, Ring, Step, clip_of, first_free, frame_under, free_id, head, holds, last_number, lock, needs_recycling, plain, ring_of, steps, unlock, victim}
+use Rattle.loop_record.specs.Recording.{Picture, Recording, Ring, Step, clip_of, frame_under, free_id, head, holds, last_number, lock, needs_recycling, plain, ring_of, steps, unlock, victim}
 use Rattle.loop_record.specs.Turns.{after_all, told_in, EachIn}
 use Rattle.loop_store.specs.declared.fault.StoreFault.{StoreFault}
 use Rattle.loop_store.specs.declared.fault.StoreFault.TheVariants.{AllLocked, ClipEmpty, ClipNotHeld, ClipTableFull, Damaged, NoMemory, NoSuchClip, MustReopen, NotHeld, NumbersSpent}
-use Rattle.loop_store.specs.Faults.{disk_failed, failed_as, fault_in, is_disk, is_early}
+use Rattle.loop_store.specs.Faults.{disk_failed, failed_as, fault_in, is_disk, is_early, is_write_fault}
 use Rattle.loop_store.specs.Steps.{if_answered, if_failed, steps_or_none}
 
 -- a call and its answer: an append of a group, a lock of a span with the clip's id, an unlock of an id, a read of a
@@ -154,8 +154,8 @@ pub record IsPart (r : Recording) (number at : ℕ) (bytes : List ℕ) : Type 0 
 abbrev pub ReadFails : Type 0 → StoreFault → Type 0
 ReadFails Honest fault = (is_disk fault ≡ true) ⊎ ((fault ≡ Damaged SlotHead) × (Honest → ⊥))
 
--- What a call answers where no check is due: the disk failed, a read lacks memory, or it is done. Only what a read
--- gives is known of honest disks alone.
+-- What a call answers where no check is due: it is done, a read lacks memory, or the disk failed, which for a call that
+-- writes is a write or a sync. Only what a read gives is known of honest disks alone.
 abbrev pub AnswersOtherwise : Type 0 → Recording → Call → Type 0
 AnswersOtherwise Honest r (appended group (Ok number)) = number ≡ r.next
 AnswersOtherwise Honest r (locked span (Ok id)) = id ≡ free_id r
@@ -164,9 +164,9 @@ AnswersOtherwise Honest r (was_read number (Ok x)) = Honest → IsHeldFrame r nu
 AnswersOtherwise Honest r (was_read_part number at (Ok bytes)) = Honest → IsPart r number at bytes
 AnswersOtherwise Honest r (was_read number (Err fault)) = (fault ≡ NoMemory) ⊎ ReadFails Honest fault
 AnswersOtherwise Honest r (was_read_part number at (Err fault)) = ReadFails Honest fault
-AnswersOtherwise Honest r (appended group (Err fault)) = is_disk fault ≡ true
-AnswersOtherwise Honest r (locked span (Err fault)) = is_disk fault ≡ true
-AnswersOtherwise Honest r (unlocked id (Err fault)) = is_disk fault ≡ true
+AnswersOtherwise Honest r (appended group (Err fault)) = is_write_fault fault ≡ true
+AnswersOtherwise Honest r (locked span (Err fault)) = is_write_fault fault ≡ true
+AnswersOtherwise Honest r (unlocked id (Err fault)) = is_write_fault fault ≡ true
 
 -- the answer is the refusal that is due, and where none is, one of these
 abbrev pub AnswersDue : Option StoreFault → Call → Type 0 → Type 0
@@ -194,59 +194,3 @@ made_in g s calls = told_in (after g) (made g) s calls
 -- the steps that were begun behind them
 abbrev pub begun_in : Geometry → StoreState → List Call → List Step
 begun_in g s calls = told_in (after g) (begun g) s calls
-
--- ---- what is known of every disk, honest or not
-
--- the number that comes next, the clip of each id, and whether a call that writes has failed
-pub record Progress : Type 0 where
-  pub next : ℕ
-  pub clips : List (Option Span)
-  pub must_reopen : Bool
-
--- how many frames were stored
-abbrev pub count_stored : Call → ℕ
-count_stored (appended group (Ok number)) = length group
-count_stored _ = 0
-
--- the clips after a call
-abbrev pub clips_after : List (Option Span) → Call → List (Option Span)
-clips_after clips (locked span (Ok id)) = slice_set clips id (Some span)
-clips_after clips (unlocked id (Ok x)) = slice_set clips id None
-clips_after clips _ = clips
-
-abbrev pub progress_after : Progress → Call → Progress
-progress_after o call = record {
-  next = o.next + count_stored call;
-  clips = clips_after o.clips call;
-  must_reopen = o.must_reopen || has_failed call;
-}
-
--- the checks that need no more, in their order
-abbrev pub known_checks : Geometry → Progress → Call → List (Option StoreFault)
-known_checks g o (appended group result) =
-    due o.must_reopen MustReopen ∷ due (o.next == last_number (ring_of g)) NumbersSpent ∷ []
-known_checks g o (locked span result) = due o.must_reopen MustReopen ∷ due (nat_lt span.to span.from) ClipEmpty ∷ []
-known_checks g o (unlocked id result) =
-    due o.must_reopen MustReopen ∷ due (not (is_some (slice_index_or o.clips id None))) NoSuchClip ∷ []
-known_checks g o call = due o.must_reopen MustReopen ∷ []
-
--- what a call may answer where none of these is due
-abbrev pub MayGive : Progress → Call → Type 0
-MayGive o (appended group (Ok number)) = number ≡ o.next
-MayGive o (locked span (Ok id)) = (id < 64) × (id ≡ first_free o.clips)
-MayGive o (unlocked id (Ok x)) = Unit {0}
-MayGive o (was_read number (Ok x)) = Unit {0}
-MayGive o (was_read_part number at (Ok bytes)) = Unit {0}
-MayGive o (appended group (Err fault)) = (fault ≡ AllLocked) ⊎ (is_disk fault ≡ true)
-MayGive o (locked span (Err fault)) =
-    ((n : ℕ) × ((fault ≡ ClipNotHeld n) × ((span.from ≤ n) × (n ≤ span.to))))
-    ⊎ ((fault ≡ ClipTableFull) × (first_free o.clips ≡ 64) ⊎ (is_disk fault ≡ true))
-MayGive o (unlocked id (Err fault)) = is_disk fault ≡ true
-MayGive o (was_read number (Err fault)) =
-    (fault ≡ NotHeld) ⊎ ((fault ≡ NoMemory) ⊎ ((fault ≡ Damaged SlotHead) ⊎ (is_disk fault ≡ true)))
-MayGive o (was_read_part number at (Err fault)) =
-    (fault ≡ NotHeld) ⊎ ((fault ≡ Damaged SlotHead) ⊎ (is_disk fault ≡ true))
-
--- the answer is one of those that the call may give there
-abbrev pub IsAllowed : Geometry → Progress → Call → Type 0
-IsAllowed g o call = AnswersDue (first_of (known_checks g o call)) call (MayGive o call)

@@ -5,9 +5,9 @@ use Rattle.loop_disk.specs.declared.fault.DiskFault.{DiskFault}
 use Rattle.loop_disk.specs.declared.fault.Failures.{Failures}
 use Rattle.loop_disk.specs.Calls.{Stays, with_failed}
 use Rattle.loop_disk.specs.Medium.{Medium}
-use Rattle.loop_record.specs.Turns.{after_all, EachIn}
-use Rattle.loop_store.specs.Calls.{AreAnswered, Call, IsAllowed, Progress, StoreState, after_calls, begun_in, failed_for, is_look, made_in, progress_after, was_refused}
-use Rattle.loop_store.specs.Seen.{Seen, StandsFor}
+use Rattle.loop_store.specs.Calls.{AreAnswered, Call, StoreState, after_calls, begun_in, failed_for, is_look, made_in, was_refused}
+use Rattle.loop_store.specs.Opened.{TellsOne}
+use Rattle.loop_store.specs.Seen.{Seen, StandsFor, Tells}
 use Rattle.loop_store.specs.Steps.{LeavesSteps}
 
 -- the failures with each of these
@@ -21,21 +21,26 @@ pub record CalledEach (old new : Medium) (failed : List (Option DiskFault)) : Ty
   pub honest : old.honest ↔ new.honest
   pub failures : new.failures ≡ with_each failed old.failures
 
+-- the store tells what a state says
+pub record TellsState {D : Type 0} (store : Seen D) (s : StoreState) : Type 0 where
+  pub recording : Tells store s.recording
+  pub must_reopen : store.must_reopen ≡ s.must_reopen
+
 -- the store stands for a state
 pub record Stands {D : Type 0} (medium : D → Medium) (store : Seen D) (s : StoreState) : Type 0 where
   pub recording : StandsFor medium store s.recording
   pub must_reopen : store.must_reopen ≡ s.must_reopen
 
--- what is known of every disk
-abbrev pub progress_of : {D : Type 0} → Seen D → Progress
-progress_of store = record { next = store.next; clips = store.clips; must_reopen = store.must_reopen }
-
--- The first three are said of each state that the store stood for. What a crash leaves, and that looks leave the disk
--- as it was, is said of an honest disk; all else of every disk, but for the bytes that a read gives.
+-- The answers are said of each state that the store told of, and it told of one, whatever its disk. What a crash
+-- leaves, that looks leave the disk as it was, and what a read gives, is said of an honest disk.
 pub record Goes {D : Type 0} (medium : D → Medium) (old new : Seen D) (calls : List Call) : Type 0 where
-  -- each answer is the model's
-  pub answers : (s : StoreState) → Stands medium old s → AreAnswered (medium old.disk).honest old.geometry s calls
-  -- the store stands for the state after them
+  pub one : TellsOne old
+  -- each answer is the model's, and what a read gives too, where the store stood for the state and the disk is honest
+  pub answers : (s : StoreState) → TellsState old s
+      → AreAnswered ((medium old.disk).honest × Stands medium old s) old.geometry s calls
+  -- the store tells of the state after them
+  pub tells : (s : StoreState) → TellsState old s → TellsState new (after_calls old.geometry s calls)
+  -- and stands for it where it stood for the first
   pub stands : (s : StoreState) → Stands medium old s → Stands medium new (after_calls old.geometry s calls)
   -- whatever the moment of a crash, the image reads as the recording after a beginning of the steps, and at the
   -- end after all that were made
@@ -46,7 +51,5 @@ pub record Goes {D : Type 0} (medium : D → Medium) (old new : Seen D) (calls :
   pub looks : list_all is_look calls ≡ true → (medium old.disk).honest → Stays (medium old.disk) (medium new.disk)
   -- where each was refused before the disk was called, or there is none, nothing is moved
   pub unmoved : list_all was_refused calls ≡ true → new ≡ old
-  pub allowed : EachIn progress_after (IsAllowed old.geometry) (progress_of old) calls
-  pub progress : progress_of new ≡ after_all progress_after (progress_of old) calls
   pub geometry : new.geometry ≡ old.geometry
   pub called : CalledEach (medium old.disk) (medium new.disk) (map failed_for calls)

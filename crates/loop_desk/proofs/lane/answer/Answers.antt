@@ -14,7 +14,7 @@ returns-then-is_dequeue g c =
     let new : Lane g.row.D.Denot g.row.P.Denot g.row.A.Denot = record { queue = now.queue; table = lane.table; hand = now.hand; desk = lane.desk } in
     subst (λ (l : Lane g.row.D.Denot g.row.P.Denot g.row.A.Denot). LaneRan g.P.PlaneMemory.plane g.D.Disk.medium lane l (c.args.event ∷ []) (reply.Dequeue c.dequeues.result ∷ [])) (sym c.dequeues.ensures.same)
     (subst (λ (e : LaneEvent g.row.P.Denot g.row.A.Denot). LaneRan g.P.PlaneMemory.plane g.D.Disk.medium lane new (e ∷ []) (reply.Dequeue c.dequeues.result ∷ [])) (sym c.in-Queue.is)
-    (told-dqbuf g.P.PlaneMemory.plane g.D.Disk.medium lane new c.in-Queue.event c.dequeues.result (λ now. g.met.D.Disk.sound lane.desk.store.disk now) refl
+    (told-dqbuf g.P.PlaneMemory.plane g.D.Disk.medium lane new c.in-Queue.event c.dequeues.result c.opens.ensures.tells (λ now. g.met.D.Disk.sound lane.desk.store.disk now) refl
     (ap (λ (format : PixelFormat). is_dequeue format c.in-Queue.event) (sym c.format.ensures) ∙ sym c.is_dequeue.ensures ∙ c.if-is_dequeue.true) (c.dequeues.ensures.turn lane.table)))
 
 pub returns-else-is_dequeue : goal.returns-else-is_dequeue
@@ -22,7 +22,7 @@ returns-else-is_dequeue g c =
     let lane = c.args.lane.now in
     let new : Lane g.row.D.Denot g.row.P.Denot g.row.A.Denot = record { queue = c.on_queue.new.queue; table = c.on_queue.new.table; hand = lane.hand; desk = lane.desk } in
     subst (λ (e : LaneEvent g.row.P.Denot g.row.A.Denot). LaneRan g.P.PlaneMemory.plane g.D.Disk.medium lane new (e ∷ []) (reply.Queue c.on_queue.result ∷ [])) (sym c.in-Queue.is)
-    (told-queue g.P.PlaneMemory.plane g.D.Disk.medium lane new c.in-Queue.event c.on_queue.result (λ now. g.met.D.Disk.sound lane.desk.store.disk now) refl
+    (told-queue g.P.PlaneMemory.plane g.D.Disk.medium lane new c.in-Queue.event c.on_queue.result c.opens.ensures.tells (λ now. g.met.D.Disk.sound lane.desk.store.disk now) refl
     (ap (λ (format : PixelFormat). is_dequeue format c.in-Queue.event) (sym c.format.ensures) ∙ sym c.is_dequeue.ensures ∙ c.if-is_dequeue.false) c.on_queue.ensures.turn)
 
 pub returns-in-Dequeue : goal.returns-in-Dequeue
@@ -32,7 +32,7 @@ returns-in-Dequeue g c =
     let new : Lane g.row.D.Denot g.row.P.Denot g.row.A.Denot = record { queue = now.queue; table = lane.table; hand = now.hand; desk = lane.desk } in
     subst (λ (l : Lane g.row.D.Denot g.row.P.Denot g.row.A.Denot). LaneRan g.P.PlaneMemory.plane g.D.Disk.medium lane l (c.args.event ∷ []) (reply.Dequeue c.dequeues-in-Dequeue.result ∷ [])) (sym c.dequeues-in-Dequeue.ensures.same)
     (subst (λ (e : LaneEvent g.row.P.Denot g.row.A.Denot). LaneRan g.P.PlaneMemory.plane g.D.Disk.medium lane new (e ∷ []) (reply.Dequeue c.dequeues-in-Dequeue.result ∷ [])) (sym c.in-Dequeue.is)
-    (told-dequeue g.P.PlaneMemory.plane g.D.Disk.medium lane new c.dequeues-in-Dequeue.result (λ now. g.met.D.Disk.sound lane.desk.store.disk now) refl (c.dequeues-in-Dequeue.ensures.turn lane.table)))
+    (told-dequeue g.P.PlaneMemory.plane g.D.Disk.medium lane new c.dequeues-in-Dequeue.result c.opens.ensures.tells (λ now. g.met.D.Disk.sound lane.desk.store.disk now) refl (c.dequeues-in-Dequeue.ensures.turn lane.table)))
 
 pub returns-in-Submit : goal.returns-in-Submit
 returns-in-Submit g c =
@@ -46,7 +46,7 @@ returns-in-Requeue g c =
     let lane = c.args.lane.now in
     let new : Lane g.row.D.Denot g.row.P.Denot g.row.A.Denot = record { queue = c.requeue.new.queue; table = lane.table; hand = c.requeue.new.hand; desk = lane.desk } in
     subst (λ (e : LaneEvent g.row.P.Denot g.row.A.Denot). LaneRan g.P.PlaneMemory.plane g.D.Disk.medium lane new (e ∷ []) (reply.Requeue c.requeue.result ∷ [])) (sym c.in-Requeue.is)
-    (told-requeue g.P.PlaneMemory.plane g.D.Disk.medium lane new c.requeue.result (λ now. g.met.D.Disk.sound lane.desk.store.disk now) refl (c.requeue.ensures.turn lane.table))
+    (told-requeue g.P.PlaneMemory.plane g.D.Disk.medium lane new c.requeue.result c.opens.ensures.tells (λ now. g.met.D.Disk.sound lane.desk.store.disk now) refl (c.requeue.ensures.turn lane.table))
 
 pub returns-in-Flush : goal.returns-in-Flush
 returns-in-Flush g c =

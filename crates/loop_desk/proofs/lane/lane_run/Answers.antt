@@ -16,7 +16,7 @@ loop-event-init g c =
       can = tt;
       ends = tt;
       ran = subst (λ (ps : List (LaneReply g.row.P.Denot g.row.A.Denot)). LaneRan g.P.PlaneMemory.plane g.D.Disk.medium lane lane [] ps) (sym c.in-Ok.ensures.items)
-          (ran-none g.P.PlaneMemory.plane g.D.Disk.medium lane (λ now. g.met.D.Disk.sound lane.desk.store.disk now));
+          (ran-none g.P.PlaneMemory.plane g.D.Disk.medium lane c.opens.ensures.tells (λ now. g.met.D.Disk.sound lane.desk.store.disk now));
       count = ap length c.in-Ok.ensures.items;
       room = omega (arith, c.in-Ok.ensures.exact, c.len.ensures, c.args.events.ok.0);
     }

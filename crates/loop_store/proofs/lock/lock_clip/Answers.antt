@@ -1,19 +1,19 @@
-use Rattle.std.proofs.Common.{◌≡◌, ◌<◌, ℕ, Ok, Err, None, Some, set, inr, refl, sym, ap, ◌∙◌, subst}
+use Rattle.std.proofs.Common.{◌≡◌, ◌<◌, ℕ, Ok, Err, None, Some, set, refl, sym, ap, ◌∙◌, subst}
 use Rattle.std.proofs.lemmas.Result.{err_from_is_err_and}
 use Rattle.loop_record.specs.declared.clip.Span.{Span}
 use Rattle.loop_record.specs.declared.geometry.Geometry.{Geometry}
 use Rattle.loop_record.specs.Recording.{Recording, free_id, lock, ring_of}
-use Rattle.loop_store.specs.declared.fault.StoreFault.TheVariants.{Disk}
+use Rattle.loop_store.specs.declared.fault.StoreFault.TheVariants.{Disk, MustReopen}
 use Rattle.loop_store.specs.Calls.{first_of, locked, span_checks}
-use Rattle.loop_store.specs.Goes.{progress_of}
 use Rattle.loop_store.specs.Locks.{CanTake}
 use Rattle.loop_store.specs.declared.index.Index.{Index}
 use Rattle.loop_store.specs.Seen.{seen_with}
 use Rattle.loop_store.proofs.Checked.{answer-given}
-use Rattle.loop_store.proofs.Locked.{goes-noted, goes-unnoted, kept-noted, lock-redrawn, lock-allowed, lock-refused}
+use Rattle.loop_store.proofs.Locked.{goes-noted, goes-unnoted, kept-noted, lock-redrawn, lock-refused}
 use Rattle.loop_store.specs.Drawn.{drawn}
 use Rattle.loop_store.proofs.Alike.{span-same}
-use Rattle.loop_store.proofs.Looks.{alike-by, failed-kept}
+use Rattle.loop_store.proofs.Looks.{alike-by, failed-kept, one-kept}
+use Rattle.loop_store.proofs.Once.{goes-must}
 use Rattle.loop_store.proofs.Missing.{fits-legal}
 use Rattle.loop_store.proofs.lock.lock_clip.Goals as goal
 
@@ -21,15 +21,20 @@ use Rattle.loop_store.proofs.lock.lock_clip.Goals as goal
 takes : (g : Geometry) (r : Recording) (span : Span) (id : ℕ) → id < 64 → (first_of (span_checks r span) ≡ None) × (id ≡ free_id r) → CanTake g span id r
 takes g r span id low said = record { fits = said.0; legal = fits-legal (ring_of g) r span said.0 (subst (λ (n : ℕ). n < 64) said.1 low); id_is = said.1 }
 
+pub returns-then-must_reopen-clause-goes : goal.returns-then-must_reopen-clause-goes
+returns-then-must_reopen-clause-goes g c =
+    goes-must g.D.Disk.medium _ (locked c.args.span (Err MustReopen)) (one-kept g.D.Disk.medium c.args.disk.now c.args.index.now c.args.must_reopen.now c.requires) (λ honest. g.met.D.Disk.sound c.args.disk.now honest) c.if-must_reopen.true
+    (record { early = refl; unfailed = refl; none = refl; made_none = λ h t. refl; begun_none = λ h t. refl }) refl
+
 pub returns-in_err-id-clause-goes : goal.returns-in_err-id-clause-goes
 returns-in_err-id-clause-goes g c =
     let i = c.args.index.now in
     let medium = g.D.Disk.medium in
     let p = err_from_is_err_and c.from_residual.result c.from_residual.ensures.1 in
-    rw (p.1, p.2) (lock-refused medium (seen_with c.args.disk.now i c.args.must_reopen.now) c.args.span c.in_err-id.field-0.0 (λ honest. g.met.D.Disk.sound c.args.disk.now honest) c.if-must_reopen.false c.in_err-id.ensures.refusals
-    (λ r stands.
+    rw (p.1, p.2) (lock-refused medium (seen_with c.args.disk.now i c.args.must_reopen.now) c.args.span c.in_err-id.field-0.0 (one-kept medium c.args.disk.now i c.args.must_reopen.now c.requires) (λ honest. g.met.D.Disk.sound c.args.disk.now honest) c.if-must_reopen.false c.in_err-id.ensures.refusals
+    (λ r told.
     let known = c.requires.known in
-    sym (span-same known.recording r c.args.span (alike-by medium c.args.disk.now i c.args.must_reopen.now r c.requires stands)) ∙ c.in_err-id.ensures.answers known.recording (drawn i.ring.geometry i.table.heads i.clips) known.known))
+    sym (span-same known.recording r c.args.span (alike-by medium c.args.disk.now i c.args.must_reopen.now r c.requires told)) ∙ c.in_err-id.ensures.answers known.recording (drawn i.ring.geometry i.table.heads i.clips) known.known))
 
 pub returns-in-Ok-clause-kept : goal.returns-in-Ok-clause-kept
 returns-in-Ok-clause-kept g c =
@@ -76,8 +81,7 @@ returns-in-Ok-clause-goes g c =
     })
     makes.moments
     (λ r image known. takes h r span id c.in_ok-id.ensures.id.0.0 (c.in_ok-id.ensures.answers r image known))
-    (record { writes = refl; late = refl; stored = refl; answers = λ s still one. answer-given (medium c.args.disk.now).honest h s (locked span (Ok id)) still one.fits one.id_is }) refl refl refl (λ s. refl) (λ s. refl)
-    (lock-allowed h (progress_of (seen_with c.args.disk.now i c.args.must_reopen.now)) span (Ok id) c.if-must_reopen.false c.in_ok-id.ensures.id.1 c.in_ok-id.ensures.id.0)
+    (λ H. record { writes = refl; late = refl; answers = λ s still one. answer-given H h s (locked span (Ok id)) still one.fits one.id_is }) refl refl (λ s. refl) (λ s. refl)
 
 pub returns-in-Err-clause-kept : goal.returns-in-Err-clause-kept
 returns-in-Err-clause-kept g c =
@@ -94,5 +98,4 @@ returns-in-Err-clause-goes g c =
     goes-unnoted medium c.args.disk.now c.add_clip.new.disk i c.add_clip.new.index c.args.must_reopen.now (CanTake h span id) (lock span) (locked span (Err (Disk c.in-Err.fault))) c.in-Err.fault c.requires c.if-must_reopen.false c.in-Err.ensures.same (lock-redrawn h id span c.in_ok-id.ensures.id.0.0).alike
     (λ honest. g.met.D.Disk.sound c.add_clip.new.disk honest) makes.called makes.moments
     (λ r image known. takes h r span id c.in_ok-id.ensures.id.0.0 (c.in_ok-id.ensures.answers r image known))
-    (record { writes = refl; late = refl; stored = refl; answers = λ s still one. answer-given (medium c.args.disk.now).honest h s (locked span (Err (Disk c.in-Err.fault))) still one.fits refl }) (λ cs. refl) refl refl (λ s. refl) (λ s. refl)
-    (lock-allowed h (progress_of (seen_with c.args.disk.now i c.args.must_reopen.now)) span (Err (Disk c.in-Err.fault)) c.if-must_reopen.false c.in_ok-id.ensures.id.1 (inr (inr refl)))
+    (λ H. record { writes = refl; late = refl; answers = λ s still one. answer-given H h s (locked span (Err (Disk c.in-Err.fault))) still one.fits makes.fault }) refl refl (λ s. refl) (λ s. refl)

@@ -1,25 +1,30 @@
 use Rattle.std.proofs.Common.{◌≡◌, ◌≢◌, Option, List, get_or, Ok, Err, None, Some, refl, sym, ap, ◌∙◌}
 use Rattle.loop_record.specs.declared.clip.Span.{Span}
 use Rattle.loop_record.specs.Recording.{clip_of, unlock}
-use Rattle.loop_store.specs.declared.fault.StoreFault.TheVariants.{Disk}
+use Rattle.loop_store.specs.declared.fault.StoreFault.TheVariants.{Disk, MustReopen}
 use Rattle.loop_store.specs.Calls.{unlocked}
-use Rattle.loop_store.specs.Goes.{progress_of}
 use Rattle.loop_store.specs.declared.index.Index.{Index}
 use Rattle.loop_store.specs.Seen.{seen_with}
-use Rattle.loop_store.proofs.Locked.{clip-known, goes-noted, goes-unnoted, kept-noted, unlock-allowed, unlock-answered, unlock-redrawn, unlock-refused}
-use Rattle.loop_store.proofs.Looks.{failed-kept}
+use Rattle.loop_store.proofs.Locked.{clip-known, goes-noted, goes-unnoted, kept-noted, unlock-answered, unlock-redrawn, unlock-refused}
+use Rattle.loop_store.proofs.Looks.{failed-kept, one-kept}
+use Rattle.loop_store.proofs.Once.{goes-must}
 use Rattle.loop_store.proofs.lock.unlock_clip.Goals as goal
 
 some : (o : Option Span) (s : Span) → o ≡ Some s → o ≢ None
 some None s e none = absurd cc
 some (Some t) s e none = absurd cc
 
+pub returns-then-must_reopen-clause-goes : goal.returns-then-must_reopen-clause-goes
+returns-then-must_reopen-clause-goes g c =
+    goes-must g.D.Disk.medium _ (unlocked c.args.id (Err MustReopen)) (one-kept g.D.Disk.medium c.args.disk.now c.args.index.now c.args.must_reopen.now c.requires) (λ honest. g.met.D.Disk.sound c.args.disk.now honest) c.if-must_reopen.true
+    (record { early = refl; unfailed = refl; none = refl; made_none = λ h t. refl; begun_none = λ h t. refl }) refl
+
 pub returns-in_default-clause-goes : goal.returns-in_default-clause-goes
 returns-in_default-clause-goes g c =
     let i = c.args.index.now in
     let medium = g.D.Disk.medium in
-    unlock-refused medium (seen_with c.args.disk.now i c.args.must_reopen.now) c.args.id (λ honest. g.met.D.Disk.sound c.args.disk.now honest) c.if-must_reopen.false (sym c.in_default.ensures.clip)
-    (λ r stands. ap (λ (cs : List (Option Span)). get_or cs c.args.id None) (sym stands.told.clips_are) ∙ sym c.in_default.ensures.clip)
+    unlock-refused medium (seen_with c.args.disk.now i c.args.must_reopen.now) c.args.id (one-kept medium c.args.disk.now i c.args.must_reopen.now c.requires) (λ honest. g.met.D.Disk.sound c.args.disk.now honest) c.if-must_reopen.false
+    (λ r told. ap (λ (cs : List (Option Span)). get_or cs c.args.id None) (sym told.clips_are) ∙ sym c.in_default.ensures.clip)
 
 pub remove_clip-requires-clause-id : goal.remove_clip-requires-clause-id
 remove_clip-requires-clause-id g c = (c.in-Some.ensures.within, some _ c.in-Some.field-0 (sym c.in-Some.ensures.clip))
@@ -65,8 +70,7 @@ returns-in-Ok-clause-goes g c =
       redrawn = unlock-redrawn i.ring.geometry id c.in-Some.ensures.within;
     }) makes.moments
     (λ r image known. some _ c.in-Some.field-0 (clip-known i r image id known ∙ sym c.in-Some.ensures.clip))
-    (record { writes = refl; late = refl; stored = refl; answers = λ s still one. unlock-answered (medium c.args.disk.now).honest i.ring.geometry s id (Ok tt) still one tt }) refl refl refl (λ s. refl) (λ s. refl)
-    (unlock-allowed i.ring.geometry (progress_of (seen_with c.args.disk.now i c.args.must_reopen.now)) id (Ok tt) c.if-must_reopen.false (some _ c.in-Some.field-0 (sym c.in-Some.ensures.clip)) tt)
+    (λ H. record { writes = refl; late = refl; answers = λ s still one. unlock-answered H i.ring.geometry s id (Ok tt) still one tt }) refl refl (λ s. refl) (λ s. refl)
 
 pub returns-in-Err-clause-kept : goal.returns-in-Err-clause-kept
 returns-in-Err-clause-kept g c =
@@ -81,5 +85,4 @@ returns-in-Err-clause-goes g c =
     goes-unnoted medium c.args.disk.now c.remove_clip.new.disk i c.remove_clip.new.index c.args.must_reopen.now (λ r. clip_of r id ≢ None) (unlock id) (unlocked id (Err (Disk c.in-Err.fault))) c.in-Err.fault c.requires c.if-must_reopen.false c.in-Err.ensures.same (unlock-redrawn i.ring.geometry id c.in-Some.ensures.within).alike
     (λ honest. g.met.D.Disk.sound c.remove_clip.new.disk honest) makes.called makes.moments
     (λ r image known. some _ c.in-Some.field-0 (clip-known i r image id known ∙ sym c.in-Some.ensures.clip))
-    (record { writes = refl; late = refl; stored = refl; answers = λ s still one. unlock-answered (medium c.args.disk.now).honest i.ring.geometry s id (Err (Disk c.in-Err.fault)) still one refl }) (λ cs. refl) refl refl (λ s. refl) (λ s. refl)
-    (unlock-allowed i.ring.geometry (progress_of (seen_with c.args.disk.now i c.args.must_reopen.now)) id (Err (Disk c.in-Err.fault)) c.if-must_reopen.false (some _ c.in-Some.field-0 (sym c.in-Some.ensures.clip)) refl)
+    (λ H. record { writes = refl; late = refl; answers = λ s still one. unlock-answered H i.ring.geometry s id (Err (Disk c.in-Err.fault)) still one makes.fault }) refl refl (λ s. refl) (λ s. refl)

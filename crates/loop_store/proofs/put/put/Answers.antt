@@ -1,30 +1,31 @@
-use Rattle.std.proofs.Common.{◌≡◌, ◌≢◌, ◌+◌, ℕ, Result, Ok, Err, List, length, refl, sym, ap, ◌∙◌, subst, arith}
+use Rattle.std.proofs.Common.{◌≡◌, ℕ, Result, Ok, Err, List, length, refl, sym, ap, ◌∙◌, subst, arith}
 use Rattle.std.proofs.lemmas.Result.{err_from_is_err_and}
 use Rattle.loop_disk.specs.Medium.{LeavesOnly, Medium}
 use Rattle.loop_record.specs.declared.geometry.Geometry.{Geometry}
-use Rattle.loop_record.specs.Recording.{Picture, Step, last_number, ring_of}
+use Rattle.loop_record.specs.Recording.{Picture, Step}
 use Rattle.loop_ring.specs.declared.ring.Ring.{Ring}
 use Rattle.loop_store.specs.declared.fault.StoreFault.{StoreFault}
-use Rattle.loop_store.specs.declared.fault.StoreFault.TheVariants.{AllLocked, NumbersSpent}
+use Rattle.loop_store.specs.declared.fault.StoreFault.TheVariants.{MustReopen, NumbersSpent}
+use Rattle.loop_store.specs.Calls.{appended}
 use Rattle.loop_store.specs.declared.place.Place.{Place}
 use Rattle.loop_store.specs.Held.{HoldsSome}
 use Rattle.loop_store.specs.Places.{IsKnown, place_segment}
 use Rattle.loop_store.specs.Seen.{seen_with}
 use Rattle.loop_store.specs.Drawn.{drawn}
 use Rattle.loop_store.proofs.Alike.{refuses-same}
-use Rattle.loop_store.proofs.Appended.{Grew, IsPlaced, kept-grown, noted-at, place-known, place-some, stands-grown, steps-are}
-use Rattle.loop_store.proofs.Looks.{alike-by, failed-kept, known-by}
+use Rattle.loop_store.proofs.Appended.{Grew, IsPlaced, kept-grown, noted-at, place-known, place-some, stands-grown, steps-are, told-grown}
+use Rattle.loop_store.proofs.Looks.{alike-by, failed-kept, known-by, one-kept}
+use Rattle.loop_store.proofs.Once.{goes-must}
 use Rattle.loop_store.proofs.Putting.{place-alike, place-refused, put-failed, put-stored}
 use Rattle.loop_store.proofs.put.put.Goals as goal
-
-not-locked : (fault : StoreFault) → fault ≡ AllLocked → let x : Result Place StoreFault = Err fault in let y : Result Place StoreFault = Err NumbersSpent in x ≡ y → ⊥
-not-locked fault is e = absurd cc
 
 not-refused : (place : Place) → let x : Result Place StoreFault = Ok place in let y : Result Place StoreFault = Err NumbersSpent in x ≡ y → ⊥
 not-refused place e = absurd cc
 
-as_err : (fault : StoreFault) → fault ≡ NumbersSpent → let x : Result Place StoreFault = Err fault in let y : Result Place StoreFault = Err NumbersSpent in x ≡ y
-as_err fault is = cc
+pub returns-then-must_reopen-clause-goes : goal.returns-then-must_reopen-clause-goes
+returns-then-must_reopen-clause-goes g c =
+    goes-must g.D.Disk.medium _ (appended c.args.group.now.frames (Err MustReopen)) (one-kept g.D.Disk.medium c.args.disk.now c.args.index.now c.args.must_reopen.now c.requires.kept) (λ honest. g.met.D.Disk.sound c.args.disk.now honest) c.if-must_reopen.true
+    (record { early = refl; unfailed = refl; none = refl; made_none = λ h t. refl; begun_none = λ h t. refl }) refl
 
 pub returns-in_err-place-clause-goes : goal.returns-in_err-place-clause-goes
 returns-in_err-place-clause-goes g c =
@@ -32,11 +33,10 @@ returns-in_err-place-clause-goes g c =
     let fault = c.in_err-place.field-0.0 in
     let medium = g.D.Disk.medium in
     let p = err_from_is_err_and c.from_residual.result c.from_residual.ensures.1 in
-    rw (p.1, p.2) (place-refused medium (seen_with c.args.disk.now i c.args.must_reopen.now) c.args.group.now.frames fault (λ honest. g.met.D.Disk.sound c.args.disk.now honest) c.if-must_reopen.false c.in_err-place.ensures.refusals
-    (λ is. c.in_err-place.ensures.spent.0 (as_err fault is)) (λ is same. not-locked fault is (c.in_err-place.ensures.spent.1 same))
-    (λ r stands.
+    rw (p.1, p.2) (place-refused medium (seen_with c.args.disk.now i c.args.must_reopen.now) c.args.group.now.frames fault (one-kept medium c.args.disk.now i c.args.must_reopen.now c.requires.kept) (λ honest. g.met.D.Disk.sound c.args.disk.now honest) c.if-must_reopen.false c.in_err-place.ensures.refusals
+    (λ r told.
     let known = c.requires.kept.known in
-    refuses-same i.ring.geometry known.recording r fault (alike-by medium c.args.disk.now i c.args.must_reopen.now r c.requires.kept stands) (c.in_err-place.ensures.answers known.recording (drawn i.ring.geometry i.table.heads i.clips) known.known)))
+    refuses-same i.ring.geometry known.recording r fault (alike-by medium c.args.disk.now i c.args.must_reopen.now r c.requires.kept told) (c.in_err-place.ensures.answers known.recording (drawn i.ring.geometry i.table.heads i.clips) known.known)))
 
 pub append_group-requires-clause-settled : goal.append_group-requires-clause-settled
 append_group-requires-clause-settled g c = λ honest. (c.requires.kept.present c.if-must_reopen.false honest).settled
@@ -88,7 +88,6 @@ returns-in-Ok-clause-goes g c =
     let medium = g.D.Disk.medium in
     let must = c.args.must_reopen.now in
     let fine = c.if-must_reopen.false in
-    let unspent : i.next ≢ last_number (ring_of h) = λ same. not-refused c.in_ok-place.place (c.in_ok-place.ensures.spent.1 same) in
     let first : Grew medium h c.args.disk.now c.append_group.new.disk c.args.group.now.first (length ps) j ps = record {
       back = c.append_group.ensures.called.honest.1;
       count = refl;
@@ -101,22 +100,21 @@ returns-in-Ok-clause-goes g c =
     let placed : IsPlaced i c.in_ok-place.place n = record {
       within = c.in_ok-place.ensures.within;
       at = c.in_ok-place.ensures.answers;
-      unspent = unspent;
+      unspent = λ same. not-refused c.in_ok-place.place (c.in_ok-place.ensures.spent.1 same);
       room = omega (arith, c.requires.room, c.len.ensures.count);
     } in
     put-stored medium (seen_with c.args.disk.now i must) (seen_with c.append_group.new.disk c.note.new.self must) ps (record {
       fine = fine;
       still = fine;
-      unspent = unspent;
-      next = noted.next ∙ ap (λ (k : ℕ). i.next + k) c.len.ensures.count;
+      one = one-kept medium c.args.disk.now i must c.requires.kept;
       geometry = ap (λ (x : Ring). x.geometry) noted.ring;
       called = c.in-Ok.ensures.called;
-      clips = noted.clips;
-      place = λ r stands.
+      tells = λ r told. told-grown medium c.args.disk.now c.append_group.new.disk i c.note.new.self c.in_ok-place.place n j ps must r c.requires.kept told refl placed noted grew.count;
+      place = λ r told.
           let known = c.requires.kept.known in
           let image = drawn h i.table.heads i.clips in
           let at = c.in_ok-place.ensures.answers known.recording image known.known in
-          place-alike h known.recording r (alike-by medium c.args.disk.now i must r c.requires.kept stands) (record { unspent = at.0; some = place-some h known.recording image c.in_ok-place.place at.1 });
+          place-alike h known.recording r (alike-by medium c.args.disk.now i must r c.requires.kept told) (record { unspent = at.0; some = place-some h known.recording image c.in_ok-place.place at.1 });
       moments = λ r stands honest.
           let known = known-by medium c.args.disk.now i must r c.requires.kept stands fine honest in
           let at = c.in_ok-place.ensures.answers r (medium c.args.disk.now).bytes known in
@@ -139,15 +137,16 @@ returns-in-Err-clause-goes g c =
     let must = c.args.must_reopen.now in
     put-failed medium (seen_with c.args.disk.now i must) _ ps c.in-Err.fault (record {
       fine = c.if-must_reopen.false;
-      unspent = λ same. not-refused c.in_ok-place.place (c.in_ok-place.ensures.spent.1 same);
+      one = one-kept medium c.args.disk.now i must c.requires.kept;
       has_failed = refl;
+      writes = c.in-Err.ensures.fault;
       called = c.in-Err.ensures.called;
       sound = λ now. g.met.D.Disk.sound c.append_group.new.disk now;
-      place = λ r stands.
+      place = λ r told.
           let known = c.requires.kept.known in
           let image = drawn h i.table.heads i.clips in
           let at = c.in_ok-place.ensures.answers known.recording image known.known in
-          place-alike h known.recording r (alike-by medium c.args.disk.now i must r c.requires.kept stands) (record { unspent = at.0; some = place-some h known.recording image c.in_ok-place.place at.1 });
+          place-alike h known.recording r (alike-by medium c.args.disk.now i must r c.requires.kept told) (record { unspent = at.0; some = place-some h known.recording image c.in_ok-place.place at.1 });
       moments = λ r stands honest.
           let known = known-by medium c.args.disk.now i must r c.requires.kept stands c.if-must_reopen.false honest in
           let at = c.in_ok-place.ensures.answers r (medium c.args.disk.now).bytes known in

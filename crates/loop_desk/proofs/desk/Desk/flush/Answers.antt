@@ -5,9 +5,10 @@ use Rattle.circular_buffer.specs.Buffer.{Buffer, buffer}
 use Rattle.loop_record.specs.declared.frame.Frame.{Frame}
 use Rattle.loop_record.specs.Plain.{pictures}
 use Rattle.loop_record.specs.Recording.{Picture, picture}
-use Rattle.loop_store.specs.Calls.{Progress, appended}
+use Rattle.loop_store.specs.Calls.{appended}
 use Rattle.loop_store.specs.Goes.{Goes}
 use Rattle.loop_store.specs.Seen.{Refused}
+use Rattle.loop_store.proofs.NextNumber.{next-one}
 use Rattle.loop_store.specs.declared.fault.StoreFault.{StoreFault}
 use Rattle.loop_desk.specs.declared.limits.Flushed.{Flushed}
 use Rattle.loop_desk.specs.Desk.{flushed}
@@ -29,7 +30,7 @@ returns-then-count-eq0 g c =
     let none : pictures s.pending.items ≡ [] = ap pictures (none-of s.pending.items count) in
     record {
       goes = subst (λ (v : SeenDesk g.row.D.Denot). DeskGoes g.D.Disk.medium v v (flushed (Ok (record { first = c.next.result; stored = 0; left = 0 })) ∷ [])) c.self.view_is
-          (flush-none g.D.Disk.medium d c.next.result c.next.ensures.next none fine (λ now. g.met.D.Disk.sound s.store.disk now));
+          (flush-none g.D.Disk.medium d c.next.result c.next.ensures.next none fine c.a_store_tells.ensures (λ now. g.met.D.Disk.sound s.store.disk now));
       refused = tt;
       idle = λ waits. refl;
     }
@@ -45,7 +46,7 @@ invariant_of-self g c =
     let left : drop count (refill (length items) items frames) ≡ drop count items = ap (drop count) same in
     let goes : Goes g.D.Disk.medium s.store c.append_first.new.store (appended (pictures (take count frames)) (Ok c.in-Ok.first) ∷ []) = subst (λ (x : Result ℕ StoreFault). Goes g.D.Disk.medium s.store c.append_first.new.store (appended (pictures (take count frames)) x ∷ [])) c.in-Ok.is c.append_first.ensures.goes in
     let size : length (pictures (take count frames)) ≡ count = stored-size count items frames c.make_contiguous.ensures.value (omega (arith, few, c.len-waiting.ensures.len)) in
-    let next = ap (λ (p : Progress). p.next) goes.progress ∙ ap (λ (n : ℕ). s.store.next + n) size in
+    let next = next-one s.store c.append_first.new.store (appended (pictures (take count frames)) (Ok c.in-Ok.first)) goes ∙ ap (λ (n : ℕ). s.store.next + n) size in
     subst (λ (b : Buffer (Frame g.row.A.Denot)). IsDesk c.append_first.new.store s.limits b) (sym (c.set_aside.ensures ∙ ap (λ l. buffer l s.pending.capacity) left))
     (kept-flushed s.store c.append_first.new.store s.limits s.pending count c.self.invariant goes.geometry next (omega (arith, few, c.len-waiting.ensures.len)))
 

@@ -2,8 +2,8 @@ use Rattle.std.proofs.Common.{◌≡◌, false, subst}
 use Rattle.loop_desk.specs.Seen.{Opens, SeenDesk}
 use Rattle.loop_desk.proofs.desk.Desk.opens.Goals as goal
 
-pub returns : goal.returns
-returns g c =
+pub returns-clause-opens : goal.returns-clause-opens
+returns-clause-opens g c =
     let medium = g.D.Disk.medium in
     subst (λ (v : SeenDesk g.row.D.Denot). v.store.must_reopen ≡ false → Opens medium v) c.self.view_is
     (λ fine. record {

@@ -5,8 +5,9 @@ use Rattle.loop_record.specs.declared.frame.Frame.{Frame}
 use Rattle.loop_record.specs.Geometry.{frame_bytes}
 use Rattle.loop_record.specs.Plain.{pictures}
 use Rattle.loop_record.specs.Recording.{last_number, picture, ring_of}
-use Rattle.loop_desk.specs.Desk.{submit_answer, submitted}
-use Rattle.loop_desk.specs.Seen.{DeskGoes, IsDesk, SeenDesk, rules_of, waiting_of}
+use Rattle.loop_desk.specs.Desk.{DeskState, submit_answer, submitted}
+use Rattle.loop_store.specs.Opened.{TellsOne}
+use Rattle.loop_desk.specs.Seen.{DeskGoes, IsDesk, SeenDesk, TellsDesk, rules_of}
 use Rattle.loop_desk.proofs.Called.{goes-submit}
 use Rattle.loop_desk.proofs.Kept.{below, keep-all, kept-pushed}
 use Rattle.loop_desk.proofs.desk.Desk.submit.Goals as goal
@@ -36,11 +37,11 @@ returns-in-Ok-clause-goes g c =
     let room : length s.pending.items < s.pending.capacity = below (length s.pending.items) s.pending.capacity (omega (arith, c.self.invariant.few, c.self.invariant.capacity)) (λ same. other (count ∙ same ∙ c.self.invariant.capacity)) in
     let kept = keep-all s.pending.capacity (s.pending.items ++ c.args.frame ∷ []) (omega (arith, room, length-append s.pending.items (c.args.frame ∷ []))) in
     let waits : pictures c.push_back.new.self.items ≡ d.pending ++ picture c.args.frame ∷ [] = ap (λ (b : Buffer (Frame g.row.A.Denot)). pictures b.items) (c.push_back.ensures.items ∙ ap (λ l. buffer l s.pending.capacity) kept) ∙ map-append picture s.pending.items (c.args.frame ∷ []) in
-    let answer = subst (λ (v : SeenDesk g.row.D.Denot). c.number_for.result ≡ submit_answer (rules_of v) (waiting_of v) n) (sym c.self.view_is) c.number_for.ensures.answer in
+    let answer = subst (λ (v : SeenDesk g.row.D.Denot). (s : DeskState) → TellsDesk v s → c.number_for.result ≡ submit_answer (rules_of v) s n) (sym c.self.view_is) c.number_for.ensures.answer in
     subst (λ (v : SeenDesk g.row.D.Denot). DeskGoes g.D.Disk.medium v (record { store = s.store; pending = pictures c.push_back.new.self.items; limits = s.limits }) (submitted (picture c.args.frame) n (Ok c.in-Ok.number) ∷ [])) c.self.view_is
-    (goes-submit g.D.Disk.medium d (pictures c.push_back.new.self.items) (picture c.args.frame) n (Ok c.in-Ok.number) (λ now. g.met.D.Disk.sound s.store.disk now) (sym c.in-Ok.is ∙ answer) waits)
+    (goes-submit g.D.Disk.medium d (pictures c.push_back.new.self.items) (picture c.args.frame) n (Ok c.in-Ok.number) c.a_store_tells.ensures (λ now. g.met.D.Disk.sound s.store.disk now) (λ t at. sym c.in-Ok.is ∙ answer t at) waits)
 
 pub returns-in-Err-clause-goes : goal.returns-in-Err-clause-goes
 returns-in-Err-clause-goes g c =
     let d = c.args.self.now in
-    goes-submit g.D.Disk.medium d d.pending (picture c.args.frame) (length c.args.frame.bytes.items) (Err c.in-Err.fault) (λ now. g.met.D.Disk.sound d.store.disk now) (sym c.in-Err.is ∙ c.number_for.ensures.answer) refl
+    goes-submit g.D.Disk.medium d d.pending (picture c.args.frame) (length c.args.frame.bytes.items) (Err c.in-Err.fault) (subst (λ (v : SeenDesk g.row.D.Denot). TellsOne v.store) c.self.view_is c.a_store_tells.ensures) (λ now. g.met.D.Disk.sound d.store.disk now) (λ t at. sym c.in-Err.is ∙ c.number_for.ensures.answer t at) refl

@@ -1,0 +1,12 @@
+use Rattle.std.proofs.Common.{arith}
+use Rattle.loop_store.specs.Calls.{locked}
+use Rattle.loop_store.proofs.NextNumber.{next-one}
+use Rattle.loop_desk.proofs.Kept.{kept-same}
+use Rattle.loop_desk.proofs.desk.Desk.lock_clip.Goals as goal
+
+pub invariant_of-self : goal.invariant_of-self
+invariant_of-self g c =
+    let s = c.self.inside in
+    let new = c.lock.new.self in
+    let goes = c.lock.ensures.goes in
+    kept-same s.store new s.limits s.pending c.self.invariant goes.geometry (omega (arith, next-one s.store new (locked (record { from = c.args.from; to = c.args.to }) c.lock.result) goes))
