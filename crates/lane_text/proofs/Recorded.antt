@@ -22,10 +22,10 @@ one-reading g h q r image first second = ap (contents_of (record { geometry = h;
 -- the text of what an image reads as
 pub exported : {D : Type 0} (medium : D → Medium) (kept : Seen D) (g : Geometry) (r : Recording) (opened : Seen D) (image : List ℕ) (from to count : ℕ) (before after : Option (List ℕ))
     → StandsFor medium kept r → kept.must_reopen ≡ false → (medium kept.disk).honest → kept.geometry ≡ g → image ≡ (medium kept.disk).bytes → IsOpened medium image opened → (medium opened.disk).honest
-    → ((q : Recording) → StandsFor medium opened q → (medium opened.disk).honest → IsExport opened.geometry opened.must_reopen (frames_between from to q.frames) before after (Ok count))
+    → ((q : Recording) → StandsFor medium opened q → IsExport (medium opened.disk).honest opened.geometry opened.must_reopen (frames_between from to q.frames) before after (Ok count))
     → Appends before after (text g (frames_between from to r.frames))
 exported medium kept g r opened image from to count before after stands fine now same is found honest exports =
     let there : Holds g r image = subst (λ (h : Geometry). Holds h r image) same (subst (λ (l : List ℕ). Holds kept.geometry r l) (sym is) (stands.held fine now)) in
     let one = one-reading opened.geometry g found.recording r image found.held there in
-    let said = exports found.recording found.stands honest in
-    subst (λ (c : Contents). Appends before after (text c.geometry (frames_between from to c.recording.frames))) one said.1.1.0
+    let said = exports found.recording found.stands in
+    subst (λ (c : Contents). Appends before after (text c.geometry (frames_between from to c.recording.frames))) one (said.1.1.0 honest)

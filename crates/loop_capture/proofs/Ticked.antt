@@ -1,13 +1,14 @@
 -- A tick that asked its source.
-use Rattle.std.proofs.Common.{◌≡◌, ℕ, Bool, true, cond, List, length, Option, Some, None, sym, ◌∙◌, ap, subst}
+use Rattle.std.proofs.Common.{◌≡◌, ℕ, Bool, true, cond, List, length, Option, Some, None, refl, sym, ◌∙◌, ap, subst}
 use Rattle.loop_plane.specs.Plane.{Plane}
+use Rattle.loop_record.specs.Turns.{EachIn, after_all}
 use Rattle.loop_capture.specs.declared.device.Tick.{Tick}
 use Rattle.loop_capture.specs.declared.device.Tick.TheVariants.{Idle, Completed, Failed, Missed, Ended, WrongSize}
 use Rattle.loop_capture.specs.declared.source.Next.{Next}
 use Rattle.loop_capture.specs.declared.source.Next.TheVariants.{More, End, Bad}
-use Rattle.loop_capture.specs.Ticks.{SeenDevice, Ends, Took, Ticked, Ticks, tick_of, after_tick, sequence_of, sequence_after}
+use Rattle.loop_capture.specs.Ticks.{SeenDevice, Ends, Took, Ticked, Ticks, tick_of, end_of, sequence_of, sequence_after}
 use Rattle.loop_vb2.specs.Effects.{longest_active, seen_state}
-use Rattle.loop_vb2.specs.Events.{Happens, take_fresh}
+use Rattle.loop_vb2.specs.Events.{Event, Happens, MayHappen, after_event, take_fresh}
 use Rattle.loop_vb2.specs.Planes.{frame_size}
 use Rattle.loop_vb2.specs.State.{Lined, QueueState, StandsQueue}
 
@@ -38,14 +39,16 @@ module _ {S P : Type 0} (gives : S → Next → List ℕ → S → Type 0) (m : 
       → e.next ≡ sequence_after answer sequence → Ends m answer (record { sequence = sequence; timestamp = now }) e.frame tick between q' → Ticks gives m now tick d e q q'
   took now sequence fresh answer tick d e q between q' fits started step is given next ends = λ s h.
       let x = step s h in
-      let y = ends (seen_state s) x.1 in
+      let y = ends.1 (seen_state s) x.1 in
       let same : sequence ≡ sequence_of d.next s = is ∙ ap (λ b. cond b 0 d.next) x.0 in
+      let of : ℕ → List Event = λ (k : ℕ). end_of tick (record { sequence = k; timestamp = now }) e.frame in
       took_so now tick d e q q' s (record {
         fits = fits ∙ ap (λ b. frame_size b.shape) h.shown.body;
         started = sym (ap (λ b. b.started) h.shown.body) ∙ started;
         answer = answer;
         given = given;
-        tick_is = y.0;
+        tick_is = ends.0 (seen_state s) x.1;
         next = next ∙ ap (sequence_after answer) same;
-        queue = subst (λ (k : ℕ). StandsQueue m q' (after_tick tick (record { sequence = k; timestamp = now }) e.frame (seen_state s))) same y.1;
+        happen = (refl, subst (λ (k : ℕ). EachIn after_event MayHappen (seen_state s) (of k)) same y.0);
+        queue = subst (λ (k : ℕ). StandsQueue m q' (after_all after_event (seen_state s) (of k))) same y.1;
       })

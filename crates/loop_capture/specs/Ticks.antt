@@ -1,12 +1,14 @@
--- A tick as one event of the queue's model, and what it makes of the device.
-use Rattle.std.specs.Prelude.{◌≡◌, ◌≢◌, ℕ, ◌+◌, ◌%◌, ◌^◌, true, false, cond, List, replicate, length, Option, Some, None}
+-- A tick as events of the queue's model, and what it makes of the device.
+use Rattle.std.specs.Prelude.{◌≡◌, ◌≢◌, ℕ, ◌+◌, ◌%◌, ◌^◌, true, false, cond, List, [], ◌∷◌, replicate, length, Option, Some, None}
 use Rattle.loop_plane.specs.Plane.{Plane}
+use Rattle.loop_record.specs.Turns.{EachIn, Plays, after_all}
 use Rattle.loop_capture.specs.declared.device.Tick.{Tick}
 use Rattle.loop_capture.specs.declared.device.Tick.TheVariants.{Idle, Completed, Failed, Missed, Ended, WrongSize}
 use Rattle.loop_capture.specs.declared.source.Next.{Next}
 use Rattle.loop_capture.specs.declared.source.Next.TheVariants.{More, End, Bad}
 use Rattle.loop_vb2.specs.declared.buffer.Stamp.{Stamp}
-use Rattle.loop_vb2.specs.Effects.{completed, failed, longest_active, seen_state}
+use Rattle.loop_vb2.specs.Effects.{longest_active}
+use Rattle.loop_vb2.specs.Events.{Event, after_event, MayHappen, queue_machine, complete, fail, take_fresh}
 use Rattle.loop_vb2.specs.Planes.{frame_size}
 use Rattle.loop_vb2.specs.State.{Lined, QueueState, StandsQueue}
 
@@ -39,23 +41,27 @@ tick_of More None = Missed
 tick_of Bad None = Missed
 
 -- the one event of the queue that ends a frame, if the tick has one
-abbrev pub after_tick : Tick → Stamp → List ℕ → QueueState → QueueState
-after_tick (Completed i) stamp bytes s = completed i stamp bytes s
-after_tick (Failed i) stamp bytes s = failed i stamp s
-after_tick tick stamp bytes s = s
+abbrev pub end_of : Tick → Stamp → List ℕ → List Event
+end_of (Completed i) stamp bytes = complete i stamp bytes None ∷ []
+end_of (Failed i) stamp bytes = fail i stamp None ∷ []
+end_of tick stamp bytes = []
 
 -- this buffer, or none, has been active longest
 abbrev pub IsLongest : {P : Type 0} → (P → Plane) → Option ℕ → Lined P → Type 0
 IsLongest meaning active queue = (s : QueueState) → StandsQueue meaning queue s → active ≡ longest_active s
 
--- in each state that the queue stands for: the tick is this one, and the queue stands for the state that it makes
+-- the tick is this one in each state that the queue stands for, and the end of the frame happens
 abbrev pub Ends : {P : Type 0} → (P → Plane) → Next → Stamp → List ℕ → Tick → Lined P → Lined P → Type 0
 Ends meaning answer stamp bytes tick before after =
-    (s : QueueState) → StandsQueue meaning before s
-    → (tick ≡ tick_of answer (longest_active s)) × StandsQueue meaning after (after_tick tick stamp bytes s)
+    ((s : QueueState) → StandsQueue meaning before s → tick ≡ tick_of answer (longest_active s))
+    × Plays queue_machine (StandsQueue meaning before) (StandsQueue meaning after) (end_of tick stamp bytes)
 
--- a tick for which the source was asked: the device had a frame's length and had started, the start is noticed, and the
--- frame is ended
+-- what a tick for which the source was asked is of the queue: the start is noticed, and the frame is ended
+abbrev pub tick_events : ℕ → ℕ → Tick → List ℕ → QueueState → List Event
+tick_events now next tick bytes s =
+    take_fresh s.body.fresh ∷ end_of tick (record { sequence = sequence_of next s; timestamp = now }) bytes
+
+-- a tick for which the source was asked: the device had a frame's length and had started, and the queue's events happen
 pub record Took {S P : Type 0} (gives : S → Next → List ℕ → S → Type 0) (meaning : P → Plane) (now : ℕ) (tick : Tick)
     (d e : SeenDevice S) (before after : Lined P) (s : QueueState) : Type 0 where
   pub fits : length d.frame ≡ frame_size s.body.shape
@@ -64,8 +70,8 @@ pub record Took {S P : Type 0} (gives : S → Next → List ℕ → S → Type 0
   pub given : gives d.source answer e.frame e.source
   pub tick_is : tick ≡ tick_of answer (longest_active s)
   pub next : e.next ≡ sequence_after answer (sequence_of d.next s)
-  pub queue : StandsQueue meaning after
-      (after_tick tick (record { sequence = sequence_of d.next s; timestamp = now }) e.frame (seen_state s))
+  pub happen : EachIn after_event MayHappen s (tick_events now d.next tick e.frame s)
+  pub queue : StandsQueue meaning after (after_all after_event s (tick_events now d.next tick e.frame s))
 
 -- a tick: WrongSize and Idle change nothing
 abbrev pub Ticked : {S P : Type 0} → (S → Next → List ℕ → S → Type 0) → (P → Plane) → ℕ → Tick → SeenDevice S

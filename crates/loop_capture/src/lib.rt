@@ -2,8 +2,8 @@
 //! it.
 //!
 //! A tick is one frame period. Its contract is one relation (`specs/Ticks`): what it answers, for what the
-//! source answered, and the one event of the queue's model that it is. `specs/Sources` has what the sources
-//! here give.
+//! source answered, and which events of the queue's model it is: 'taken fresh', and one end of a buffer or none.
+//! `specs/Sources` has what the sources here give.
 //!
 //! - `source`: what a source is, and a box of one; `pattern`: frames that tell which they are; `footage`:
 //!   frames of a YUV4MPEG2 input;

@@ -21,9 +21,9 @@ IsPrinted contents old new line (Err fault) printed = new ≡ old
 abbrev pub HoldsNone : List ℕ → ℕ → ℕ → Type 0
 HoldsNone numbers from to = (n : ℕ) → from ≤ n → n ≤ to → is_among numbers n ≡ false
 
--- A writer was given the whole text of these frames, and they are counted.
-abbrev pub IsText : Geometry → List (List ℕ) → Option (List ℕ) → Option (List ℕ) → ℕ → Type 0
-IsText g frames old new count = Appends old new (text g frames) × (count ≡ length frames)
+-- These frames are counted, and of an honest disk a writer was given the whole text of them.
+abbrev pub IsText : Type 0 → Geometry → List (List ℕ) → Option (List ℕ) → Option (List ℕ) → ℕ → Type 0
+IsText Honest g frames old new count = (Honest → Appends old new (text g frames)) × (count ≡ length frames)
 
 -- nothing was written, and the target is as it was
 abbrev pub IsUntouched : {T U : Type 0} → T → Result U (NotExported T) → Type 0

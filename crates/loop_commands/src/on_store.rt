@@ -153,7 +153,7 @@ fn refused_before<D: Disk + Drop, A: Allocator>(
 
 /// Writes the held frames from a number to another as a text, as `loop_y4m::export`, and answers how many, with the
 /// writer. They are gathered, so that each write but the last has the same size. Ok says that the last write and the
-/// flush behind it were Ok too.
+/// flush behind it were Ok too; how many they are, it says on every disk.
 pub fn export_text<D: Disk + Drop, A: Allocator + Copy, W: Write + Drop>(
     alloc: A,
     store: &mut Store<D, A>,
@@ -161,9 +161,9 @@ pub fn export_text<D: Disk + Drop, A: Allocator + Copy, W: Write + Drop>(
     to: u64,
     out: W,
 ) -> Result<(u64, W), ExportFault>
-    ensures text { (r : Recording) → StandsFor D.medium store.old r → (D.medium store.old.disk).honest
-        → IfOk result (λ done. IsText store.old.geometry (frames_between from to r.frames)
-        (W.contents out) (W.contents done.1) done.0) }
+    ensures text { (r : Recording) → StandsFor D.medium store.old r
+        → IfOk result (λ done. IsText (D.medium store.old.disk).honest store.old.geometry
+        (frames_between from to r.frames) (W.contents out) (W.contents done.1) done.0) }
     ensures store { OnlyRead D.medium store.old store.new (failed_export result) }
 {
     let Ok(gathered) = BufWriter::with_capacity(alloc, TEXT_AT_ONCE, out) else {
@@ -196,9 +196,9 @@ fn export_into<D: Disk + Drop, A: Allocator + Copy, T: Target + Drop>(
     to: u64,
     target: T,
 ) -> Result<(u64, T), NotExported<T>>
-    ensures text { (r : Recording) → StandsFor D.medium store.old r → (D.medium store.old.disk).honest
-        → IfOk result (λ done. IsText store.old.geometry (frames_between from to r.frames)
-        (T.emptied target) (T.contents done.1) done.0) }
+    ensures text { (r : Recording) → StandsFor D.medium store.old r
+        → IfOk result (λ done. IsText (D.medium store.old.disk).honest store.old.geometry
+        (frames_between from to r.frames) (T.emptied target) (T.contents done.1) done.0) }
     ensures kept { HoldsNone store.old.numbers from to → IsUntouched target result }
     ensures store { OnlyRead D.medium store.old store.new (failed_export (fault_of result)) }
 {
@@ -233,9 +233,9 @@ pub fn export_apart<D: Disk + Drop, A: Allocator + Copy, T: Target + Drop, W: Wr
     target: T,
     out: &mut W,
 ) -> Told<(u64, T), NotExported<T>>
-    ensures text { (r : Recording) → StandsFor D.medium store.old r → (D.medium store.old.disk).honest
-        → IfOk result.answer (λ done. IsText store.old.geometry (frames_between from to r.frames)
-        (T.emptied target) (T.contents done.1) done.0) }
+    ensures text { (r : Recording) → StandsFor D.medium store.old r
+        → IfOk result.answer (λ done. IsText (D.medium store.old.disk).honest store.old.geometry
+        (frames_between from to r.frames) (T.emptied target) (T.contents done.1) done.0) }
     ensures kept { HoldsNone store.old.numbers from to → IsUntouched target result.answer }
     ensures store { OnlyRead D.medium store.old store.new (failed_export (fault_of result.answer)) }
     ensures told { IsPrinted W.contents out.old out.new (λ done. line_of (codes "exported") done.0)

@@ -35,7 +35,7 @@ use Rattle.loop_vb2.proofs.Requested.{new_state}
 use Rattle.loop_vb2.proofs.States.{state_at-map}
 use Rattle.loop_vb2.proofs.Steps.{queue_idle, prepare_dequeued, end_within, end_active, held_there}
 use Rattle.loop_desk.specs.Front.{taken_bytes, taken_frame, was_given_up}
-use Rattle.loop_desk.specs.Modelled.{completed_frame, unflagged}
+use Rattle.loop_desk.specs.Lane.{completed_frame, unflagged}
 use Rattle.loop_desk.proofs.Completed.{whole_taken}
 use Rattle.loop_desk.proofs.Queued.{get-within}
 

@@ -14,7 +14,7 @@ use Rattle.loop_desk.specs.declared.event.LaneReply.{LaneReply}
 use Rattle.loop_desk.specs.declared.lane.Lane.{Lane}
 use Rattle.loop_desk.specs.declared.hand.LaneFault.{LaneFault}
 use Rattle.loop_desk.specs.Desk.{DeskCall, accepted, accepted_in}
-use Rattle.loop_desk.specs.Front.{Front, HandState, IsDequeue, IsSubmit, dequeued, empty, front_after, full, offered, hand_given, hand_state, on_queue, put_back, requeued, spent}
+use Rattle.loop_desk.specs.Front.{Front, HandState, IsDequeue, IsRequeue, IsSubmit, dequeued, empty, front_after, full, offered, hand_given, hand_state, on_queue, requeued, spent}
 use Rattle.loop_desk.specs.Lane.{IsAtFront, IsLaneTurn, LaneKeeps, LaneRan, LaneTurn, StandsLane, after_turn, at_desk, at_front, calls_at, calls_of_turn, frame_at, frame_of_turn, frames_taken, hand_frame, lane_after, mixed, submit_calls, turn_at}
 use Rattle.loop_desk.proofs.Lasting.{keeps-footage}
 use Rattle.loop_desk.proofs.Queued.{dequeues}
@@ -26,10 +26,10 @@ submit-frames (full i p planes) (Ok number) said = refl
 submit-frames (full i p planes) (Err fault) said = refl
 submit-frames (spent i planes) result said = refl
 
-requeue-frames : (j : IoctlState) (h : HandState) → hand_frame (put_back j h).hand ≡ hand_frame h ++ []
-requeue-frames j empty = refl
-requeue-frames j (full i p planes) = refl
-requeue-frames j (spent i planes) = refl
+requeue-frames : (j : IoctlState) (h : HandState) (index : ℕ) → IsRequeue j h (Ok index) → [] ≡ hand_frame h ++ []
+requeue-frames j empty index said = refl
+requeue-frames j (full i p planes) index said = absurd (cc)
+requeue-frames j (spent i planes) index said = refl
 
 desk-frames : (h : List Picture) (c : DeskCall) → accepted c ≡ [] → accepted_in (c ∷ []) ++ h ≡ h ++ []
 desk-frames h c is = ap (λ (l : List Picture). (l ++ []) ++ h) is ∙ sym (append-nil h)
@@ -42,12 +42,12 @@ dequeue-frames A m j (spent i planes) (Ok index) said = absurd (cc)
 dequeue-frames A m j h (Err fault) said = sym (append-nil (hand_frame h))
 
 module _ {P A : Type 0} (m : P → Plane) where
-  turn-frames : (f : Front) (t : LaneTurn P A) → IsAtFront m f t → accepted_in (calls_of_turn f t) ++ hand_frame (after_turn m f t).hand ≡ hand_frame f.hand ++ frame_of_turn m f t
+  turn-frames : (f : Front) (t : LaneTurn P A) → IsAtFront m f t → accepted_in (calls_of_turn f.hand t) ++ hand_frame (after_turn m f t).hand ≡ hand_frame f.hand ++ frame_of_turn m f t
   turn-frames f (at_front (on_queue e (Ok r))) said = sym (append-nil (hand_frame f.hand))
   turn-frames f (at_front (on_queue e (Err fault))) said = sym (append-nil (hand_frame f.hand))
   turn-frames f (at_front (dequeued result)) said = dequeue-frames A m f.queue f.hand result said
   turn-frames f (at_front (offered result)) said = submit-frames f.hand result said
-  turn-frames f (at_front (requeued (Ok index))) said = requeue-frames f.queue f.hand
+  turn-frames f (at_front (requeued (Ok index))) said = requeue-frames f.queue f.hand index said
   turn-frames f (at_front (requeued (Err fault))) said = sym (append-nil (hand_frame f.hand))
   turn-frames f (at_desk c) said = desk-frames (hand_frame f.hand) c said
   turn-frames f mixed said = absurd said
@@ -70,8 +70,8 @@ module _ {D P A : Type 0} (m : P → Plane) (medium : D → Medium) where
   in-order old new es ps run f stands =
       let ran = run.front f stands in
       let was = stands.hand in
-      let is = ran.stands.hand in
-      (λ i. accepted_in (ran.are i) ++ hand_frame (is i)) ∙ along m f (zip es ps) ran.told ∙ ap (λ (h : HandState). hand_frame h ++ frames_taken m f (zip es ps)) (sym was)
+      let is = ran.1.hand in
+      (λ i. accepted_in (run.are f stands i) ++ hand_frame (is i)) ∙ along m f (zip es ps) ran.0 ∙ ap (λ (h : HandState). hand_frame h ++ frames_taken m f (zip es ps)) (sym was)
 
   -- what a run keeps
   pub keeps : (old new : Lane D P A) (es : List (LaneEvent P A)) (ps : List (LaneReply P A)) → LaneRan m medium old new es ps → LaneKeeps m medium old new es ps

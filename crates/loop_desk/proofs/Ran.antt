@@ -4,15 +4,15 @@ use Rattle.std.proofs.lemmas.List.{append-nil}
 use Rattle.std.specs.List.{zip}
 use Rattle.loop_plane.specs.Plane.{Plane}
 use Rattle.loop_disk.specs.Medium.{Medium, IsSound}
-use Rattle.loop_record.specs.Turns.{EachIn, after_all, told_in}
-use Rattle.loop_record.proofs.Turned.{after-behind, each-behind, told-behind}
+use Rattle.loop_record.specs.Turns.{Plays, after_all, told_in}
+use Rattle.loop_record.proofs.Turned.{plays-joined, plays-none, told-behind}
 use Rattle.loop_store.specs.Opened.{TellsOne}
 use Rattle.loop_desk.specs.declared.event.LaneEvent.{LaneEvent}
 use Rattle.loop_desk.specs.declared.event.LaneReply.{LaneReply}
 use Rattle.loop_desk.specs.declared.lane.Lane.{Lane}
 use Rattle.loop_desk.specs.Desk.{DeskCall}
 use Rattle.loop_desk.specs.Front.{Front}
-use Rattle.loop_desk.specs.Lane.{AreCallsOf, AreShownBy, IsLaneTurn, LaneRan, StandsLane, calls_at, lane_after}
+use Rattle.loop_desk.specs.Lane.{AreCallsOf, AreShownBy, LaneRan, StandsLane, calls_at, lane_after, lane_machine}
 use Rattle.loop_desk.proofs.Gone.{desk-joined, desk-none}
 
 module _ {P A : Type 0} where
@@ -49,28 +49,25 @@ module _ {D P A : Type 0} (m : P → Plane) (medium : D → Medium) where
     calls = [];
     shown = refl;
     desk = desk-none medium lane.desk one sound;
-    front = λ f stands. record { told = tt; stands = stands; are = refl };
+    front = plays-none (lane_machine {P = P} {A = A} m) (StandsLane m lane);
+    are = λ f stands. refl;
   }
 
   -- events, and events behind them
   pub ran-joined : (old mid new : Lane D P A) (es fs : List (LaneEvent P A)) (ps qs : List (LaneReply P A)) → LaneRan m medium old mid es ps → LaneRan m medium mid new fs qs → LaneRan m medium old new (es ++ fs) (ps ++ qs)
-  ran-joined old mid new es fs ps qs first second = record {
-    calls = first.calls ++ second.calls;
-    shown = shown-behind es fs ps qs first.calls second.calls first.shown second.shown;
-    desk = desk-joined medium old.desk mid.desk new.desk first.calls second.calls first.desk second.desk;
-    front = λ (f : Front) (stands : StandsLane m old f).
-        let one = first.front f stands in
-        let xs = zip es ps in
-        let ys = zip fs qs in
-        let f' = after_all (lane_after m) f xs in
-        let two = second.front f' one.stands in
-        let both : zip (es ++ fs) (ps ++ qs) ≡ xs ++ ys = zip-behind es fs ps qs (same-count es ps first.calls first.shown) in
-        record {
-          told = subst (λ (l : List (LaneEvent P A × LaneReply P A)). EachIn (lane_after m) (IsLaneTurn m) f l) (sym both) (each-behind (lane_after m) (IsLaneTurn m) f xs ys one.told two.told);
-          stands = subst (λ (x : Front). StandsLane m new x) (sym (ap (after_all (lane_after m) f) both ∙ after-behind (lane_after m) f xs ys)) two.stands;
-          are = (λ i. one.are i ++ two.are i) ∙ sym (told-behind (lane_after m) calls_at f xs ys) ∙ ap (told_in (lane_after m) calls_at f) (sym both);
-        };
-  }
+  ran-joined old mid new es fs ps qs first second =
+      let xs = zip es ps in
+      let ys = zip fs qs in
+      let both : zip (es ++ fs) (ps ++ qs) ≡ xs ++ ys = zip-behind es fs ps qs (same-count es ps first.calls first.shown) in
+      record {
+        calls = first.calls ++ second.calls;
+        shown = shown-behind es fs ps qs first.calls second.calls first.shown second.shown;
+        desk = desk-joined medium old.desk mid.desk new.desk first.calls second.calls first.desk second.desk;
+        front = subst (λ (l : List (LaneEvent P A × LaneReply P A)). Plays (lane_machine m) (StandsLane m old) (StandsLane m new) l) (sym both) (plays-joined (lane_machine m) (StandsLane m old) (StandsLane m mid) (StandsLane m new) xs ys first.front second.front);
+        are = λ (f : Front) (stands : StandsLane m old f).
+            let f' = after_all (lane_after m) f xs in
+            (λ i. first.are f stands i ++ second.are f' (first.front f stands).1 i) ∙ (sym (told-behind (lane_after m) calls_at f xs ys) ∙ ap (told_in (lane_after m) calls_at f) (sym both));
+      }
 
 same-items : {X : Type 0} (xs : List X) → map (λ x. x) xs ≡ xs
 same-items [] = refl

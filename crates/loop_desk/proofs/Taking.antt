@@ -1,33 +1,30 @@
 -- The frames that a lane takes from its queue are those that the device completed.
 use Rattle.std.proofs.Common.{◌≡◌, ℕ, Bool, true, false, if◌then◌else◌, cond, List, [], ◌∷◌, ◌++◌, length, map, Option, Some, None, Result, Ok, Err, refl, sym, ◌∙◌, ap, subst}
-use Rattle.std.specs.Prelude.{slice_get}
+use Rattle.std.specs.Prelude.{option_to_list, slice_get}
 use Rattle.std.specs.List.{list_any, zip}
 use Rattle.std.proofs.lemmas.Bool.{eqb-true}
 use Rattle.std.proofs.lemmas.List.{map-append}
 use Rattle.loop_plane.specs.Plane.{Plane}
 use Rattle.loop_plane.specs.declared.memory.Memory.{Memory}
-use Rattle.loop_plane.specs.declared.memory.Memory.TheVariants.{Mmap, UserPtr, DmaBuf}
 use Rattle.loop_disk.specs.Medium.{Medium}
 use Rattle.loop_record.specs.declared.geometry.PixelFormat.{PixelFormat}
 use Rattle.loop_record.specs.Turns.{EachIn, after_all, told_in}
 use Rattle.loop_record.proofs.Turned.{after-behind, told-behind}
 use Rattle.loop_vb2.specs.declared.buffer.Buffer.{Buffer}
-use Rattle.loop_vb2.specs.declared.planes.PlaneSet.{PlaneSet}
 use Rattle.loop_vb2.specs.declared.reason.Errno.{Errno}
+use Rattle.loop_vb2.specs.declared.planes.PlaneSet.{PlaneSet}
 use Rattle.loop_vb2.specs.declared.reason.Reason.{Reason}
 use Rattle.loop_vb2.specs.declared.reason.Reason.TheVariants.{BadType}
 use Rattle.loop_vb2.specs.declared.reason.Refused.{Refused}
 use Rattle.loop_vb2.specs.Buffers.{handed, state_at}
 use Rattle.loop_vb2.specs.Events as model
-use Rattle.loop_vb2.specs.Events.{Event, refusal_in, stops}
+use Rattle.loop_vb2.specs.Events.{Event, stops}
 use Rattle.loop_vb2.specs.First.{shape_of}
 use Rattle.loop_vb2.specs.Owner.{is_ended, waits}
-use Rattle.loop_vb2.specs.Planes.{frame_size, read_given}
+use Rattle.loop_vb2.specs.Planes.{frame_size}
 use Rattle.loop_vb2.specs.State.{AllFit, Body, QueueState}
 use Rattle.loop_vb2.proofs.Lines.{InOrder-none}
 use Rattle.loop_vb2.proofs.Ordered.{Runs, runs_stopped}
-use Rattle.loop_ioctl.specs.declared.call.BufferMemory.{BufferMemory}
-use Rattle.loop_ioctl.specs.declared.call.BufferMemory.TheVariants as memory
 use Rattle.loop_ioctl.specs.declared.call.Ioctl.{Ioctl}
 use Rattle.loop_ioctl.specs.declared.call.Ioctl.TheVariants as call
 use Rattle.loop_ioctl.specs.declared.call.IoctlReply.{IoctlReply}
@@ -36,10 +33,10 @@ use Rattle.loop_ioctl.specs.declared.events.QueueEvent.{QueueEvent}
 use Rattle.loop_ioctl.specs.declared.events.QueueEvent.TheVariants as queue_event
 use Rattle.loop_ioctl.specs.declared.events.QueueReply.{QueueReply}
 use Rattle.loop_ioctl.specs.declared.events.QueueReply.TheVariants as answer
-use Rattle.loop_ioctl.specs.Calls.{IoctlState, type_refusal}
+use Rattle.loop_ioctl.specs.Calls.{IoctlState, call_event, kind_named, plain_event, planes_brought, refusal_before}
 use Rattle.loop_ioctl.specs.Events.{is_whole}
-use Rattle.loop_ioctl.specs.Names.{set_named, set_refusal}
-use Rattle.loop_ioctl.specs.Modelled.{call_events, event_of, put_events, unless_refused}
+use Rattle.loop_ioctl.specs.Names.{or_else}
+use Rattle.loop_ioctl.specs.Modelled.{event_of, unless_refused}
 use Rattle.loop_ioctl.proofs.Modelled.{all_told}
 use Rattle.loop_desk.specs.declared.event.LaneEvent.{LaneEvent}
 use Rattle.loop_desk.specs.declared.event.LaneEvent.TheVariants as event
@@ -48,11 +45,11 @@ use Rattle.loop_desk.specs.declared.event.LaneReply.TheVariants as reply
 use Rattle.loop_desk.specs.declared.hand.LaneFault.{LaneFault}
 use Rattle.loop_desk.specs.declared.hand.LaneFault.TheVariants.{Queue, Store}
 use Rattle.loop_desk.specs.declared.lane.Lane.{Lane}
-use Rattle.loop_desk.specs.Front.{Front, HandState, dequeued, empty, forbids, full, hand_with, index_in, kind_of, on_queue, requeued, spent, taken_frame, was_given_up}
-use Rattle.loop_desk.specs.Lane.{IsAtFront, IsLaneTurn, LaneRan, LaneTurn, StandsLane, TakesCompleted, TakesFrames, at_front, event_at, event_at_turn, frame_at, front_behind, frame_of_turn, frames_taken, hand_frame, is_dequeue, lane_after, mixed, queue_events, turn_at, turn_of}
-use Rattle.loop_desk.specs.Modelled.{dqbuf_event, qbuf_event, unflagged}
+use Rattle.loop_desk.specs.Front.{dequeued, empty, forbids, Front, full, hand_with, HandState, index_in, kind_of, on_queue, requeue_event, requeued, spent, taken_frame, was_given_up}
+use Rattle.loop_desk.specs.Lane.{IsAtFront, IsLaneTurn, LaneRan, LaneTurn, StandsLane, TakesCompleted, TakesFrames, at_front, event_at, event_at_turn, frame_at, front_behind, frame_of_turn, frames_taken, hand_frame, is_dequeue, lane_after, mixed, queue_events, turn_at, turn_of, unflagged}
 use Rattle.loop_desk.proofs.Completing.{IsCounted, IsHolding, IsWhole, all_fit, all_shaped, frames_along, held_none, shot, stopped_waits, taken_by}
 use Rattle.loop_desk.proofs.Queued.{lane-told}
+use Rattle.loop_desk.proofs.Turning.{taken_event}
 
 -- ---- lists
 
@@ -81,48 +78,45 @@ quiet-if : (s : QueueState) (b : Bool) (es : List Event) → Quiet s es → Quie
 quiet-if s true es quiet = (tt, refl)
 quiet-if s false es quiet = quiet
 
-quiet-qbuf : (s : QueueState) (kind : Memory) (h : HandState) (refusal : Option Errno) → Quiet s (qbuf_event kind h refusal)
-quiet-qbuf s kind empty refusal = (tt, refl)
-quiet-qbuf s kind (full i p planes) refusal = (tt, refl)
-quiet-qbuf s kind (spent i planes) refusal = ((tt, tt), refl)
-
-quiet-put : {P : Type 0} (m : P → Plane) (s : QueueState) (put : Memory → Option (PlaneSet Plane) → Event) (given : BufferMemory P) (j : IoctlState) → ((kind : Memory) (planes : Option (PlaneSet Plane)) → Quiet s (put kind planes ∷ [])) → Quiet s (put_events m put given j)
-quiet-put m s put memory.Mmap j quiet = quiet Mmap None
-quiet-put m s put (memory.UserPtr given) j quiet = quiet UserPtr (read_given m given)
-quiet-put m s put (memory.DmaBuf None) j quiet = quiet DmaBuf None
-quiet-put m s put (memory.DmaBuf (Some named)) j quiet = quiet-unless s (set_refusal named j.names) (put DmaBuf (Some (set_named named j.names)) ∷ []) (quiet DmaBuf (Some (set_named named j.names)))
+quiet-requeue : (s : QueueState) (kind : Memory) (h : HandState) (result : Result ℕ LaneFault) → Quiet s (requeue_event kind h result)
+quiet-requeue s kind empty result = (tt, refl)
+quiet-requeue s kind (full i p planes) result = (tt, refl)
+quiet-requeue s kind (spent i planes) (Ok index) = ((tt, tt), refl)
+quiet-requeue s kind (spent i planes) (Err (Queue e)) = ((tt, tt), refl)
+quiet-requeue s kind (spent i planes) (Err (Store fault)) = (tt, refl)
 
 module _ {P A : Type 0} (m : P → Plane) where
+  quiet-plain : (s : QueueState) (e : Option Errno → Event) (result : Result (IoctlReply P A) (Refused P A)) → ((refusal : Option Errno) → Quiet s (e refusal ∷ [])) → Quiet s (option_to_list (plain_event e result))
+  quiet-plain s e (Ok reply_to.Done) quiet = quiet None
+  quiet-plain s e (Ok r) quiet = (tt, refl)
+  quiet-plain s e (Err r) quiet = quiet (Some r.errno)
+
   abbrev is_dqbuf : Ioctl P A → Bool
   is_dqbuf (call.DqBuf type) = true
   is_dqbuf c = false
 
   -- an ioctl of the queue's own type that isn't DQBUF
-  quiet-own : (c : Ioctl P A) (result : Result (IoctlReply P A) (Refused P A)) (j : IoctlState) → is_dqbuf c ≡ false → Quiet j.queue (call_events m c result j)
+  quiet-own : (c : Ioctl P A) (result : Result (IoctlReply P A) (Refused P A)) (j : IoctlState) → is_dqbuf c ≡ false → Quiet j.queue (option_to_list (call_event m c result j))
   quiet-own (call.ReqBufs type count kind supply) (Ok (reply_to.Granted g)) j other = ((tt, tt), refl)
-  quiet-own (call.ReqBufs type count kind supply) (Ok (reply_to.Info info)) j other = (tt, refl)
-  quiet-own (call.ReqBufs type count kind supply) (Ok (reply_to.Dequeued d)) j other = (tt, refl)
-  quiet-own (call.ReqBufs type count kind supply) (Ok reply_to.Done) j other = (tt, refl)
+  quiet-own (call.ReqBufs type count kind supply) (Ok r) j other = (tt, refl)
   quiet-own (call.ReqBufs type count kind supply) (Err r) j other = ((tt, tt), refl)
   quiet-own (call.QueryBuf type index) (Ok (reply_to.Info info)) j other = ((tt, tt), refl)
-  quiet-own (call.QueryBuf type index) (Ok (reply_to.Granted g)) j other = (tt, refl)
-  quiet-own (call.QueryBuf type index) (Ok (reply_to.Dequeued d)) j other = (tt, refl)
-  quiet-own (call.QueryBuf type index) (Ok reply_to.Done) j other = (tt, refl)
+  quiet-own (call.QueryBuf type index) (Ok r) j other = (tt, refl)
   quiet-own (call.QueryBuf type index) (Err r) j other = ((tt, tt), refl)
-  quiet-own (call.PrepareBuf type index given) result j other = quiet-put m j.queue (λ kind planes. model.prepare_buf index kind planes (refusal_in result)) given j (λ kind planes. ((tt, tt), refl))
-  quiet-own (call.QBuf type index given) result j other = quiet-put m j.queue (λ kind planes. model.qbuf index kind planes (refusal_in result)) given j (λ kind planes. ((tt, tt), refl))
+  quiet-own (call.PrepareBuf type index given) result j other = quiet-plain j.queue (model.prepare_buf index (kind_named given) (planes_brought m given j.names)) result (λ refusal. ((tt, tt), refl))
+  quiet-own (call.QBuf type index given) result j other = quiet-plain j.queue (model.qbuf index (kind_named given) (planes_brought m given j.names)) result (λ refusal. ((tt, tt), refl))
   quiet-own (call.DqBuf type) result j other = absurd (cc)
-  quiet-own (call.StreamOn type) result j other = ((tt, tt), refl)
-  quiet-own (call.StreamOff type) (Ok r) j other = ((tt, tt), refl)
-  quiet-own (call.StreamOff type) (Err r) j other = (tt, refl)
-  quiet-own (call.Mmap type index) result j other = ((tt, tt), refl)
-  quiet-own (call.Munmap type index) result j other = ((tt, tt), refl)
+  quiet-own (call.StreamOn type) result j other = quiet-plain j.queue model.streamon result (λ refusal. ((tt, tt), refl))
+  quiet-own (call.StreamOff type) (Ok reply_to.Done) j other = ((tt, tt), refl)
+  quiet-own (call.StreamOff type) result j other = (tt, refl)
+  quiet-own (call.Mmap type index) result j other = quiet-plain j.queue (model.mmap index) result (λ refusal. ((tt, tt), refl))
+  quiet-own (call.Munmap type index) result j other = quiet-plain j.queue (model.munmap index) result (λ refusal. ((tt, tt), refl))
 
-  typed-quiet : (c : Ioctl P A) (result : Result (IoctlReply P A) (Refused P A)) (j : IoctlState) → Quiet j.queue (call_events m c result j) → Quiet j.queue (unless_refused (type_refusal c j) (call_events m c result j))
-  typed-quiet c result j quiet = quiet-unless j.queue (type_refusal c j) (call_events m c result j) quiet
+  typed-quiet : (c : Ioctl P A) (result : Result (IoctlReply P A) (Refused P A)) (j : IoctlState) → Quiet j.queue (option_to_list (call_event m c result j)) → Quiet j.queue (event_of m (queue_event.Ioctl c) (answer.Ioctl result) j)
+  typed-quiet c result j quiet = quiet-unless j.queue (refusal_before c j) (option_to_list (call_event m c result j)) quiet
 
-  quiet-call : (c : Ioctl P A) (result : Result (IoctlReply P A) (Refused P A)) (j : IoctlState) → is_dequeue {P = P} {A = A} j.queue.body.format (queue_event.Ioctl c) ≡ false → Quiet j.queue (unless_refused (type_refusal c j) (call_events m c result j))
-  quiet-call (call.DqBuf type) result j other = subst (λ (t : Bool). Quiet j.queue (unless_refused (cond t None (Some BadType)) (call_events m (call.DqBuf type) result j))) (sym other) (tt, refl)
+  quiet-call : (c : Ioctl P A) (result : Result (IoctlReply P A) (Refused P A)) (j : IoctlState) → is_dequeue {P = P} {A = A} j.queue.body.format (queue_event.Ioctl c) ≡ false → Quiet j.queue (event_of m (queue_event.Ioctl c) (answer.Ioctl result) j)
+  quiet-call (call.DqBuf type) result j other = subst (λ (t : Bool). Quiet j.queue (unless_refused (or_else (cond t None (Some BadType)) None) (option_to_list (call_event m (call.DqBuf type) result j)))) (sym other) (tt, refl)
   quiet-call c result j other = typed-quiet c result j (quiet-own c result j refl)
 
   quiet-event : (e : QueueEvent P A) (r : QueueReply P A) (j : IoctlState) → is_dequeue j.queue.body.format e ≡ false → is_whole j.queue.body.shape e ≡ true → Quiet j.queue (event_of m e r j)
@@ -136,7 +130,7 @@ module _ {P A : Type 0} (m : P → Plane) where
 -- ---- one turn
 
 taken-tells : (f : Front) (index : ℕ) (o : Option (Buffer Plane)) → slice_get f.queue.queue.body.buffers index ≡ o
-    → EachIn model.after_event IsWhole f.queue.queue (dqbuf_event (kind_of f.queue) index o) × (map unflagged (hand_frame (hand_with f.queue.queue.body index o)) ≡ told_in model.after_event taken_by f.queue.queue (dqbuf_event (kind_of f.queue) index o))
+    → EachIn model.after_event IsWhole f.queue.queue (taken_event (kind_of f.queue) index o) × (map unflagged (hand_frame (hand_with f.queue.queue.body index o)) ≡ told_in model.after_event taken_by f.queue.queue (taken_event (kind_of f.queue) index o))
 taken-tells f index None got = (tt, refl)
 taken-tells f index (Some b) got =
     let body : Body Plane = f.queue.queue.body in
@@ -162,9 +156,8 @@ module _ {P : Type 0} (A : Type 0) (m : P → Plane) where
   dqbuf-tells f result false said = absurd said
 
   requeue-tells : (f : Front) (result : Result ℕ LaneFault) → Tells {P = P} {A = A} m f (at_front (requeued result))
-  requeue-tells f (Ok index) = let quiet = quiet-qbuf f.queue.queue (kind_of f.queue) f.hand None in (quiet.0, sym quiet.1)
-  requeue-tells f (Err (Queue e)) = let quiet = quiet-qbuf f.queue.queue (kind_of f.queue) f.hand (Some e) in (quiet.0, sym quiet.1)
-  requeue-tells f (Err (Store fault)) = (tt, refl)
+  requeue-tells f (Ok index) = let quiet = quiet-requeue f.queue.queue (kind_of f.queue) f.hand (Ok index) in (quiet.0, sym quiet.1)
+  requeue-tells f (Err fault) = let quiet = quiet-requeue f.queue.queue (kind_of f.queue) f.hand (Err fault) in (quiet.0, sym quiet.1)
 
 module _ {P A : Type 0} (m : P → Plane) where
   queue-tells : (f : Front) (e : QueueEvent P A) (result : Result (QueueReply P A) LaneFault) (b : Bool) → is_dequeue f.queue.queue.body.format e ≡ b → IsAtFront m f (if b then mixed else at_front (on_queue e result)) → Tells m f (if b then mixed else at_front (on_queue e result))
@@ -217,7 +210,7 @@ module _ {P A : Type 0} (m : P → Plane) where
 pub completes : {D P A : Type 0} (m : P → Plane) (medium : D → Medium) (old new : Lane D P A) (es : List (LaneEvent P A)) (ps : List (LaneReply P A)) → LaneRan m medium old new es ps
     → (f : Front) → StandsLane m old f → (format : PixelFormat) (width height : ℕ) → old.queue.body.shape ≡ shape_of format width height → TakesFrames m f (zip es ps)
 completes {D} {P} {A} m medium old new es ps run f stands format width height shaped =
-    let told = (run.front f stands).told in
+    let told = (run.front f stands).0 in
     let s : QueueState = f.queue.queue in
     let own : s.body.shape ≡ shape_of format width height = sym (ap (λ (b : Body Plane). b.shape) stands.queue.queue.shown.body) ∙ shaped in
     record {

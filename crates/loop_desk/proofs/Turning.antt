@@ -1,5 +1,5 @@
 -- Each event of the front is one turn of queue, table and hand.
-use Rattle.std.proofs.Common.{◌≡◌, ℕ, zero, suc, ◌+◌, Bool, true, false, cond, List, [], ◌∷◌, Option, Some, None, Ok, Err, refl, sym, ◌∙◌, ap, subst, arith}
+use Rattle.std.proofs.Common.{◌≡◌, ℕ, zero, suc, ◌+◌, Bool, true, false, cond, List, [], ◌∷◌, map, Option, Some, None, Ok, Err, refl, sym, ◌∙◌, ap, subst, arith}
 use Rattle.std.specs.Prelude.{Result, option_to_list, slice_get, is_some}
 use Rattle.loop_plane.specs.Plane.{Plane}
 use Rattle.loop_plane.specs.Fds.{Fds}
@@ -16,9 +16,8 @@ use Rattle.loop_vb2.specs.Buffers.{changed, handed, dequeued_from}
 use Rattle.loop_vb2.specs.Checks.{queue_refusal}
 use Rattle.loop_vb2.specs.Effects as effect
 use Rattle.loop_vb2.specs.State.{Body, QueueState, Lined, StandsQueue}
-use Rattle.loop_vb2.specs.Answers.{Fails}
 use Rattle.loop_vb2.specs.Planes.{read_given}
-use Rattle.loop_vb2.specs.Events.{Happens, read_frame, qbuf, dqbuf}
+use Rattle.loop_vb2.specs.Events.{Event, Happens, MayHappen, read_frame, qbuf, dqbuf}
 use Rattle.loop_vb2.proofs.Ordered.{not_refused}
 use Rattle.loop_record.specs.declared.frame.Frame.{Frame}
 use Rattle.loop_ioctl.specs.declared.call.Ioctl.TheVariants as call
@@ -30,13 +29,13 @@ use Rattle.loop_ioctl.specs.Attached.{fd_times, values_by_fd, values_held, IsLin
 use Rattle.loop_ioctl.specs.Calls.{IoctlState, StandsIoctl, planes_at}
 use Rattle.loop_ioctl.specs.Events.{is_whole, state_after, Reacts}
 use Rattle.loop_ioctl.proofs.Attached.{in_buffers, in_buffer, once_same}
-use Rattle.loop_ioctl.proofs.Aside.{queued_kind, queued_none, queued_some, IsAside, is_request, event_aside, call_out, new_queues_stand}
+use Rattle.loop_ioctl.proofs.Aside.{queued_kind, queued_none, queued_some, IsAside, is_request, event_aside, event_out, new_queues_stand}
 use Rattle.loop_ioctl.proofs.Out.{planes_got, out_count}
 use Rattle.loop_ioctl.proofs.Putting.{stays}
 use Rattle.loop_desk.specs.declared.hand.Hand.{Hand}
 use Rattle.loop_desk.specs.declared.hand.Hand.TheVariants as hand
 use Rattle.loop_desk.specs.declared.hand.LaneFault.TheVariants.{Store, Queue}
-use Rattle.loop_desk.specs.Front.{HandState, empty, full, spent, hand_state, index_in, planes_held, Front, kind_of, StandsFront, taken_frame, was_given_up, hand_of, hand_with, hand_given, on_queue, dequeued, requeued, forbids, IsForbidden, taken, put_back, IsToldIf, IsDequeue, IsRequeue, Turns, TurnsBeside}
+use Rattle.loop_desk.specs.Front.{buffer_answer, dequeued, empty, forbids, Front, FrontTurns, full, hand_given, hand_of, hand_state, hand_with, HandState, index_in, IsDequeue, IsForbidden, IsOneEvent, IsRequeue, IsToldIf, kind_of, on_queue, planes_held, requeue_event, requeued, spent, StandsFront, taken_frame, TurnsBeside, was_given_up, with_hand}
 use Rattle.loop_desk.specs.FrontLaws.{NewFrontsStand}
 use Rattle.loop_desk.specs.Parts.{StaysIn, GetsBuffer, is_ioctl}
 
@@ -75,7 +74,7 @@ module _ {P A : Type 0} (m : P → Plane) where
   -- the hand is empty where REQBUFS isn't forbidden
   out_after : (e : QueueEvent P A) (r : QueueReply P A) (j : IoctlState) (h : HandState) → forbids (index_in h) e ≡ false → IsOut j h → IsOut (state_after m e r j) h
   out_after (event.Ioctl (call.ReqBufs type count kind supply)) r j h free out =
-      nothing_out j (state_after m (event.Ioctl (call.ReqBufs type count kind supply)) r j) h (call_out m type count kind supply r j) free out
+      nothing_out j (state_after m (event.Ioctl (call.ReqBufs type count kind supply)) r j) h (event_out m (event.Ioctl (call.ReqBufs type count kind supply)) r j) free out
   out_after e r j h free out = aside_out e r j h refl out
 
   -- ---- events of the queue
@@ -86,17 +85,17 @@ module _ {P A : Type 0} (m : P → Plane) where
   forbids_read : (e : QueueEvent P A) (b : Bool) (h : Hand P A) (f : HandState) → forbids (index_in (hand_state m h)) e ≡ b → hand_state m h ≡ f → forbids (index_in f) e ≡ b
   forbids_read e b h f is same = ap (λ x. forbids (index_in x) e) (sym same) ∙ is
 
-  pub wrong_size : (e : QueueEvent P A) (q : Lined P) (t : Fds P) (h : Hand P A) → is_whole q.body.shape e ≡ false → Turns m q t h (on_queue e (Err (Store WrongSize))) q t h
+  pub wrong_size : (e : QueueEvent P A) (q : Lined P) (t : Fds P) (h : Hand P A) → is_whole q.body.shape e ≡ false → FrontTurns m q t h (on_queue e (Err (Store WrongSize))) q t h
   wrong_size e q t h is f stands = ((whole_read e false q t f.queue is stands.queue, refl), stands)
 
-  pub held_back : (e : QueueEvent P A) (r : QueueReply P A) (q : Lined P) (t : Fds P) (h : Hand P A) → is_whole q.body.shape e ≡ true → forbids (index_in (hand_state m h)) e ≡ true → IsForbidden e r → Turns m q t h (on_queue e (Ok r)) q t h
+  pub held_back : (e : QueueEvent P A) (r : QueueReply P A) (q : Lined P) (t : Fds P) (h : Hand P A) → is_whole q.body.shape e ≡ true → forbids (index_in (hand_state m h)) e ≡ true → IsForbidden e r → FrontTurns m q t h (on_queue e (Ok r)) q t h
   held_back e r q t h whole holds is f stands =
       let x : forbids (index_in f.hand) e ≡ true = forbids_read e true h f.hand holds stands.hand in (
         (whole_read e true q t f.queue whole stands.queue, subst (λ b. IsToldIf m b e r f.queue) (sym x) is),
         subst (λ b. StandsFront m q t h (record f { queue = cond b f.queue (state_after m e r f.queue) })) (sym x) stands,
       )
 
-  pub told : (e : QueueEvent P A) (r : QueueReply P A) (q q' : Lined P) (t t' : Fds P) (h : Hand P A) → is_whole q.body.shape e ≡ true → forbids (index_in (hand_state m h)) e ≡ false → Reacts m e r q t q' t' → Turns m q t h (on_queue e (Ok r)) q' t' h
+  pub told : (e : QueueEvent P A) (r : QueueReply P A) (q q' : Lined P) (t t' : Fds P) (h : Hand P A) → is_whole q.body.shape e ≡ true → forbids (index_in (hand_state m h)) e ≡ false → Reacts m e r q t q' t' → FrontTurns m q t h (on_queue e (Ok r)) q' t' h
   told e r q q' t t' h whole free reacts f stands =
       let x : forbids (index_in f.hand) e ≡ false = forbids_read e false h f.hand free stands.hand in
       let g = reacts f.queue stands.queue in (
@@ -144,6 +143,10 @@ took_linked s index b h out n get planes none linked =
     ∙ ap (λ l. fd_times fd (values_held kind bs) + fd_times fd l) (sym none)))
     refl (linked fd)
 
+-- DQBUF of the buffer of an index, if there is one
+abbrev pub taken_event : Memory → ℕ → Option (Buffer Plane) → List Event
+taken_event kind index o = map (λ b. dqbuf (Ok (buffer_answer kind index b))) (option_to_list o)
+
 module _ {P A : Type 0} (m : P → Plane) where
   pub full_hand : (q : Lined P) (index : ℕ) (h : Hand P A) → index_in (hand_state m h) ≡ Some index → TurnsBeside m q h (dequeued (Err (Store HandFull))) q h
   full_hand q index hand.Empty is table f stands = absurd (cc)
@@ -165,24 +168,27 @@ module _ {P A : Type 0} (m : P → Plane) where
       let j = f.queue in
       let s = j.queue in
       let body = s.body in
+      let kind = body.kind in
       let t = step s stands.queue.queue in
       let b = t.0.2.0 in
       let get : slice_get body.buffers d.index ≡ Some b = t.0.2.1 in
       let now : StandsQueue m q' (effect.dequeued d.index s) = t.1 in
-      let left : StaysIn (effect.dequeued d.index s).body d.index b = left_there (dequeued_from body.kind) body.buffers d.index b get in
-      let held : hand_state m h ≡ hand_of body d.index b = holds (effect.dequeued d.index s) b now left t.0.2.2 in
-      let with_it : hand_with body d.index (slice_get body.buffers d.index) ≡ hand_of body d.index b = ap (hand_with body d.index) get in
-      let none : j.out ≡ [] = stands.out ∙ (ap (λ x. values_by_fd body.kind (option_to_list (planes_held x))) (sym stands.hand) ∙ none_by_fd body.kind) in
-      let linked = took_linked s d.index b (hand_with body d.index (slice_get body.buffers d.index)) j.out j.names get (ap planes_held with_it ∙ hand_planes body d.index b) none stands.queue.linked in
-      let front : StandsFront m q' table h (taken d.index j (hand_with body d.index (slice_get body.buffers d.index))) =
+      let left : StaysIn (effect.dequeued d.index s).body d.index b = left_there (dequeued_from kind) body.buffers d.index b get in
+      let none : j.out ≡ [] = stands.out ∙ (ap (λ x. values_by_fd kind (option_to_list (planes_held x))) (sym stands.hand) ∙ none_by_fd kind) in
+      let front : StandsFront m q' table h (with_hand j (dqbuf (Ok (buffer_answer kind d.index b)) ∷ []) (hand_of body d.index b)) =
       record {
-        queue = record { queue = now; names = stands.queue.names; linked = linked };
-        hand = held ∙ sym with_it;
+        queue = record { queue = now; names = stands.queue.names; linked = took_linked s d.index b (hand_of body d.index b) j.out j.names get (hand_planes body d.index b) none stands.queue.linked };
+        hand = holds (effect.dequeued d.index s) b now left t.0.2.2;
         out = refl;
-      } in (
-        subst (λ x. IsDequeue j x (Ok index)) stands.hand (t.0.0, t.0.1 ∙ ap Some (sym is)),
-        subst (λ i. StandsFront m q' table h (taken i j (hand_with body i (slice_get body.buffers i)))) (sym is) front,
+      } in
+      let said : MayHappen s (dqbuf (Ok (buffer_answer kind d.index b))) = (t.0.0, t.0.1, (b, get, record { sequence = refl; timestamp = refl; flags = refl; used = refl; planes = refl })) in
+      let both : Took j d.index (slice_get body.buffers d.index) = subst (Took j d.index) (sym get) (said, front) in (
+        subst (λ x. IsDequeue j x (Ok index)) stands.hand (subst (λ i. IsOneEvent s (taken_event kind i (slice_get body.buffers i))) (sym is) both.0),
+        subst (λ i. StandsFront m q' table h (with_hand j (taken_event kind i (slice_get body.buffers i)) (hand_with body i (slice_get body.buffers i)))) (sym is) both.1,
       )
+    where
+      Took : IoctlState → ℕ → Option (Buffer Plane) → Type 0
+      Took j i o = IsOneEvent j.queue (taken_event (kind_of j) i o) × StandsFront m q' table h (with_hand j (taken_event (kind_of j) i o) (hand_with j.queue.body i o))
 
 -- ---- a requeue
 
@@ -227,8 +233,8 @@ module _ {P A : Type 0} (m : P → Plane) where
   put_none r kind i planes q q' is back step table f stands =
       let j = f.queue in
       let t = step j.queue stands.queue.queue in
-      let fails = subst (λ k. Fails (queue_refusal i k (read_given m planes) j.queue.body) r.errno) (own_kind m kind q table j is stands.queue) t.0 in (
-        subst (λ x. IsRequeue j x (Err (Queue r.errno))) stands.hand fails,
+      let fails = subst (λ k. MayHappen j.queue (qbuf i k (read_given m planes) (Some r.errno))) (own_kind m kind q table j is stands.queue) t.0 in (
+        subst (λ x. IsRequeue j x (Err (Queue r.errno))) stands.hand (fails, tt),
         record {
           queue = stays m q q' table j stands.queue t.1;
           hand = ap (λ p. spent i (read_given m p)) back ∙ stands.hand;
@@ -242,21 +248,22 @@ module _ {P A : Type 0} (m : P → Plane) where
       let s = j.queue in
       let given = read_given m planes in
       let t = step s stands.queue.queue in
-      let k : kind ≡ kind_of j = own_kind m kind q table j is stands.queue in
-      let passes : queue_refusal i (kind_of j) given s.body ≡ None = subst (λ x. queue_refusal i x given s.body ≡ None) k (not_refused (queue_refusal i kind given s.body) t.0) in
+      let said = subst (λ k. MayHappen s (qbuf i k given None)) (own_kind m kind q table j is stands.queue) t.0 in
       let out : j.out ≡ values_by_fd (kind_of j) (option_to_list given) = stands.out ∙ ap (λ x. values_by_fd (kind_of j) (option_to_list (planes_held x))) (sym stands.hand) in
-      let front : StandsFront {A = A} m q' table hand.Empty (put_back j (spent i given)) =
+      let none = none_by_fd (kind_of j) in
+      let after = effect.queued i given s in
+      let front : StandsFront {A = A} m q' table hand.Empty (with_hand j (requeue_event (kind_of j) (spent i given) (Ok i)) empty) =
       record {
         queue = record {
           queue = t.1;
           names = stands.queue.names;
-          linked = back_linked s i given j.out j.names out passes stands.queue.linked;
+          linked = subst (λ (l : List (ℕ × Plane)). IsLinked after.body l j.names) (sym none) (back_linked s i given j.out j.names out (not_refused (queue_refusal i (kind_of j) given s.body) said) stands.queue.linked);
         };
         hand = refl;
-        out = sym (none_by_fd (effect.queued i given s).body.kind);
+        out = none ∙ sym (none_by_fd after.body.kind);
       } in (
-        subst (λ x. IsRequeue j x (Ok i)) stands.hand (passes, refl),
-        subst (λ x. StandsFront {A = A} m q' table hand.Empty (put_back j x)) stands.hand front,
+        subst (λ x. IsRequeue j x (Ok i)) stands.hand ((said, refl)),
+        subst (λ x. StandsFront {A = A} m q' table hand.Empty (with_hand j (requeue_event (kind_of j) x (Ok i)) empty)) stands.hand front,
       )
 
 -- ---- a submit, and a new front

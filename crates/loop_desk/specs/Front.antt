@@ -1,25 +1,25 @@
 -- The front of a lane: a queue with its table of fds, and the hand, which has what was taken from the queue.
-use Rattle.std.specs.Prelude.{◌≡◌, ℕ, Bool, true, false, cond, ◌==◌, is_some, List, [], ◌++◌, take, slice_get, Option, Some, None, option_to_list, Result, Ok, Err}
+use Rattle.std.specs.Prelude.{◌≡◌, ℕ, Bool, true, false, cond, ◌==◌, is_some, IfOk, List, [], ◌∷◌, ◌++◌, map, take, slice_get, Option, Some, None, option_to_list, Result, Ok, Err}
 use Rattle.loop_plane.specs.Plane.{Plane}
 use Rattle.loop_plane.specs.Fds.{Fds}
 use Rattle.loop_plane.specs.declared.memory.Memory.{Memory}
 use Rattle.loop_record.specs.Recording.{Picture, picture}
+use Rattle.loop_record.specs.Turns.{Machine, Turns, after_all}
 use Rattle.loop_store.specs.declared.fault.StoreFault.{StoreFault}
 use Rattle.loop_store.specs.declared.fault.StoreFault.TheVariants.{NoMemory, WrongSize, HandFull, HandEmpty}
 use Rattle.loop_vb2.specs.declared.buffer.Buffer.{Buffer}
+use Rattle.loop_vb2.specs.declared.buffer.Dequeued.{Dequeued}
 use Rattle.loop_vb2.specs.declared.planes.PlaneSet.{PlaneSet}
 use Rattle.loop_vb2.specs.declared.planes.Shape.{Shape}
 use Rattle.loop_vb2.specs.declared.reason.Reason.TheVariants.{HandHolds}
 use Rattle.loop_vb2.specs.declared.state.BufferState.{BufferState}
 use Rattle.loop_vb2.specs.declared.state.BufferState.TheVariants.{Error}
 use Rattle.loop_vb2.specs.Buffers.{handed}
-use Rattle.loop_vb2.specs.Checks.{dequeue_refusal, queue_refusal}
-use Rattle.loop_vb2.specs.Effects as effect
 use Rattle.loop_vb2.specs.Errnos.{errno}
+use Rattle.loop_vb2.specs.Events.{Event, MayHappen, after_event, dqbuf, qbuf}
 use Rattle.loop_vb2.specs.Flags.{dequeue_bits}
 use Rattle.loop_vb2.specs.Planes.{number_at, bytes_in, plane_in, read_given}
-use Rattle.loop_vb2.specs.State.{Body, Lined}
-use Rattle.loop_vb2.specs.Answers.{Passes, Fails}
+use Rattle.loop_vb2.specs.State.{Body, Lined, QueueState}
 use Rattle.loop_ioctl.specs.declared.call.Ioctl.TheVariants as call
 use Rattle.loop_ioctl.specs.declared.events.QueueEvent.{QueueEvent}
 use Rattle.loop_ioctl.specs.declared.events.QueueEvent.TheVariants as event
@@ -28,6 +28,7 @@ use Rattle.loop_ioctl.specs.declared.events.QueueReply.TheVariants as answer
 use Rattle.loop_ioctl.specs.Attached.{values_by_fd}
 use Rattle.loop_ioctl.specs.Calls.{IoctlState, StandsIoctl, HandsBack, planes_given, supply_given}
 use Rattle.loop_ioctl.specs.Events.{is_whole, IsTold, state_after}
+use Rattle.loop_ioctl.specs.Modelled.{event_of}
 use Rattle.loop_desk.specs.declared.hand.Hand.{Hand}
 use Rattle.loop_desk.specs.declared.hand.Hand.TheVariants as hand
 use Rattle.loop_desk.specs.declared.hand.LaneFault.{LaneFault}
@@ -138,22 +139,39 @@ module _ {P A : Type 0} where
 
 -- ---- what a turn does to the front
 
--- the hand gets what was dequeued: its planes are out of the queue
-abbrev pub taken : ℕ → IoctlState → HandState → Front
-taken index j h = record {
+-- what DQBUF answers of a buffer
+abbrev pub buffer_answer : Memory → ℕ → Buffer Plane → Dequeued Plane
+buffer_answer kind index b = record {
+  index = index;
+  sequence = b.stamp.sequence;
+  timestamp = b.stamp.timestamp;
+  flags = record { 0 = dequeue_bits b.state b.mapped };
+  used = b.used;
+  planes = handed kind b.planes;
+}
+
+-- the queue's own event, where the hand asks for a buffer
+abbrev pub dequeue_event : IoctlState → Result ℕ LaneFault → List Event
+dequeue_event j (Ok index) =
+    map (λ b. dqbuf (Ok (buffer_answer (kind_of j) index b))) (option_to_list (slice_get j.queue.body.buffers index))
+dequeue_event j (Err (Queue e)) = dqbuf (Err e) ∷ []
+dequeue_event j (Err (Store fault)) = []
+
+-- and where it gives its buffer back
+abbrev pub requeue_event : Memory → HandState → Result ℕ LaneFault → List Event
+requeue_event kind (spent index planes) (Ok i) = qbuf index kind planes None ∷ []
+requeue_event kind (spent index planes) (Err (Queue e)) = qbuf index kind planes (Some e) ∷ []
+requeue_event kind h result = []
+
+-- the queue after these events, and a hand whose planes are out of it
+abbrev pub with_hand : IoctlState → List Event → HandState → Front
+with_hand j events h = record {
   queue = record j {
-    queue = effect.dequeued index j.queue;
+    queue = after_all after_event j.queue events;
     out = values_by_fd (kind_of j) (option_to_list (planes_held h));
   };
   hand = h;
 }
-
--- the hand's buffer is queued with its planes
-abbrev pub put_back : IoctlState → HandState → Front
-put_back j empty = record { queue = j; hand = empty }
-put_back j (full index p planes) = record { queue = j; hand = full index p planes }
-put_back j (spent index planes) =
-    record { queue = record j { queue = effect.queued index planes j.queue; out = [] }; hand = empty }
 
 -- the hand after a submit: its frame is gone where it was accepted
 abbrev pub hand_given : HandState → Result ℕ StoreFault → HandState
@@ -164,13 +182,21 @@ module _ {P A : Type 0} (meaning : P → Plane) where
   abbrev pub front_after : Front → Turn P A → Front
   front_after f (on_queue e (Ok r)) =
       record f { queue = cond (forbids (index_in f.hand) e) f.queue (state_after meaning e r f.queue) }
-  front_after f (on_queue e (Err fault)) = f
   front_after f (dequeued (Ok index)) =
-      taken index f.queue (hand_with f.queue.queue.body index (slice_get f.queue.queue.body.buffers index))
-  front_after f (dequeued (Err fault)) = f
-  front_after f (requeued (Ok index)) = put_back f.queue f.hand
-  front_after f (requeued (Err fault)) = f
+      with_hand f.queue (dequeue_event f.queue (Ok index))
+      (hand_with f.queue.queue.body index (slice_get f.queue.queue.body.buffers index))
+  front_after f (requeued (Ok index)) = with_hand f.queue (requeue_event (kind_of f.queue) f.hand (Ok index)) empty
   front_after f (offered result) = record f { hand = hand_given f.hand result }
+  front_after f t = f
+
+  -- Which event of the queue's own model a turn is: none where the hand forbids it, or what it has or want of memory
+  -- refuses it.
+  abbrev pub front_event : Front → Turn P A → List Event
+  front_event f (on_queue e (Ok r)) = cond (forbids (index_in f.hand) e) [] (event_of meaning e r f.queue)
+  front_event f (on_queue e (Err fault)) = []
+  front_event f (dequeued result) = dequeue_event f.queue result
+  front_event f (requeued result) = requeue_event (kind_of f.queue) f.hand result
+  front_event f (offered result) = []
 
 -- ---- the replies
 
@@ -185,22 +211,23 @@ module _ {P A : Type 0} (meaning : P → Plane) where
       (is_whole f.queue.queue.body.shape e ≡ true) × IsToldIf (forbids (index_in f.hand) e) e r f.queue
   IsOnQueue f e (Err fault) = (is_whole f.queue.queue.body.shape e ≡ false) × (fault ≡ Store WrongSize)
 
--- an empty hand takes the buffer that ended first
-abbrev pub IsDequeue : IoctlState → HandState → Result ℕ LaneFault → Type 0
-IsDequeue j empty (Ok index) =
-    Passes (dequeue_refusal j.queue.body) × (effect.first_ended j.queue ≡ Some index)
-IsDequeue j empty (Err (Queue e)) = Fails (dequeue_refusal j.queue.body) e
-IsDequeue j empty (Err (Store fault)) = fault ≡ NoMemory
-IsDequeue j (full i p planes) result = result ≡ Err (Store HandFull)
-IsDequeue j (spent i planes) result = result ≡ Err (Store HandFull)
+-- this is one event of the queue, and it may happen
+abbrev pub IsOneEvent : QueueState → List Event → Type 0
+IsOneEvent s (e ∷ []) = MayHappen s e
+IsOneEvent s events = ⊥
 
--- a buffer whose frame is gone is queued again
+-- an empty hand takes what the queue's DQBUF answers, where there is memory for a frame
+abbrev pub IsDequeue : IoctlState → HandState → Result ℕ LaneFault → Type 0
+IsDequeue j empty (Err (Store fault)) = fault ≡ NoMemory
+IsDequeue j empty result = IsOneEvent j.queue (dequeue_event j result)
+IsDequeue j h result = result ≡ Err (Store HandFull)
+
+-- a buffer whose frame is gone is queued again, as the queue's QBUF answers
 abbrev pub IsRequeue : IoctlState → HandState → Result ℕ LaneFault → Type 0
 IsRequeue j empty result = result ≡ Err (Store HandEmpty)
 IsRequeue j (full i p planes) result = result ≡ Err (Store HandFull)
-IsRequeue j (spent i planes) (Ok index) = Passes (queue_refusal i (kind_of j) planes j.queue.body) × (index ≡ i)
-IsRequeue j (spent i planes) (Err (Queue e)) = Fails (queue_refusal i (kind_of j) planes j.queue.body) e
-IsRequeue j (spent i planes) (Err (Store fault)) = ⊥
+IsRequeue j (spent i planes) result =
+    IsOneEvent j.queue (requeue_event (kind_of j) (spent i planes) result) × IfOk result (λ index. index ≡ i)
 
 -- only a frame is offered to the desk
 abbrev pub IsSubmit : HandState → Result ℕ StoreFault → Type 0
@@ -216,14 +243,15 @@ module _ {P A : Type 0} (meaning : P → Plane) where
   IsFrontTurn f (requeued result) = IsRequeue f.queue f.hand result
   IsFrontTurn f (offered result) = IsSubmit f.hand result
 
-  -- from each front that queue, table and hand stand for, the reply is the model's, and they stand for the front
-  -- after it
-  abbrev pub Turns : Lined P → Fds P → Hand P A → Turn P A → Lined P → Fds P → Hand P A → Type 0
-  Turns code table held turn new_code new_table new_held =
-      (f : Front) → StandsFront meaning code table held f
-      → IsFrontTurn f turn × StandsFront meaning new_code new_table new_held (front_after meaning f turn)
+  -- the front as a machine, and one turn of it by queue, table and hand
+  abbrev pub front_machine : Machine Front (Turn P A)
+  front_machine = record { after = front_after meaning; May = IsFrontTurn }
+
+  abbrev pub FrontTurns : Lined P → Fds P → Hand P A → Turn P A → Lined P → Fds P → Hand P A → Type 0
+  FrontTurns code table held turn new_code new_table new_held =
+      Turns front_machine (StandsFront meaning code table held) (StandsFront meaning new_code new_table new_held) turn
 
   -- likewise with any table, which the turn leaves
   abbrev pub TurnsBeside : Lined P → Hand P A → Turn P A → Lined P → Hand P A → Type 0
   TurnsBeside code held turn new_code new_held =
-      (table : Fds P) → Turns code table held turn new_code table new_held
+      (table : Fds P) → FrontTurns code table held turn new_code table new_held

@@ -1,14 +1,13 @@
 -- A lane: the front, which is a queue, its table of fds and a hand, and behind it a desk. What the front does never
 -- depends on the desk's state, and what the desk is asked for is said by the events, the replies and the hand.
-use Rattle.std.specs.Prelude.{◌≡◌, ◌⊎◌, ℕ, Bool, true, false, if◌then◌else◌, Result, Ok, Err, List, [], ◌∷◌, ◌++◌, length, map}
+use Rattle.std.specs.Prelude.{◌≡◌, ℕ, Bool, true, false, if◌then◌else◌, None, Result, Ok, List, [], ◌∷◌, ◌++◌, length, map}
 use Rattle.std.specs.List.{flat_map, list_any, zip}
 use Rattle.loop_plane.specs.Plane.{Plane}
 use Rattle.loop_disk.specs.Medium.{Medium}
 use Rattle.loop_record.specs.declared.geometry.PixelFormat.{PixelFormat}
 use Rattle.loop_record.specs.Recording.{Picture}
-use Rattle.loop_record.specs.Turns.{after_all, told_in, EachIn}
+use Rattle.loop_record.specs.Turns.{after_all, told_in, EachIn, Machine, Plays}
 use Rattle.loop_store.specs.declared.fault.StoreFault.{StoreFault}
-use Rattle.loop_store.specs.declared.fault.StoreFault.TheVariants.{HandEmpty}
 use Rattle.loop_store.specs.Calls.{StoreState}
 use Rattle.loop_store.specs.Goes.{Stands}
 use Rattle.loop_store.specs.Runs.{read_of}
@@ -27,8 +26,7 @@ use Rattle.loop_desk.specs.declared.event.LaneReply.TheVariants as reply
 use Rattle.loop_desk.specs.declared.lane.Lane.{Lane}
 use Rattle.loop_desk.specs.Desk.{DeskCall, accepted, accepted_in, clip_locked, clip_unlocked, flushed, frame_read, submitted}
 use Rattle.loop_desk.specs.Footage.{KeepsFootage}
-use Rattle.loop_desk.specs.Front.{Front, HandState, IsFrontTurn, StandsFront, Turn, dequeued, empty, front_after, full, hand_state, on_queue, requeued, spent, offered}
-use Rattle.loop_desk.specs.Modelled.{completed_frame, front_event, unflagged}
+use Rattle.loop_desk.specs.Front.{Front, HandState, IsFrontTurn, IsSubmit, StandsFront, Turn, dequeued, empty, front_after, front_event, full, hand_state, on_queue, requeued, spent, offered}
 use Rattle.loop_desk.specs.Seen.{DeskGoes}
 
 -- ---- what an event and its reply are
@@ -71,14 +69,14 @@ submit_calls h result = []
 
 module _ {P A : Type 0} where
   -- the desk's calls of a turn
-  abbrev pub calls_of_turn : Front → LaneTurn P A → List DeskCall
-  calls_of_turn f (at_front (offered result)) = submit_calls f.hand result
-  calls_of_turn f (at_front t) = []
-  calls_of_turn f (at_desk c) = c ∷ []
-  calls_of_turn f mixed = []
+  abbrev pub calls_of_turn : HandState → LaneTurn P A → List DeskCall
+  calls_of_turn h (at_front (offered result)) = submit_calls h result
+  calls_of_turn h (at_front t) = []
+  calls_of_turn h (at_desk c) = c ∷ []
+  calls_of_turn h mixed = []
 
   abbrev pub calls_at : Front → LaneEvent P A × LaneReply P A → List DeskCall
-  calls_at f x = calls_of_turn f (turn_at f x)
+  calls_at f x = calls_of_turn f.hand (turn_at f x)
 
 module _ {P A : Type 0} (meaning : P → Plane) where
   -- the reply is the model's, as far as the front says it: what the desk answers is said of its calls, and a frame is
@@ -100,22 +98,22 @@ module _ {P A : Type 0} (meaning : P → Plane) where
   abbrev pub lane_after : Front → LaneEvent P A × LaneReply P A → Front
   lane_after f x = after_turn f (turn_at f x)
 
+  -- the lane's front as a machine
+  abbrev pub lane_machine : Machine Front (LaneEvent P A × LaneReply P A)
+  lane_machine = record { after = lane_after; May = IsLaneTurn }
+
 -- ---- which calls of the desk events and replies show, whatever the front
 
 module _ {P A : Type 0} where
-  -- A submit that isn't HandEmpty is a submit of some frame; a call of the queue is no call of the desk.
+  -- these are a turn's calls where the hand is so: a submit that isn't HandEmpty is one of the hand's frame
+  abbrev pub AreCallsAt : HandState → LaneTurn P A → List DeskCall → Type 0
+  AreCallsAt h (at_front (offered result)) calls = IsSubmit h result × (calls ≡ submit_calls h result)
+  AreCallsAt h mixed calls = ⊥
+  AreCallsAt h t calls = calls ≡ calls_of_turn h t
+
+  -- these are an event's calls at a queue of some format and some hand
   abbrev pub AreCallsOf : LaneEvent P A → LaneReply P A → List DeskCall → Type 0
-  AreCallsOf event.Submit (reply.Submit result) calls =
-      (calls ≡ []) × (result ≡ Err HandEmpty) ⊎ ((p : Picture) × (calls ≡ submitted p (length p.bytes) result ∷ []))
-  AreCallsOf event.Flush (reply.Flush result) calls = calls ≡ flushed result ∷ []
-  AreCallsOf (event.Lock span) (reply.Lock result) calls = calls ≡ clip_locked span result ∷ []
-  AreCallsOf (event.Unlock id) (reply.Unlock result) calls = calls ≡ clip_unlocked id result ∷ []
-  AreCallsOf (event.Read number) (reply.Read result) calls = calls ≡ frame_read number (read_of result) ∷ []
-  AreCallsOf (event.Queue e) (reply.Queue result) calls = calls ≡ []
-  AreCallsOf (event.Queue e) (reply.Dequeue result) calls = calls ≡ []
-  AreCallsOf event.Dequeue (reply.Dequeue result) calls = calls ≡ []
-  AreCallsOf event.Requeue (reply.Requeue result) calls = calls ≡ []
-  AreCallsOf e p calls = ⊥
+  AreCallsOf e p calls = (format : PixelFormat) × ((h : HandState) × AreCallsAt h (turn_of format e p) calls)
 
   -- each event has its reply, and these are the calls of all, in order
   abbrev pub AreShownBy : List (LaneEvent P A) → List (LaneReply P A) → List DeskCall → Type 0
@@ -132,22 +130,17 @@ module _ {D P A : Type 0} (meaning : P → Plane) where
   abbrev pub StandsLane : Lane D P A → Front → Type 0
   StandsLane lane f = StandsFront meaning lane.queue lane.table lane.hand f
 
-  -- From a front: each reply is the model's at its point, the lane stands for the front after them, and the desk's
-  -- calls are those that the front shows.
-  pub record FrontRan (new : Lane D P A) (es : List (LaneEvent P A)) (ps : List (LaneReply P A))
-      (calls : List DeskCall) (f : Front) : Type 0 where
-    pub told : EachIn (lane_after meaning) (IsLaneTurn meaning) f (zip es ps)
-    pub stands : StandsLane new (after_all (lane_after meaning) f (zip es ps))
-    pub are : calls ≡ told_in (lane_after meaning) calls_at f (zip es ps)
-
 -- What a list of events makes of a lane: the desk made the calls that events and replies show, and from each front
--- that the lane stood for, each reply was the model's.
+-- that the lane stood for, each reply was the model's at its point, the lane stands for the front after them, and the
+-- calls are those that the front shows.
 pub record LaneRan {D P A : Type 0} (meaning : P → Plane) (medium : D → Medium) (old new : Lane D P A)
     (es : List (LaneEvent P A)) (ps : List (LaneReply P A)) : Type 0 where
   pub calls : List DeskCall
   pub shown : AreShownBy es ps calls
   pub desk : DeskGoes medium old.desk new.desk calls
-  pub front : (f : Front) → StandsLane meaning old f → FrontRan meaning new es ps calls f
+  pub front : Plays (lane_machine meaning) (StandsLane meaning old) (StandsLane meaning new) (zip es ps)
+  pub are : (f : Front) → StandsLane meaning old f
+      → calls ≡ told_in (lane_after meaning) calls_at f (zip es ps)
 
 -- ---- frames
 
@@ -196,6 +189,16 @@ LaneTurnsAreEvents {P} A meaning =
     ≡ after_all model.after_event f.queue.queue (queue_events meaning f xs))
 
 -- ---- the device's frames
+
+-- a frame but for its flags, which tell whether its buffer was mapped as it was dequeued
+abbrev pub unflagged : Picture → Picture
+unflagged p = record p { flags = 0 }
+
+-- the frame that the device completed by the event
+abbrev pub completed_frame : Event → List Picture
+completed_frame (model.complete index stamp bytes None) =
+    record { sequence = stamp.sequence; flags = 0; timestamp = stamp.timestamp; bytes = bytes } ∷ []
+completed_frame e = []
 
 module _ {P A : Type 0} (meaning : P → Plane) where
   -- the front behind turns

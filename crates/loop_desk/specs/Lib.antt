@@ -3,7 +3,6 @@ pub mod Bare
 pub mod Seen
 pub mod Footage
 pub mod Front
-pub mod Modelled
 pub mod Lane
 pub mod FrontLaws
 pub mod Parts

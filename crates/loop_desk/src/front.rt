@@ -1,7 +1,7 @@
 // What happens to a queue, its table of fds, and the hand.
 ghost use Rattle.std.specs.Prelude.{◌≡◌, ◌≤◌, length, true};
 ghost use Rattle.loop_vb2.specs.Planes.{frame_size};
-ghost use Rattle.loop_desk.specs.Front.{hand_state, index_in, forbids, IsForbidden, on_queue, dequeued, requeued, Turns, TurnsBeside};
+ghost use Rattle.loop_desk.specs.Front.{hand_state, index_in, forbids, FrontTurns, IsForbidden, on_queue, dequeued, requeued, TurnsBeside};
 ghost use Rattle.loop_desk.specs.Parts.{GetsBuffer, is_ioctl};
 
 use crate::frame::copy_frame;
@@ -67,7 +67,8 @@ pub(crate) fn on_queue<P: PlaneMemory, A: Allocator + Copy>(
     hand: &Hand<P, A>,
     event: QueueEvent<P, A>,
 ) -> Result<QueueReply<P, A>, LaneFault>
-    ensures turn { Turns P.plane queue.old table.old hand.now (on_queue event result) queue.new table.new hand.now }
+    ensures turn { FrontTurns P.plane queue.old table.old hand.now (on_queue event result)
+        queue.new table.new hand.now }
     ensures shape { queue.new.body.shape ≡ queue.old.body.shape }
 {
     if !is_whole(&queue.shape(), &event) {

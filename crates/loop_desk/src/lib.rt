@@ -3,7 +3,7 @@
 //! - `desk` has the desk and its calls, each of which is one call of the model in `specs/Desk`; `group`: the first
 //!   of the frames that wait, stored as one group; `limits`: how much a desk takes in, and what it tells;
 //! - `hand` has what was taken from a queue; `front` the events of queue, table of fds and hand, each of which is one
-//!   turn of the model in `specs/Front`, and as such an event of the queue's own model or none (`specs/Modelled`);
+//!   turn of the model in `specs/Front`: what the hand asks of the queue is an event of the queue's own model;
 //!   `frame` copies a frame's bytes out of a buffer's planes;
 //! - `lane` has `lane_run`, whose contract is the promise of the whole: whenever the power fails, the recording is
 //!   there after a beginning of the steps, with all that was answered (`specs/Footage`, `specs/Lane`); `event`: what a

@@ -4,7 +4,7 @@ use Rattle.std.proofs.lemmas.Bool.{cases_lt, or_from, or_parts}
 use Rattle.std.proofs.lemmas.Bool.Decides.{nat_tests}
 use Rattle.std.proofs.lemmas.List.{ext_get_or}
 use Rattle.loop_disk.specs.declared.fault.Failures.{Failures}
-use Rattle.loop_disk.specs.Medium.{Medium, piece, written, SameOutside, TornAt, LeavesEachTorn, Elapses}
+use Rattle.loop_disk.specs.Medium.{Medium, piece, written, SameOutside, TornAt, LeavesEachTorn, Meanwhile}
 use Rattle.loop_disk.specs.Calls.{Stays, Writes, Syncs}
 use Rattle.loop_disk.specs.History.{Moment, after_write, after_sync, is_within, is_loose, IsLeft, medium_of}
 use Rattle.loop_disk.specs.Behind.{Behind, moment_now}
@@ -75,11 +75,10 @@ leaves_torn f now earlier v at fits c torn =
 
 -- one moment more, at which a crash leaves what has P
 one_more : (f : Failures) (old now : Moment) (earlier : List Moment) (P : List ℕ → Type 0) → ((c : List ℕ) → IsLeft now c → P c)
-    → Elapses (medium_of f old earlier) (medium_of f now (old ∷ earlier)) P
+    → Meanwhile (medium_of f old earlier) (medium_of f now (old ∷ earlier)) P
 one_more f old now earlier P within = record {
   later = omega arith;
   nothing_else = λ t c le left. ⊎_elim (λ (here : (t ≤ length (old ∷ earlier)) × IsLeft now c). inr (within c here.1)) inl left;
-  keeps = λ t c le left. inr left;
 }
 
 pub writes : (f : Failures) (now : Moment) (earlier : List Moment) (v : List ℕ) (at : ℕ) → at + length v ≤ length now.bytes
@@ -89,6 +88,7 @@ writes f now earlier v at fits = record {
   elsewhere = written_outside at v now.bytes fits;
   images = λ c left. write_images f now earlier v c at fits left;
   time = one_more f now (after_write at v now) earlier _ (λ c left. write_images f now earlier v c at fits left);
+  keeps = λ t c le left. inr left;
 }
 
 sync_images : (now : Moment) (c : List ℕ) → IsLeft (after_sync now) c → IsLeft now c
@@ -96,13 +96,13 @@ sync_images now c left = record { size = left.size; kept = λ i fixed. left.kept
 
 pub syncs : (f : Failures) (now : Moment) (earlier : List Moment) → Syncs {T = Unit {0}} (medium_of f now earlier) (medium_of f (after_sync now) (now ∷ earlier)) (Ok tt)
 syncs f now earlier = record {
-  stays = record { bytes = refl; images = sync_images now; time = one_more f now (after_sync now) earlier (IsLeft now) (sync_images now) };
+  stays = record { bytes = refl; images = sync_images now; time = one_more f now (after_sync now) earlier (IsLeft now) (sync_images now); keeps = λ t c le left. inr left };
   settled = λ c left. ext_get_or 0 c now.bytes left.size (λ i within. left.kept i refl);
 }
 
 -- a call that changes nothing, and yet is a moment
 pub looks : (f : Failures) (now : Moment) (earlier : List Moment) → Stays (medium_of f now earlier) (medium_of f now (now ∷ earlier))
-looks f now earlier = record { bytes = refl; images = λ c left. left; time = one_more f now now earlier (IsLeft now) (λ c left. left) }
+looks f now earlier = record { bytes = refl; images = λ c left. left; time = one_more f now now earlier (IsLeft now) (λ c left. left); keeps = λ t c le left. inr left }
 
 -- what is behind a disk after a write of so many bytes
 abbrev pub behind_write : ℕ → ℕ → Behind → List ℕ → Behind

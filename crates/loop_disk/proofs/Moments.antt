@@ -1,26 +1,28 @@
 -- How runs of disk calls join.
-use Rattle.std.proofs.Common.{inl, inr, ⊎_elim, ℕ, List, length, Option, None, Result, ◌∙◌, ap, subst, arith}
+use Rattle.std.proofs.Common.{inl, inr, ⊎_elim, ℕ, ◌≤◌, List, length, Option, None, Result, ◌∙◌, ap, subst, arith}
 use Rattle.loop_disk.specs.declared.fault.DiskFault.{DiskFault}
 use Rattle.loop_disk.specs.declared.fault.Failures.{Failures}
-use Rattle.loop_disk.specs.Medium.{Medium, SameOutside, TornAt, IsSettled, Elapses, LeavesOnly, IsSound}
+use Rattle.loop_disk.specs.Medium.{Medium, SameOutside, TornAt, IsSettled, Meanwhile, Remembers, LeavesOnly, IsSound}
 use Rattle.loop_disk.specs.Calls.{Called, with_failed}
 use Rattle.loop_disk.specs.Steps.{Stores}
 
+-- no time
+pub at_first : (m : Medium) (P : List ℕ → Type 0) → Meanwhile m m P
+at_first m P = record { later = omega arith; nothing_else = λ t c le left. inl left }
+
 -- a call, or a run of calls, after another
-pub elapses_on : (old mid new : Medium) (P Q : List ℕ → Type 0) → Elapses old mid P → Elapses mid new Q → ((c : List ℕ) → Q c → P c) → Elapses old new P
-elapses_on old mid new P Q first second within = record {
+pub meanwhile_on : (old mid new : Medium) (P Q : List ℕ → Type 0) → Meanwhile old mid P → Meanwhile mid new Q → ((c : List ℕ) → Q c → P c) → Meanwhile old new P
+meanwhile_on old mid new P Q first second within = record {
   later = omega (arith, first.later, second.later);
   nothing_else = λ t c le left.
       ⊎_elim (first.nothing_else t c le) (λ (q : Q c). inr (within c q)) (second.nothing_else t c (omega (arith, le, first.later)) left);
-  keeps = λ t c le left. second.keeps t c (omega (arith, le, first.later)) (first.keeps t c le left);
 }
 
-pub elapses_weaker : (old new : Medium) (P Q : List ℕ → Type 0) → Elapses old new P → ((c : List ℕ) → P c → Q c) → Elapses old new Q
-elapses_weaker old new P Q time weaken = record {
-  later = time.later;
-  nothing_else = λ t c le left. ⊎_elim (λ (before : old.left_since t c). inl before) (λ (p : P c). inr (weaken c p)) (time.nothing_else t c le left);
-  keeps = time.keeps;
-}
+pub meanwhile_weaker : (old new : Medium) (P Q : List ℕ → Type 0) → Meanwhile old new P → ((c : List ℕ) → P c → Q c) → Meanwhile old new Q
+meanwhile_weaker old new P Q time weaken = meanwhile_on old old new Q P (at_first old Q) time weaken
+
+pub remembers_on : (old mid new : Medium) → old.moment ≤ mid.moment → Remembers old mid → Remembers mid new → Remembers old new
+remembers_on old mid new later first second = λ t c le left. second t c (omega (arith, le, later)) (first t c le left)
 
 -- what a call keeps, and another after it
 pub called_on : (old mid new : Medium) (failed : Option DiskFault) → Called old mid None → Called mid new failed → Called old new failed
@@ -32,31 +34,25 @@ called_on old mid new failed first second = record {
 
 -- before the first call
 pub started : (m : Medium) (P : List ℕ → Type 0) → IsSound m → ((c : List ℕ) → m.may_leave c → P c) → LeavesOnly m m P
-started m P sound here = record { later = omega arith; each = λ c left. here c (sound.only_now c left); earlier = λ t c le left. inl left }
+started m P sound here = record { each = λ c left. here c (sound.only_now c left); time = at_first m P }
 
 -- one call more, during which a crash leaves what has P
-pub goes_on : (old mid new : Medium) (P during : List ℕ → Type 0) → LeavesOnly old mid P → Elapses mid new during → ((c : List ℕ) → during c → P c) → LeavesOnly old new P
+pub goes_on : (old mid new : Medium) (P during : List ℕ → Type 0) → LeavesOnly old mid P → Meanwhile mid new during → ((c : List ℕ) → during c → P c) → LeavesOnly old new P
 goes_on old mid new P during so_far time here = record {
-  later = omega (arith, so_far.later, time.later);
-  each = λ c left. ⊎_elim (so_far.each c) (here c) (time.nothing_else old.moment c so_far.later left);
-  earlier = λ t c le left.
-      ⊎_elim (so_far.earlier t c le) (λ (now : during c). inr (here c now)) (time.nothing_else t c (omega (arith, le, so_far.later)) left);
+  each = λ c left. ⊎_elim (so_far.each c) (here c) (time.nothing_else old.moment c so_far.time.later left);
+  time = meanwhile_on old mid new P during so_far.time time here;
 }
 
 -- one run after another
 pub joined : (old mid new : Medium) (P : List ℕ → Type 0) → LeavesOnly old mid P → LeavesOnly mid new P → LeavesOnly old new P
-joined old mid new P first second = record {
-  later = omega (arith, first.later, second.later);
-  each = λ c left. ⊎_elim (first.each c) (λ (p : P c). p) (second.earlier old.moment c first.later left);
-  earlier = λ t c le left. ⊎_elim (first.earlier t c le) (λ (p : P c). inr p) (second.earlier t c (omega (arith, le, first.later)) left);
-}
+joined old mid new P first second = goes_on old mid new P P first second.time (λ c p. p)
 
 pub weaker : (old new : Medium) (P Q : List ℕ → Type 0) → LeavesOnly old new P → ((c : List ℕ) → P c → Q c) → LeavesOnly old new Q
-weaker old new P Q run weaken = record {
-  later = run.later;
-  each = λ c left. weaken c (run.each c left);
-  earlier = λ t c le left. ⊎_elim (λ (before : old.left_since t c). inl before) (λ (p : P c). inr (weaken c p)) (run.earlier t c le left);
-}
+weaker old new P Q run weaken = record { each = λ c left. weaken c (run.each c left); time = meanwhile_weaker old new P Q run.time weaken }
+
+-- what a crash now may leave is one of the images since then
+pub each_now : (old new : Medium) (P : List ℕ → Type 0) → IsSound new → LeavesOnly old new P → (c : List ℕ) → new.may_leave c → P c
+each_now old new P sound run = λ c left. run.each c (sound.counts_now old.moment c run.time.later left)
 
 -- on a disk where a crash leaves the present bytes and nothing else, a torn write tears those
 pub torn_settled : (at n : ℕ) (m : Medium) (c : List ℕ) → IsSettled m → TornAt at n m c → SameOutside at n m.bytes c

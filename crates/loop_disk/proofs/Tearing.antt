@@ -7,7 +7,7 @@ use Rattle.loop_disk.specs.Medium.{IsSound, LeavesEach, LeavesEachTorn, Medium, 
 use Rattle.loop_disk.specs.Calls.{Stays, Writes}
 use Rattle.loop_disk.specs.Failing.{Tears}
 use Rattle.loop_disk.proofs.Images.{get_or-piece, get_or-written_there, length-piece, written-piece, written_outside, untouched, widened, both}
-use Rattle.loop_disk.proofs.Moments.{elapses_on, elapses_weaker}
+use Rattle.loop_disk.proofs.Moments.{at_first, meanwhile_on, meanwhile_weaker, remembers_on}
 
 -- a torn image, torn again in the same range
 torn_twice : (at n : ℕ) (old mid : Medium) → ((c : List ℕ) → mid.may_leave c → TornAt at n old c) → (c : List ℕ) → TornAt at n mid c → TornAt at n old c
@@ -24,7 +24,8 @@ tears_none at n m = record {
   done = refl;
   elsewhere = untouched at n m.bytes;
   images = λ c left. (c, left, untouched at n c);
-  time = record { later = omega arith; nothing_else = λ t c le left. inl left; keeps = λ t c le left. left };
+  time = at_first m (TornAt at n m);
+  keeps = λ t c le left. left;
 }
 
 pub tears_then : {T : Type 0} (at n : ℕ) (first second : List ℕ) (old mid new : Medium) (x : Unit {0}) (r : Result T DiskFault)
@@ -33,7 +34,8 @@ tears_then at n first second old mid new x r one two = record {
   done = two.done;
   elsewhere = both at n old.bytes mid.bytes new.bytes one.elsewhere two.elsewhere;
   images = λ c left. torn_twice at n old mid one.images c (two.images c left);
-  time = elapses_on old mid new (TornAt at n old) (TornAt at n mid) one.time two.time (torn_twice at n old mid one.images);
+  time = meanwhile_on old mid new (TornAt at n old) (TornAt at n mid) one.time two.time (torn_twice at n old mid one.images);
+  keeps = remembers_on old mid new one.time.later one.keeps two.keeps;
 }
 
 pub tears_within : {T : Type 0} (a n at m : ℕ) (bytes : List ℕ) (old new : Medium) (r : Result T DiskFault) → at ≤ a → a + n ≤ at + m → Tears a n bytes old new r → Tears at m bytes old new r
@@ -41,12 +43,13 @@ tears_within a n at m bytes old new r low high tears = record {
   done = tears.done;
   elsewhere = widened a n at m old.bytes new.bytes tears.elsewhere low high;
   images = λ c left. widened_torn a n at m old low high c (tears.images c left);
-  time = elapses_weaker old new (TornAt a n old) (TornAt at m old) tears.time (widened_torn a n at m old low high);
+  time = meanwhile_weaker old new (TornAt a n old) (TornAt at m old) tears.time (widened_torn a n at m old low high);
+  keeps = tears.keeps;
 }
 
 -- where a later call failed, nothing is said of what is done
 pub tears_failed : {T U : Type 0} (at n : ℕ) (bytes other : List ℕ) (old new : Medium) (r : Result T DiskFault) (failed : Result U DiskFault) → IsErr failed → Tears at n bytes old new r → Tears at n other old new failed
-tears_failed at n bytes other old new r failed is tears = record { done = none failed is; elsewhere = tears.elsewhere; images = tears.images; time = tears.time }
+tears_failed at n bytes other old new r failed is tears = record { done = none failed is; elsewhere = tears.elsewhere; images = tears.images; time = tears.time; keeps = tears.keeps }
   where
     none : {U : Type 0} (q : Result U DiskFault) → IsErr q → OnOk q (new.bytes ≡ other)
     none (Ok x) h = cc
@@ -54,7 +57,7 @@ tears_failed at n bytes other old new r failed is tears = record { done = none f
 
 -- a write is one of these
 written_tears : {T : Type 0} (at : ℕ) (bytes : List ℕ) (old new : Medium) (r : Result T DiskFault) → Writes at bytes old new r → Tears at (length bytes) (written at bytes old.bytes) old new r
-written_tears at bytes old new r writes = record { done = writes.done; elsewhere = writes.elsewhere; images = writes.images; time = writes.time }
+written_tears at bytes old new r writes = record { done = writes.done; elsewhere = writes.elsewhere; images = writes.images; time = writes.time; keeps = writes.keeps }
 
 pub tears_same : {T : Type 0} (at n : ℕ) (bytes other : List ℕ) (old new : Medium) (r : Result T DiskFault) → bytes ≡ other → Tears at n bytes old new r → Tears at n other old new r
 tears_same at n bytes other old new r same tears = subst (λ (l : List ℕ). Tears at n l old new r) same tears
@@ -70,7 +73,8 @@ read_and_written at n seen old mid new r fits is stays writes =
       done = stays.bytes;
       elsewhere = subst (λ (l : List ℕ). SameOutside at n old.bytes l) (sym stays.bytes) (untouched at n old.bytes);
       images = λ c left. (c, stays.images c left, untouched at n c);
-      time = elapses_weaker old mid old.may_leave (TornAt at n old) stays.time (λ c left. (c, left, untouched at n c));
+      time = meanwhile_weaker old mid old.may_leave (TornAt at n old) stays.time (λ c left. (c, left, untouched at n c));
+      keeps = stays.keeps;
     } in
     tears_then at n old.bytes old.bytes old mid new tt r first second
 

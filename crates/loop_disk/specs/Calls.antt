@@ -1,9 +1,9 @@
 -- What the calls of an honest disk do, and what each call keeps of every disk.
-use Rattle.std.specs.Prelude.{◌≡◌, ◌↔◌, ℕ, ◌+◌, ◌-◌, ◌^◌, min, max, List, length, Option, Some, None, Result, Ok, Err, OnOk}
+use Rattle.std.specs.Prelude.{◌≡◌, ◌↔◌, ℕ, ◌+◌, ◌-◌, ◌^◌, Bool, true, false, min, max, List, length, Option, Some, None, Result, Ok, Err, OnOk}
 use Rattle.loop_disk.specs.declared.fault.Failures.{Failures}
 use Rattle.loop_disk.specs.declared.fault.DiskFault.{DiskFault}
 use Rattle.loop_disk.specs.declared.fault.DiskFault.TheVariants.{Read, Write, Sync}
-use Rattle.loop_disk.specs.Medium.{Medium, written, SameOutside, TornAt, Only, Elapses}
+use Rattle.loop_disk.specs.Medium.{Medium, written, SameOutside, TornAt, Only, Meanwhile, Remembers}
 
 -- a count after one more; it stops at the greatest u64
 abbrev pub one_more : ℕ → ℕ
@@ -25,6 +25,12 @@ abbrev pub failed_call : {T : Type 0} → Result T DiskFault → Option DiskFaul
 failed_call (Ok x) = None
 failed_call (Err fault) = Some fault
 
+-- it is a write or a sync
+abbrev pub is_write_or_sync : DiskFault → Bool
+is_write_or_sync Read = false
+is_write_or_sync Write = true
+is_write_or_sync Sync = true
+
 -- What each call keeps, and each run of calls in which this one failed, or none did. It holds of every disk,
 -- honest or not.
 pub record Called (old new : Medium) (failed : Option DiskFault) : Type 0 where
@@ -36,14 +42,16 @@ pub record Called (old new : Medium) (failed : Option DiskFault) : Type 0 where
 pub record Stays (old new : Medium) : Type 0 where
   pub bytes : new.bytes ≡ old.bytes
   pub images : (c : List ℕ) → new.may_leave c → old.may_leave c
-  pub time : Elapses old new old.may_leave
+  pub time : Meanwhile old new old.may_leave
+  pub keeps : Remembers old new
 
 -- A write, done or failed. The range may hold anything after a crash, and after a failure.
 pub record Writes {T : Type 0} (at : ℕ) (bytes : List ℕ) (old new : Medium) (result : Result T DiskFault) : Type 0 where
   pub done : OnOk result (new.bytes ≡ written at bytes old.bytes)
   pub elsewhere : SameOutside at (length bytes) old.bytes new.bytes
   pub images : (c : List ℕ) → new.may_leave c → TornAt at (length bytes) old c
-  pub time : Elapses old new (TornAt at (length bytes) old)
+  pub time : Meanwhile old new (TornAt at (length bytes) old)
+  pub keeps : Remembers old new
 
 -- A sync. One that fails settles nothing.
 pub record Syncs {T : Type 0} (old new : Medium) (result : Result T DiskFault) : Type 0 where

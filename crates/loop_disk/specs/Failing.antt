@@ -2,7 +2,7 @@
 use Rattle.std.specs.Prelude.{◌≡◌, ℕ, ◌-◌, ◌^◌, ◌<◌, Bool, true, false, ◌==◌, if◌then◌else◌, List, length, take, Option, Some, None, Result, IsErr, OnOk}
 use Rattle.loop_disk.specs.declared.fault.Failures.{Failures}
 use Rattle.loop_disk.specs.declared.fault.DiskFault.{DiskFault}
-use Rattle.loop_disk.specs.Medium.{LeavesEachTorn, Medium, written, SameOutside, TornAt, Elapses}
+use Rattle.loop_disk.specs.Medium.{LeavesEachTorn, Medium, written, SameOutside, TornAt, Meanwhile, Remembers}
 use Rattle.loop_disk.specs.Calls.{Called, failed_call}
 
 -- A call that is due to fail fails and doesn't reach the inner disk. Any other is the inner disk's own, and
@@ -30,7 +30,8 @@ pub record Tears {T : Type 0} (at n : ℕ) (bytes : List ℕ) (old new : Medium)
   pub done : OnOk result (new.bytes ≡ bytes)
   pub elsewhere : SameOutside at n old.bytes new.bytes
   pub images : (c : List ℕ) → new.may_leave c → TornAt at n old c
-  pub time : Elapses old new (TornAt at n old)
+  pub time : Meanwhile old new (TornAt at n old)
+  pub keeps : Remembers old new
 
 -- one failure more changes the counts
 pub record IsCounting (failures : Failures) : Type 0 where

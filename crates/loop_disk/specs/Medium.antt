@@ -49,12 +49,14 @@ pub record IsFresh (image : List ℕ) (m : Medium) : Type 0 where
   pub bytes : m.bytes ≡ image
   pub settled : Only image m.may_leave
 
--- Time goes on: a crash since t might have left what it might have left before, or what a crash during the call
--- may leave.
-pub record Elapses (old new : Medium) (during : List ℕ → Type 0) : Type 0 where
+-- From old to new time went on: a crash since t might have left what it might have left before, or what has P.
+pub record Meanwhile (old new : Medium) (P : List ℕ → Type 0) : Type 0 where
   pub later : old.moment ≤ new.moment
-  pub nothing_else : (t : ℕ) (c : List ℕ) → t ≤ old.moment → new.left_since t c → old.left_since t c ⊎ during c
-  pub keeps : (t : ℕ) (c : List ℕ) → t ≤ old.moment → old.left_since t c → new.left_since t c
+  pub nothing_else : (t : ℕ) (c : List ℕ) → t ≤ old.moment → new.left_since t c → old.left_since t c ⊎ P c
+
+-- what a crash since t might have left before, it still might
+abbrev pub Remembers : Medium → Medium → Type 0
+Remembers old new = (t : ℕ) (c : List ℕ) → t ≤ old.moment → old.left_since t c → new.left_since t c
 
 -- what holds of every honest disk
 pub record IsSound (m : Medium) : Type 0 where
@@ -68,10 +70,9 @@ pub record IsSound (m : Medium) : Type 0 where
 
 -- Each image of each moment since old has P.
 pub record LeavesOnly (old new : Medium) (P : List ℕ → Type 0) : Type 0 where
-  pub later : old.moment ≤ new.moment
   pub each : (c : List ℕ) → new.left_since old.moment c → P c
   -- for a run that began earlier
-  pub earlier : (t : ℕ) (c : List ℕ) → t ≤ old.moment → new.left_since t c → old.left_since t c ⊎ P c
+  pub time : Meanwhile old new P
 
 -- a crash may leave each image that it might have left before, with any bytes in the n places from `at` on
 abbrev pub LeavesEachTorn : ℕ → ℕ → Medium → Medium → Type 0

@@ -1,7 +1,7 @@
 -- A write and then a sync, two of them in turn, and what calls of these change.
-use Rattle.std.specs.Prelude.{◌≡◌, ◌⊎◌, ℕ, List, length, Result, OnOk}
+use Rattle.std.specs.Prelude.{◌≡◌, ◌⊎◌, ℕ, true, List, length, Result, IfErr, OnOk}
 use Rattle.loop_disk.specs.declared.fault.DiskFault.{DiskFault}
-use Rattle.loop_disk.specs.Calls.{Called, failed_call}
+use Rattle.loop_disk.specs.Calls.{Called, failed_call, is_write_or_sync}
 use Rattle.loop_disk.specs.Medium.{Medium, written, SameOutside, TornAt, IsSettled, LeavesOnly}
 
 -- The bytes are there and on the disk, or a call failed. At no moment is anything else touched.
@@ -23,11 +23,12 @@ pub record StoresInTurn {T : Type 0} (a : ℕ) (first : List ℕ) (b : ℕ) (sec
   pub settled : OnOk result (IsSettled new)
   pub moments : LeavesOnly old new (TornInTurn a first b (length second) old.bytes)
 
--- What a call that writes changed: whatever the moment of a stop, the image is one of the first; at Ok it is
--- one of the second, and a crash leaves nothing else.
+-- What a call that writes and reads nothing changed: whatever the moment of a stop, the image is one of the first; at
+-- Ok it is one of the second, and a crash leaves nothing else. It fails for a write or a sync.
 pub record Changes {T : Type 0} (IsLeft IsSuch : List ℕ → Type 0) (old new : Medium)
     (result : Result T DiskFault) : Type 0 where
   pub moments : old.honest → LeavesOnly old new IsLeft
   pub such : old.honest → OnOk result (IsSuch new.bytes)
   pub settled : old.honest → OnOk result (IsSettled new)
+  pub fault : IfErr result (λ fault. is_write_or_sync fault ≡ true)
   pub called : Called old new (failed_call result)

@@ -1,7 +1,7 @@
 // Writes that are on the disk when they answer Ok.
-ghost use Rattle.std.specs.Prelude.{◌+◌, ◌≤◌, length};
+ghost use Rattle.std.specs.Prelude.{◌≡◌, ◌+◌, ◌≤◌, IfErr, length, true};
 ghost use Rattle.loop_disk.specs.Medium.{IsSettled};
-ghost use Rattle.loop_disk.specs.Calls.{Called, failed_call};
+ghost use Rattle.loop_disk.specs.Calls.{Called, failed_call, is_write_or_sync};
 ghost use Rattle.loop_disk.specs.Steps.{Stores, StoresInTurn};
 
 use crate::{Disk, DiskFault};
@@ -11,6 +11,7 @@ use crate::{Disk, DiskFault};
 pub fn store<D: Disk>(disk: &mut D, at: u64, bytes: &[u8]) -> Result<(), DiskFault>
     requires { at + length bytes.now ≤ (D.medium disk.old).size }
     ensures disk { (D.medium disk.old).honest → Stores at bytes.now (D.medium disk.old) (D.medium disk.new) result }
+    ensures fault { IfErr result (λ fault. is_write_or_sync fault ≡ true) }
     ensures called { Called (D.medium disk.old) (D.medium disk.new) (failed_call result) }
 {
     disk.write_at(at, bytes)?;
@@ -32,6 +33,7 @@ pub fn store_in_turn<D: Disk>(
     requires settled { (D.medium disk.old).honest → IsSettled (D.medium disk.old) }
     ensures disk { (D.medium disk.old).honest
         → StoresInTurn at bytes.now gate gates.now (D.medium disk.old) (D.medium disk.new) result }
+    ensures fault { IfErr result (λ fault. is_write_or_sync fault ≡ true) }
     ensures called { Called (D.medium disk.old) (D.medium disk.new) (failed_call result) }
 {
     store(disk, at, bytes)?;

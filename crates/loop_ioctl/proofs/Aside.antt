@@ -1,31 +1,29 @@
 -- What events leave of the planes that are out of the queue, and of the kind of its memory; the fds of planes that
 -- are queued; and a queue without buffers. Crates above cite it.
 use Rattle.std.proofs.Common.{◌≡◌, ℕ, ◌+◌, Bool, true, false, [], Option, Some, None, Ok, Err, refl, sym, subst, inl}
-use Rattle.std.specs.Prelude.{Result, Vec}
+use Rattle.std.specs.Prelude.{Result}
 use Rattle.loop_plane.specs.Plane.{Plane}
 use Rattle.loop_plane.specs.declared.memory.Memory.{Memory}
 use Rattle.loop_plane.specs.declared.memory.Memory.TheVariants.{Mmap, UserPtr, DmaBuf}
 use Rattle.loop_vb2.specs.declared.planes.PlaneSet.{PlaneSet}
+use Rattle.loop_vb2.specs.declared.reason.Errno.{Errno}
 use Rattle.loop_vb2.specs.declared.reason.Refused.{Refused}
 use Rattle.loop_vb2.specs.Checks.{queue_refusal}
-use Rattle.loop_vb2.specs.Effects.{queued, first_ended}
+use Rattle.loop_vb2.specs.Effects.{queued}
+use Rattle.loop_vb2.specs.Events.{Event, after_event, prepare_buf, qbuf, streamon, mmap, munmap}
 use Rattle.loop_vb2.specs.State.{Body, QueueState}
-use Rattle.loop_vb2.specs.Planes.{read_given}
-use Rattle.loop_ioctl.specs.declared.call.BufferMemory.{BufferMemory}
-use Rattle.loop_ioctl.specs.declared.call.BufferMemory.TheVariants as memory
-use Rattle.loop_ioctl.specs.declared.call.BufferType.{BufferType}
 use Rattle.loop_ioctl.specs.declared.call.Ioctl.{Ioctl}
 use Rattle.loop_ioctl.specs.declared.call.Ioctl.TheVariants as call
 use Rattle.loop_ioctl.specs.declared.call.IoctlReply.{IoctlReply}
+use Rattle.loop_ioctl.specs.declared.call.IoctlReply.TheVariants as reply
 use Rattle.loop_ioctl.specs.declared.events.QueueEvent.{QueueEvent}
 use Rattle.loop_ioctl.specs.declared.events.QueueEvent.TheVariants as event
 use Rattle.loop_ioctl.specs.declared.events.QueueReply.{QueueReply}
 use Rattle.loop_ioctl.specs.declared.events.QueueReply.TheVariants as answer
-use Rattle.loop_ioctl.specs.declared.put.Use.{Use}
-use Rattle.loop_ioctl.specs.declared.put.Use.TheVariants.{Prepare, Queue}
-use Rattle.loop_ioctl.specs.Names.{Names, names_in, set_named}
+use Rattle.loop_ioctl.specs.declared.put.Use.TheVariants.{Queue}
+use Rattle.loop_ioctl.specs.Names.{Names, names_in}
 use Rattle.loop_ioctl.specs.Attached.{fd_times, values_held, IsOnce, IsLinked}
-use Rattle.loop_ioctl.specs.Calls.{IoctlState, read_names, put_in, taken_out, done, after_ioctl, NewQueuesStand}
+use Rattle.loop_ioctl.specs.Calls.{IoctlState, read_names, kind_named, planes_brought, plain_event, call_event, after_event_if, after_ioctl, NewQueuesStand}
 use Rattle.loop_ioctl.specs.Events.{state_after}
 use Rattle.loop_ioctl.proofs.Attached.{in_buffers, in_buffer}
 use Rattle.loop_ioctl.proofs.Applied.{on_kind}
@@ -70,31 +68,31 @@ is_request e = false
 same_aside : (j : IoctlState) → IsAside j j
 same_aside j = record { out = refl; kind = refl }
 
-module _ {P : Type 0} (m : P → Plane) where
-  put_aside : (w : Use) (index : ℕ) (given : BufferMemory P) (j : IoctlState) → IsAside j (put_in m w index given j)
-  put_aside w index memory.Mmap j = record { out = refl; kind = used_kind w index None j.queue }
-  put_aside w index (memory.UserPtr given) j = record { out = refl; kind = used_kind w index (read_given m given) j.queue }
-  put_aside w index (memory.DmaBuf None) j = record { out = refl; kind = used_kind w index None j.queue }
-  put_aside w index (memory.DmaBuf (Some named)) j = record { out = refl; kind = used_kind w index (Some (set_named named j.names)) j.queue }
-
-taken_aside : (first : Option ℕ) (j : IoctlState) → IsAside j (taken_out first j)
-taken_aside None j = same_aside j
-taken_aside (Some index) j = record { out = refl; kind = refl }
-
 module _ {P A : Type 0} (m : P → Plane) where
-  done_aside : (c : Ioctl P A) (j : IoctlState) → is_request (event.Ioctl c) ≡ false → IsAside j (done m c j)
-  done_aside (call.ReqBufs type count kind supply) j e = absurd (cc)
-  done_aside (call.QueryBuf type index) j e = same_aside j
-  done_aside (call.PrepareBuf type index given) j e = put_aside m Prepare index given j
-  done_aside (call.QBuf type index given) j e = put_aside m Queue index given j
-  done_aside (call.DqBuf type) j e = taken_aside (first_ended j.queue) j
-  done_aside (call.StreamOn type) j e = record { out = refl; kind = on_kind j.queue.body }
-  done_aside (call.StreamOff type) j e = record { out = refl; kind = refl }
-  done_aside (call.Mmap type index) j e = record { out = refl; kind = refl }
-  done_aside (call.Munmap type index) j e = record { out = refl; kind = refl }
+  plain_kind : (event : Option Errno → Event) (r : IoctlReply P A) (s : QueueState) → (after_event s (event None)).body.kind ≡ s.body.kind → (after_event_if s (plain_event {P = P} {A = A} event (Ok r))).body.kind ≡ s.body.kind
+  plain_kind event reply.Done s e = e
+  plain_kind event r s e = refl
+
+  call_kind : (c : Ioctl P A) (r : IoctlReply P A) (j : IoctlState) → is_request (event.Ioctl c) ≡ false → (after_event_if j.queue (call_event m c (Ok r) j)).body.kind ≡ j.queue.body.kind
+  call_kind (call.ReqBufs type count kind supply) r j e = absurd (cc)
+  call_kind (call.QueryBuf type index) (reply.Info info) j e = refl
+  call_kind (call.QueryBuf type index) r j e = refl
+  call_kind (call.PrepareBuf type index given) r j e = plain_kind (prepare_buf index (kind_named given) (planes_brought m given j.names)) r j.queue refl
+  call_kind (call.QBuf type index given) r j e = plain_kind (qbuf index (kind_named given) (planes_brought m given j.names)) r j.queue (used_kind Queue index (planes_brought m given j.names) j.queue)
+  call_kind (call.DqBuf type) (reply.Dequeued d) j e = refl
+  call_kind (call.DqBuf type) r j e = refl
+  call_kind (call.StreamOn type) r j e = plain_kind streamon r j.queue (on_kind j.queue.body)
+  call_kind (call.StreamOff type) reply.Done j e = refl
+  call_kind (call.StreamOff type) r j e = refl
+  call_kind (call.Mmap type index) r j e = plain_kind (mmap index) r j.queue refl
+  call_kind (call.Munmap type index) r j e = plain_kind (munmap index) r j.queue refl
+
+  call_out : (c : Ioctl P A) (result : Result (IoctlReply P A) (Refused P A)) (j : IoctlState) → (after_ioctl m c j result).out ≡ j.out
+  call_out c (Ok r) j = refl
+  call_out c (Err r) j = refl
 
   call_aside : (c : Ioctl P A) (result : Result (IoctlReply P A) (Refused P A)) (j : IoctlState) → is_request (event.Ioctl c) ≡ false → IsAside j (after_ioctl m c j result)
-  call_aside c (Ok r) j e = done_aside c j e
+  call_aside c (Ok r) j e = record { out = refl; kind = call_kind c r j e }
   call_aside c (Err r) j e = same_aside j
 
   -- all but REQBUFS
@@ -107,12 +105,7 @@ module _ {P A : Type 0} (m : P → Plane) where
   event_aside event.Fatal answer.Fatal j n = record { out = refl; kind = refl }
   event_aside e r j n = same_aside j
 
-  -- and REQBUFS
-  request_out : (type : BufferType) (count : ℕ) (kind : Memory) (supply : Vec (PlaneSet P) A) (result : Result (IoctlReply P A) (Refused P A)) (j : IoctlState) → (after_ioctl m (call.ReqBufs type count kind supply) j result).out ≡ j.out
-  request_out type count kind supply (Ok r) j = refl
-  request_out type count kind supply (Err r) j = refl
-
-  pub call_out : (type : BufferType) (count : ℕ) (kind : Memory) (supply : Vec (PlaneSet P) A) (r : QueueReply P A) (j : IoctlState) → (state_after m (event.Ioctl (call.ReqBufs type count kind supply)) r j).out ≡ j.out
-  call_out type count kind supply (answer.Ioctl result) j = request_out type count kind supply result j
-  call_out type count kind supply (answer.Ended result) j = refl
-  call_out type count kind supply answer.Fatal j = refl
+  -- no event changes which planes are out
+  pub event_out : (e : QueueEvent P A) (r : QueueReply P A) (j : IoctlState) → (state_after m e r j).out ≡ j.out
+  event_out (event.Ioctl c) (answer.Ioctl result) j = call_out c result j
+  event_out e r j = refl

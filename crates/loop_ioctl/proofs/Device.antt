@@ -8,12 +8,10 @@ use Rattle.loop_vb2.specs.declared.planes.PlaneSet.{PlaneSet}
 use Rattle.loop_vb2.specs.declared.planes.Shape.{Shape}
 use Rattle.loop_vb2.specs.declared.reason.Errno.{Errno}
 use Rattle.loop_vb2.specs.Buffers.{completed_with, failed_with}
-use Rattle.loop_vb2.specs.Checks.{end_refusal}
 use Rattle.loop_vb2.specs.Effects.{completed, failed, fatal_state}
 use Rattle.loop_vb2.specs.Planes.{number_at, slot_filled, set_by, frame_size}
 use Rattle.loop_vb2.specs.State.{QueueState, Lined}
 use Rattle.loop_vb2.specs.Events.{Happens, refusal_of, complete, fail, fatal}
-use Rattle.loop_vb2.proofs.Ordered.{not_refused}
 use Rattle.loop_ioctl.specs.declared.events.QueueEvent.TheVariants as event
 use Rattle.loop_ioctl.specs.declared.events.QueueReply.TheVariants as answer
 use Rattle.loop_ioctl.specs.Names.{Names, value_with_fd, values_in}
@@ -54,21 +52,19 @@ completed_linked index stamp bytes s out n linked =
 pub failed_linked : (index : ℕ) (stamp : Stamp) (s : QueueState) (out : List (ℕ × Plane)) (n : Names Plane) → IsLinked s.body out n → IsLinked (failed index stamp s).body out n
 failed_linked index stamp s out n linked = still_linked s.body (failed index stamp s).body out n refl (λ (fd : ℕ). kept_changed (failed_with stamp) index s.body.buffers fd (λ b d. refl)) linked
 
-module _ {P : Type 0} (m : P → Plane) where
-  pub complete_reacts : {A : Type 0} (index : ℕ) (stamp : Stamp) (bytes : Vec ℕ A) (result : Result (Unit {0}) Errno) (q q' : Lined P) (table : Fds P) → Happens m q q' (complete index stamp bytes.items (refusal_of result)) → Reacts m (event.Complete index stamp bytes) (answer.Ended result) q table q' table
+module _ {P : Type 0} (A : Type 0) (m : P → Plane) where
+  pub complete_reacts : (index : ℕ) (stamp : Stamp) (bytes : Vec ℕ A) (result : Result (Unit {0}) Errno) (q q' : Lined P) (table : Fds P) → Happens m q q' (complete index stamp bytes.items (refusal_of result)) → Reacts m (event.Complete index stamp bytes) (answer.Ended result) q table q' table
   complete_reacts index stamp bytes (Ok u) q q' table step j stands =
-      let t = step j.queue stands.queue in
-      (not_refused (end_refusal index j.queue.body) t.0, moves m q q' table j (completed index stamp bytes.items j.queue) stands t.1 (completed_linked index stamp bytes.items j.queue j.out j.names stands.linked))
+      let t = step j.queue stands.queue in (t.0, moves m q q' table j (completed index stamp bytes.items j.queue) stands t.1 (completed_linked index stamp bytes.items j.queue j.out j.names stands.linked))
   complete_reacts index stamp bytes (Err e) q q' table step j stands = let t = step j.queue stands.queue in (t.0, stays m q q' table j stands t.1)
 
-  pub fail_reacts : (A : Type 0) (index : ℕ) (stamp : Stamp) (result : Result (Unit {0}) Errno) (q q' : Lined P) (table : Fds P) → Happens m q q' (fail index stamp (refusal_of result)) → Reacts {A = A} m (event.Fail index stamp) (answer.Ended result) q table q' table
-  fail_reacts A index stamp (Ok u) q q' table step j stands =
-      let t = step j.queue stands.queue in
-      (not_refused (end_refusal index j.queue.body) t.0, moves m q q' table j (failed index stamp j.queue) stands t.1 (failed_linked index stamp j.queue j.out j.names stands.linked))
-  fail_reacts A index stamp (Err e) q q' table step j stands = let t = step j.queue stands.queue in (t.0, stays m q q' table j stands t.1)
+  pub fail_reacts : (index : ℕ) (stamp : Stamp) (result : Result (Unit {0}) Errno) (q q' : Lined P) (table : Fds P) → Happens m q q' (fail index stamp (refusal_of result)) → Reacts {A = A} m (event.Fail index stamp) (answer.Ended result) q table q' table
+  fail_reacts index stamp (Ok u) q q' table step j stands =
+      let t = step j.queue stands.queue in (t.0, moves m q q' table j (failed index stamp j.queue) stands t.1 (failed_linked index stamp j.queue j.out j.names stands.linked))
+  fail_reacts index stamp (Err e) q q' table step j stands = let t = step j.queue stands.queue in (t.0, stays m q q' table j stands t.1)
 
-  pub fatal_reacts : (A : Type 0) (q q' : Lined P) (table : Fds P) → Happens m q q' fatal → Reacts {A = A} m event.Fatal answer.Fatal q table q' table
-  fatal_reacts A q q' table step j stands = let t = step j.queue stands.queue in (tt, moves m q q' table j (fatal_state j.queue) stands t.1 stands.linked)
+  pub fatal_reacts : (q q' : Lined P) (table : Fds P) → Happens m q q' fatal → Reacts {A = A} m event.Fatal answer.Fatal q table q' table
+  fatal_reacts q q' table step j stands = let t = step j.queue stands.queue in (t.0, moves m q q' table j (fatal_state j.queue) stands t.1 stands.linked)
 
 pub whole_bytes : {P A : Type 0} (shape : Shape) (e : QueueEvent P A) (index : ℕ) (stamp : Stamp) (bytes : Vec ℕ A) → is_whole shape e ≡ true → e ≡ event.Complete index stamp bytes → length bytes.items ≡ frame_size shape
 whole_bytes shape e index stamp bytes whole is = eqb-true (length bytes.items) (frame_size shape) (sym (ap (is_whole shape) is) ∙ whole)

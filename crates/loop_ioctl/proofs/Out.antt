@@ -1,7 +1,7 @@
 -- Planes that leave a queue: DQBUF and REQBUFS, of queue and table.
-use Rattle.std.proofs.Common.{◌≡◌, ℕ, zero, suc, ◌+◌, ◌==◌, Bool, true, false, not, ◌&&◌, nat_lt, cond, List, [], ◌∷◌, length, map, replicate, Option, Some, None, option_map, Ok, Err, refl, sym, ◌∙◌, ap, subst, arith, ◌⊎◌}
-use Rattle.std.specs.Prelude.{option_to_list, slice_get}
-use Rattle.std.specs.List.{list_all, list_any}
+use Rattle.std.proofs.Common.{◌≡◌, ℕ, zero, suc, ◌+◌, ◌==◌, Bool, true, false, ◌&&◌, nat_lt, cond, List, [], ◌∷◌, length, map, replicate, Option, Some, None, Ok, Err, refl, sym, ◌∙◌, ap, subst, arith}
+use Rattle.std.specs.Prelude.{Vec, option_to_list, slice_get}
+use Rattle.std.specs.List.{list_all}
 use Rattle.std.proofs.lemmas.Bool.{eqb-true}
 use Rattle.loop_plane.specs.Plane.{Plane}
 use Rattle.loop_plane.specs.Fds.{Fds}
@@ -11,25 +11,24 @@ use Rattle.loop_vb2.specs.declared.buffer.Buffer.{Buffer}
 use Rattle.loop_vb2.specs.declared.buffer.Dequeued.{Dequeued}
 use Rattle.loop_vb2.specs.declared.planes.PlaneSet.{PlaneSet}
 use Rattle.loop_vb2.specs.declared.reason.Errno.{Errno}
-use Rattle.loop_vb2.specs.declared.reason.Reason.TheVariants.{Streaming, Mapped, BadSupply, NoMemory}
 use Rattle.loop_vb2.specs.declared.reason.Refused.{Refused}
 use Rattle.loop_vb2.specs.declared.request.Granted.{Granted}
 use Rattle.loop_vb2.specs.Buffers.{changed, handed, dequeued_from}
-use Rattle.loop_vb2.specs.Checks.{is_supply, granted, serves, request_refusal}
-use Rattle.loop_vb2.specs.Effects.{dequeued}
-use Rattle.loop_vb2.specs.Errnos.{errno}
+use Rattle.loop_vb2.specs.Checks.{is_supply, granted, serves, request_checks, request_refusal}
 use Rattle.loop_vb2.specs.Planes.{read_set, read_given}
 use Rattle.loop_vb2.specs.Requests.{grants_or_none, new_buffer, new_buffers, held, left_in, body_requested}
 use Rattle.loop_vb2.specs.State.{Body, Lined}
-use Rattle.loop_vb2.specs.Events.{Happens, read_frame, read_grant, reqbufs, dqbuf}
+use Rattle.loop_vb2.specs.Events.{Happens, MayHappen, read_frame, read_grant, reqbufs, dqbuf}
+use Rattle.loop_ioctl.specs.declared.call.Ioctl.TheVariants as call
 use Rattle.loop_ioctl.specs.declared.call.IoctlReply.TheVariants as reply
 use Rattle.loop_ioctl.specs.Names.{Names, names_in, values_in, values_of, given_back, AreAway, GivesBack}
 use Rattle.loop_ioctl.specs.Attached.{fd_times, values_by_fd, values_held, IsLinked}
-use Rattle.loop_ioctl.specs.Calls.{IoctlState, StandsIoctl, read_names, planes_at, names_left, handed_out, taken_out, TellsFrame}
-use Rattle.loop_ioctl.specs.Parts.{LetsOut, LetsOneOut, Replaces}
+use Rattle.loop_ioctl.specs.Calls.{read_names, planes_at, names_left, handed_out, HandsBack}
+use Rattle.loop_ioctl.specs.Parts.{LetsOut, AppliesAt, AppliesOfAny}
+use Rattle.loop_vb2.proofs.Passing.{Passed, all_passed, true_of}
 use Rattle.loop_ioctl.proofs.Attached.{in_buffers, let_out, last_none, AreOnce, once_same, IsLetOut, given_once, in_more}
 use Rattle.loop_ioctl.proofs.Read.{read_value, values_of_read, back_read, away_read}
-use Rattle.loop_ioctl.proofs.Putting.{stays, passed_here, passed_on, true_of}
+use Rattle.loop_ioctl.proofs.Putting.{stays}
 
 pub gives_one : {T : Type 0} (set : PlaneSet T) (before after : Fds T) → GivesBack (values_in set) before after → GivesBack (values_of (set ∷ [])) before after
 gives_one set before after h = subst (λ vs. GivesBack vs before after) (sym (last_none (values_in set))) h
@@ -104,8 +103,9 @@ out_once bs kind index out before linked =
     (out_count bs kind index (fd_times x out) x) refl (linked x)
 
 module _ {P : Type 0} (m : P → Plane) where
-  pub lets_one_out : (A : Type 0) (answer : Dequeued P) (told : Dequeued P) (kind : Memory) (q q' : Lined P) (a b : Fds P) → kind ≡ q.body.kind → Happens m q q' (dqbuf (read_frame m (Ok answer))) → told ≡ record answer { planes = handed_out None kind answer.planes } → LetsOut kind (option_to_list answer.planes) a b → LetsOneOut {P = P} {A = A} m (Ok (reply.Dequeued told)) q a q' b
-  lets_one_out A answer told kind q q' a b is step tells lets j stands =
+  pub lets_one_out : (A : Type 0) (answer : Dequeued P) (told : Dequeued P) (kind : Memory) (q q' : Lined P) (a b : Fds P) → kind ≡ q.body.kind → Happens m q q' (dqbuf (read_frame m (Ok answer))) → told ≡ record answer { planes = handed_out None kind answer.planes } → LetsOut kind (option_to_list answer.planes) a b
+      → AppliesOfAny {P = P} {A = A} m call.DqBuf (Ok (reply.Dequeued told)) q a q' b
+  lets_one_out A answer told kind q q' a b is step tells lets type j stands =
       let t = step j.queue stands.queue in
       let s = j.queue in
       let k : kind ≡ s.body.kind = is ∙ ap (λ x. x.kind) stands.queue.shown.body in
@@ -117,19 +117,16 @@ module _ {P : Type 0} (m : P → Plane) where
       let read : s.body.kind ≡ DmaBuf → map (read_set m) (option_to_list answer.planes) ≡ hs =
       λ (e : s.body.kind ≡ DmaBuf). list_read m answer.planes ∙ ap option_to_list (t.0.2.2.planes ∙ (handed_all s.body.kind buffer.planes e ∙ sym planes)) in
       let l : IsLeft m s.body.kind hs n j.names b = left m s.body.kind (option_to_list answer.planes) hs n a b j.names stands.names lets_here read (out_once s.body.buffers s.body.kind answer.index j.out j.names stands.linked) in
-      let state : IoctlState = record { queue = dequeued answer.index s; names = names_left s.body.kind hs j.names; out = j.out } in
-      let now : StandsIoctl m q' b state = record { queue = t.1; names = l.names; linked = l.once } in
-      let told_index : told.index ≡ answer.index = ap (λ d. d.index) tells in
-      let frame : TellsFrame m j (record answer { planes = handed_out None s.body.kind answer.planes }) =
-      (t.0.1, (buffer, t.0.2.1, record { sequence = t.0.2.2.sequence; timestamp = t.0.2.2.timestamp; flags = t.0.2.2.flags; used = t.0.2.2.used; planes = refl }, out_read m s.body.kind answer.planes buffer.planes t.0.2.2.planes)) in (
-        (t.0.0, subst (λ d. TellsFrame m j d) (sym (tells ∙ ap (λ x. record answer { planes = handed_out None x answer.planes }) k)) frame),
-        subst (λ f. StandsIoctl m q' b (taken_out f j)) (sym t.0.1) now,
+      subst (λ (d : Dequeued P). AppliesAt {P = P} {A = A} m j (call.DqBuf type) (Ok (reply.Dequeued d)) q' b) (sym (tells ∙ ap (λ x. record answer { planes = handed_out None x answer.planes }) k)) (
+        (
+          (t.0.0, t.0.1, (buffer, t.0.2.1, record { sequence = t.0.2.2.sequence; timestamp = t.0.2.2.timestamp; flags = t.0.2.2.flags; used = t.0.2.2.used; planes = ap (handed s.body.kind) planes })),
+          out_read m s.body.kind answer.planes buffer.planes t.0.2.2.planes ∙ ap (handed_out None s.body.kind) (sym planes),
+        ),
+        record { queue = t.1; names = l.names; linked = l.once },
       )
 
-  pub lets_none_out : {A : Type 0} (r : Refused P A) (e : Errno) (q q' : Lined P) (table : Fds P) → r.errno ≡ e → Happens m q q' (dqbuf (Err e)) → LetsOneOut m (Err r) q table q' table
-  lets_none_out r e q q' table is step j stands =
-      let t = step j.queue stands.queue in
-      (t.0 ∙ ap Some (sym is), stays m q q' table j stands t.1)
+  pub lets_none_out : {A : Type 0} (r : Refused P A) (e : Errno) (q q' : Lined P) (table : Fds P) → r.errno ≡ e → HandsBack None [] r → Happens m q q' (dqbuf (Err e)) → AppliesOfAny m call.DqBuf (Err r) q table q' table
+  lets_none_out r e q q' table is back step type j stands = let t = step j.queue stands.queue in ((t.0 ∙ ap Some (sym is), back), stays m q q' table j stands t.1)
 
 -- ---- REQBUFS
 
@@ -145,18 +142,13 @@ no_supply : (t u : Bool) (sets : List (PlaneSet Plane)) → cond (t && false) u 
 no_supply true u sets e = no_sets sets e
 no_supply false u sets e = no_sets sets e
 
-supply_passed : (a b t : Bool) → cond a (Some Streaming) (cond b (Some Mapped) (cond (not t) (Some BadSupply) None)) ≡ None → t ≡ true
-supply_passed a b t e =
-    let e1 : cond b (Some Mapped) (cond (not t) (Some BadSupply) None) ≡ None = passed_on a Streaming (cond b (Some Mapped) (cond (not t) (Some BadSupply) None)) e in
-    let e2 : cond (not t) (Some BadSupply) None ≡ None = passed_on b Mapped (cond (not t) (Some BadSupply) None) e1 in
-    true_of t (passed_here (not t) BadSupply None e2)
-
 -- a new queue of DMA-BUF memory has no planes yet
 new_none : (count : ℕ) (kind : Memory) (sets : List (PlaneSet Plane)) (b : Body Plane) → request_refusal count kind sets b ≡ None → (fd : ℕ) → fd_times fd (values_held kind (body_requested count kind sets b).buffers) ≡ 0
 new_none count Mmap sets b e fd = refl
 new_none count UserPtr sets b e fd = refl
 new_none count DmaBuf sets b e fd =
-    let serves_it : is_supply b.shape b.min_queued count DmaBuf sets ≡ true = supply_passed (nat_lt 0 count && b.streaming) (list_any (λ x. x.mapped) b.buffers) (is_supply b.shape b.min_queued count DmaBuf sets) e in
+    let p : Passed (request_checks count DmaBuf sets b) = all_passed (request_checks count DmaBuf sets b) e in
+    let serves_it : is_supply b.shape b.min_queued count DmaBuf sets ≡ true = true_of (is_supply b.shape b.min_queued count DmaBuf sets) p.1.1.0 in
     let none : sets ≡ [] = no_supply (nat_lt 0 count) ((length sets == granted b.min_queued count) && list_all (serves b.shape) sets) sets serves_it in
     ap (λ l. in_buffers fd (new_buffers (grants_or_none b.min_queued count) l)) none ∙ none_in_new (grants_or_none b.min_queued count) fd
 
@@ -186,25 +178,25 @@ out_all m UserPtr sets bs e = e
 out_all m DmaBuf sets bs e = refl
 
 module _ {P A : Type 0} (m : P → Plane) where
-  pub replaces : (g told : Granted P A) (own kind : Memory) (count : ℕ) (supply : List (PlaneSet P)) (q q' : Lined P) (a b : Fds P) → own ≡ q.body.kind → Happens m q q' (reqbufs count kind (map (read_set m) supply) (read_grant m (Ok g))) → told.count ≡ g.count → told.left.items ≡ handed_out [] own g.left.items → LetsOut own g.left.items a b → Replaces {P = P} {A = A} m count kind supply (Ok (reply.Granted told)) q a q' b
-  replaces g told own kind count supply q q' a b is step counts leaves lets j stands =
+  pub replaces : (g told : Granted P A) (own kind : Memory) (count : ℕ) (supply : Vec (PlaneSet P) A) (q q' : Lined P) (a b : Fds P) → own ≡ q.body.kind → Happens m q q' (reqbufs count kind (map (read_set m) supply.items) (read_grant m (Ok g))) → told.count ≡ g.count → told.left.items ≡ handed_out [] own g.left.items → LetsOut own g.left.items a b
+      → AppliesOfAny m (λ type. call.ReqBufs type count kind supply) (Ok (reply.Granted told)) q a q' b
+  replaces g told own kind count supply q q' a b is step counts leaves lets type j stands =
       let t = step j.queue stands.queue in
       let s = j.queue in
-      let sets = map (read_set m) supply in
       let k : own ≡ s.body.kind = is ∙ ap (λ x. x.kind) stands.queue.shown.body in
       let lets_here : LetsOut s.body.kind g.left.items a b = subst (λ x. LetsOut x g.left.items a b) k lets in
       let l : IsLeft m s.body.kind (held s.body.buffers) (λ x. fd_times x j.out) j.names b =
       left m s.body.kind g.left.items (held s.body.buffers) (λ x. fd_times x j.out) a b j.names stands.names lets_here (λ (e : s.body.kind ≡ DmaBuf). t.0.2 ∙ left_all s.body.kind s.body.buffers e) (old_once s.body.buffers s.body.kind j.out j.names stands.linked) in
       let after = names_left s.body.kind (held s.body.buffers) j.names in (
-        (t.0.0, (counts ∙ t.0.1, ap (map (read_set m)) (leaves ∙ ap (λ x. handed_out [] x g.left.items) k) ∙ out_all m s.body.kind g.left.items s.body.buffers t.0.2)),
+        ((t.0.0, counts ∙ t.0.1, refl), ap (map (read_set m)) (leaves ∙ ap (λ x. handed_out [] x g.left.items) k) ∙ out_all m s.body.kind g.left.items s.body.buffers t.0.2),
         record {
           queue = t.1;
           names = l.names;
-          linked = new_linked count kind sets s.body j.out after t.0.0 l.once;
+          linked = new_linked count kind (map (read_set m) supply.items) s.body j.out after t.0.0 l.once;
         },
       )
 
-  pub replaces_not : (r r' : Refused P A) (kind : Memory) (count : ℕ) (supply : List (PlaneSet P)) (q q' : Lined P) (table : Fds P) → r'.errno ≡ r.errno → Happens m q q' (reqbufs count kind (map (read_set m) supply) (Err r.errno)) → Replaces {P = P} {A = A} m count kind supply (Err r') q table q' table
-  replaces_not r r' kind count supply q q' table is step j stands =
-      let t = step j.queue stands.queue in
-      (subst (λ x. (option_map errno (request_refusal count kind (map (read_set m) supply) j.queue.body) ≡ Some x) ⊎ ((request_refusal count kind (map (read_set m) supply) j.queue.body ≡ None) × (x ≡ errno NoMemory))) (sym is) t.0, stays m q q' table j stands t.1)
+  pub replaces_not : (r r' : Refused P A) (kind : Memory) (count : ℕ) (supply : Vec (PlaneSet P) A) (q q' : Lined P) (table : Fds P) → r'.errno ≡ r.errno → HandsBack None supply.items r' → Happens m q q' (reqbufs count kind (map (read_set m) supply.items) (Err r.errno))
+      → AppliesOfAny m (λ type. call.ReqBufs type count kind supply) (Err r') q table q' table
+  replaces_not r r' kind count supply q q' table is back step type j stands =
+      let t = step j.queue stands.queue in ((subst (λ x. MayHappen j.queue (reqbufs count kind (map (read_set m) supply.items) (Err x))) (sym is) t.0, back), stays m q q' table j stands t.1)

@@ -1,7 +1,6 @@
--- QBUF and PREPARE_BUF, of queue and table.
-use Rattle.std.proofs.Common.{◌≡◌, ℕ, suc, ◌+◌, ◌<◌, Bool, true, false, not, ◌||◌, nat_le, cond, List, [], ◌∷◌, length, map, Option, Some, None, option_map, Ok, Err, refl, sym, ◌∙◌, ap, subst, arith}
-use Rattle.std.specs.Prelude.{Result, OnErr}
-use Rattle.std.proofs.lemmas.Bool.Decides.{nat_tests}
+-- Steps of queue and table: calls that answer nothing but Done, QBUF and PREPARE_BUF among them.
+use Rattle.std.proofs.Common.{◌≡◌, ℕ, suc, ◌+◌, ◌<◌, true, false, not, ◌||◌, nat_le, cond, List, [], ◌∷◌, length, map, Option, Some, None, Ok, Err, refl, sym, ◌∙◌, ap, subst, arith}
+use Rattle.std.specs.Prelude.{Result, OnErr, IfOk, IfErr}
 use Rattle.slab.specs.Slab.{SameValues}
 use Rattle.loop_plane.specs.Plane.{Plane}
 use Rattle.loop_plane.specs.Fds.{Fds}
@@ -11,48 +10,37 @@ use Rattle.loop_vb2.specs.declared.buffer.Buffer.{Buffer}
 use Rattle.loop_vb2.specs.declared.planes.PlaneSet.{PlaneSet}
 use Rattle.loop_vb2.specs.declared.reason.Errno.{Errno}
 use Rattle.loop_vb2.specs.declared.reason.Reason.{Reason}
-use Rattle.loop_vb2.specs.declared.reason.Reason.TheVariants.{BadIndex, BadMemory, BadPlanes}
+use Rattle.loop_vb2.specs.declared.reason.Reason.TheVariants.{BadIndex, BadMemory}
 use Rattle.loop_vb2.specs.declared.reason.Refused.{Refused}
 use Rattle.loop_vb2.specs.Errnos.{errno}
-use Rattle.loop_vb2.specs.Planes.{read_set, read_given, same_memory, are_kind, has_count}
+use Rattle.loop_vb2.specs.Planes.{read_set, read_given, same_memory, are_kind, misfits}
 use Rattle.loop_vb2.specs.Buffers.{holds_at, woken, queued_with, prepared_with, read_buffer}
-use Rattle.loop_vb2.specs.Checks.{first_reason, prepare_late_checks, queue_late_checks}
-use Rattle.loop_vb2.specs.Effects.{device_runs, awake, settled, with_buffer}
+use Rattle.loop_vb2.specs.Checks.{prepare_checks, queue_checks, prepare_refusal, queue_refusal}
+use Rattle.loop_vb2.specs.Effects.{device_runs, awake, settled, with_buffer, prepared, queued}
 use Rattle.loop_vb2.specs.State.{Body, QueueState, Lined, StandsQueue}
-use Rattle.loop_vb2.specs.Events.{MayHappen, Happens, after_event, refusal_of, refusal_in}
+use Rattle.loop_vb2.specs.Events.{Event, MayHappen, Happens, after_event, refusal_in, prepare_buf, qbuf}
 use Rattle.loop_vb2.proofs.Ordered.{not_refused}
+use Rattle.loop_vb2.proofs.Passing.{Passed, all_passed, true_of}
+use Rattle.loop_vb2.proofs.Steps.{first_false, prepare_within, prepare_empty, queue_within, queue_empty}
+use Rattle.loop_ioctl.specs.declared.call.BufferMemory.{BufferMemory}
 use Rattle.loop_ioctl.specs.declared.call.BufferMemory.TheVariants as memory
+use Rattle.loop_ioctl.specs.declared.call.BufferType.{BufferType}
+use Rattle.loop_ioctl.specs.declared.call.Ioctl.{Ioctl}
+use Rattle.loop_ioctl.specs.declared.call.Ioctl.TheVariants as call
+use Rattle.loop_ioctl.specs.declared.call.IoctlReply.{IoctlReply}
+use Rattle.loop_ioctl.specs.declared.call.IoctlReply.TheVariants as reply
 use Rattle.loop_ioctl.specs.declared.call.PlaneFds.{PlaneFds}
 use Rattle.loop_ioctl.specs.declared.put.Use.{Use}
 use Rattle.loop_ioctl.specs.declared.put.Use.TheVariants.{Prepare, Queue}
 use Rattle.loop_ioctl.specs.Names.{Names, names_in, or_else, set_refusal, set_named, set_taken, values_in, GivesIfRefused, TakesSet}
 use Rattle.loop_ioctl.specs.Attached.{fd_times, values_held, IsOnce, IsLinked}
-use Rattle.loop_ioctl.specs.Calls.{IoctlState, StandsIoctl, read_names, early_refusal, use_refusal, used, put_refusal}
-use Rattle.loop_ioctl.specs.Parts.{use_event, either, JudgedBack, PutsNamed, Puts}
+use Rattle.loop_ioctl.specs.Calls.{IoctlState, StandsIoctl, read_names, planes_of, kind_named, planes_brought, plain_event, call_event, MayHappenIf, after_event_if, early_refusal, memory_refusal, fds_refusal, names_taken, names_after, planes_given, supply_given, HandsBack, HandsOut, IsAnsweredFor}
+use Rattle.loop_ioctl.specs.Parts.{use_event, use_call, AppliesAt, AppliesTyped, AppliesOfAny}
 use Rattle.loop_ioctl.proofs.Names.{same_names, same_values, set_undone}
 use Rattle.loop_ioctl.proofs.Attached.{in_buffer, in_buffers, kept_changed, kept_mapped, added, AreOnce, once_same, set_once, last_none}
 use Rattle.loop_ioctl.proofs.Read.{set_refusal_read, set_named_read, set_taken_read}
 
 -- ---- checks that have passed
-
-pub passed_here : (test : Bool) (reason : Reason) (rest : Option Reason) → cond test (Some reason) rest ≡ None → test ≡ false
-passed_here true reason rest e = absurd (cc)
-passed_here false reason rest e = refl
-
-pub passed_on : (test : Bool) (reason : Reason) (rest : Option Reason) → cond test (Some reason) rest ≡ None → rest ≡ None
-passed_on true reason rest e = absurd (cc)
-passed_on false reason rest e = e
-
-first_false : (a b : Bool) → (a || b) ≡ false → a ≡ false
-first_false true b e = e
-first_false false b e = refl
-
-pub true_of : (b : Bool) → not b ≡ false → b ≡ true
-true_of true e = refl
-true_of false e = absurd (cc)
-
-above : (n i : ℕ) → nat_le n i ≡ false → i < n
-above n i e = grind (arith, nat_tests)
 
 pub same_kind : (k l : Memory) → same_memory k l ≡ true → k ≡ l
 same_kind Mmap Mmap e = refl
@@ -60,28 +48,35 @@ same_kind UserPtr UserPtr e = refl
 same_kind DmaBuf DmaBuf e = refl
 same_kind k l e = absurd (cc)
 
+own_kind : (kind : Memory) (b : Body Plane) (set : PlaneSet Plane) → (not (same_memory kind b.kind) || misfits (are_kind b.kind) (Some set)) ≡ false → b.kind ≡ kind
+own_kind kind b set e = sym (same_kind kind b.kind (true_of (same_memory kind b.kind) (first_false (not (same_memory kind b.kind)) (misfits (are_kind b.kind) (Some set)) e)))
+
+-- PREPARE_BUF or QBUF: why it is refused, and the state where it isn't
+abbrev pub use_refusal : Use → ℕ → Memory → Option (PlaneSet Plane) → Body Plane → Option Reason
+use_refusal Prepare index kind given b = prepare_refusal index kind given b
+use_refusal Queue index kind given b = queue_refusal index kind given b
+
+abbrev pub used : Use → ℕ → Option (PlaneSet Plane) → QueueState → QueueState
+used Prepare index given s = prepared index given s
+used Queue index given s = queued index given s
+
 -- what QBUF and PREPARE_BUF of given planes have found where they aren't refused
 pub record IsFit (index : ℕ) (k : Memory) (b : Body Plane) : Type 0 where
   pub within : index < length b.buffers
   pub kind : b.kind ≡ k
   pub empty : holds_at b.buffers index ≡ false
 
-fit_of : (index : ℕ) (k : Memory) (set : PlaneSet Plane) (b : Body Plane) (late : Option Reason) → cond (nat_le (length b.buffers) index) (Some BadIndex) (cond (not (same_memory k b.kind) || not (are_kind b.kind set)) (Some BadMemory) (cond (holds_at b.buffers index || not (has_count b.shape.count set)) (Some BadPlanes) late)) ≡ None → IsFit index k b
-fit_of index k set b late e =
-    let t1 = nat_le (length b.buffers) index in
-    let t2 = not (same_memory k b.kind) || not (are_kind b.kind set) in
-    let t3 = holds_at b.buffers index || not (has_count b.shape.count set) in
-    let e1 : cond t2 (Some BadMemory) (cond t3 (Some BadPlanes) late) ≡ None = passed_on t1 BadIndex (cond t2 (Some BadMemory) (cond t3 (Some BadPlanes) late)) e in
-    let e2 : cond t3 (Some BadPlanes) late ≡ None = passed_on t2 BadMemory (cond t3 (Some BadPlanes) late) e1 in
-    record {
-      within = above (length b.buffers) index (passed_here t1 BadIndex (cond t2 (Some BadMemory) (cond t3 (Some BadPlanes) late)) e);
-      kind = sym (same_kind k b.kind (true_of (same_memory k b.kind) (first_false (not (same_memory k b.kind)) (not (are_kind b.kind set)) (passed_here t2 BadMemory (cond t3 (Some BadPlanes) late) e1))));
-      empty = first_false (holds_at b.buffers index) (not (has_count b.shape.count set)) (passed_here t3 BadPlanes late e2);
-    }
-
 pub fit : (way : Use) (index : ℕ) (kind : Memory) (set : PlaneSet Plane) (b : Body Plane) → use_refusal way index kind (Some set) b ≡ None → IsFit index kind b
-fit Prepare index kind set b e = fit_of index kind set b (first_reason (prepare_late_checks index (Some set) b)) e
-fit Queue index kind set b e = fit_of index kind set b (first_reason (queue_late_checks index (Some set) b)) e
+fit Prepare index kind set b e = let p : Passed (prepare_checks index kind (Some set) b) = all_passed (prepare_checks index kind (Some set) b) e in record {
+  within = prepare_within index kind (Some set) b e;
+  kind = own_kind kind b set p.1.0;
+  empty = prepare_empty index kind set b e;
+}
+fit Queue index kind set b e = let p : Passed (queue_checks index kind (Some set) b) = all_passed (queue_checks index kind (Some set) b) e in record {
+  within = queue_within index kind (Some set) b e;
+  kind = own_kind kind b set p.1.0;
+  empty = queue_empty index kind set b e;
+}
 
 -- ---- the fds of a queue through such a call
 
@@ -150,6 +145,14 @@ fds_linked way index named s out n taken e linked =
 
 -- ---- steps of queue and table
 
+pub if_ok : {U E X : Type 0} (result : Result U E) → X → IfOk result (λ r. X)
+if_ok (Ok r) x = x
+if_ok (Err e) x = tt
+
+pub if_err : {U E X : Type 0} (result : Result U E) → X → IfErr result (λ r. X)
+if_err (Ok r) x = tt
+if_err (Err e) x = x
+
 module _ {P : Type 0} (m : P → Plane) where
   -- the queue has moved on, and the table is as it was
   pub moves : (q q' : Lined P) (table : Fds P) (j : IoctlState) (t : QueueState) → StandsIoctl m q table j → StandsQueue m q' t → IsLinked t.body j.out j.names → StandsIoctl m q' table (record j { queue = t })
@@ -158,43 +161,84 @@ module _ {P : Type 0} (m : P → Plane) where
   pub stays : (q q' : Lined P) (table : Fds P) (j : IoctlState) → StandsIoctl m q table j → StandsQueue m q' j.queue → StandsIoctl m q' table j
   stays q q' table j stands new = record { queue = new; names = stands.names; linked = stands.linked }
 
-  pub same_table : (q : Lined P) (table table' : Fds P) (j : IoctlState) → names_in table' ≡ names_in table → StandsIoctl m q table j → StandsIoctl m q table' j
+  same_table : (q : Lined P) (table table' : Fds P) (j : IoctlState) → names_in table' ≡ names_in table → StandsIoctl m q table j → StandsIoctl m q table' j
   same_table q table table' j e stands = record { queue = stands.queue; names = stands.names ∙ ap (read_names m) (sym e); linked = stands.linked }
 
-  -- what such an event says
-  judged_by : (way : Use) (index : ℕ) (kind : Memory) (given : Option (PlaneSet Plane)) (r : Option Errno) (s : QueueState) → MayHappen s (use_event way index kind given r) → option_map errno (use_refusal way index kind given s.body) ≡ r
-  judged_by Prepare index kind given r s h = h
-  judged_by Queue index kind given r s h = h
+-- ---- calls that answer nothing but Done
 
-  used_by : (way : Use) (index : ℕ) (kind : Memory) (given : Option (PlaneSet Plane)) (q : Lined P) (s : QueueState) → StandsQueue m q (after_event s (use_event way index kind given None)) → StandsQueue m q (used way index given s)
-  used_by Prepare index kind given q s h = h
-  used_by Queue index kind given q s h = h
+module _ {P A : Type 0} (m : P → Plane) where
+  -- such a call is this event, which leaves each fd attached
+  pub record IsPlain (c : Ioctl P A) (j : IoctlState) (event : Option Errno → Event) : Type 0 where
+    pub passes : fds_refusal c j ≡ None
+    pub is : (result : Result (IoctlReply P A) (Refused P A)) → call_event m c result j ≡ plain_event event result
+    pub left : (e : Errno) → after_event j.queue (event (Some e)) ≡ j.queue
+    pub linked : (r : IoctlReply P A) → MayHappen j.queue (event None) → IsLinked (after_event j.queue (event None)).body j.out (names_after c j r)
 
-  left_by : (way : Use) (index : ℕ) (kind : Memory) (given : Option (PlaneSet Plane)) (e : Errno) (q : Lined P) (s : QueueState) → StandsQueue m q (after_event s (use_event way index kind given (Some e))) → StandsQueue m q s
-  left_by Prepare index kind given e q s h = h
-  left_by Queue index kind given e q s h = h
+  -- in a state: it is answered so, and the queue and a table that names this stand for the state after it
+  pub plain_step : (c : Ioctl P A) (j : IoctlState) (event : Option Errno → Event) → IsPlain c j event → (result : Result (IoctlReply P A) (Refused P A)) (q' : Lined P) (t' : Fds P)
+      → MayHappen j.queue (event (refusal_in result)) × StandsQueue m q' (after_event j.queue (event (refusal_in result))) → IfOk result (λ r. r ≡ reply.Done) → IfErr result (HandsBack (planes_given c) (supply_given c))
+      → IfOk result (λ r. names_after c j r ≡ read_names m (names_in t')) → IfErr result (λ r. j.names ≡ read_names m (names_in t')) → IsLinked j.queue.body j.out j.names
+      → AppliesAt m j c result q' t'
+  plain_step c j event is (Ok r) q' t' step done back names still linked =
+      let told : call_event m c (Ok r) j ≡ Some (event None) = ap (λ x. call_event m c (Ok x) j) done ∙ is.is (Ok reply.Done) in (
+        (
+          subst (λ why. IsAnsweredFor m why c j (Ok r)) (sym is.passes) (subst (λ o. MayHappenIf j.queue o) (sym told) step.0),
+          subst (λ x. HandsOut m j x) (sym done) tt,
+        ),
+        record {
+          queue = subst (λ o. StandsQueue m q' (after_event_if j.queue o)) (sym told) step.1;
+          names = names;
+          linked = subst (λ o. IsLinked (after_event_if j.queue o).body j.out (names_after c j r)) (sym told) (is.linked r step.0);
+        },
+      )
+  plain_step c j event is (Err r) q' t' step done back names still linked = (
+    (subst (λ why. IsAnsweredFor m why c j (Err r)) (sym is.passes) (subst (λ o. MayHappenIf j.queue o) (sym (is.is (Err r))) step.0), back),
+    record { queue = subst (λ s. StandsQueue m q' s) (is.left r.errno) step.1; names = still; linked = linked },
+  )
 
-  -- a call that leaves the table
-  pub puts_plain : {U A : Type 0} (result : Result U (Refused P A)) (way : Use) (index : ℕ) (kind : Memory) (given : Option (PlaneSet Plane)) (q q' : Lined P) (table : Fds P) → Happens m q q' (use_event way index kind given (refusal_in result)) → ((s : QueueState) (out : List (ℕ × Plane)) (n : Names Plane) → use_refusal way index kind given s.body ≡ None → IsLinked s.body out n → IsLinked (used way index given s).body out n) → (j : IoctlState) → StandsIoctl m q table j → JudgedBack (use_refusal way index kind given j.queue.body) result × StandsIoctl m q' table (either result (record j { queue = used way index given j.queue }) j)
-  puts_plain (Ok u) way index kind given q q' table step links j stands =
-      let t = step j.queue stands.queue in
-      let passes = not_refused (use_refusal way index kind given j.queue.body) (judged_by way index kind given None j.queue t.0) in
-      (passes, moves q q' table j (used way index given j.queue) stands (used_by way index kind given q' j.queue t.1) (links j.queue j.out j.names passes stands.linked))
-  puts_plain (Err r) way index kind given q q' table step links j stands =
-      let t = step j.queue stands.queue in
-      (judged_by way index kind given (Some r.errno) j.queue t.0, stays q q' table j stands (left_by way index kind given r.errno q' j.queue t.1))
+  -- and leaves the table
+  pub plain_applies : (c : Ioctl P A) (event : Option Errno → Event) (q q' : Lined P) (table : Fds P) (result : Result (IoctlReply P A) (Refused P A)) → ((j : IoctlState) → StandsIoctl m q table j → IsPlain c j event) → ((j : IoctlState) (r : IoctlReply P A) → names_after c j r ≡ j.names)
+      → Happens m q q' (event (refusal_in result)) → IfOk result (λ r. r ≡ reply.Done) → IfErr result (HandsBack (planes_given c) (supply_given c)) → AppliesTyped m c result q table q' table
+  plain_applies c event q q' table result is same step done back j stands =
+      plain_step c j event (is j stands) result q' table (step j.queue stands.queue) done back (by result) (if_err result stands.names) stands.linked
+    where
+      by : (x : Result (IoctlReply P A) (Refused P A)) → IfOk x (λ r. names_after c j r ≡ read_names m (names_in table))
+      by (Ok r) = same j r ∙ stands.names
+      by (Err r) = tt
 
-  pub puts_mmap : {U A : Type 0} (result : Result U (Refused P A)) (way : Use) (index : ℕ) (q q' : Lined P) (table : Fds P) → Happens m q q' (use_event way index Mmap None (refusal_in result)) → Puts m way index memory.Mmap result q table q' table
-  puts_mmap result way index q q' table step = puts_plain result way index Mmap None q q' table step (none_links way index Mmap)
+  -- ---- QBUF and PREPARE_BUF
 
-  pub puts_user : {U A : Type 0} (result : Result U (Refused P A)) (way : Use) (index : ℕ) (given : Option (PlaneSet P)) (q q' : Lined P) (table : Fds P) → Happens m q q' (use_event way index UserPtr (read_given m given) (refusal_in result)) → Puts m way index (memory.UserPtr given) result q table q' table
-  puts_user result way index given q q' table step = puts_plain result way index UserPtr (read_given m given) q q' table step (user_links way index (read_given m given))
+  -- in a state where the fds that it names pass
+  use_step : (way : Use) (index : ℕ) (given : BufferMemory P) (type : BufferType) (j : IoctlState) (result : Result (IoctlReply P A) (Refused P A)) (q' : Lined P) (t' : Fds P) → memory_refusal index given j ≡ None
+      → (use_refusal way index (kind_named given) (planes_brought m given j.names) j.queue.body ≡ None → IsLinked (used way index (planes_brought m given j.names) j.queue).body j.out (names_taken given j.names))
+      → MayHappen j.queue (use_event way index (kind_named given) (planes_brought m given j.names) (refusal_in result)) × StandsQueue m q' (after_event j.queue (use_event way index (kind_named given) (planes_brought m given j.names) (refusal_in result)))
+      → IfOk result (λ r. r ≡ reply.Done) → IfErr result (HandsBack (planes_of given) []) → IfOk result (λ r. names_taken given j.names ≡ read_names m (names_in t')) → IfErr result (λ r. j.names ≡ read_names m (names_in t')) → IsLinked j.queue.body j.out j.names
+      → AppliesAt m j (use_call way index given type) result q' t'
+  use_step Prepare index given type j result q' t' e links step done back names still linked =
+      let planes = planes_brought m given j.names in
+      plain_step (call.PrepareBuf type index given) j (prepare_buf index (kind_named given) planes)
+      (record { passes = e; is = λ r. refl; left = λ x. refl; linked = λ r may. links (not_refused (prepare_refusal index (kind_named given) planes j.queue.body) may) }) result q' t' step done back names still linked
+  use_step Queue index given type j result q' t' e links step done back names still linked =
+      let planes = planes_brought m given j.names in
+      plain_step (call.QBuf type index given) j (qbuf index (kind_named given) planes)
+      (record { passes = e; is = λ r. refl; left = λ x. refl; linked = λ r may. links (not_refused (queue_refusal index (kind_named given) planes j.queue.body) may) }) result q' t' step done back names still linked
 
-  pub puts_held : {U A : Type 0} (result : Result U (Refused P A)) (way : Use) (index : ℕ) (q q' : Lined P) (table : Fds P) → Happens m q q' (use_event way index DmaBuf None (refusal_in result)) → Puts m way index (memory.DmaBuf None) result q table q' table
-  puts_held result way index q q' table step = puts_plain result way index DmaBuf None q q' table step (none_links way index DmaBuf)
+  -- with memory that no fd names
+  pub uses_mmap : (way : Use) (index : ℕ) (result : Result (IoctlReply P A) (Refused P A)) (q q' : Lined P) (table : Fds P) → Happens m q q' (use_event way index Mmap None (refusal_in result)) → IfOk result (λ r. r ≡ reply.Done) → IfErr result (HandsBack None []) → AppliesOfAny m (use_call way index memory.Mmap) result q table q' table
+  uses_mmap way index result q q' table step done back type j stands =
+      use_step way index memory.Mmap type j result q' table refl (λ e. none_links way index Mmap j.queue j.out j.names e stands.linked) (step j.queue stands.queue) done back (if_ok result stands.names) (if_err result stands.names) stands.linked
 
-  -- ---- planes by fd
+  pub uses_user : (way : Use) (index : ℕ) (given : Option (PlaneSet P)) (result : Result (IoctlReply P A) (Refused P A)) (q q' : Lined P) (table : Fds P) → Happens m q q' (use_event way index UserPtr (read_given m given) (refusal_in result)) → IfOk result (λ r. r ≡ reply.Done) → IfErr result (HandsBack given []) → AppliesOfAny m (use_call way index (memory.UserPtr given)) result q table q' table
+  uses_user way index given result q q' table step done back type j stands =
+      use_step way index (memory.UserPtr given) type j result q' table refl (λ e. user_links way index (read_given m given) j.queue j.out j.names e stands.linked) (step j.queue stands.queue) done back (if_ok result stands.names) (if_err result stands.names) stands.linked
 
+  pub uses_held : (way : Use) (index : ℕ) (result : Result (IoctlReply P A) (Refused P A)) (q q' : Lined P) (table : Fds P) → Happens m q q' (use_event way index DmaBuf None (refusal_in result)) → IfOk result (λ r. r ≡ reply.Done) → IfErr result (HandsBack None []) → AppliesOfAny m (use_call way index (memory.DmaBuf None)) result q table q' table
+  uses_held way index result q q' table step done back type j stands =
+      use_step way index (memory.DmaBuf None) type j result q' table refl (λ e. none_links way index DmaBuf j.queue j.out j.names e stands.linked) (step j.queue stands.queue) done back (if_ok result stands.names) (if_err result stands.names) stands.linked
+
+-- ---- planes by fd
+
+module _ {P : Type 0} (m : P → Plane) where
   length_read : (bs : List (Buffer P)) → length (map (read_buffer m) bs) ≡ length bs
   length_read [] = refl
   length_read (b ∷ bs) = ap (λ n. suc n) (length_read bs)
@@ -207,53 +251,40 @@ module _ {P : Type 0} (m : P → Plane) where
   set_read : (q : Lined P) (table : Fds P) (named : PlaneFds) (j : IoctlState) → StandsIoctl m q table j → set_refusal named j.names ≡ set_refusal named (names_in table)
   set_read q table named j stands = ap (set_refusal named) stands.names ∙ set_refusal_read m named (names_in table)
 
-  pub named_early : (U : Type 0) (way : Use) (index : ℕ) (named : PlaneFds) (reason : Reason) (e : Errno) (q : Lined P) (table : Fds P) → early_refusal index q.body ≡ Some reason → e ≡ errno reason → PutsNamed m {U = U} way index named (Err e) q table q table
-  named_early U way index named reason e q table early is j stands = (
-    ap (λ r. option_map errno (or_else r (or_else (set_refusal named j.names) (use_refusal way index DmaBuf (Some (set_named named j.names)) j.queue.body)))) (early_read q table index j stands ∙ early) ∙ ap Some (sym is),
-    stands,
-  )
+  set_is : (named : PlaneFds) (set : PlaneSet P) (q : Lined P) (table : Fds P) (j : IoctlState) → StandsIoctl m q table j → set ≡ set_named named (names_in table) → read_set m set ≡ set_named named j.names
+  set_is named set q table j stands is = sym (ap (set_named named) stands.names ∙ (set_named_read m named (names_in table) ∙ ap (read_set m) (sym is)))
 
-  pub named_fails : (U : Type 0) (way : Use) (index : ℕ) (named : PlaneFds) (reason : Reason) (e : Errno) (q : Lined P) (table table' : Fds P) → early_refusal index q.body ≡ None → TakesSet named (Err reason) table table' → e ≡ errno reason → PutsNamed m {U = U} way index named (Err e) q table q table'
-  named_fails U way index named reason e q table table' early fails is j stands =
-      let last = use_refusal way index DmaBuf (Some (set_named named j.names)) j.queue.body in (
-        ap (λ r. option_map errno (or_else r (or_else (set_refusal named j.names) last))) (early_read q table index j stands ∙ early)
-            ∙ (ap (λ r. option_map errno (or_else r last)) (set_read q table named j stands ∙ fails.0) ∙ ap Some (sym is)),
-        same_table q table table' j (same_names table table' fails.1) stands,
-      )
+module _ {P A : Type 0} (m : P → Plane) where
+  -- it is refused before it comes to the queue
+  named_refused : (way : Use) (index : ℕ) (named : PlaneFds) (reason : Reason) (r : Refused P A) (q : Lined P) (t t' : Fds P) → ((j : IoctlState) → StandsIoctl m q t j → memory_refusal {P = P} index (memory.DmaBuf (Some named)) j ≡ Some reason) → r.errno ≡ errno reason → HandsBack None [] r → names_in t' ≡ names_in t
+      → AppliesOfAny m (use_call way index (memory.DmaBuf (Some named))) (Err r) q t q t'
+  named_refused Prepare index named reason r q t t' why is back same type j stands = ((subst (λ w. IsAnsweredFor m w (call.PrepareBuf type index (memory.DmaBuf (Some named))) j (Err r)) (sym (why j stands)) (ap Some is), back), same_table m q t t' j same stands)
+  named_refused Queue index named reason r q t t' why is back same type j stands = ((subst (λ w. IsAnsweredFor m w (call.QBuf type index (memory.DmaBuf (Some named))) j (Err r)) (sym (why j stands)) (ap Some is), back), same_table m q t t' j same stands)
 
-  set_is : (named : PlaneFds) (set : PlaneSet P) (q : Lined P) (table : Fds P) (j : IoctlState) → StandsIoctl m q table j → set ≡ set_named named (names_in table) → set_named named j.names ≡ read_set m set
-  set_is named set q table j stands is = ap (set_named named) stands.names ∙ (set_named_read m named (names_in table) ∙ ap (read_set m) (sym is))
+  pub named_early : (way : Use) (index : ℕ) (named : PlaneFds) (reason : Reason) (r : Refused P A) (q : Lined P) (table : Fds P) → early_refusal index q.body ≡ Some reason → r.errno ≡ errno reason → HandsBack None [] r → AppliesOfAny m (use_call way index (memory.DmaBuf (Some named))) (Err r) q table q table
+  named_early way index named reason r q table early is back = named_refused way index named reason r q table table (λ j stands. ap (λ x. or_else x (set_refusal named j.names)) (early_read m q table index j stands ∙ early)) is back refl
 
-  put_read : (way : Use) (index : ℕ) (named : PlaneFds) (set : PlaneSet P) (q : Lined P) (table : Fds P) (j : IoctlState) → StandsIoctl m q table j → early_refusal index q.body ≡ None → set_refusal named (names_in table) ≡ None → set ≡ set_named named (names_in table) → put_refusal m way index (memory.DmaBuf (Some named)) j ≡ use_refusal way index DmaBuf (Some (read_set m set)) j.queue.body
-  put_read way index named set q table j stands early taken is =
-      let last = use_refusal way index DmaBuf (Some (set_named named j.names)) j.queue.body in
-      ap (λ r. or_else r (or_else (set_refusal named j.names) last)) (early_read q table index j stands ∙ early)
-      ∙ (ap (λ r. or_else r last) (set_read q table named j stands ∙ taken)
-      ∙ ap (λ x. use_refusal way index DmaBuf (Some x) j.queue.body) (set_is named set q table j stands is))
+  pub named_fails : (way : Use) (index : ℕ) (named : PlaneFds) (reason : Reason) (r : Refused P A) (q : Lined P) (table table' : Fds P) → early_refusal index q.body ≡ None → TakesSet named (Err reason) table table' → r.errno ≡ errno reason → HandsBack None [] r → AppliesOfAny m (use_call way index (memory.DmaBuf (Some named))) (Err r) q table q table'
+  named_fails way index named reason r q table table' early fails is back =
+      named_refused way index named reason r q table table' (λ j stands. ap (λ x. or_else x (set_refusal named j.names)) (early_read m q table index j stands ∙ early) ∙ (set_read m q table named j stands ∙ fails.0)) is back (same_names table table' fails.1)
 
-  pub named_puts : {U : Type 0} (result : Result U Errno) (way : Use) (index : ℕ) (named : PlaneFds) (set : PlaneSet P) (q q' : Lined P) (a b c : Fds P) → early_refusal index q.body ≡ None → TakesSet named (Ok set) a b → Happens m q q' (use_event way index DmaBuf (Some (read_set m set)) (refusal_of result)) → GivesIfRefused (values_in set) result b c → PutsNamed m way index named result q a q' c
-  named_puts (Ok u) way index named set q q' a b c early took step gives j stands =
-      let t = step j.queue stands.queue in
-      let e : set_named named j.names ≡ read_set m set = set_is named set q a j stands took.1 in
-      let why : put_refusal m way index (memory.DmaBuf (Some named)) j ≡ use_refusal way index DmaBuf (Some (read_set m set)) j.queue.body = put_read way index named set q a j stands early took.0 took.1 in
-      let passed : use_refusal way index DmaBuf (Some (read_set m set)) j.queue.body ≡ None = not_refused (use_refusal way index DmaBuf (Some (read_set m set)) j.queue.body) (judged_by way index DmaBuf (Some (read_set m set)) None j.queue t.0) in
-      let passes : use_refusal way index DmaBuf (Some (set_named named j.names)) j.queue.body ≡ None = ap (λ x. use_refusal way index DmaBuf (Some x) j.queue.body) e ∙ passed in (
-        why ∙ passed,
-        record {
-          queue = subst (λ s. StandsQueue m q' s) (ap (λ x. used way index (Some x) j.queue) (sym e)) (used_by way index DmaBuf (Some (read_set m set)) q' j.queue t.1);
-          names = ap (set_taken named) stands.names ∙ (set_taken_read m named (names_in a) ∙ ap (read_names m) (sym (ap names_in gives ∙ took.2)));
-          linked = fds_linked way index named j.queue j.out j.names (set_read q a named j stands ∙ took.0) passes stands.linked;
-        },
-      )
-  named_puts (Err e) way index named set q q' a b c early took step gives j stands =
-      let t = step j.queue stands.queue in (
-        ap (option_map errno) (put_read way index named set q a j stands early took.0 took.1) ∙ judged_by way index DmaBuf (Some (read_set m set)) (Some e) j.queue t.0,
-        stays q q' c j (same_table q a c j (set_undone named set a b c took gives) stands) (left_by way index DmaBuf (Some (read_set m set)) e q' j.queue t.1),
-      )
+  -- the planes come to the queue
+  pub named_uses : (way : Use) (index : ℕ) (named : PlaneFds) (set : PlaneSet P) (result : Result (IoctlReply P A) (Refused P A)) (q q' : Lined P) (a b c : Fds P) → early_refusal index q.body ≡ None → TakesSet named (Ok set) a b → Happens m q q' (use_event way index DmaBuf (Some (read_set m set)) (refusal_in result))
+      → IfOk result (λ r. r ≡ reply.Done) → IfErr result (HandsBack None []) → GivesIfRefused (values_in set) result b c → AppliesOfAny m (use_call way index (memory.DmaBuf (Some named))) result q a q' c
+  named_uses way index named set result q q' a b c early took step done back gives type j stands =
+      let taken : set_refusal named j.names ≡ None = set_read m q a named j stands ∙ took.0 in
+      use_step m way index (memory.DmaBuf (Some named)) type j result q' c (ap (λ x. or_else x (set_refusal named j.names)) (early_read m q a index j stands ∙ early) ∙ taken) (λ e. fds_linked way index named j.queue j.out j.names taken e stands.linked)
+      (subst (λ x. MayHappen j.queue (use_event way index DmaBuf (Some x) (refusal_in result)) × StandsQueue m q' (after_event j.queue (use_event way index DmaBuf (Some x) (refusal_in result)))) (set_is m named set q a j stands took.1) (step j.queue stands.queue))
+      done back (attached result gives) (back_again result gives) stands.linked
+    where
+      attached : (x : Result (IoctlReply P A) (Refused P A)) → GivesIfRefused (values_in set) x b c → IfOk x (λ r. set_taken named j.names ≡ read_names m (names_in c))
+      attached (Ok r) g = ap (set_taken named) stands.names ∙ (set_taken_read m named (names_in a) ∙ ap (read_names m) (sym (ap names_in g ∙ took.2)))
+      attached (Err r) g = tt
 
-  pub named_still : {U : Type 0} (result : Result U Errno) (named : PlaneFds) (set : PlaneSet P) (a b c : Fds P) → TakesSet named (Ok set) a b → GivesIfRefused (values_in set) result b c → OnErr result (SameValues a c)
-  named_still (Ok u) named set a b c took gives = tt
-  named_still (Err e) named set a b c took gives = same_values a c (set_undone named set a b c took gives)
+      back_again : (x : Result (IoctlReply P A) (Refused P A)) → GivesIfRefused (values_in set) x b c → IfErr x (λ r. j.names ≡ read_names m (names_in c))
+      back_again (Ok r) g = tt
+      back_again (Err r) g = stands.names ∙ ap (read_names m) (sym (set_undone named set a b c took g))
 
-  pub named_refused : (U V : Type 0) {A : Type 0} (r : Refused P A) (e : Errno) (way : Use) (index : ℕ) (named : PlaneFds) (q q' : Lined P) (t t' : Fds P) → r.errno ≡ e → PutsNamed m {U = U} way index named (Err e) q t q' t' → Puts m {U = V} way index (memory.DmaBuf (Some named)) (Err r) q t q' t'
-  named_refused U V r e way index named q q' t t' is puts j stands = let h = puts j stands in (h.0 ∙ ap Some (sym is), h.1)
+pub named_still : {P U E : Type 0} (result : Result U E) (named : PlaneFds) (set : PlaneSet P) (a b c : Fds P) → TakesSet named (Ok set) a b → GivesIfRefused (values_in set) result b c → OnErr result (SameValues a c)
+named_still (Ok u) named set a b c took gives = tt
+named_still (Err e) named set a b c took gives = same_values a c (set_undone named set a b c took gives)

@@ -2,12 +2,12 @@
 use Rattle.std.proofs.Common.{◌≡◌, ℕ, ◌+◌, Bool, true, false, ◌&&◌, length, List, [], ◌∷◌, ◌++◌, refl, sym, ◌∙◌, ap, subst, arith, length-append}
 use Rattle.loop_plane.specs.Plane.{Plane}
 use Rattle.loop_plane.specs.Fds.{Fds}
-use Rattle.loop_record.specs.Turns.{after_all, EachIn}
-use Rattle.loop_record.proofs.Turned.{after-behind, each-behind}
+use Rattle.loop_record.specs.Turns.{Plays}
+use Rattle.loop_record.proofs.Turned.{plays-none, plays-once, plays-joined}
 use Rattle.loop_ioctl.specs.declared.events.QueueEvent.{QueueEvent}
 use Rattle.loop_ioctl.specs.declared.events.QueueReply.{QueueReply}
-use Rattle.loop_ioctl.specs.Calls.{IoctlState, StandsIoctl}
-use Rattle.loop_ioctl.specs.Events.{turns, IsTurn, turned, Reacts, Runs, RunsJoin}
+use Rattle.loop_ioctl.specs.Calls.{StandsIoctl}
+use Rattle.loop_ioctl.specs.Events.{turns, ioctl_machine, Reacts, Runs, RunsJoin}
 use Rattle.loop_vb2.specs.State.{Lined}
 
 both_longer : (a b c d : ℕ) → a ≡ b → c ≡ d → a + c ≡ b + d
@@ -34,23 +34,16 @@ turns-behind (x ∷ es) fs (r ∷ rs) ss e = ap (λ l. (x, r) ∷ l) (turns-behi
 pub runs_join : {P : Type 0} (A : Type 0) (m : P → Plane) → RunsJoin A m
 runs_join A m es fs rs ss q q' q'' t t' t'' first second = record {
   count = length-append rs ss ∙ (both_longer (length rs) (length es) (length ss) (length fs) first.count second.count ∙ sym (length-append es fs));
-  told = λ (j : IoctlState) (stands : StandsIoctl m q t j).
-      let xs = turns es rs in
-      let ys = turns fs ss in
-      let a = first.told j stands in
-      let b = second.told (after_all (turned m) j xs) a.1 in
-      let e : turns (es ++ fs) (rs ++ ss) ≡ xs ++ ys = turns-behind es fs rs ss first.count in (
-        subst (λ l. EachIn (turned m) (IsTurn m) j l) (sym e) (each-behind (turned m) (IsTurn m) j xs ys a.0 b.0),
-        subst (λ k. StandsIoctl m q'' t'' k) (sym (ap (after_all (turned m) j) e ∙ after-behind (turned m) j xs ys)) b.1,
-      );
+  told = subst (Plays (ioctl_machine m) (StandsIoctl m q t) (StandsIoctl m q'' t'')) (sym (turns-behind es fs rs ss first.count))
+      (plays-joined (ioctl_machine m) (StandsIoctl m q t) (StandsIoctl m q' t') (StandsIoctl m q'' t'') (turns es rs) (turns fs ss) first.told second.told);
 }
 
 module _ {P A : Type 0} where
   pub runs_none : (m : P → Plane) (q : Lined P) (t : Fds P) → Runs {P = P} {A = A} m [] [] q t q t
-  runs_none m q t = record { count = refl; told = λ j stands. (tt, stands) }
+  runs_none m q t = record { count = refl; told = plays-none (ioctl_machine {A = A} m) (StandsIoctl m q t) }
 
   runs_one : (m : P → Plane) (e : QueueEvent P A) (r : QueueReply P A) (q q' : Lined P) (t t' : Fds P) → Reacts m e r q t q' t' → Runs m (e ∷ []) (r ∷ []) q t q' t'
-  runs_one m e r q q' t t' reacts = record { count = refl; told = λ (j : IoctlState) (stands : StandsIoctl m q t j). let h = reacts j stands in ((h.0, tt), h.1) }
+  runs_one m e r q q' t t' reacts = record { count = refl; told = plays-once (ioctl_machine m) (StandsIoctl m q t) (StandsIoctl m q' t') (e, r) reacts }
 
   -- one event more
   pub runs_more : (m : P → Plane) (es : List (QueueEvent P A)) (e : QueueEvent P A) (rs more : List (QueueReply P A)) (r : QueueReply P A) (q q' q'' : Lined P) (t t' t'' : Fds P) → more ≡ rs ++ r ∷ [] → Runs m es rs q t q' t' → Reacts m e r q' t' q'' t'' → Runs m (es ++ e ∷ []) more q t q'' t''

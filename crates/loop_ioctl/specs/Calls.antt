@@ -1,24 +1,22 @@
 -- What an ioctl makes of a queue and the names of fds, and how it is answered.
-use Rattle.std.specs.Prelude.{◌≡◌, ◌⊎◌, ℕ, zero, suc, true, false, not, nat_le, cond, List, [], ◌∷◌, length, map, Option, Some, None, option_map, option_to_list, Result, Ok, Err, slice_get}
+use Rattle.std.specs.Prelude.{◌≡◌, ℕ, zero, suc, not, nat_le, cond, List, [], ◌∷◌, length, map, Option, Some, None, option_map, option_to_list, Result, Ok, Err}
 use Rattle.loop_plane.specs.Plane.{Plane}
 use Rattle.loop_plane.specs.Fds.{Fds}
 use Rattle.loop_plane.specs.declared.memory.Memory.{Memory}
 use Rattle.loop_plane.specs.declared.memory.Memory.TheVariants.{Mmap, UserPtr, DmaBuf}
 use Rattle.loop_vb2.specs.declared.buffer.Buffer.{Buffer}
-use Rattle.loop_vb2.specs.declared.buffer.Dequeued.{Dequeued}
 use Rattle.loop_vb2.specs.declared.planes.PlaneSet.{PlaneSet}
 use Rattle.loop_vb2.specs.declared.reason.Errno.{Errno}
 use Rattle.loop_vb2.specs.declared.reason.Reason.{Reason}
-use Rattle.loop_vb2.specs.declared.reason.Reason.TheVariants.{BadType, BadIndex, BadMemory, NoMemory}
+use Rattle.loop_vb2.specs.declared.reason.Reason.TheVariants.{BadType, BadIndex, BadMemory}
 use Rattle.loop_vb2.specs.declared.reason.Refused.{Refused}
-use Rattle.loop_vb2.specs.declared.request.Granted.{Granted}
 use Rattle.loop_vb2.specs.Planes.{read_set, read_given, same_memory}
-use Rattle.loop_vb2.specs.Answers.{IsAnswer, IsInfo, read_answer}
-use Rattle.loop_vb2.specs.Buffers.{handed, mapped_as}
-use Rattle.loop_vb2.specs.Checks.{first_reason, queue_refusal, prepare_refusal, dequeue_refusal, stream_on_refusal, query_refusal, map_refusal, unmap_refusal, request_refusal}
-use Rattle.loop_vb2.specs.Effects.{queued, prepared, dequeued, first_ended, streaming, stopped_state, touched}
+use Rattle.loop_vb2.specs.Answers.{read_answer}
+use Rattle.loop_vb2.specs.Buffers.{handed}
+use Rattle.loop_vb2.specs.Checks.{first_reason}
 use Rattle.loop_vb2.specs.Errnos.{errno}
-use Rattle.loop_vb2.specs.Requests.{grants_or_none, held, requested}
+use Rattle.loop_vb2.specs.Events.{Event, MayHappen, after_event, refusal_in, reqbufs, prepare_buf, qbuf, dqbuf, streamon, streamoff, querybuf, mmap, munmap}
+use Rattle.loop_vb2.specs.Requests.{held, left_in}
 use Rattle.loop_vb2.specs.State.{Body, QueueState, Lined, StandsQueue}
 use Rattle.loop_ioctl.specs.declared.call.BufferMemory.{BufferMemory}
 use Rattle.loop_ioctl.specs.declared.call.BufferMemory.TheVariants as memory
@@ -26,8 +24,6 @@ use Rattle.loop_ioctl.specs.declared.call.Ioctl.{Ioctl}
 use Rattle.loop_ioctl.specs.declared.call.Ioctl.TheVariants as call
 use Rattle.loop_ioctl.specs.declared.call.IoctlReply.{IoctlReply}
 use Rattle.loop_ioctl.specs.declared.call.IoctlReply.TheVariants as reply
-use Rattle.loop_ioctl.specs.declared.put.Use.{Use}
-use Rattle.loop_ioctl.specs.declared.put.Use.TheVariants.{Prepare, Queue}
 use Rattle.loop_ioctl.specs.Types.{named_type, type_of, same_type}
 use Rattle.loop_ioctl.specs.Names.{Names, names_in, or_else, set_refusal, set_named, set_taken, values_of, given_back}
 use Rattle.loop_ioctl.specs.Attached.{IsLinked}
@@ -51,54 +47,100 @@ pub record StandsIoctl {P : Type 0} (meaning : P → Plane) (code : Lined P) (ta
   pub names : j.names ≡ read_names meaning (names_in table)
   pub linked : IsLinked j.queue.body j.out j.names
 
--- ---- QBUF and PREPARE_BUF
+-- ---- which event of the queue an ioctl is
 
--- the checks before an fd is looked at
-abbrev pub early_refusal : {P : Type 0} → ℕ → Body P → Option Reason
-early_refusal index b =
-    first_reason ((nat_le (length b.buffers) index, BadIndex) ∷ (not (same_memory b.kind DmaBuf), BadMemory) ∷ [])
-
-abbrev pub use_refusal : {P : Type 0} → Use → ℕ → Memory → Option (PlaneSet Plane) → Body P → Option Reason
-use_refusal Prepare index kind given b = prepare_refusal index kind given b
-use_refusal Queue index kind given b = queue_refusal index kind given b
-
-abbrev pub used : Use → ℕ → Option (PlaneSet Plane) → QueueState → QueueState
-used Prepare index given s = prepared index given s
-used Queue index given s = queued index given s
-
--- the planes that such a call brings
+-- the planes that QBUF or PREPARE_BUF brings by value
 abbrev pub planes_of : {P : Type 0} → BufferMemory P → Option (PlaneSet P)
-planes_of memory.Mmap = None
 planes_of (memory.UserPtr given) = given
-planes_of (memory.DmaBuf named) = None
+planes_of given = None
 
-module _ {P : Type 0} (meaning : P → Plane) where
-  -- planes by fd: the buffer and the kind of memory, then the first fd that fails, then the checks of the queue
-  abbrev pub put_refusal : Use → ℕ → BufferMemory P → IoctlState → Option Reason
-  put_refusal way index memory.Mmap j = use_refusal way index Mmap None j.queue.body
-  put_refusal way index (memory.UserPtr given) j = use_refusal way index UserPtr (read_given meaning given) j.queue.body
-  put_refusal way index (memory.DmaBuf None) j = use_refusal way index DmaBuf None j.queue.body
-  put_refusal way index (memory.DmaBuf (Some named)) j =
-      or_else (early_refusal index j.queue.body)
-      (or_else (set_refusal named j.names) (use_refusal way index DmaBuf (Some (set_named named j.names)) j.queue.body))
+-- the kind of memory that it names
+abbrev pub kind_named : {P : Type 0} → BufferMemory P → Memory
+kind_named memory.Mmap = Mmap
+kind_named (memory.UserPtr given) = UserPtr
+kind_named (memory.DmaBuf named) = DmaBuf
 
-  -- the fds of the set are attached
-  abbrev pub put_in : Use → ℕ → BufferMemory P → IoctlState → IoctlState
-  put_in way index memory.Mmap j = record j { queue = used way index None j.queue }
-  put_in way index (memory.UserPtr given) j = record j { queue = used way index (read_given meaning given) j.queue }
-  put_in way index (memory.DmaBuf None) j = record j { queue = used way index None j.queue }
-  put_in way index (memory.DmaBuf (Some named)) j = record j {
-    queue = used way index (Some (set_named named j.names)) j.queue;
-    names = set_taken named j.names;
-  }
-
--- ---- DQBUF and REQBUFS
+-- the planes that it brings to the queue: those by value, or those that its fds name
+abbrev pub planes_brought : {P : Type 0} → (P → Plane) → BufferMemory P → Names Plane → Option (PlaneSet Plane)
+planes_brought meaning memory.Mmap before = None
+planes_brought meaning (memory.UserPtr given) before = read_given meaning given
+planes_brought meaning (memory.DmaBuf None) before = None
+planes_brought meaning (memory.DmaBuf (Some named)) before = Some (set_named named before)
 
 -- the planes in the buffer of an index
 abbrev pub planes_at : {P : Type 0} → List (Buffer P) → ℕ → Option (PlaneSet P)
 planes_at [] index = None
 planes_at (b ∷ bs) zero = b.planes
 planes_at (b ∷ bs) (suc index) = planes_at bs index
+
+-- a call that answers nothing but Done
+abbrev pub plain_event : {P A : Type 0} → (Option Errno → Event) → Result (IoctlReply P A) (Refused P A) → Option Event
+plain_event event (Ok reply.Done) = Some (event None)
+plain_event event (Ok r) = None
+plain_event event (Err r) = Some (event (Some r.errno))
+
+module _ {P A : Type 0} (meaning : P → Plane) where
+  -- the event of an ioctl with its answer, if it may have such a one; its planes are in it whether the reply hands them
+  -- out or they go back to their fds
+  abbrev pub call_event : Ioctl P A → Result (IoctlReply P A) (Refused P A) → IoctlState → Option Event
+  call_event (call.ReqBufs type count kind supply) (Ok (reply.Granted g)) j =
+      Some (reqbufs count kind (map (read_set meaning) supply.items)
+      (Ok (record { count = g.count; left = left_in j.queue.body.kind j.queue.body.buffers })))
+  call_event (call.ReqBufs type count kind supply) (Err r) j =
+      Some (reqbufs count kind (map (read_set meaning) supply.items) (Err r.errno))
+  call_event (call.QueryBuf type index) (Ok (reply.Info info)) j = Some (querybuf index (Ok info))
+  call_event (call.QueryBuf type index) (Err r) j = Some (querybuf index (Err r.errno))
+  call_event (call.PrepareBuf type index given) result j =
+      plain_event (prepare_buf index (kind_named given) (planes_brought meaning given j.names)) result
+  call_event (call.QBuf type index given) result j =
+      plain_event (qbuf index (kind_named given) (planes_brought meaning given j.names)) result
+  call_event (call.DqBuf type) (Ok (reply.Dequeued answer)) j = Some (dqbuf (Ok (record (read_answer meaning answer) {
+    planes = handed j.queue.body.kind (planes_at j.queue.body.buffers answer.index);
+  })))
+  call_event (call.DqBuf type) (Err r) j = Some (dqbuf (Err r.errno))
+  call_event (call.StreamOn type) result j = plain_event streamon result
+  call_event (call.StreamOff type) (Ok reply.Done) j = Some streamoff
+  call_event (call.Mmap type index) result j = plain_event (mmap index) result
+  call_event (call.Munmap type index) result j = plain_event (munmap index) result
+  call_event c r j = None
+
+-- there is an event, and it may happen
+abbrev pub MayHappenIf : QueueState → Option Event → Type 0
+MayHappenIf s None = ⊥
+MayHappenIf s (Some event) = MayHappen s event
+
+-- the state after it
+abbrev pub after_event_if : QueueState → Option Event → QueueState
+after_event_if s None = s
+after_event_if s (Some event) = after_event s event
+
+-- ---- what is refused before it comes to the queue
+
+-- the checks before an fd is looked at: the buffer, then the kind of memory
+abbrev pub early_refusal : {P : Type 0} → ℕ → Body P → Option Reason
+early_refusal index b =
+    first_reason ((nat_le (length b.buffers) index, BadIndex) ∷ (not (same_memory b.kind DmaBuf), BadMemory) ∷ [])
+
+-- planes by fd: those, then the first fd that fails
+abbrev pub memory_refusal : {P : Type 0} → ℕ → BufferMemory P → IoctlState → Option Reason
+memory_refusal index (memory.DmaBuf (Some named)) j =
+    or_else (early_refusal index j.queue.body) (set_refusal named j.names)
+memory_refusal index given j = None
+
+module _ {P A : Type 0} where
+  -- the buffer type comes first
+  abbrev pub type_refusal : Ioctl P A → IoctlState → Option Reason
+  type_refusal c j = cond (same_type (named_type c) (type_of j.queue.body.format)) None (Some BadType)
+
+  abbrev pub fds_refusal : Ioctl P A → IoctlState → Option Reason
+  fds_refusal (call.PrepareBuf type index given) j = memory_refusal index given j
+  fds_refusal (call.QBuf type index given) j = memory_refusal index given j
+  fds_refusal c j = None
+
+  abbrev pub refusal_before : Ioctl P A → IoctlState → Option Reason
+  refusal_before c j = or_else (type_refusal c j) (fds_refusal c j)
+
+-- ---- planes and fds
 
 -- sets that leave a queue of this kind: DMA-BUF planes go back to their fds
 abbrev pub names_left : Memory → List (PlaneSet Plane) → Names Plane → Names Plane
@@ -112,39 +154,10 @@ handed_out none Mmap planes = none
 handed_out none UserPtr planes = planes
 handed_out none DmaBuf planes = none
 
--- the buffer that ended first is the application's
-abbrev pub taken_out : Option ℕ → IoctlState → IoctlState
-taken_out None j = j
-taken_out (Some index) j = record j {
-  queue = dequeued index j.queue;
-  names = names_left j.queue.body.kind (option_to_list (planes_at j.queue.body.buffers index)) j.names;
-}
-
--- the old buffers are gone
-abbrev pub replaced : ℕ → Memory → List (PlaneSet Plane) → IoctlState → IoctlState
-replaced count kind sets j = record j {
-  queue = requested count kind sets j.queue;
-  names = names_left j.queue.body.kind (held j.queue.body.buffers) j.names;
-}
-
--- what DQBUF tells of the buffer, but for its planes
-abbrev pub IsFrame : {P : Type 0} → (P → Plane) → Memory → Buffer Plane → Dequeued P → Type 0
-IsFrame meaning kind b answer = IsAnswer kind b (record (read_answer meaning answer) { planes = handed kind b.planes })
-
--- the answer to DQBUF tells of the buffer that ended first; DMA-BUF planes have gone back to their fds
-abbrev pub TellsFrame : {P : Type 0} → (P → Plane) → IoctlState → Dequeued P → Type 0
-TellsFrame meaning j answer = (first_ended j.queue ≡ Some answer.index)
-    × ((b : Buffer Plane) × (slice_get j.queue.body.buffers answer.index ≡ Some b)
-    × IsFrame meaning j.queue.body.kind b answer
-    × (read_given meaning answer.planes ≡ handed_out None j.queue.body.kind b.planes))
-
--- the answer to REQBUFS tells how many buffers there are, and hands out the planes of the application's memory
-abbrev pub TellsGrant : {P A : Type 0} → (P → Plane) → ℕ → IoctlState → Granted P A → Type 0
-TellsGrant meaning count j g =
-    (g.count ≡ grants_or_none j.queue.body.min_queued count)
-    × (map (read_set meaning) g.left.items ≡ handed_out [] j.queue.body.kind (held j.queue.body.buffers))
-
--- ---- any ioctl
+-- the fds of a set that is named are attached
+abbrev pub names_taken : {P : Type 0} → BufferMemory P → Names Plane → Names Plane
+names_taken (memory.DmaBuf (Some named)) before = set_taken named before
+names_taken given before = before
 
 module _ {P A : Type 0} where
   -- the planes and the supply that a call brings
@@ -157,77 +170,51 @@ module _ {P A : Type 0} where
   supply_given (call.ReqBufs type count kind supply) = supply.items
   supply_given c = []
 
-  -- the buffer type comes first
-  abbrev pub type_refusal : Ioctl P A → IoctlState → Option Reason
-  type_refusal c j = cond (same_type (named_type c) (type_of j.queue.body.format)) None (Some BadType)
-
   -- a refusal hands these planes and this supply back
   abbrev pub HandsBack : Option (PlaneSet P) → List (PlaneSet P) → Refused P A → Type 0
   HandsBack planes supply r = (r.planes ≡ planes) × (r.supply.items ≡ supply)
 
-  -- REQBUFS may want memory that it doesn't get
-  abbrev pub WantsMemory : Ioctl P A → Type 0
-  WantsMemory (call.ReqBufs type count kind supply) = Unit {0}
-  WantsMemory c = ⊥
+  -- a reply hands out the planes that leave the queue
+  abbrev pub HandsOut : (P → Plane) → IoctlState → IoctlReply P A → Type 0
+  HandsOut meaning j (reply.Granted g) =
+      map (read_set meaning) g.left.items ≡ handed_out [] j.queue.body.kind (held j.queue.body.buffers)
+  HandsOut meaning j (reply.Dequeued answer) =
+      read_given meaning answer.planes
+      ≡ handed_out None j.queue.body.kind (planes_at j.queue.body.buffers answer.index)
+  HandsOut meaning j r = Unit {0}
+
+  -- what comes back of planes and supply
+  abbrev pub ComesBack : (P → Plane) → Ioctl P A → IoctlState → Result (IoctlReply P A) (Refused P A) → Type 0
+  ComesBack meaning c j (Ok r) = HandsOut meaning j r
+  ComesBack meaning c j (Err r) = HandsBack (planes_given c) (supply_given c) r
+
+  -- what fds name after an ioctl that isn't refused
+  abbrev pub names_after : Ioctl P A → IoctlState → IoctlReply P A → Names Plane
+  names_after (call.PrepareBuf type index given) j r = names_taken given j.names
+  names_after (call.QBuf type index given) j r = names_taken given j.names
+  names_after (call.ReqBufs type count kind supply) j r =
+      names_left j.queue.body.kind (held j.queue.body.buffers) j.names
+  names_after (call.DqBuf type) j (reply.Dequeued answer) =
+      names_left j.queue.body.kind (option_to_list (planes_at j.queue.body.buffers answer.index)) j.names
+  names_after c j r = j.names
+
+-- ---- any ioctl
 
 module _ {P A : Type 0} (meaning : P → Plane) where
-  -- why it is refused, but for its buffer type and want of memory
-  abbrev pub call_refusal : Ioctl P A → IoctlState → Option Reason
-  call_refusal (call.ReqBufs type count kind supply) j =
-      request_refusal count kind (map (read_set meaning) supply.items) j.queue.body
-  call_refusal (call.QueryBuf type index) j = query_refusal index j.queue.body
-  call_refusal (call.PrepareBuf type index given) j = put_refusal meaning Prepare index given j
-  call_refusal (call.QBuf type index given) j = put_refusal meaning Queue index given j
-  call_refusal (call.DqBuf type) j = dequeue_refusal j.queue.body
-  call_refusal (call.StreamOn type) j = stream_on_refusal j.queue.body
-  call_refusal (call.StreamOff type) j = None
-  call_refusal (call.Mmap type index) j = map_refusal index j.queue.body
-  call_refusal (call.Munmap type index) j = unmap_refusal index j.queue.body
-
-  abbrev pub ioctl_refusal : Ioctl P A → IoctlState → Option Reason
-  ioctl_refusal c j = or_else (type_refusal c j) (call_refusal c j)
-
-  -- the state, where it isn't refused
-  abbrev pub done : Ioctl P A → IoctlState → IoctlState
-  done (call.ReqBufs type count kind supply) j = replaced count kind (map (read_set meaning) supply.items) j
-  done (call.QueryBuf type index) j = j
-  done (call.PrepareBuf type index given) j = put_in meaning Prepare index given j
-  done (call.QBuf type index given) j = put_in meaning Queue index given j
-  done (call.DqBuf type) j = taken_out (first_ended j.queue) j
-  done (call.StreamOn type) j = record j { queue = streaming j.queue }
-  done (call.StreamOff type) j = record j { queue = stopped_state j.queue }
-  done (call.Mmap type index) j = record j { queue = touched (mapped_as true) index j.queue }
-  done (call.Munmap type index) j = record j { queue = touched (mapped_as false) index j.queue }
-
-  -- the reply, where it isn't refused
-  abbrev pub IsReply : Ioctl P A → IoctlState → IoctlReply P A → Type 0
-  IsReply (call.ReqBufs type count kind supply) j (reply.Granted g) = TellsGrant meaning count j g
-  IsReply (call.QueryBuf type index) j (reply.Info info) =
-      (b : Buffer Plane) × (slice_get j.queue.body.buffers index ≡ Some b) × IsInfo b info
-  IsReply (call.PrepareBuf type index given) j reply.Done = Unit {0}
-  IsReply (call.QBuf type index given) j reply.Done = Unit {0}
-  IsReply (call.DqBuf type) j (reply.Dequeued answer) = TellsFrame meaning j answer
-  IsReply (call.StreamOn type) j reply.Done = Unit {0}
-  IsReply (call.StreamOff type) j reply.Done = Unit {0}
-  IsReply (call.Mmap type index) j reply.Done = Unit {0}
-  IsReply (call.Munmap type index) j reply.Done = Unit {0}
-  IsReply c j r = ⊥
-
-  -- the errno of a refusal: that of the first check that fails, or want of memory where none does
-  abbrev pub IsErrno : Ioctl P A → Option Reason → Errno → Type 0
-  IsErrno c why e = (option_map errno why ≡ Some e) ⊎ ((why ≡ None) × (WantsMemory c × (e ≡ errno NoMemory)))
-
-  -- it is answered so, where this is why it is to be refused: a refusal hands back what the call brought
-  abbrev pub IsRepliedFor : Ioctl P A → IoctlState → Option Reason → Result (IoctlReply P A) (Refused P A) → Type 0
-  IsRepliedFor c j why (Ok r) = (why ≡ None) × IsReply c j r
-  IsRepliedFor c j why (Err r) = IsErrno c why r.errno × HandsBack (planes_given c) (supply_given c) r
+  -- it is refused before it comes to the queue, for this reason, or its event may happen
+  abbrev pub IsAnsweredFor : Option Reason → Ioctl P A → IoctlState → Result (IoctlReply P A) (Refused P A) → Type 0
+  IsAnsweredFor (Some reason) c j result = refusal_in result ≡ Some (errno reason)
+  IsAnsweredFor None c j result = MayHappenIf j.queue (call_event meaning c result j)
 
   abbrev pub IsReplied : Ioctl P A → IoctlState → Result (IoctlReply P A) (Refused P A) → Type 0
-  IsReplied c j result = IsRepliedFor c j (ioctl_refusal c j) result
+  IsReplied c j result = IsAnsweredFor (refusal_before c j) c j result × ComesBack meaning c j result
 
   -- the state after it: a refused call changes nothing
   abbrev pub after_ioctl : Ioctl P A → IoctlState → Result (IoctlReply P A) (Refused P A) → IoctlState
-  after_ioctl c j (Ok r) = done c j
+  after_ioctl c j (Ok r) = record j {
+    queue = after_event_if j.queue (call_event meaning c (Ok r) j);
+    names = names_after c j r;
+  }
   after_ioctl c j (Err r) = j
 
   -- from each state that queue and table stand for, the call is answered so, and they stand for the state after it

@@ -1,23 +1,17 @@
 -- Lists of events of application and device, each with its reply.
-use Rattle.std.specs.Prelude.{◌≡◌, Bool, true, ◌&&◌, ◌==◌, length, List, [], ◌∷◌, ◌++◌}
+use Rattle.std.specs.Prelude.{◌≡◌, Bool, true, ◌&&◌, ◌==◌, length, List, [], ◌∷◌, ◌++◌, Option, Some, None}
 use Rattle.loop_plane.specs.Plane.{Plane}
 use Rattle.loop_plane.specs.Fds.{Fds}
-use Rattle.loop_record.specs.Turns.{after_all, EachIn}
+use Rattle.loop_record.specs.Turns.{Machine, Turns, Plays}
 use Rattle.loop_vb2.specs.declared.planes.Shape.{Shape}
-use Rattle.loop_vb2.specs.Checks.{end_refusal}
-use Rattle.loop_vb2.specs.Effects.{completed, failed, fatal_state}
+use Rattle.loop_vb2.specs.Events.{Event, refusal_of, complete, fail, fatal}
 use Rattle.loop_vb2.specs.Planes.{frame_size}
-use Rattle.loop_vb2.specs.State.{QueueState, Lined}
+use Rattle.loop_vb2.specs.State.{Lined}
 use Rattle.loop_ioctl.specs.declared.events.QueueEvent.{QueueEvent}
 use Rattle.loop_ioctl.specs.declared.events.QueueEvent.TheVariants as event
 use Rattle.loop_ioctl.specs.declared.events.QueueReply.{QueueReply}
 use Rattle.loop_ioctl.specs.declared.events.QueueReply.TheVariants as answer
-use Rattle.loop_ioctl.specs.Calls.{IoctlState, StandsIoctl, IsReplied, after_ioctl}
-use Rattle.loop_ioctl.specs.Parts.{Judged, either}
-
--- the device changes the queue alone
-abbrev pub with_queue : (QueueState → QueueState) → IoctlState → IoctlState
-with_queue change j = record j { queue = change j.queue }
+use Rattle.loop_ioctl.specs.Calls.{IoctlState, StandsIoctl, MayHappenIf, after_event_if, IsReplied, after_ioctl}
 
 module _ {P A : Type 0} where
   -- the bytes of a Complete are one whole frame
@@ -38,23 +32,24 @@ module _ {P A : Type 0} where
   turns (e ∷ es) [] = []
   turns (e ∷ es) (r ∷ rs) = (e, r) ∷ turns es rs
 
+  -- the event of the queue that a call of the device with its answer is
+  abbrev pub device_event : QueueEvent P A → QueueReply P A → Option Event
+  device_event (event.Complete index stamp bytes) (answer.Ended result) =
+      Some (complete index stamp bytes.items (refusal_of result))
+  device_event (event.Fail index stamp) (answer.Ended result) = Some (fail index stamp (refusal_of result))
+  device_event event.Fatal answer.Fatal = Some fatal
+  device_event e r = None
+
 module _ {P A : Type 0} (meaning : P → Plane) where
   -- the reply is the model's
   abbrev pub IsTold : QueueEvent P A → QueueReply P A → IoctlState → Type 0
   IsTold (event.Ioctl call) (answer.Ioctl result) j = IsReplied meaning call j result
-  IsTold (event.Complete index stamp bytes) (answer.Ended result) j = Judged (end_refusal index j.queue.body) result
-  IsTold (event.Fail index stamp) (answer.Ended result) j = Judged (end_refusal index j.queue.body) result
-  IsTold event.Fatal answer.Fatal j = Unit {0}
-  IsTold e r j = ⊥
+  IsTold e r j = MayHappenIf j.queue (device_event e r)
 
-  -- the state after the event
+  -- the state after the event: the device changes the queue alone
   abbrev pub state_after : QueueEvent P A → QueueReply P A → IoctlState → IoctlState
   state_after (event.Ioctl call) (answer.Ioctl result) j = after_ioctl meaning call j result
-  state_after (event.Complete index stamp bytes) (answer.Ended result) j =
-      either result (with_queue (completed index stamp bytes.items) j) j
-  state_after (event.Fail index stamp) (answer.Ended result) j = either result (with_queue (failed index stamp) j) j
-  state_after event.Fatal answer.Fatal j = with_queue fatal_state j
-  state_after e r j = j
+  state_after e r j = record j { queue = after_event_if j.queue (device_event e r) }
 
   -- of an event and its reply as one value
   abbrev pub IsTurn : IoctlState → QueueEvent P A × QueueReply P A → Type 0
@@ -63,20 +58,22 @@ module _ {P A : Type 0} (meaning : P → Plane) where
   abbrev pub turned : IoctlState → QueueEvent P A × QueueReply P A → IoctlState
   turned j turn = state_after turn.0 turn.1 j
 
+  -- the model of the ioctls and of the device's calls
+  abbrev pub ioctl_machine : Machine IoctlState (QueueEvent P A × QueueReply P A)
+  ioctl_machine = record { after = turned; May = IsTurn }
+
   -- one event: the reply is the model's, and queue and table stand for the state after it
   abbrev pub Reacts : QueueEvent P A → QueueReply P A → Lined P → Fds P → Lined P → Fds P → Type 0
   Reacts e r queue table new_queue new_table =
-      (j : IoctlState) → StandsIoctl meaning queue table j
-      → IsTold e r j × StandsIoctl meaning new_queue new_table (state_after e r j)
+      Turns ioctl_machine (StandsIoctl meaning queue table) (StandsIoctl meaning new_queue new_table) (e, r)
 
   -- a list of events: there are as many replies, each is the model's at its point, and queue and table stand
   -- for the state after all
   pub record Runs (events : List (QueueEvent P A)) (replies : List (QueueReply P A)) (queue : Lined P) (table : Fds P)
       (new_queue : Lined P) (new_table : Fds P) : Type 0 where
     pub count : length replies ≡ length events
-    pub told : (j : IoctlState) → StandsIoctl meaning queue table j
-        → EachIn turned IsTurn j (turns events replies)
-        × StandsIoctl meaning new_queue new_table (after_all turned j (turns events replies))
+    pub told : Plays ioctl_machine (StandsIoctl meaning queue table) (StandsIoctl meaning new_queue new_table)
+        (turns events replies)
 
 -- Two runs, one after the other, are the run of the joined lists.
 abbrev pub RunsJoin : {P : Type 0} → Type 0 → (P → Plane) → Type 0

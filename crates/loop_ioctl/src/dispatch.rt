@@ -6,7 +6,8 @@ ghost use Rattle.loop_vb2.specs.Events.{Happens, refusal_in, streamon, streamoff
 ghost use Rattle.loop_ioctl.specs.Types.{same_type, named_type, type_of};
 ghost use Rattle.loop_ioctl.specs.Calls.{HandsBack, planes_of, planes_given, supply_given, handed_out, Applies};
 ghost use Rattle.loop_ioctl.specs.declared.call.IoctlReply.TheVariants.{Done};
-ghost use Rattle.loop_ioctl.specs.Parts.{LetsOut, Asks, LetsOneOut, Replaces, AppliesTyped};
+ghost use Rattle.loop_ioctl.specs.declared.call.Ioctl.TheVariants.{DqBuf, ReqBufs};
+ghost use Rattle.loop_ioctl.specs.Parts.{LetsOut, Asks, AppliesTyped, AppliesOfAny};
 
 use crate::call::{BufferMemory, BufferType, Ioctl, IoctlReply};
 use crate::fds::{give_all, give_set};
@@ -140,8 +141,7 @@ fn dequeue<P: PlaneMemory, A: Allocator + Copy>(
     queue: &mut Queue<P, A>,
     table: &mut FdTable<P, A>,
 ) -> Result<IoctlReply<P, A>, Refused<P, A>>
-    ensures step { LetsOneOut P.plane result queue.old table.old queue.new table.new }
-    ensures back { IfErr result (λ refused. HandsBack None [] refused) }
+    ensures step { AppliesOfAny P.plane DqBuf result queue.old table.old queue.new table.new }
     ensures same { OnErr result (queue.new ≡ queue.old) }
     ensures still { OnErr result (table.new ≡ table.old) }
     ensures shape { queue.new.body.shape ≡ queue.old.body.shape }
@@ -164,8 +164,8 @@ fn request<P: PlaneMemory, A: Allocator + Copy>(
     memory: Memory,
     supply: Vec<PlaneSet<P>, A>,
 ) -> Result<IoctlReply<P, A>, Refused<P, A>>
-    ensures step { Replaces P.plane count memory supply.items result queue.old table.old queue.new table.new }
-    ensures back { IfErr result (λ refused. HandsBack None supply.items refused) }
+    ensures step { AppliesOfAny P.plane (λ type. ReqBufs type count memory supply) result
+        queue.old table.old queue.new table.new }
     ensures same { OnErr result (queue.new ≡ queue.old) }
     ensures still { OnErr result (table.new ≡ table.old) }
     ensures shape { queue.new.body.shape ≡ queue.old.body.shape }

@@ -6,9 +6,10 @@
 //! - `events` has `react`: an ioctl or a call of the device, and `run_events`: a list of them, each answered in turn;
 //! - `laws` has what follows from the definitions.
 //!
-//! Of `specs/`, `Calls` has the model of an ioctl, `Names` that of the fds, `Attached` what holds of both (each
-//! fd of a plane that a queue holds is attached, and no two are the same), `Events` that of a list, and `Modelled`
-//! which event of the queue's own model an ioctl or a call of the device is. Only private functions speak of `Parts`.
+//! Of `specs/`, `Calls` has the model of an ioctl: which event of the queue's own model it is, and what it makes of the
+//! fds. `Names` has that of the fds, `Attached` what holds of both (each fd of a plane that a queue holds is attached,
+//! and no two are the same), `Events` that of a list and of the device's calls, and `Modelled` the order of a run's
+//! events. Only private functions speak of `Parts`.
 #![tactic(auto)]
 
 mod call;

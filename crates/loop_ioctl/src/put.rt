@@ -3,11 +3,12 @@ ghost use Rattle.std.specs.Prelude.{◌≡◌, Some, None, [], IfOk, IfErr, OnEr
 ghost use Rattle.slab.specs.Slab.{SameValues};
 ghost use Rattle.loop_plane.specs.declared.memory.Memory.TheVariants.{DmaBuf};
 ghost use Rattle.loop_vb2.specs.Planes.{read_set, read_given};
-ghost use Rattle.loop_vb2.specs.Events.{Happens, refusal_of, refusal_in};
+ghost use Rattle.loop_vb2.specs.Events.{Happens, refusal_in};
 ghost use Rattle.loop_ioctl.specs.declared.call.IoctlReply.TheVariants.{Done};
 ghost use Rattle.loop_ioctl.specs.Names.{values_in, GivesIfRefused};
-ghost use Rattle.loop_ioctl.specs.Calls.{HandsBack, planes_of, early_refusal};
-ghost use Rattle.loop_ioctl.specs.Parts.{use_event, PutsNamed, Puts};
+ghost use Rattle.loop_ioctl.specs.declared.call.BufferMemory.TheVariants as memory;
+ghost use Rattle.loop_ioctl.specs.Calls.{HandsBack, early_refusal};
+ghost use Rattle.loop_ioctl.specs.Parts.{use_event, use_call, AppliesOfAny};
 
 use crate::call::{BufferMemory, IoctlReply, PlaneFds};
 use crate::fds::{give_set, take_set};
@@ -45,16 +46,21 @@ fn put<P: PlaneMemory, A: Allocator + Copy>(
     index: u32,
     kind: Memory,
     planes: Option<PlaneSet<P>>,
-) -> Result<(), Refused<P, A>>
+) -> Result<IoctlReply<P, A>, Refused<P, A>>
     ensures step { Happens P.plane queue.old queue.new
         (use_event way index kind (read_given P.plane planes) (refusal_in result)) }
-    ensures back { IfErr result (λ refused. refused.planes ≡ planes) }
+    ensures done { IfOk result (λ reply. reply ≡ Done) }
+    ensures back { IfErr result (λ refused. HandsBack planes [] refused) }
     ensures same { OnErr result (queue.new ≡ queue.old) }
     ensures shape { queue.new.body.shape ≡ queue.old.body.shape }
 {
-    match way {
+    let used = match way {
         Use::Prepare => queue.prepare(index, kind, planes),
         Use::Queue => queue.queue(index, kind, planes),
+    };
+    match used {
+        Ok(()) => Ok(IoctlReply::Done),
+        Err(Refused { errno, planes, .. }) => Err(refuse(queue.allocator(), errno, planes)),
     }
 }
 
@@ -81,22 +87,23 @@ fn put_taken<P: PlaneMemory, A: Allocator + Copy>(
     way: Use,
     index: u32,
     set: PlaneSet<P>,
-) -> Result<(), Errno>
+) -> Result<IoctlReply<P, A>, Refused<P, A>>
     ensures step { Happens P.plane queue.old queue.new
-        (use_event way index DmaBuf (Some (read_set P.plane set)) (refusal_of result)) }
+        (use_event way index DmaBuf (Some (read_set P.plane set)) (refusal_in result)) }
+    ensures done { IfOk result (λ reply. reply ≡ Done) }
+    ensures back { IfErr result (λ refused. HandsBack None [] refused) }
     ensures gives { GivesIfRefused (values_in set) result table.old table.new }
     ensures same { OnErr result (queue.new ≡ queue.old) }
     ensures shape { queue.new.body.shape ≡ queue.old.body.shape }
 {
     match put(queue, way, index, Memory::DmaBuf, Some(set)) {
-        Ok(()) => Ok(()),
-        Err(Refused { errno, planes, .. }) => match planes {
-            Some(set) => {
+        Ok(reply) => Ok(reply),
+        Err(Refused { errno, planes, .. }) => {
+            if let Some(set) = planes {
                 give_set(table, set);
-                Err(errno)
             }
-            None => Err(errno),
-        },
+            Err(refuse(queue.allocator(), errno, None))
+        }
     }
 }
 
@@ -107,31 +114,32 @@ fn put_named<P: PlaneMemory, A: Allocator + Copy>(
     way: Use,
     index: u32,
     named: PlaneFds,
-) -> Result<(), Errno>
-    ensures step { PutsNamed P.plane way index named result queue.old table.old queue.new table.new }
+) -> Result<IoctlReply<P, A>, Refused<P, A>>
+    ensures step { AppliesOfAny P.plane (use_call way index (memory.DmaBuf (Some named))) result
+        queue.old table.old queue.new table.new }
     ensures same { OnErr result (queue.new ≡ queue.old) }
     ensures still { OnErr result (SameValues table.old table.new) }
     ensures shape { queue.new.body.shape ≡ queue.old.body.shape }
 {
     match early_refusal(queue, index) {
-        Some(reason) => Err(Errno::of(reason)),
+        Some(reason) => Err(refuse(queue.allocator(), Errno::of(reason), None)),
         None => match take_set(table, named) {
             Ok(set) => put_taken(queue, table, way, index, set),
-            Err(reason) => Err(Errno::of(reason)),
+            Err(reason) => Err(refuse(queue.allocator(), Errno::of(reason), None)),
         },
     }
 }
 
-// Prepares or queues a buffer with whatever memory.
-fn put_memory<P: PlaneMemory, A: Allocator + Copy>(
+/// QBUF or PREPARE_BUF, with whatever buffer type: planes by fd are attached first. A refusal hands planes by value
+/// back, and leaves queue and table as they were.
+pub(crate) fn use_buffer<P: PlaneMemory, A: Allocator + Copy>(
     queue: &mut Queue<P, A>,
     table: &mut FdTable<P, A>,
     way: Use,
     index: u32,
     memory: BufferMemory<P>,
-) -> Result<(), Refused<P, A>>
-    ensures step { Puts P.plane way index memory result queue.old table.old queue.new table.new }
-    ensures back { IfErr result (λ refused. refused.planes ≡ planes_of memory) }
+) -> Result<IoctlReply<P, A>, Refused<P, A>>
+    ensures step { AppliesOfAny P.plane (use_call way index memory) result queue.old table.old queue.new table.new }
     ensures same { OnErr result (queue.new ≡ queue.old) }
     ensures still { OnErr result (SameValues table.old table.new) }
     ensures shape { queue.new.body.shape ≡ queue.old.body.shape }
@@ -141,32 +149,7 @@ fn put_memory<P: PlaneMemory, A: Allocator + Copy>(
         BufferMemory::UserPtr(planes) => put(queue, way, index, Memory::UserPtr, planes),
         BufferMemory::DmaBuf(given) => match given {
             None => put(queue, way, index, Memory::DmaBuf, None),
-            Some(named) => match put_named(queue, table, way, index, named) {
-                Ok(()) => Ok(()),
-                Err(errno) => Err(refuse(queue.allocator(), errno, None)),
-            },
+            Some(named) => put_named(queue, table, way, index, named),
         },
-    }
-}
-
-/// QBUF or PREPARE_BUF: planes by fd are attached first. A refusal hands planes by value back, and leaves queue
-/// and table as they were.
-pub(crate) fn use_buffer<P: PlaneMemory, A: Allocator + Copy>(
-    queue: &mut Queue<P, A>,
-    table: &mut FdTable<P, A>,
-    way: Use,
-    index: u32,
-    memory: BufferMemory<P>,
-) -> Result<IoctlReply<P, A>, Refused<P, A>>
-    ensures step { Puts P.plane way index memory result queue.old table.old queue.new table.new }
-    ensures done { IfOk result (λ reply. reply ≡ Done) }
-    ensures back { IfErr result (λ refused. HandsBack (planes_of memory) [] refused) }
-    ensures same { OnErr result (queue.new ≡ queue.old) }
-    ensures still { OnErr result (SameValues table.old table.new) }
-    ensures shape { queue.new.body.shape ≡ queue.old.body.shape }
-{
-    match put_memory(queue, table, way, index, memory) {
-        Ok(()) => Ok(IoctlReply::Done),
-        Err(Refused { errno, planes, .. }) => Err(refuse(queue.allocator(), errno, planes)),
     }
 }

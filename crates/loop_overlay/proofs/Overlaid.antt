@@ -5,7 +5,7 @@ use Rattle.std.proofs.lemmas.List.{take_all, take-append-le, take_more}
 use Rattle.std.proofs.lemmas.List.Sums.{fold-append}
 use Rattle.loop_disk.specs.declared.fault.Failures.{Failures}
 use Rattle.loop_disk.specs.declared.fault.DiskFault.{DiskFault}
-use Rattle.loop_disk.specs.Medium.{Elapses, Medium, SameOutside, TornAt, written}
+use Rattle.loop_disk.specs.Medium.{Medium, SameOutside, TornAt, written}
 use Rattle.loop_disk.specs.Calls.{Stays, Syncs, Writes}
 use Rattle.loop_disk.proofs.Images.{length-written, untouched, written_outside}
 use Rattle.loop_overlay.specs.Layers.{KeptWrite, laid, laid_on, overlaid}
@@ -48,13 +48,9 @@ kept_write m writes f w fits =
             (λ (new : length writes < left.0). inr (torn c (left.3 ∙ ap (λ (ws : List KeptWrite). laid ws m.bytes) (take_all left.0 (writes ++ w ∷ []) (omega (arith, new, longer))))))
             (λ (old : left.0 ≤ length writes). inl (left.0, left.1, old, left.3 ∙ before left.0 old))
             (cases_lt (length writes) left.0);
-        keeps = λ t c le left. (left.0, left.1, omega (arith, left.2, longer), left.3 ∙ sym (before left.0 left.2));
       };
+      keeps = λ t c le left. (left.0, left.1, omega (arith, left.2, longer), left.3 ∙ sym (before left.0 left.2));
     }
-
--- time in which nothing is written
-at_once : (m : Medium) (writes : List KeptWrite) (f g : Failures) (P : List ℕ → Type 0) → Elapses (overlaid m writes f) (overlaid m writes g) P
-at_once m writes f g P = record { later = omega arith; nothing_else = λ t c le left. inl left; keeps = λ t c le left. left }
 
 -- a write for which there is no memory
 pub refused_write : (m : Medium) (writes : List KeptWrite) (f g : Failures) (at : ℕ) (bytes : List ℕ) (e : DiskFault)
@@ -63,12 +59,13 @@ refused_write m writes f g at bytes e = record {
   done = tt;
   elsewhere = untouched at (length bytes) (laid writes m.bytes);
   images = λ c left. torn_now m writes f at (length bytes) c (subst (λ (l : List ℕ). SameOutside at (length bytes) (laid writes m.bytes) l) (sym left) (untouched at (length bytes) (laid writes m.bytes)));
-  time = at_once m writes f g _;
+  time = record { later = omega arith; nothing_else = λ t c le left. inl left };
+  keeps = λ t c le left. left;
 }
 
 pub synced : (m : Medium) (writes : List KeptWrite) (f : Failures) → Syncs {T = Unit {0}} (overlaid m writes f) (overlaid m writes f) (Ok tt)
 synced m writes f = record {
-  stays = record { bytes = refl; images = λ c left. left; time = at_once m writes f f _ };
+  stays = record { bytes = refl; images = λ c left. left; time = record { later = omega arith; nothing_else = λ t c le left. inl left }; keeps = λ t c le left. left };
   settled = λ c left. left;
 }
 
@@ -78,11 +75,8 @@ looked old new writes f g stays =
     let same : (ws : List KeptWrite) → laid ws new.bytes ≡ laid ws old.bytes = λ ws. ap (λ (l : List ℕ). laid ws l) stays.bytes in record {
       bytes = same writes;
       images = λ c left. left ∙ same writes;
-      time = record {
-        later = omega arith;
-        nothing_else = λ t c le left. inl (left.0, left.1, left.2, left.3 ∙ same (take left.0 writes));
-        keeps = λ t c le left. (left.0, left.1, left.2, left.3 ∙ sym (same (take left.0 writes)));
-      };
+      time = record { later = omega arith; nothing_else = λ t c le left. inl (left.0, left.1, left.2, left.3 ∙ same (take left.0 writes)) };
+      keeps = λ t c le left. (left.0, left.1, left.2, left.3 ∙ sym (same (take left.0 writes)));
     }
 
 -- the next write of some

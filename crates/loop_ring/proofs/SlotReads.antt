@@ -5,7 +5,7 @@ use Rattle.byteorder.specs.Endian.{little_from}
 use Rattle.byteorder.specs.Numbers.{little_from-take}
 use Rattle.loop_disk.specs.Calls.{Stays}
 use Rattle.loop_disk.specs.Medium.{Medium, IsSettled, piece}
-use Rattle.loop_disk.proofs.Moments.{elapses_on}
+use Rattle.loop_disk.proofs.Moments.{meanwhile_on, remembers_on}
 use Rattle.loop_record.specs.declared.damage.Damage.{Damage}
 use Rattle.loop_record.specs.declared.damage.Damage.TheVariants.{SlotHead}
 use Rattle.loop_record.specs.declared.frame.FrameHead.{FrameHead}
@@ -22,7 +22,8 @@ pub stays_on : (old mid new : Medium) → Stays old mid → Stays mid new → St
 stays_on old mid new first second = record {
   bytes = second.bytes ∙ first.bytes;
   images = λ c left. first.images c (second.images c left);
-  time = elapses_on old mid new old.may_leave mid.may_leave first.time second.time first.images;
+  time = meanwhile_on old mid new old.may_leave mid.may_leave first.time second.time first.images;
+  keeps = remembers_on old mid new first.time.later first.keeps second.keeps;
 }
 
 -- where a crash left the present bytes and nothing else, it does so after a read

@@ -1,6 +1,9 @@
 -- What the writes to one segment leave of an image.
-use Rattle.std.specs.Prelude.{◌≡◌, ◌⊎◌, ℕ, ◌+◌, ◌*◌, ◌<◌, ◌≤◌, false, List, [], ◌∷◌, ◌++◌, length, take, map, Option, Some, None}
+use Rattle.std.specs.Prelude.{◌≡◌, ◌⊎◌, ℕ, ◌+◌, ◌*◌, ◌<◌, ◌≤◌, false, List, [], ◌∷◌, ◌++◌, length, take, map, Option, Some, None, Result, OnOk}
 use Rattle.std.specs.List.{range_with_len}
+use Rattle.loop_disk.specs.declared.fault.DiskFault.{DiskFault}
+use Rattle.loop_disk.specs.Calls.{Called, Stays, failed_call}
+use Rattle.loop_disk.specs.Medium.{IsSettled, LeavesOnly, Medium}
 use Rattle.loop_record.specs.declared.geometry.Geometry.{Geometry}
 use Rattle.loop_record.specs.Change.{ShowsSegment}
 use Rattle.loop_record.specs.Geometry.{frame_bytes, gate_at}
@@ -38,6 +41,16 @@ HasNoStray g j image = (i : ℕ) → whole_frames g image j ≤ i → i < g.slot
 -- the gates in the n places from one on are closed
 abbrev pub AreClosed : ℕ → ℕ → List ℕ → Type 0
 AreClosed at n image = (i : ℕ) → at ≤ i → i < at + n → is_open image i ≡ false
+
+-- What closing gates that may be open changed: whatever the moment of a stop, the image is one of the first; at Ok none
+-- is open, and a crash leaves nothing else. Where none was, the disk stays. It reads first, so a read may fail too.
+pub record Cleans {T : Type 0} (IsLeft IsClean : List ℕ → Type 0) (old new : Medium)
+    (result : Result T DiskFault) : Type 0 where
+  pub moments : old.honest → LeavesOnly old new IsLeft
+  pub such : old.honest → OnOk result (IsLeft new.bytes × IsClean new.bytes)
+  pub settled : old.honest → OnOk result (IsSettled new)
+  pub quiet : old.honest → IsClean old.bytes → Stays old new
+  pub called : Called old new (failed_call result)
 
 -- the first k slots in some bytes, with frames of n bytes
 abbrev pub slots_in : ℕ → List ℕ → ℕ → List Slot

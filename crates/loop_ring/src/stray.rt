@@ -1,13 +1,11 @@
 // The frame gates that a stop left open behind a closed one.
 ghost use Rattle.std.specs.Prelude.{◌≡◌, ◌+◌, ◌<◌, ◌≤◌, ◌==◌};
 ghost use Rattle.std.specs.List.{list_any};
-ghost use Rattle.loop_disk.specs.Calls.{Stays};
 ghost use Rattle.loop_disk.specs.Medium.{IsSettled, SameOutside};
-ghost use Rattle.loop_disk.specs.Steps.{Changes};
 ghost use Rattle.loop_record.specs.Change.{ShowsSegment};
 ghost use Rattle.loop_record.specs.Geometry.{disk_size};
 ghost use Rattle.loop_record.specs.Layout.{segment_in, whole_frames};
-ghost use Rattle.loop_ring.specs.Writes.{AreClosed, HasNoStray};
+ghost use Rattle.loop_ring.specs.Writes.{AreClosed, Cleans, HasNoStray};
 
 use crate::Ring;
 use loop_disk::{Disk, DiskFault, store};
@@ -33,11 +31,9 @@ impl Ring {
         requires settled { (D.medium disk.old).honest → IsSettled (D.medium disk.old) }
         requires whole { (D.medium disk.old).honest
             → whole_frames self.now.geometry (D.medium disk.old).bytes segment ≡ frames }
-        ensures changes { let g = self.now.geometry in let old = D.medium disk.old in
-            let Same = ShowsSegment g segment (segment_in g old.bytes segment) old.bytes in
-            Changes Same (λ image. Same image × HasNoStray g segment image) old (D.medium disk.new) result }
-        ensures quiet { (D.medium disk.old).honest → HasNoStray self.now.geometry segment (D.medium disk.old).bytes
-            → Stays (D.medium disk.old) (D.medium disk.new) }
+        ensures { let g = self.now.geometry in let old = D.medium disk.old in
+            Cleans (ShowsSegment g segment (segment_in g old.bytes segment) old.bytes) (HasNoStray g segment) old
+            (D.medium disk.new) result }
     {
         let first = frames + 1;
         if first >= self.geometry.slots {
@@ -54,12 +50,8 @@ fn close_gates<D: Disk>(disk: &mut D, at: u64, count: usize) -> Result<(), DiskF
     requires inside { at + count ≤ (D.medium disk.old).size }
     requires few { count ≤ 256 }
     requires settled { (D.medium disk.old).honest → IsSettled (D.medium disk.old) }
-    ensures changes { let old = D.medium disk.old in
-        Changes (SameOutside at count old.bytes) (λ image. SameOutside at count old.bytes image
-        × AreClosed at count image)
-        old (D.medium disk.new) result }
-    ensures quiet { (D.medium disk.old).honest → AreClosed at count (D.medium disk.old).bytes
-        → Stays (D.medium disk.old) (D.medium disk.new) }
+    ensures { let old = D.medium disk.old in
+        Cleans (SameOutside at count old.bytes) (AreClosed at count) old (D.medium disk.new) result }
 {
     let mut buffer = [0; MAX_GATES];
     let gates = &mut buffer[..count];

@@ -1,12 +1,12 @@
 -- What a disk's images hold after a call, and a store after one that failed.
 use Rattle.std.proofs.Common.{◌++◌, ℕ, refl, List, length, sym, ap, subst, arith}
 use Rattle.std.proofs.lemmas.List.{length-append, take_at}
-use Rattle.loop_disk.specs.Medium.{Medium, IsSound, LeavesOnly}
+use Rattle.loop_disk.specs.Medium.{Medium}
 use Rattle.loop_record.specs.declared.geometry.Geometry.{Geometry}
 use Rattle.loop_record.specs.Reading.{Holds}
 use Rattle.loop_record.specs.Recording.{Recording, Step, plain, ring_of}
 use Rattle.loop_record.proofs.Decided.{clash}
-use Rattle.loop_store.specs.Held.{EachNow, HoldsFrom}
+use Rattle.loop_store.specs.Held.{HoldsFrom}
 use Rattle.loop_store.specs.Seen.{HasFailed, Seen, StandsFor, Tells}
 
 -- all of some steps, with none behind them
@@ -17,10 +17,6 @@ holds-all g r steps more image held = record {
   few = omega (arith, length-append steps more);
   held = subst (λ (l : List Step). Holds g (plain (ring_of g) r l) image) (sym (take_at steps more (length steps) refl)) held;
 }
-
--- what a crash now may leave is one of the images since then
-pub each-now : (old new : Medium) (P : List ℕ → Type 0) → IsSound new → LeavesOnly old new P → EachNow new P
-each-now old new P sound run = λ c left. run.each c (sound.counts_now old.moment c run.later left)
 
 -- a store after a failed call tells what it told, and stands for what it stood for
 pub failed-told : {D : Type 0} (old new : Seen D) (r : Recording) → HasFailed old new → Tells old r → Tells new r

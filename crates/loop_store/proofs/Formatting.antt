@@ -139,10 +139,6 @@ laid-super g front old is long whole = laid-front g (drop 1 front) old (omega (a
 
 -- ---- what the writes say
 
--- where each image since then is closed, those that a crash now may leave are
-pub run-closed : (old new : Medium) → IsSound new → LeavesOnly old new IsClosed → LeavesClosed new
-run-closed old new sound run = λ c left. run.each c (sound.counts_now old.moment c run.later left)
-
 pub front-laid : {T : Type 0} (g : Geometry) (front bytes : List ℕ) (old new : Medium) (r : Result T DiskFault) → front ≡ super_bytes g ++ drop 512 (replicate 2560 0) → length front ≡ 2560 → bytes ≡ drop 1 front → IsSound old → old.size ≡ disk_size g
     → Writes 1 bytes old new r → OnOk r (IsLaid g 0 new.bytes)
 front-laid g front bytes old new r is long behind sound whole writes =

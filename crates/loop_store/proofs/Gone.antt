@@ -43,7 +43,7 @@ called-joined old mid new xs ys first second = record {
 
 -- nothing was called
 pub stays-still : (m : Medium) → Stays m m
-stays-still m = record { bytes = refl; images = λ c left. left; time = record { later = omega arith; nothing_else = λ t c before left. inl left; keeps = λ t c before left. left } }
+stays-still m = record { bytes = refl; images = λ c left. left; time = record { later = omega arith; nothing_else = λ t c le left. inl left }; keeps = λ t c le left. left }
 
 -- so it is of each of two lists
 all-both : (p : Call → Bool) (xs ys : List Call) → list_all p (xs ++ ys) ≡ true → (list_all p xs ≡ true) × (list_all p ys ≡ true)

@@ -105,6 +105,7 @@ lock-makes g span id old new result few l clean changes = record {
   held = λ r one honest held. on_ok_weaker result (λ shows. lock-held g r span id old.bytes new.bytes held one shows) (changes.such honest);
   such = λ honest. on_ok_weaker result (λ shows. segments-kept g id (Some span) old.bytes new.bytes few l shows (clean honest)) (changes.such honest);
   settled = changes.settled;
+  fault = changes.fault;
   called = changes.called;
 }
 
@@ -115,6 +116,7 @@ unlock-makes g id old new result few l clean changes = record {
   held = λ r one honest held. on_ok_weaker result (λ shows. unlock-held g r id old.bytes new.bytes held l shows) (changes.such honest);
   such = λ honest. on_ok_weaker result (λ shows. segments-kept g id None old.bytes new.bytes few l shows (clean honest)) (changes.such honest);
   settled = changes.settled;
+  fault = changes.fault;
   called = changes.called;
 }
 

@@ -5,6 +5,7 @@ use Rattle.std.specs.Prelude.{◌||◌}
 use Rattle.loop_disk.specs.declared.fault.DiskFault.{DiskFault}
 use Rattle.loop_disk.specs.Calls.{Called}
 use Rattle.loop_disk.specs.Medium.{Medium, IsSettled, IsSound, LeavesOnly}
+use Rattle.loop_disk.proofs.Moments.{each_now}
 use Rattle.loop_record.specs.declared.geometry.Geometry.{Geometry}
 use Rattle.loop_record.specs.Reading.{Holds}
 use Rattle.loop_record.specs.Recording.{Recording, Step, plain, ring_of}
@@ -15,7 +16,7 @@ use Rattle.loop_store.specs.Held.{HoldsFrom, HoldsSome}
 use Rattle.loop_store.specs.Opened.{TellsOne}
 use Rattle.loop_store.specs.Seen.{HasFailed, Seen, StandsFor, Tells}
 use Rattle.loop_store.specs.Steps.{LeavesSteps}
-use Rattle.loop_store.proofs.Asked.{each-now, failed-stands, failed-told, holds-all}
+use Rattle.loop_store.proofs.Asked.{failed-stands, failed-told, holds-all}
 use Rattle.loop_store.specs.declared.fault.StoreFault.TheVariants.{MustReopen}
 use Rattle.loop_store.proofs.Checked.{must-first, refused}
 use Rattle.loop_store.proofs.Gone.{goes-once, stays-still}
@@ -160,7 +161,7 @@ goes-failed {D} medium old new c steps fault failed = goes-once medium old new c
       let run = failed.moments s.recording stands.recording now in
       leaves-same old.geometry s.recording [] (made old.geometry s c) (steps s.recording) (begun old.geometry s c) (medium old.disk) (medium new.disk) (sym (failed.made_none s)) (sym (failed.begun_all s)) (record {
         moments = run;
-        now = each-now (medium old.disk) (medium new.disk) (HoldsSome old.geometry s.recording (steps s.recording)) (failed.sound (failed.called.honest.0 now)) run;
+        now = each_now (medium old.disk) (medium new.disk) (HoldsSome old.geometry s.recording (steps s.recording)) (failed.sound (failed.called.honest.0 now)) run;
       });
   looks = λ look now. absurd (clash (is_look c) look failed.writes);
   unmoved = λ early. absurd (clash (was_refused c) early failed.late);

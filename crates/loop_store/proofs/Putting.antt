@@ -1,7 +1,7 @@
 -- A group that was appended, or wasn't.
 use Rattle.std.proofs.Common.{◌≡◌, ◌≢◌, ◌⊎◌, inl, inr, ℕ, Bool, true, false, not, ◌&&◌, eqb, is_some, Option, None, Some, Result, Ok, Err, List, [], ◌∷◌, if◌then◌else◌, refl, sym, ap, ◌∙◌, subst}
 use Rattle.loop_disk.specs.declared.fault.DiskFault.{DiskFault}
-use Rattle.loop_disk.specs.Calls.{Called}
+use Rattle.loop_disk.specs.Calls.{Called, is_write_or_sync}
 use Rattle.loop_disk.specs.Medium.{Medium, IsSound, LeavesOnly}
 use Rattle.loop_record.specs.declared.geometry.Geometry.{Geometry}
 use Rattle.loop_record.specs.Recording.{Picture, Recording, last_number, needs_recycling, plain, recycling_first, ring_of, steps, victim}
@@ -168,6 +168,7 @@ pub record Failed {D : Type 0} (medium : D → Medium) (old new : Seen D) (ps : 
   pub fine : old.must_reopen ≡ false
   pub one : TellsOne old
   pub has_failed : HasFailed old new
+  pub writes : is_write_or_sync fault ≡ true
   pub called : Called (medium old.disk) (medium new.disk) (Some fault)
   pub sound : (medium new.disk).honest → IsSound (medium new.disk)
   pub place : (r : Recording) → Tells old r → HasPlace old.geometry r
@@ -186,7 +187,7 @@ put-failed medium old new ps fault failed = goes-failed medium old new (appended
   some = refl;
   made_none = λ s. refl;
   begun_all = λ s. refl;
-  answers = λ s told. placed ((medium old.disk).honest × Stands medium old s) old.geometry s ps (Err (Disk fault)) (sym told.must_reopen ∙ failed.fine) (failed.place s.recording told.recording) refl;
+  answers = λ s told. placed ((medium old.disk).honest × Stands medium old s) old.geometry s ps (Err (Disk fault)) (sym told.must_reopen ∙ failed.fine) (failed.place s.recording told.recording) failed.writes;
   moments = failed.moments;
 })
 

@@ -8,7 +8,7 @@ use Rattle.std.proofs.lemmas.List.Folds.{list_any_at}
 use Rattle.std.specs.List.{All, list_any, position, range_with_len}
 use Rattle.loop_disk.specs.Calls.{Stays}
 use Rattle.loop_disk.specs.Medium.{Medium, IsSettled, IsSound, LeavesOnly}
-use Rattle.loop_disk.proofs.Moments.{goes_on, joined, started, weaker}
+use Rattle.loop_disk.proofs.Moments.{each_now, goes_on, joined, started, weaker}
 use Rattle.loop_record.specs.declared.clip.Span.{Span}
 use Rattle.loop_record.specs.declared.geometry.Geometry.{Geometry}
 use Rattle.loop_record.specs.declared.image.Found.{Found}
@@ -155,10 +155,6 @@ alike-same g r j old new e l shows = reading-same g r old new j e l shows ∙ sy
 
 -- ---- moments
 
--- what a disk holds now was left at some moment
-pub left-now : (old new : Medium) (P : List ℕ → Type 0) → IsSound new → LeavesOnly old new P → P new.bytes
-left-now old new P sound run = run.each new.bytes (sound.counts_now old.moment new.bytes run.later sound.present)
-
 -- a run that left all as it was
 pub stays-moments : (old new : Medium) → IsSound old → Stays old new → LeavesOnly old new (WasOrReadsAlike old)
 stays-moments old new sound stays =
@@ -171,7 +167,7 @@ moments-on old mid new sound stays run =
     (weaker mid new (ReadsAlike mid.bytes) (WasOrReadsAlike old) run (λ c alike. inr (alike ∙ ap reading stays.bytes)))
 
 pub alike-on : (old mid new : Medium) → IsSound new → Stays old mid → LeavesOnly mid new (ReadsAlike mid.bytes) → ReadsAlike old.bytes new.bytes
-alike-on old mid new sound stays run = left-now mid new (ReadsAlike mid.bytes) sound run ∙ ap reading stays.bytes
+alike-on old mid new sound stays run = each_now mid new (ReadsAlike mid.bytes) sound run new.bytes sound.present ∙ ap reading stays.bytes
 
 -- ---- the segment of the next number
 

@@ -11,7 +11,7 @@ use Rattle.loop_record.specs.Recording.{Picture, Recording, Ring, Step, clip_of,
 use Rattle.loop_record.specs.Turns.{after_all, told_in, EachIn}
 use Rattle.loop_store.specs.declared.fault.StoreFault.{StoreFault}
 use Rattle.loop_store.specs.declared.fault.StoreFault.TheVariants.{AllLocked, ClipEmpty, ClipNotHeld, ClipTableFull, Damaged, NoMemory, NoSuchClip, MustReopen, NotHeld, NumbersSpent}
-use Rattle.loop_store.specs.Faults.{disk_failed, failed_as, fault_in, is_disk, is_early}
+use Rattle.loop_store.specs.Faults.{disk_failed, failed_as, fault_in, is_disk, is_early, is_write_fault}
 use Rattle.loop_store.specs.Steps.{if_answered, if_failed, steps_or_none}
 
 -- a call and its answer: an append of a group, a lock of a span with the clip's id, an unlock of an id, a read of a
@@ -154,8 +154,8 @@ pub record IsPart (r : Recording) (number at : ℕ) (bytes : List ℕ) : Type 0 
 abbrev pub ReadFails : Type 0 → StoreFault → Type 0
 ReadFails Honest fault = (is_disk fault ≡ true) ⊎ ((fault ≡ Damaged SlotHead) × (Honest → ⊥))
 
--- What a call answers where no check is due: the disk failed, a read lacks memory, or it is done. Only what a read
--- gives is known of honest disks alone.
+-- What a call answers where no check is due: it is done, a read lacks memory, or the disk failed, which for a call that
+-- writes is a write or a sync. Only what a read gives is known of honest disks alone.
 abbrev pub AnswersOtherwise : Type 0 → Recording → Call → Type 0
 AnswersOtherwise Honest r (appended group (Ok number)) = number ≡ r.next
 AnswersOtherwise Honest r (locked span (Ok id)) = id ≡ free_id r
@@ -164,9 +164,9 @@ AnswersOtherwise Honest r (was_read number (Ok x)) = Honest → IsHeldFrame r nu
 AnswersOtherwise Honest r (was_read_part number at (Ok bytes)) = Honest → IsPart r number at bytes
 AnswersOtherwise Honest r (was_read number (Err fault)) = (fault ≡ NoMemory) ⊎ ReadFails Honest fault
 AnswersOtherwise Honest r (was_read_part number at (Err fault)) = ReadFails Honest fault
-AnswersOtherwise Honest r (appended group (Err fault)) = is_disk fault ≡ true
-AnswersOtherwise Honest r (locked span (Err fault)) = is_disk fault ≡ true
-AnswersOtherwise Honest r (unlocked id (Err fault)) = is_disk fault ≡ true
+AnswersOtherwise Honest r (appended group (Err fault)) = is_write_fault fault ≡ true
+AnswersOtherwise Honest r (locked span (Err fault)) = is_write_fault fault ≡ true
+AnswersOtherwise Honest r (unlocked id (Err fault)) = is_write_fault fault ≡ true
 
 -- the answer is the refusal that is due, and where none is, one of these
 abbrev pub AnswersDue : Option StoreFault → Call → Type 0 → Type 0

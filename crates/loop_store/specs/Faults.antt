@@ -1,6 +1,7 @@
 -- Refusals: their numbers, and what each says of the disk.
 use Rattle.std.specs.Prelude.{ℕ, Bool, true, false, not, ◌&&◌, Option, None, Some, Result, Ok, Err, List, codes}
 use Rattle.loop_disk.specs.declared.fault.DiskFault.{DiskFault}
+use Rattle.loop_disk.specs.Calls.{is_write_or_sync}
 use Rattle.loop_ring.specs.declared.fault.SlotFault.{SlotFault}
 use Rattle.loop_ring.specs.declared.fault.SlotFault.TheVariants as slot
 use Rattle.loop_store.specs.declared.fault.StoreFault.{StoreFault}
@@ -50,6 +51,11 @@ fault_name HandEmpty = codes "HandEmpty"
 abbrev pub is_disk : StoreFault → Bool
 is_disk (Disk fault) = true
 is_disk _ = false
+
+-- a write or a sync of the disk has failed
+abbrev pub is_write_fault : StoreFault → Bool
+is_write_fault (Disk fault) = is_write_or_sync fault
+is_write_fault _ = false
 
 -- the refusal in an answer
 abbrev pub fault_in : {T : Type 0} → Result T StoreFault → Option StoreFault

@@ -1,8 +1,8 @@
 -- What a disk's image holds of a recording, before and after some steps.
-use Rattle.std.specs.Prelude.{◌≡◌, ◌≢◌, ◌==◌, ℕ, ◌/◌, ◌%◌, ◌<◌, ◌≤◌, false, None, Some, Result, OnOk, List, length, take}
+use Rattle.std.specs.Prelude.{◌≡◌, ◌≢◌, ◌==◌, ℕ, ◌/◌, ◌%◌, ◌<◌, ◌≤◌, false, true, None, Some, Result, IfErr, OnOk, List, length, take}
 use Rattle.std.specs.List.{list_any}
 use Rattle.loop_disk.specs.declared.fault.DiskFault.{DiskFault}
-use Rattle.loop_disk.specs.Calls.{Called, failed_call}
+use Rattle.loop_disk.specs.Calls.{Called, failed_call, is_write_or_sync}
 use Rattle.loop_disk.specs.Medium.{IsSettled, LeavesOnly, Medium}
 use Rattle.loop_record.specs.declared.geometry.Geometry.{Geometry}
 use Rattle.loop_record.specs.Recording.{Recording, Step, ring_of, plain}
@@ -49,7 +49,7 @@ HasNext next r = r.next ≡ next
 
 -- A call made these steps of each such recording that the disk held: whatever the moment of a stop, the image reads
 -- as that recording after a beginning of the steps; and at Ok the disk holds it after all of them, the image is
--- such, and a crash leaves nothing else.
+-- such, and a crash leaves nothing else. It fails for a write or a sync.
 pub record Makes {T : Type 0} (g : Geometry) (IsOne : Recording → Type 0) (steps : Recording → List Step)
     (IsSuch : List ℕ → Type 0) (old new : Medium) (result : Result T DiskFault) : Type 0 where
   pub moments : (r : Recording) → IsOne r → old.honest → Holds g r old.bytes
@@ -58,4 +58,5 @@ pub record Makes {T : Type 0} (g : Geometry) (IsOne : Recording → Type 0) (ste
       → OnOk result (Holds g (plain (ring_of g) r (steps r)) new.bytes)
   pub such : old.honest → OnOk result (IsSuch new.bytes)
   pub settled : old.honest → OnOk result (IsSettled new)
+  pub fault : IfErr result (λ fault. is_write_or_sync fault ≡ true)
   pub called : Called old new (failed_call result)

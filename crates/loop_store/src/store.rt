@@ -141,7 +141,7 @@ impl<D: Disk + Drop, A: Allocator> Store<D, A> {
     ///
     /// `MustReopen` where a call that writes has failed; otherwise `NumbersSpent` where no number is left; then
     /// `AllLocked` where a block would have to go and none may. It takes no memory, and reads nothing. After
-    /// `Disk` the store has to be opened again, and its numbers are those from before the call.
+    /// `Disk`, of a write or a sync, the store has to be opened again, and its numbers are those from before the call.
     ///
     /// Four calls of the disk: the slots, a sync, the gates of the frames, a sync. Four more where a block is
     /// begun, and two more where one goes first.
@@ -185,8 +185,8 @@ impl<D: Disk + Drop, A: Allocator> Store<D, A> {
     ///
     /// `MustReopen` where a call that writes has failed; otherwise `ClipEmpty` where `from` is above `to`; then
     /// `ClipNotHeld` with the least of the numbers that isn't held; then `ClipTableFull` where 64 clips stand. It
-    /// takes no memory, and looks at each held block once, so that no range is too long for it. After `Disk` the
-    /// store has to be opened again, and tells what it told before.
+    /// takes no memory, and looks at each held block once, so that no range is too long for it. After `Disk`, of a
+    /// write or a sync, the store has to be opened again, and tells what it told before.
     ///
     /// Four calls of the disk: the entry behind its gate, a sync, the gate, a sync.
     pub fn lock(&mut self, from: u64, to: u64) -> Result<u32, StoreFault>
@@ -204,7 +204,7 @@ impl<D: Disk + Drop, A: Allocator> Store<D, A> {
     /// Unlocks the clip of an id.
     ///
     /// `MustReopen` where a call that writes has failed; otherwise `NoSuchClip` where no clip has the id. It takes
-    /// no memory. After `Disk` the store has to be opened again, and tells what it told before.
+    /// no memory. After `Disk`, of a write or a sync, the store has to be opened again, and tells what it told before.
     ///
     /// Two calls of the disk: the gate of the entry, a sync.
     pub fn unlock(&mut self, id: u32) -> Result<(), StoreFault>

@@ -50,7 +50,7 @@ copy_dequeued : (index plane at count : ℕ) (b : Body Plane) → copy_refusal i
 copy_dequeued index plane at count b e =
     let p : Passed (copy_checks index plane at count (used_at b.buffers index plane) b) = all_passed (copy_checks index plane at count (used_at b.buffers index plane) b) e in true_of (is_dequeued (state_at b.buffers index)) p.1.1.0
 
-first_is_ended : (s : QueueState) (i : ℕ) → first_ended s ≡ Some i → (is_ended (state_at s.body.buffers i) ≡ true) × (i < length s.body.buffers)
+pub first_is_ended : (s : QueueState) (i : ℕ) → first_ended s ≡ Some i → (is_ended (state_at s.body.buffers i) ≡ true) × (i < length s.body.buffers)
 first_is_ended s i e = least_found s.end_number (λ k. is_ended (state_at s.body.buffers k)) (length s.body.buffers) i e
 
 for_owner : (s : QueueState) (event : Event) → MayHappen s event → ActsForOwner s.body.buffers event

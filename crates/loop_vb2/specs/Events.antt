@@ -2,6 +2,7 @@
 use Rattle.std.specs.Prelude.{◌≡◌, ◌⊎◌, ℕ, Bool, true, false, ◌==◌, List, [], ◌∷◌, Option, Some, None, option_map, map, Result, Ok, Err, take, drop, slice_get}
 use Rattle.loop_plane.specs.Plane.{Plane}
 use Rattle.loop_plane.specs.declared.memory.Memory.{Memory}
+use Rattle.loop_record.specs.Turns.{Machine, Turns}
 use Rattle.loop_vb2.specs.declared.buffer.Buffer.{Buffer}
 use Rattle.loop_vb2.specs.declared.buffer.BufferInfo.{BufferInfo}
 use Rattle.loop_vb2.specs.declared.buffer.Dequeued.{Dequeued}
@@ -112,10 +113,13 @@ MayHappen s (fail index stamp refusal) = IsRefusal (end_refusal index s.body) re
 MayHappen s fatal = Unit {0}
 MayHappen s (take_fresh fresh) = fresh ≡ s.body.fresh
 
+-- the model of a queue
+abbrev pub queue_machine : Machine QueueState Event
+queue_machine = record { after = after_event; May = MayHappen }
+
 -- from each state that the queue stands for, the event is answered so, and the queue stands for the state after it
 abbrev pub Happens : {P : Type 0} → (P → Plane) → Lined P → Lined P → Event → Type 0
-Happens meaning before now event =
-    (s : QueueState) → StandsQueue meaning before s → MayHappen s event × StandsQueue meaning now (after_event s event)
+Happens meaning before now event = Turns queue_machine (StandsQueue meaning before) (StandsQueue meaning now) event
 
 -- ---- the answer of a call, as its event has it
 

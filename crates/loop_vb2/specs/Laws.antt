@@ -1,14 +1,19 @@
 -- What follows from the definitions, about every state and every list of events.
-use Rattle.std.specs.Prelude.{◌≡◌, ◌⊎◌, ℕ, Bool, true, false, ◌==◌, cond, List, [], ◌∷◌, ◌++◌, None, Ok}
+use Rattle.std.specs.Prelude.{◌≡◌, ◌⊎◌, ℕ, ◌+◌, Bool, true, false, ◌==◌, cond, List, [], ◌∷◌, ◌++◌, count_by, Some, None, Ok, option_to_list}
 use Rattle.std.specs.List.{flat_map, list_any}
 use Rattle.loop_plane.specs.Plane.{Plane}
+use Rattle.loop_plane.specs.declared.memory.Memory.TheVariants.{Mmap}
 use Rattle.loop_record.specs.Turns.{EachIn}
 use Rattle.loop_vb2.specs.declared.buffer.Buffer.{Buffer}
+use Rattle.loop_vb2.specs.declared.planes.PlaneSet.{PlaneSet}
+use Rattle.loop_vb2.specs.declared.planes.Shape.{Shape}
 use Rattle.loop_vb2.specs.declared.state.BufferState.{BufferState}
 use Rattle.loop_vb2.specs.declared.state.BufferState.TheVariants.{Dequeued, Prepared, Queued, Done, Error}
 use Rattle.loop_vb2.specs.Owner.{Application, Device, owner, activated}
-use Rattle.loop_vb2.specs.Buffers.{state_at}
-use Rattle.loop_vb2.specs.State.{QueueState, InStep, Lined, StandsQueue}
+use Rattle.loop_vb2.specs.Buffers.{state_at, holds_at}
+use Rattle.loop_vb2.specs.Planes.{same_memory, set_filled}
+use Rattle.loop_vb2.specs.Requests.{held}
+use Rattle.loop_vb2.specs.State.{Body, QueueState, InStep, Lined, StandsQueue}
 use Rattle.loop_vb2.specs.Events.{Event, MayHappen, after_event, dequeued_by, ended_by, stops, reqbufs, prepare_buf, qbuf, dqbuf, streamon, streamoff, take_planes, copy_plane, complete, fail}
 
 -- an event that is accepted acts for the buffer's owner: PREPARE_BUF, planes taken out and bytes copied for the
@@ -49,6 +54,48 @@ HandedOverByOwners =
     → ActsForOwner s.body.buffers event
     × ((i : ℕ) → state_at (after_event s event).body.buffers i
     ≡ turned_to event (after_event s event).body.started i (state_at s.body.buffers i))
+
+-- the sets of planes that an event brings into buffers
+abbrev pub brought_by : Event → List (PlaneSet Plane)
+brought_by (reqbufs count kind sets (Ok g)) = sets
+brought_by (prepare_buf index kind given None) = option_to_list given
+brought_by (qbuf index kind given None) = option_to_list given
+brought_by e = []
+
+-- those that it hands out
+abbrev pub handed_by : Event → List (PlaneSet Plane)
+handed_by (reqbufs count kind sets (Ok g)) = g.left
+handed_by (dqbuf (Ok d)) = option_to_list d.planes
+handed_by (take_planes index (Ok set)) = set ∷ []
+handed_by e = []
+
+-- those that go with their buffers: REQBUFS drops the queue's own memory
+abbrev pub dropped_by : Body Plane → Event → List (PlaneSet Plane)
+dropped_by b (reqbufs count kind sets (Ok g)) = cond (same_memory b.kind Mmap) (held b.buffers) []
+dropped_by b e = []
+
+-- a test of sets says the same of a set before and after the device fills it, where it does
+abbrev pub IsBlindTo : Event → (PlaneSet Plane → Bool) → Type 0
+IsBlindTo (complete index stamp bytes None) test =
+    (shape : Shape) (set : PlaneSet Plane) → test (set_filled shape bytes set) ≡ test set
+IsBlindTo e test = Unit {0}
+
+-- where a set was handed out of one buffer, that buffer holds none
+abbrev pub LeavesNone : List (Buffer Plane) → Event → Type 0
+LeavesNone bs (dqbuf (Ok d)) = (set : PlaneSet Plane) → d.planes ≡ Some set → holds_at bs d.index ≡ false
+LeavesNone bs (take_planes index (Ok set)) = holds_at bs index ≡ false
+LeavesNone bs e = Unit {0}
+
+-- A set of planes is in one place. The sets that the buffers hold after an accepted event, those that it hands out and
+-- those that it drops are just those that the buffers held before and those that it brings, counted by any test of sets
+-- that the bytes of a completed frame don't change; and a buffer whose set was handed out holds none.
+abbrev pub SetsAreInOnePlace : Type 0
+SetsAreInOnePlace =
+    (s : QueueState) (event : Event) (test : PlaneSet Plane → Bool) → MayHappen s event → IsBlindTo event test
+    → (count_by test (held (after_event s event).body.buffers)
+    + (count_by test (handed_by event) + count_by test (dropped_by s.body event))
+    ≡ count_by test (held s.body.buffers) + count_by test (brought_by event))
+    × LeavesNone (after_event s event).body.buffers event
 
 -- Between two events that stop the stream, the buffers dequeued are a beginning of those completed or failed,
 -- in that order.

@@ -1,6 +1,6 @@
 //! What follows from the definitions. Each function does nothing: its contract is the law.
 
-ghost use Rattle.loop_vb2.specs.Laws.{HandedOverByOwners, DequeuedInOrder, NewQueuesAreStill};
+ghost use Rattle.loop_vb2.specs.Laws.{HandedOverByOwners, SetsAreInOnePlace, DequeuedInOrder, NewQueuesAreStill};
 
 use loop_plane::PlaneMemory;
 
@@ -9,6 +9,13 @@ use loop_plane::PlaneMemory;
 /// buffer is after it: no buffer changes hands otherwise.
 pub fn buffers_are_handed_over_by_their_owners()
     ensures { HandedOverByOwners }
+{}
+
+/// A set of planes is in one place: the sets that the buffers hold after an accepted event and those that it hands out,
+/// or drops with the queue's own memory, are those that the buffers held before and those that it brings. So a set that
+/// was handed out lies in no buffer.
+pub fn sets_are_in_one_place()
+    ensures { SetsAreInOnePlace }
 {}
 
 /// Between two events that stop the stream, the buffers dequeued are a beginning of those completed or failed,

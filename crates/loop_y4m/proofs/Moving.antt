@@ -8,6 +8,7 @@ use Rattle.std.specs.Io.KnownBytes.{Appends}
 use Rattle.loop_disk.specs.declared.fault.DiskFault.{DiskFault}
 use Rattle.loop_disk.specs.Calls.{with_failed}
 use Rattle.loop_disk.specs.Medium.{Medium, piece}
+use Rattle.loop_record.specs.declared.damage.Damage.TheVariants.{SlotHead}
 use Rattle.loop_record.specs.Recording.{Recording, RiseBetween}
 use Rattle.loop_record.specs.declared.geometry.Geometry.{Geometry}
 use Rattle.loop_store.specs.Seen.{Seen, StandsFor}
@@ -48,15 +49,16 @@ pub some_later : (old mid new : Option (List ℕ)) (done more rest whole : List 
 some_later old mid new done more rest whole first some is =
     (done ++ some.0, some.1 ++ rest, is ∙ ap (λ (m : List ℕ). done ++ (m ++ rest)) some.2 ∙ four done some.0 some.1 rest, Appends-trans old mid new done some.0 first some.3)
 
-pub stopped_later : (old mid new : Option (List ℕ)) (fault : ExportFault) (done more rest whole : List ℕ) → Appends old mid done → Stopped fault mid new more → whole ≡ done ++ (more ++ rest) → Stopped fault old new whole
-stopped_later old mid new (export.Store (store.Disk fault)) done more rest whole first some is = some_later old mid new done more rest whole first some is
-stopped_later old mid new export.Write done more rest whole first some is = some_later old mid new done more rest whole first some is
-stopped_later old mid new _ done more rest whole first some is = elim some [ ]
+pub stopped_later : (H K : Type 0) (old mid new : Option (List ℕ)) (fault : ExportFault) (done more rest whole : List ℕ) → (H → K) → (H → Appends old mid done) → Stopped K fault mid new more → whole ≡ done ++ (more ++ rest) → Stopped H fault old new whole
+stopped_later H K old mid new (export.Store (store.Disk fault)) done more rest whole on first some is = λ h. some_later old mid new done more rest whole (first h) (some (on h)) is
+stopped_later H K old mid new (export.Store (store.Damaged SlotHead)) done more rest whole on first some is = λ h. some (on h)
+stopped_later H K old mid new export.Write done more rest whole on first some is = λ h. some_later old mid new done more rest whole (first h) (some (on h)) is
+stopped_later H K old mid new _ done more rest whole on first some is = elim some [ ]
 
 -- a fault that was handed on
-pub stopped_on : {T : Type 0} (old new : Option (List ℕ)) (result : Result T ExportFault) (fault : ExportFault) (bytes : List ℕ) → IsErrAnd result (λ made. made ≡ fault) → Stopped fault old new bytes → Moved old new result bytes
-stopped_on old new (Ok x) fault bytes failed stopped = absurd failed
-stopped_on old new (Err made) fault bytes failed stopped = subst (λ (f : ExportFault). Stopped f old new bytes) (sym failed) stopped
+pub stopped_on : {T : Type 0} (H : Type 0) (old new : Option (List ℕ)) (result : Result T ExportFault) (fault : ExportFault) (bytes : List ℕ) → IsErrAnd result (λ made. made ≡ fault) → Stopped H fault old new bytes → Moved H old new result bytes
+stopped_on H old new (Ok x) fault bytes failed stopped = absurd failed
+stopped_on H old new (Err made) fault bytes failed stopped = subst (λ (f : ExportFault). Stopped H f old new bytes) (sym failed) stopped
 
 -- a frame's first bytes, and some more
 pub frame_more : (at n : ℕ) (bytes : List ℕ) → frame (take (at + n) bytes) ≡ frame (take at bytes) ++ piece at n bytes
@@ -78,21 +80,25 @@ some_frames r from first to inner rise is none =
     never x xs e = absurd cc
 
 -- memory was refused
-pub unwritten : (g : Geometry) (must_reopen : Bool) (frames : List (List ℕ)) (held : Option (List ℕ)) (result : Result ℕ ExportFault) → must_reopen ≡ false → frames ≢ [] → IsErrAnd result (λ made. made ≡ export.Store store.NoMemory) → IsExport g must_reopen frames held held result
-unwritten g must_reopen frames held (Ok count) fine some failed = absurd failed
-unwritten g must_reopen frames held (Err fault) fine some failed = subst (λ (f : ExportFault). IsExport g must_reopen frames held held (Err f)) (sym failed) (fine, (some, refl))
+pub unwritten : (H : Type 0) (g : Geometry) (must_reopen : Bool) (frames : List (List ℕ)) (held : Option (List ℕ)) (result : Result ℕ ExportFault) → must_reopen ≡ false → frames ≢ [] → IsErrAnd result (λ made. made ≡ export.Store store.NoMemory) → IsExport H g must_reopen frames held held result
+unwritten H g must_reopen frames held (Ok count) fine some failed = absurd failed
+unwritten H g must_reopen frames held (Err fault) fine some failed = subst (λ (f : ExportFault). IsExport H g must_reopen frames held held (Err f)) (sym failed) (fine, (some, refl))
 
 -- the header was written, or a beginning of it
-pub unheaded : (g : Geometry) (must_reopen : Bool) (frames : List (List ℕ)) (old new : Option (List ℕ)) (result : Result ℕ ExportFault) → must_reopen ≡ false → frames ≢ [] → IsErrAnd result (λ made. made ≡ export.Write) → AppendsSome old new (header g)
-    → IsExport g must_reopen frames old new result
-unheaded g must_reopen frames old new (Ok count) fine some failed given = absurd failed
-unheaded g must_reopen frames old new (Err fault) fine some failed given =
-    subst (λ (f : ExportFault). IsExport g must_reopen frames old new (Err f)) (sym failed) (fine, (some, some_later old old new [] (header g) (flat_map frame frames) (text g frames) (Appends-nil old) given refl))
+pub unheaded : (H : Type 0) (g : Geometry) (must_reopen : Bool) (frames : List (List ℕ)) (old new : Option (List ℕ)) (result : Result ℕ ExportFault) → must_reopen ≡ false → frames ≢ [] → IsErrAnd result (λ made. made ≡ export.Write) → AppendsSome old new (header g)
+    → IsExport H g must_reopen frames old new result
+unheaded H g must_reopen frames old new (Ok count) fine some failed given = absurd failed
+unheaded H g must_reopen frames old new (Err fault) fine some failed given =
+    subst (λ (f : ExportFault). IsExport H g must_reopen frames old new (Err f)) (sym failed) (fine, (some, λ h. some_later old old new [] (header g) (flat_map frame frames) (text g frames) (Appends-nil old) given refl))
 
 -- and the frames behind it
-pub headed : (g : Geometry) (must_reopen : Bool) (frames : List (List ℕ)) (old mid new : Option (List ℕ)) (result : Result ℕ ExportFault) → must_reopen ≡ false → frames ≢ [] → Appends old mid (header g) → MovedAll mid new result frames
-    → IsExport g must_reopen frames old new result
-headed g must_reopen frames old mid new (Ok count) fine some first moved = (fine, (some, (Appends-trans old mid new (header g) (flat_map frame frames) first moved.0, moved.1)))
-headed g must_reopen frames old mid new (Err (export.Store (store.Disk fault))) fine some first moved = (fine, (some, some_later old mid new (header g) (flat_map frame frames) [] (text g frames) first moved.0 (ap (λ (l : List ℕ). header g ++ l) (sym (append-nil (flat_map frame frames))))))
-headed g must_reopen frames old mid new (Err export.Write) fine some first moved = (fine, (some, some_later old mid new (header g) (flat_map frame frames) [] (text g frames) first moved.0 (ap (λ (l : List ℕ). header g ++ l) (sym (append-nil (flat_map frame frames))))))
-headed g must_reopen frames old mid new (Err _) fine some first moved = elim moved.0 [ ]
+pub headed : (H : Type 0) (g : Geometry) (must_reopen : Bool) (frames : List (List ℕ)) (old mid new : Option (List ℕ)) (result : Result ℕ ExportFault) → must_reopen ≡ false → frames ≢ [] → Appends old mid (header g) → MovedAll H mid new result frames
+    → IsExport H g must_reopen frames old new result
+headed H g must_reopen frames old mid new (Ok count) fine some first moved = (fine, (some, (λ h. Appends-trans old mid new (header g) (flat_map frame frames) first (moved.0 h), moved.1)))
+headed H g must_reopen frames old mid new (Err fault) fine some first moved = go fault (stopped_later H H old mid new fault (header g) (flat_map frame frames) [] (text g frames) (λ h. h) (λ h. first) moved.0 (ap (λ (l : List ℕ). header g ++ l) (sym (append-nil (flat_map frame frames)))))
+  where
+    go : (f : ExportFault) → Stopped H f old new (text g frames) → IsExport H g must_reopen frames old new (Err f)
+    go (export.Store (store.Disk failed)) stopped = (fine, (some, stopped))
+    go (export.Store (store.Damaged SlotHead)) stopped = (fine, (some, stopped))
+    go export.Write stopped = (fine, (some, stopped))
+    go _ stopped = elim stopped [ ]

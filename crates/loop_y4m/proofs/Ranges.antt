@@ -142,36 +142,36 @@ each_between P from to low high (f ∷ fs) rise each =
 -- ---- the frames so far
 
 -- so many frames of a range were written, and those from this number on are left
-pub record Given (r : Recording) (first to count : ℕ) (next : Option ℕ) (old now : Option (List ℕ)) : Type 0 where
+pub record Given (H : Type 0) (r : Recording) (first to count : ℕ) (next : Option ℕ) (old now : Option (List ℕ)) : Type 0 where
   pub done : List (List ℕ)
   pub are : frames_between first to r.frames ≡ done ++ frames_left next to r.frames
   pub counted : length done ≡ count
-  pub given : Appends old now (flat_map frame done)
+  pub given : H → Appends old now (flat_map frame done)
 
 -- none yet
-pub given_none : (r : Recording) (first to : ℕ) (old : Option (List ℕ)) → Given r first to 0 (Some first) old old
-given_none r first to old = record { done = []; are = refl; counted = refl; given = Appends-nil old }
+pub given_none : (H : Type 0) (r : Recording) (first to : ℕ) (old : Option (List ℕ)) → Given H r first to 0 (Some first) old old
+given_none H r first to old = record { done = []; are = refl; counted = refl; given = λ h. Appends-nil old }
 
 -- one more
-pub given_more : (r : Recording) (first to count n high : ℕ) (p : Picture) (next : Option ℕ) (old mid new : Option (List ℕ)) → n ≤ to → RiseBetween 0 high r.frames → frame_under r.frames n ≡ Some p → Given r first to count (Some n) old mid → Appends mid new (frame p.bytes)
-    → IsFirstBetween r (n + 1) to next → Given r first to (count + 1) next old new
-given_more r first to count n high p next old mid new inner rise there before more after = record {
+pub given_more : (H : Type 0) (r : Recording) (first to count n high : ℕ) (p : Picture) (next : Option ℕ) (old mid new : Option (List ℕ)) → n ≤ to → RiseBetween 0 high r.frames → frame_under r.frames n ≡ Some p → Given H r first to count (Some n) old mid → (H → Appends mid new (frame p.bytes))
+    → IsFirstBetween r (n + 1) to next → Given H r first to (count + 1) next old new
+given_more H r first to count n high p next old mid new inner rise there before more after = record {
   done = before.done ++ p.bytes ∷ [];
   are = before.are ∙ ap (λ (l : List (List ℕ)). before.done ++ l) (first_between n to 0 high r.frames p inner rise there ∙ ap (λ (l : List (List ℕ)). p.bytes ∷ l) after.1) ∙ sym (append_assoc before.done (p.bytes ∷ []) (frames_left next to r.frames));
   counted = omega (arith, length-append before.done (p.bytes ∷ []), before.counted);
-  given = subst (λ (bytes : List ℕ). Appends old new bytes) (sym (flat_map-append frame before.done (p.bytes ∷ []) ∙ ap (λ (bytes : List ℕ). flat_map frame before.done ++ bytes) (append-nil (frame p.bytes)))) (Appends-trans old mid new (flat_map frame before.done) (frame p.bytes) before.given more);
+  given = λ h. subst (λ (bytes : List ℕ). Appends old new bytes) (sym (flat_map-append frame before.done (p.bytes ∷ []) ∙ ap (λ (bytes : List ℕ). flat_map frame before.done ++ bytes) (append-nil (frame p.bytes)))) (Appends-trans old mid new (flat_map frame before.done) (frame p.bytes) (before.given h) (more h));
 }
 
 -- all of them
-pub given_all : (r : Recording) (first to count : ℕ) (old now : Option (List ℕ)) → Given r first to count None old now → MovedAll old now (Ok count) (frames_between first to r.frames)
-given_all r first to count old now all =
+pub given_all : (H : Type 0) (r : Recording) (first to count : ℕ) (old now : Option (List ℕ)) → Given H r first to count None old now → MovedAll H old now (Ok count) (frames_between first to r.frames)
+given_all H r first to count old now all =
     let are = all.are ∙ append-nil all.done in
-    (subst (λ (l : List (List ℕ)). Appends old now (flat_map frame l)) (sym are) all.given, sym all.counted ∙ ap (λ (l : List (List ℕ)). length l) (sym are))
+    (λ h. subst (λ (l : List (List ℕ)). Appends old now (flat_map frame l)) (sym are) (all.given h), sym all.counted ∙ ap (λ (l : List (List ℕ)). length l) (sym are))
 
 -- the whole text is that of the frames so far, the next frame's and that of those behind it
-pub given_rest : (r : Recording) (first to count n high : ℕ) (p : Picture) (old mid : Option (List ℕ)) → n ≤ to → RiseBetween 0 high r.frames → frame_under r.frames n ≡ Some p → (before : Given r first to count (Some n) old mid)
+pub given_rest : (H : Type 0) (r : Recording) (first to count n high : ℕ) (p : Picture) (old mid : Option (List ℕ)) → n ≤ to → RiseBetween 0 high r.frames → frame_under r.frames n ≡ Some p → (before : Given H r first to count (Some n) old mid)
     → flat_map frame (frames_between first to r.frames) ≡ flat_map frame before.done ++ (frame p.bytes ++ flat_map frame (frames_between (n + 1) to r.frames))
-given_rest r first to count n high p old mid inner rise there before =
+given_rest H r first to count n high p old mid inner rise there before =
     ap (flat_map frame) (before.are ∙ ap (λ (l : List (List ℕ)). before.done ++ l) (first_between n to 0 high r.frames p inner rise there)) ∙ flat_map-append frame before.done (p.bytes ∷ frames_between (n + 1) to r.frames)
 
 -- ---- a part of a frame
@@ -183,9 +183,9 @@ nothing_yet held bytes = ([], bytes, refl, Appends-nil held)
 abbrev pub running : Recording → StoreState
 running r = record { recording = r; must_reopen = false }
 
--- a read of a held frame is refused only where the disk failed
-pub part_refused : (H : Type 0) → H → (g : Geometry) (r : Recording) (number at : ℕ) (p : Picture) (fault : StoreFault) (held : Option (List ℕ)) (bytes : List ℕ) → frame_under r.frames number ≡ Some p → IsAnswered H g (running r) (was_read_part number at (Err fault)) → Stopped (Store fault) held held bytes
-part_refused H honest g r number at p fault held bytes there said = go fault (due-some (first_of (checks g (running r) (was_read_part number at (Err fault)))) (was_read_part number at (Err fault)) (ReadFails H fault) said)
+-- a read of a held frame is refused only where the disk failed or isn't honest
+pub part_refused : (H : Type 0) (g : Geometry) (r : Recording) (number at : ℕ) (p : Picture) (fault : StoreFault) (held : Option (List ℕ)) (bytes : List ℕ) → frame_under r.frames number ≡ Some p → IsAnswered H g (running r) (was_read_part number at (Err fault)) → Stopped H (Store fault) held held bytes
+part_refused H g r number at p fault held bytes there said = go fault (due-some (first_of (checks g (running r) (was_read_part number at (Err fault)))) (was_read_part number at (Err fault)) (ReadFails H fault) said)
   where
     none : first_of (checks g (running r) (was_read_part number at (Err fault))) ≡ None
     none = passed (not (holds r number)) NotHeld [] (ap (λ (o : Option Picture). not (is_some o)) there)
@@ -193,21 +193,21 @@ part_refused H honest g r number at p fault held bytes there said = go fault (du
     apart : (f : StoreFault) → let x : Option StoreFault = None in x ≡ Some f → ⊥
     apart f e = absurd cc
 
-    failed : (f : StoreFault) → is_disk f ≡ true → Stopped (Store f) held held bytes
-    failed (store.Disk f) e = nothing_yet held bytes
+    failed : (f : StoreFault) → is_disk f ≡ true → Stopped H (Store f) held held bytes
+    failed (store.Disk f) e = λ h. nothing_yet held bytes
     failed f e = absurd cc
 
-    go : (f : StoreFault) → (first_of (checks g (running r) (was_read_part number at (Err fault))) ≡ Some f) ⊎ ((first_of (checks g (running r) (was_read_part number at (Err fault))) ≡ None) × ReadFails H f) → Stopped (Store f) held held bytes
+    go : (f : StoreFault) → (first_of (checks g (running r) (was_read_part number at (Err fault))) ≡ Some f) ⊎ ((first_of (checks g (running r) (was_read_part number at (Err fault))) ≡ None) × ReadFails H f) → Stopped H (Store f) held held bytes
     go f (inl e) = absurd (apart f (sym none ∙ e))
     go f (inr x) = fails x.1
       where
-        fails : ReadFails H f → Stopped (Store f) held held bytes
+        fails : ReadFails H f → Stopped H (Store f) held held bytes
         fails (inl is) = failed f is
-        fails (inr damaged) = absurd (damaged.1 honest)
+        fails (inr damaged) = subst (λ (k : StoreFault). Stopped H (Store k) held held bytes) (sym damaged.0) damaged.1
 
--- a part that was read is one of the frame
-pub part_given : (H : Type 0) → H → (g : Geometry) (r : Recording) (number at : ℕ) (bytes : List ℕ) → IsAnswered H g (running r) (was_read_part number at (Ok bytes)) → IsPart r number at bytes
-part_given H honest g r number at bytes said = (due-none (first_of (checks g (running r) (was_read_part number at (Ok bytes)))) (was_read_part number at (Ok bytes)) (H → IsPart r number at bytes) said refl).1 honest
+-- a part that was read of an honest disk is one of the frame
+pub part_given : (H : Type 0) (g : Geometry) (r : Recording) (number at : ℕ) (bytes : List ℕ) → IsAnswered H g (running r) (was_read_part number at (Ok bytes)) → H → IsPart r number at bytes
+part_given H g r number at bytes said = (due-none (first_of (checks g (running r) (was_read_part number at (Ok bytes)))) (was_read_part number at (Ok bytes)) (H → IsPart r number at bytes) said refl).1
 
 -- the bytes that were read are those of the frame
 pub part_is : (r : Recording) (number at : ℕ) (p : Picture) (bytes : List ℕ) (m : ℕ) → frame_under r.frames number ≡ Some p → IsPart r number at bytes → length bytes ≡ m → bytes ≡ piece at m p.bytes
@@ -217,9 +217,9 @@ part_is r number at p bytes m there said count = said.bytes_are ∙ (λ i. piece
     same e = cc
 
 -- the writer failed
-pub writer_failed : {T : Type 0} (old new : Option (List ℕ)) (result : Result T ExportFault) (bytes text : List ℕ) → IsErrAnd result (λ fault. fault ≡ Write) → AppendsSome old new bytes → bytes ≡ text → Moved old new result text
-writer_failed old new (Ok x) bytes text failed some is = absurd failed
-writer_failed old new (Err fault) bytes text failed some is = subst (λ (f : ExportFault). Stopped f old new text) (sym failed) (subst (AppendsSome old new) is some)
+pub writer_failed : {T : Type 0} (H : Type 0) (old new : Option (List ℕ)) (result : Result T ExportFault) (bytes text : List ℕ) → IsErrAnd result (λ fault. fault ≡ Write) → AppendsSome old new bytes → (H → bytes ≡ text) → Moved H old new result text
+writer_failed H old new (Ok x) bytes text failed some is = absurd failed
+writer_failed H old new (Err fault) bytes text failed some is = subst (λ (f : ExportFault). Stopped H f old new text) (sym failed) (λ h. subst (AppendsSome old new) (is h) some)
 
 -- how many numbers there are from one on
 abbrev pub numbers_left : Option ℕ → ℕ

@@ -6,8 +6,9 @@ use Rattle.loop_disk.specs.declared.fault.DiskFault.{DiskFault}
 use Rattle.loop_disk.specs.Calls.{Called, Stays}
 use Rattle.loop_disk.specs.Medium.{Medium}
 use Rattle.loop_record.specs.declared.geometry.Geometry.{Geometry}
+use Rattle.loop_record.specs.declared.damage.Damage.TheVariants.{SlotHead}
 use Rattle.loop_record.specs.Recording.{Picture}
-use Rattle.loop_store.specs.declared.fault.StoreFault.TheVariants.{Disk, MustReopen, NoMemory, NotHeld}
+use Rattle.loop_store.specs.declared.fault.StoreFault.TheVariants.{Damaged, Disk, MustReopen, NoMemory, NotHeld}
 use Rattle.loop_store.specs.Seen.{Seen}
 use Rattle.loop_y4m.specs.declared.fault.ExportFault.{ExportFault}
 use Rattle.loop_y4m.specs.declared.fault.ExportFault.TheVariants.{Store, Write}
@@ -17,24 +18,28 @@ use Rattle.loop_y4m.specs.Text.{AppendsSome, text}
 abbrev pub frames_between : ℕ → ℕ → List (ℕ × Picture) → List (List ℕ)
 frames_between from to frames = map (λ f. f.1.bytes) (filter (λ f. nat_le from f.0 && nat_le f.0 to) frames)
 
--- a read or the writer failed, when a beginning of these bytes was written
-abbrev pub Stopped : ExportFault → Option (List ℕ) → Option (List ℕ) → List ℕ → Type 0
-Stopped (Store (Disk fault)) old new bytes = AppendsSome old new bytes
-Stopped Write old new bytes = AppendsSome old new bytes
-Stopped _ old new bytes = ⊥
+-- a read or the writer failed, when a beginning of these bytes was written; or a slot holds something else, which
+-- can't be where the disk is honest
+abbrev pub Stopped : Type 0 → ExportFault → Option (List ℕ) → Option (List ℕ) → List ℕ → Type 0
+Stopped Honest (Store (Disk fault)) old new bytes = Honest → AppendsSome old new bytes
+Stopped Honest (Store (Damaged SlotHead)) old new bytes = Honest → ⊥
+Stopped Honest Write old new bytes = Honest → AppendsSome old new bytes
+Stopped Honest _ old new bytes = ⊥
 
 -- The answer to an export of these frames: it must be reopened, or otherwise there is none of them, or otherwise
--- memory was refused, and then nothing was written; otherwise their text was, or a beginning of it, and they are
--- counted.
-abbrev pub IsExport : Geometry → Bool → List (List ℕ) → Option (List ℕ) → Option (List ℕ)
+-- memory was refused, and then nothing was written; otherwise they are counted, or what came in between says which
+-- fault. Only what was written then, their text or a beginning of it, is said of honest disks alone.
+abbrev pub IsExport : Type 0 → Geometry → Bool → List (List ℕ) → Option (List ℕ) → Option (List ℕ)
     → Result ℕ ExportFault → Type 0
-IsExport g must_reopen frames old new (Err (Store MustReopen)) = (must_reopen ≡ true) × (new ≡ old)
-IsExport g must_reopen frames old new (Err (Store NotHeld)) = (must_reopen ≡ false) × ((frames ≡ []) × (new ≡ old))
-IsExport g must_reopen frames old new (Err (Store NoMemory)) = (must_reopen ≡ false) × ((frames ≢ []) × (new ≡ old))
-IsExport g must_reopen frames old new (Err fault) =
-    (must_reopen ≡ false) × ((frames ≢ []) × Stopped fault old new (text g frames))
-IsExport g must_reopen frames old new (Ok count) =
-    (must_reopen ≡ false) × ((frames ≢ []) × (Appends old new (text g frames) × (count ≡ length frames)))
+IsExport Honest g must_reopen frames old new (Err (Store MustReopen)) = (must_reopen ≡ true) × (new ≡ old)
+IsExport Honest g must_reopen frames old new (Err (Store NotHeld)) =
+    (must_reopen ≡ false) × ((frames ≡ []) × (new ≡ old))
+IsExport Honest g must_reopen frames old new (Err (Store NoMemory)) =
+    (must_reopen ≡ false) × ((frames ≢ []) × (new ≡ old))
+IsExport Honest g must_reopen frames old new (Err fault) =
+    (must_reopen ≡ false) × ((frames ≢ []) × Stopped Honest fault old new (text g frames))
+IsExport Honest g must_reopen frames old new (Ok count) =
+    (must_reopen ≡ false) × ((frames ≢ []) × ((Honest → Appends old new (text g frames)) × (count ≡ length frames)))
 
 -- the call of the disk that failed, if the answer is that one did
 abbrev pub failed_export : {T : Type 0} → Result T ExportFault → Option DiskFault

@@ -59,15 +59,16 @@ IsGiven old now bytes rest = (done : List ℕ) × (bytes ≡ done ++ rest) × Ap
 
 -- ---- the export of a store
 
--- what was written of these bytes: all of them, or a beginning of them where a read or the writer failed
-abbrev pub Moved : {T : Type 0} → Option (List ℕ) → Option (List ℕ) → Result T ExportFault → List ℕ → Type 0
-Moved old new (Ok x) bytes = Appends old new bytes
-Moved old new (Err fault) bytes = Stopped fault old new bytes
+-- what was written of these bytes where the disk is honest: all of them, or a beginning of them where a read or the
+-- writer failed
+abbrev pub Moved : {T : Type 0} → Type 0 → Option (List ℕ) → Option (List ℕ) → Result T ExportFault → List ℕ → Type 0
+Moved Honest old new (Ok x) bytes = Honest → Appends old new bytes
+Moved Honest old new (Err fault) bytes = Stopped Honest fault old new bytes
 
 -- so it was of the text of these frames, and at Ok they are counted
-abbrev pub MovedAll : Option (List ℕ) → Option (List ℕ) → Result ℕ ExportFault → List (List ℕ) → Type 0
-MovedAll old new result frames =
-    Moved old new result (flat_map frame frames) × IfOk result (λ count. count ≡ length frames)
+abbrev pub MovedAll : Type 0 → Option (List ℕ) → Option (List ℕ) → Result ℕ ExportFault → List (List ℕ) → Type 0
+MovedAll Honest old new result frames =
+    Moved Honest old new result (flat_map frame frames) × IfOk result (λ count. count ≡ length frames)
 
 -- the bytes of the frames from a number on to another, where there are any
 abbrev pub frames_left : Option ℕ → ℕ → List (ℕ × Picture) → List (List ℕ)

@@ -23,9 +23,9 @@ const MAX_PIECE: u32 = 65_536;
 /// how many they are.
 ///
 /// `MustReopen` where a call of the store that writes has failed; otherwise `NotHeld` where no frame has such a
-/// number; then `NoMemory`. Nothing was written then. Afterwards `Disk` where a read fails, `Damaged` where the
-/// disk isn't honest, and `Write` where the writer fails; a beginning of the text was written then. Nothing is
-/// flushed.
+/// number; then `NoMemory`. Nothing was written then, whatever the disk. Afterwards `Disk` where a read fails,
+/// `Damaged` where a slot holds something else, which an honest disk has none of, and `Write` where the writer fails;
+/// of an honest disk's frames a beginning of the text was written then. Nothing is flushed.
 ///
 /// Frames are moved in pieces of at most 65,536 bytes. Memory is taken for one piece, before anything is
 /// written.
@@ -36,9 +36,9 @@ pub fn export<D: Disk + Drop, A: Allocator + Copy, W: Write>(
     to: u64,
     out: &mut W,
 ) -> Result<u64, ExportFault>
-    ensures exported { (r : Recording) → StandsFor D.medium store.old r → (D.medium store.old.disk).honest
-        → IsExport store.old.geometry store.old.must_reopen (frames_between from to r.frames)
-        (W.contents out.old) (W.contents out.new) result }
+    ensures exported { (r : Recording) → StandsFor D.medium store.old r
+        → IsExport (D.medium store.old.disk).honest store.old.geometry store.old.must_reopen
+        (frames_between from to r.frames) (W.contents out.old) (W.contents out.new) result }
     ensures store { OnlyRead D.medium store.old store.new (failed_export result) }
 {
     if store.must_reopen() {
@@ -78,9 +78,9 @@ fn write_frames<D: Disk + Drop, A: Allocator, W: Write>(
     requires open { store.old.must_reopen ≡ false }
     requires some { 1 ≤ length piece.old }
     requires first { (first ≤ to) × (first < 2 ^ 62) }
-    ensures moved { (r : Recording) → StandsFor D.medium store.old r → (D.medium store.old.disk).honest
-        → holds r first ≡ true
-        → MovedAll (W.contents out.old) (W.contents out.new) result (frames_between first to r.frames) }
+    ensures moved { (r : Recording) → StandsFor D.medium store.old r → holds r first ≡ true
+        → MovedAll (D.medium store.old.disk).honest (W.contents out.old) (W.contents out.new) result
+        (frames_between first to r.frames) }
     ensures store { OnlyRead D.medium store.old store.new (failed_export result) }
 {
     let mut next = Some(first);
@@ -102,9 +102,9 @@ fn write_held<D: Disk + Drop, A: Allocator, W: Write>(
 ) -> Result<(), ExportFault>
     requires open { store.old.must_reopen ≡ false }
     requires some { 1 ≤ length piece.old }
-    ensures moved { (r : Recording) (p : Picture) → StandsFor D.medium store.old r → (D.medium store.old.disk).honest
+    ensures moved { (r : Recording) (p : Picture) → StandsFor D.medium store.old r
         → frame_under r.frames number ≡ Some p
-        → Moved (W.contents out.old) (W.contents out.new) result (frame p.bytes) }
+        → Moved (D.medium store.old.disk).honest (W.contents out.old) (W.contents out.new) result (frame p.bytes) }
     ensures store { OnlyRead D.medium store.old store.new (failed_export result) }
 {
     write_frame_line(out)?;
@@ -128,9 +128,10 @@ fn move_part<D: Disk + Drop, A: Allocator, W: Write>(
 ) -> Result<(), ExportFault>
     requires open { store.old.must_reopen ≡ false }
     requires within { at + length part.old ≤ frame_bytes store.old.geometry }
-    ensures moved { (r : Recording) (p : Picture) → StandsFor D.medium store.old r → (D.medium store.old.disk).honest
+    ensures moved { (r : Recording) (p : Picture) → StandsFor D.medium store.old r
         → frame_under r.frames number ≡ Some p
-        → Moved (W.contents out.old) (W.contents out.new) result (piece at (length part.old) p.bytes) }
+        → Moved (D.medium store.old.disk).honest (W.contents out.old) (W.contents out.new) result
+        (piece at (length part.old) p.bytes) }
     ensures store { OnlyRead D.medium store.old store.new (failed_export result) }
 {
     store.read_part(number, at, part)?;

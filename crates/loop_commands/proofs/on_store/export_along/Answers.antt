@@ -9,4 +9,4 @@ pub returns-in-Ok-clause-text : goal.returns-in-Ok-clause-text
 returns-in-Ok-clause-text g c = λ r stands honest.
     behind (g.W.Write.contents c.args.out) (g.W.Write.contents c.in-Ok.out) (g.W.Write.contents c.print_number-printed.new.out)
     (text c.args.store.now.geometry (frames_between c.args.from c.args.to r.frames)) (line_of (codes "exported") c.in-Ok.count) c.print_number-printed.result
-    (c.in-Ok.ensures.text r stands honest).0 c.print_number-printed.ensures
+    ((c.in-Ok.ensures.text r stands).0 honest) c.print_number-printed.ensures

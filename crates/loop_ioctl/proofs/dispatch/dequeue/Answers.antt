@@ -9,4 +9,4 @@ returns-in-Ok-clause-step g c =
 
 pub returns-in-Err-clause-step : goal.returns-in-Err-clause-step
 returns-in-Err-clause-step g c =
-    lets_none_out g.P.PlaneMemory.plane c.refuse.result c.in-Err.errno c.args.queue.now c.dequeue.new.self c.args.table.now c.refuse.ensures.errno c.in-Err.ensures.step
+    lets_none_out g.P.PlaneMemory.plane c.refuse.result c.in-Err.errno c.args.queue.now c.dequeue.new.self c.args.table.now c.refuse.ensures.errno c.refuse.ensures.back c.in-Err.ensures.step

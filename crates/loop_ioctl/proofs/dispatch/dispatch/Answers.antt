@@ -1,7 +1,7 @@
 use Rattle.std.proofs.Common.{sym, subst}
 use Rattle.loop_ioctl.specs.declared.call.Ioctl.TheVariants.{StreamOff}
 use Rattle.loop_ioctl.specs.Parts.{AppliesTyped}
-use Rattle.loop_ioctl.proofs.Applied.{stream_on_applies, stream_off_applies, map_applies, unmap_applies, query_applies, queue_applies, prepare_applies, dequeue_applies, request_applies}
+use Rattle.loop_ioctl.proofs.Applied.{stream_on_applies, stream_off_applies, map_applies, unmap_applies, query_applies}
 use Rattle.loop_ioctl.proofs.dispatch.dispatch.Goals as goal
 
 pub returns-in-StreamOn-clause-step : goal.returns-in-StreamOn-clause-step
@@ -37,24 +37,16 @@ returns-in-QueryBuf-clause-step g c =
 
 pub returns-in-PrepareBuf-clause-step : goal.returns-in-PrepareBuf-clause-step
 returns-in-PrepareBuf-clause-step g c =
-    let m = g.P.PlaneMemory.plane in
-    subst (λ x. AppliesTyped m x c.use_buffer.result c.args.queue.now c.args.table.now c.use_buffer.new.queue c.use_buffer.new.table) (sym c.in-PrepareBuf.is)
-    (prepare_applies m c.in-PrepareBuf.buf_type c.in-PrepareBuf.index c.in-PrepareBuf.memory c.use_buffer.result c.args.queue.now c.use_buffer.new.queue c.args.table.now c.use_buffer.new.table c.use_buffer.ensures.step c.use_buffer.ensures.done c.use_buffer.ensures.back)
+    subst (λ x. AppliesTyped g.P.PlaneMemory.plane x c.use_buffer.result c.args.queue.now c.args.table.now c.use_buffer.new.queue c.use_buffer.new.table) (sym c.in-PrepareBuf.is) (c.use_buffer.ensures.step c.in-PrepareBuf.buf_type)
 
 pub returns-in-QBuf-clause-step : goal.returns-in-QBuf-clause-step
 returns-in-QBuf-clause-step g c =
-    let m = g.P.PlaneMemory.plane in
-    subst (λ x. AppliesTyped m x c.use_buffer-in-QBuf.result c.args.queue.now c.args.table.now c.use_buffer-in-QBuf.new.queue c.use_buffer-in-QBuf.new.table) (sym c.in-QBuf.is)
-    (queue_applies m c.in-QBuf.buf_type c.in-QBuf.index c.in-QBuf.memory c.use_buffer-in-QBuf.result c.args.queue.now c.use_buffer-in-QBuf.new.queue c.args.table.now c.use_buffer-in-QBuf.new.table c.use_buffer-in-QBuf.ensures.step c.use_buffer-in-QBuf.ensures.done c.use_buffer-in-QBuf.ensures.back)
+    subst (λ x. AppliesTyped g.P.PlaneMemory.plane x c.use_buffer-in-QBuf.result c.args.queue.now c.args.table.now c.use_buffer-in-QBuf.new.queue c.use_buffer-in-QBuf.new.table) (sym c.in-QBuf.is) (c.use_buffer-in-QBuf.ensures.step c.in-QBuf.buf_type)
 
 pub returns-in-DqBuf-clause-step : goal.returns-in-DqBuf-clause-step
 returns-in-DqBuf-clause-step g c =
-    let m = g.P.PlaneMemory.plane in
-    subst (λ x. AppliesTyped m x c.dequeue.result c.args.queue.now c.args.table.now c.dequeue.new.queue c.dequeue.new.table) (sym c.in-DqBuf.is)
-    (dequeue_applies m c.in-DqBuf.buf_type c.dequeue.result c.args.queue.now c.dequeue.new.queue c.args.table.now c.dequeue.new.table c.dequeue.ensures.step c.dequeue.ensures.back)
+    subst (λ x. AppliesTyped g.P.PlaneMemory.plane x c.dequeue.result c.args.queue.now c.args.table.now c.dequeue.new.queue c.dequeue.new.table) (sym c.in-DqBuf.is) (c.dequeue.ensures.step c.in-DqBuf.buf_type)
 
 pub returns-in-ReqBufs-clause-step : goal.returns-in-ReqBufs-clause-step
 returns-in-ReqBufs-clause-step g c =
-    let m = g.P.PlaneMemory.plane in
-    subst (λ x. AppliesTyped m x c.request.result c.args.queue.now c.args.table.now c.request.new.queue c.request.new.table) (sym c.in-ReqBufs.is)
-    (request_applies m c.in-ReqBufs.buf_type c.in-ReqBufs.count c.in-ReqBufs.memory c.in-ReqBufs.supply c.request.result c.args.queue.now c.request.new.queue c.args.table.now c.request.new.table c.request.ensures.step c.request.ensures.back)
+    subst (λ x. AppliesTyped g.P.PlaneMemory.plane x c.request.result c.args.queue.now c.args.table.now c.request.new.queue c.request.new.table) (sym c.in-ReqBufs.is) (c.request.ensures.step c.in-ReqBufs.buf_type)

@@ -14,11 +14,11 @@ pub returns-in-Complete-clause-step : goal.returns-in-Complete-clause-step
 returns-in-Complete-clause-step g c =
     let m = g.P.PlaneMemory.plane in
     subst (λ e. Reacts m e (answer.Ended c.complete.result) c.args.queue.now c.args.table.now c.complete.new.self c.args.table.now) (sym c.in-Complete.is)
-    (complete_reacts m c.in-Complete.index c.in-Complete.stamp c.in-Complete.bytes c.complete.result c.args.queue.now c.complete.new.self c.args.table.now
+    (complete_reacts g.row.A.Denot m c.in-Complete.index c.in-Complete.stamp c.in-Complete.bytes c.complete.result c.args.queue.now c.complete.new.self c.args.table.now
     (subst (λ l. Happens m c.args.queue.now c.complete.new.self (complete c.in-Complete.index c.in-Complete.stamp l (refusal_of c.complete.result))) c.deref.ensures.value c.complete.ensures.step))
 
 pub returns-in-Fail-clause-step : goal.returns-in-Fail-clause-step
 returns-in-Fail-clause-step g c =
     let m = g.P.PlaneMemory.plane in
     subst (λ e. Reacts m e (answer.Ended c.fail.result) c.args.queue.now c.args.table.now c.fail.new.self c.args.table.now) (sym c.in-Fail.is)
-    (fail_reacts m g.row.A.Denot c.in-Fail.index c.in-Fail.stamp c.fail.result c.args.queue.now c.fail.new.self c.args.table.now c.fail.ensures.step)
+    (fail_reacts g.row.A.Denot m c.in-Fail.index c.in-Fail.stamp c.fail.result c.args.queue.now c.fail.new.self c.args.table.now c.fail.ensures.step)

@@ -20,6 +20,7 @@ returns-in_err-make_room g c =
       held = λ r is honest held. tt;
       such = λ honest. tt;
       settled = λ honest. tt;
+      fault = c.in_err-make_room.ensures.fault;
       called = c.in_err-make_room.ensures.called;
     })
 
@@ -44,5 +45,6 @@ returns g c =
           on_ok_weaker c.store_group.result (λ stored. grown-place h first (length frames) c.segment.result c.args.place frames old.bytes mid.bytes new.bytes (limits h c.args.ring.now.good).slots.1 c.segment.ensures c.requires.segment refl begun stored.0 stored.1)
           (c.store_group.ensures.such (c.make_room.ensures.called.honest.0 honest));
       settled = λ honest. c.store_group.ensures.settled (c.make_room.ensures.called.honest.0 honest);
+      fault = c.store_group.ensures.fault;
       called = called_on old mid new _ c.in_ok-make_room.ensures.called c.store_group.ensures.called;
     }

@@ -31,5 +31,6 @@ returns g c =
           let shown = shows_slots h j next c.from.result old new c.from.ensures shows.0 in
           (begun-newest h next j new (c.requires.first honest) shown.holds shows.1, shown)) (c.begin_block.ensures.such honest);
       settled = c.begin_block.ensures.settled;
+      fault = c.begin_block.ensures.fault;
       called = c.begin_block.ensures.called;
     }

@@ -25,6 +25,7 @@ returns-in-Newest g c =
           let at = known-newest h known.recording c.args.next c.in-Newest.field-0 c.args.place m.bytes c.in-Newest.is c.requires.segment known known.held known.next_is in
           (at.newest, at.begun);
       settled = c.requires.settled;
+      fault = tt;
       called = called-none m;
     }
 
@@ -45,5 +46,6 @@ returns-in-Closed g c =
             closed-at h c.args.next c.in-Closed.segment c.args.place old.bytes new.bytes (limits h c.args.ring.now.good).slots.1 c.in-Closed.is c.requires.segment (c.requires.known honest) begun.1 begun.0.stray,
           )) (c.begin.ensures.such honest);
       settled = c.begin.ensures.settled;
+      fault = c.begin.ensures.fault;
       called = c.begin.ensures.called;
     }

@@ -23,6 +23,7 @@ returns-in_err-retire g c =
       held = λ r is honest held. tt;
       such = λ honest. tt;
       settled = λ honest. tt;
+      fault = c.in_err-retire.ensures.fault;
       called = c.in_err-retire.ensures.called;
     })
 
@@ -71,5 +72,6 @@ returns g c =
           ))
           (c.begin.ensures.such now);
       settled = λ honest. c.begin.ensures.settled (c.retire.ensures.called.honest.0 honest);
+      fault = c.begin.ensures.fault;
       called = called_on old mid new _ c.in_ok-retire.ensures.called c.begin.ensures.called;
     }

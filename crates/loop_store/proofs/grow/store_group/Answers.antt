@@ -12,5 +12,6 @@ returns g c =
       held = λ r is honest held. on_ok_weaker c.commit.result (λ shows. frames-held h r c.args.segment first frames _ _ held is c.requires.segment (c.requires.newest honest) shows.0) (c.commit.ensures.such honest);
       such = c.commit.ensures.such;
       settled = c.commit.ensures.settled;
+      fault = c.commit.ensures.fault;
       called = c.commit.ensures.called;
     }

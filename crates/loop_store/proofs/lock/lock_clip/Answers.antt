@@ -98,4 +98,4 @@ returns-in-Err-clause-goes g c =
     goes-unnoted medium c.args.disk.now c.add_clip.new.disk i c.add_clip.new.index c.args.must_reopen.now (CanTake h span id) (lock span) (locked span (Err (Disk c.in-Err.fault))) c.in-Err.fault c.requires c.if-must_reopen.false c.in-Err.ensures.same (lock-redrawn h id span c.in_ok-id.ensures.id.0.0).alike
     (λ honest. g.met.D.Disk.sound c.add_clip.new.disk honest) makes.called makes.moments
     (λ r image known. takes h r span id c.in_ok-id.ensures.id.0.0 (c.in_ok-id.ensures.answers r image known))
-    (λ H. record { writes = refl; late = refl; answers = λ s still one. answer-given H h s (locked span (Err (Disk c.in-Err.fault))) still one.fits refl }) refl refl (λ s. refl) (λ s. refl)
+    (λ H. record { writes = refl; late = refl; answers = λ s still one. answer-given H h s (locked span (Err (Disk c.in-Err.fault))) still one.fits makes.fault }) refl refl (λ s. refl) (λ s. refl)

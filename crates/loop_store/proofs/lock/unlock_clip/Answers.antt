@@ -85,4 +85,4 @@ returns-in-Err-clause-goes g c =
     goes-unnoted medium c.args.disk.now c.remove_clip.new.disk i c.remove_clip.new.index c.args.must_reopen.now (λ r. clip_of r id ≢ None) (unlock id) (unlocked id (Err (Disk c.in-Err.fault))) c.in-Err.fault c.requires c.if-must_reopen.false c.in-Err.ensures.same (unlock-redrawn i.ring.geometry id c.in-Some.ensures.within).alike
     (λ honest. g.met.D.Disk.sound c.remove_clip.new.disk honest) makes.called makes.moments
     (λ r image known. some _ c.in-Some.field-0 (clip-known i r image id known ∙ sym c.in-Some.ensures.clip))
-    (λ H. record { writes = refl; late = refl; answers = λ s still one. unlock-answered H i.ring.geometry s id (Err (Disk c.in-Err.fault)) still one refl }) refl refl (λ s. refl) (λ s. refl)
+    (λ H. record { writes = refl; late = refl; answers = λ s still one. unlock-answered H i.ring.geometry s id (Err (Disk c.in-Err.fault)) still one makes.fault }) refl refl (λ s. refl) (λ s. refl)

@@ -139,6 +139,7 @@ returns-in-Err-clause-goes g c =
       fine = c.if-must_reopen.false;
       one = one-kept medium c.args.disk.now i must c.requires.kept;
       has_failed = refl;
+      writes = c.in-Err.ensures.fault;
       called = c.in-Err.ensures.called;
       sound = λ now. g.met.D.Disk.sound c.append_group.new.disk now;
       place = λ r told.

@@ -18,7 +18,7 @@ returns-in-Some-clause-moments g c = λ honest.
     let image = (g.D.Disk.medium c.args.disk.now).bytes in
     let told = c.requires.told honest in
     let found = found-place c.args.index.now c.from-slots.result image c.find.result (Some c.in-Some.segment) told c.from-slots.ensures c.in-Some.is c.find.ensures.place in
-    weaker _ _ _ (ReadsAlike image) (c.clear_stray.ensures.changes.moments honest) (λ new shows. found-alike c.args.index.now c.in-Some.segment image new told found shows)
+    weaker _ _ _ (ReadsAlike image) (c.clear_stray.ensures.moments honest) (λ new shows. found-alike c.args.index.now c.in-Some.segment image new told found shows)
 
 pub returns-in-Some-clause-present : goal.returns-in-Some-clause-present
 returns-in-Some-clause-present g c = λ honest.
@@ -26,7 +26,7 @@ returns-in-Some-clause-present g c = λ honest.
     let told = c.requires.told honest in
     let found = found-place c.args.index.now c.from-slots.result image c.find.result (Some c.in-Some.segment) told c.from-slots.ensures c.in-Some.is c.find.ensures.place in
     both_ok c.clear_stray.result (λ shows settled. found-present c.args.index.now c.in-Some.segment image (g.D.Disk.medium c.clear_stray.new.disk) told found shows.0 shows.1 settled)
-    (c.clear_stray.ensures.changes.such honest) (c.clear_stray.ensures.changes.settled honest)
+    (c.clear_stray.ensures.such honest) (c.clear_stray.ensures.settled honest)
 
 pub returns-in-None-clause-moments : goal.returns-in-None-clause-moments
 returns-in-None-clause-moments g c = λ honest.

@@ -17,5 +17,6 @@ returns g c =
       moments = λ honest. lock_moments id span c.entry_place-at.result _ _ _ _ _ c.entry_place-at.ensures gate entry (fits honest) (c.requires.closed honest) (c.store_in_turn.ensures.disk honest);
       such = λ honest. lock_ok id span c.entry_place-at.result _ _ _ _ _ c.entry_place-at.ensures gate entry (fits honest) (c.store_in_turn.ensures.disk honest);
       settled = λ honest. (c.store_in_turn.ensures.disk honest).settled;
+      fault = c.store_in_turn.ensures.fault;
       called = c.store_in_turn.ensures.called;
     }

@@ -11,5 +11,6 @@ returns g c =
       moments = λ honest. unlock_moments id c.entry_place.result _ _ _ c.entry_place.ensures (c.requires.settled honest) (c.requires.there honest) (c.store.ensures.disk honest);
       such = λ honest. unlock_ok id c.entry_place.result _ _ _ c.entry_place.ensures (fits honest) (c.store.ensures.disk honest);
       settled = λ honest. (c.store.ensures.disk honest).settled;
+      fault = c.store.ensures.fault;
       called = c.store.ensures.called;
     }

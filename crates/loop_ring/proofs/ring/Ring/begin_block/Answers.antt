@@ -25,5 +25,6 @@ returns g c =
           (begin_ok h j c.args.block c.segment_at-at.result _ _ _ _ _ c.segment_at-at.ensures gate header few (fits honest) (c.store_in_turn.ensures.disk honest))
           (begin_stray_ok h j c.args.block c.segment_at-at.result _ _ _ _ _ c.segment_at-at.ensures gate header few (fits honest) (c.store_in_turn.ensures.disk honest));
       settled = λ honest. (c.store_in_turn.ensures.disk honest).settled;
+      fault = c.store_in_turn.ensures.fault;
       called = c.store_in_turn.ensures.called;
     }

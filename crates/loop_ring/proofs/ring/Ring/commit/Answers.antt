@@ -70,5 +70,6 @@ returns g c =
           both_ok c.store_in_turn.result (λ shows stray. (shows, stray)) (commit_ok _ _ _ _ _ _ _ _ _ _ _ _ (made honest) (c.store_in_turn.ensures.disk honest))
           (commit_stray_done h j c.args.first_slot n _ _ _ _ _ _ _ c.slot_at-at.ensures c.gate_at-gate.ensures (can honest) (are_gates n c.len.ensures.few) (c.store_in_turn.ensures.disk honest));
       settled = λ honest. (c.store_in_turn.ensures.disk honest).settled;
+      fault = c.store_in_turn.ensures.fault;
       called = c.store_in_turn.ensures.called;
     }

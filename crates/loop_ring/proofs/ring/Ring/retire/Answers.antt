@@ -14,5 +14,6 @@ returns g c =
           omega (arith, (g.met.D.Disk.sound c.args.disk.now honest).length_is, c.requires.extent, apart h c.args.segment h.segments c.requires.segment) in
           retire_ok h c.args.segment c.segment_at.result _ _ _ c.segment_at.ensures fits (c.store.ensures.disk honest);
       settled = λ honest. (c.store.ensures.disk honest).settled;
+      fault = c.store.ensures.fault;
       called = c.store.ensures.called;
     }
