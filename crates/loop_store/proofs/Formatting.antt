@@ -1,10 +1,10 @@
 -- What formatting leaves of a disk, write by write.
-use Rattle.std.proofs.Common.{◌≡◌, ◌⊎◌, inl, inr, ℕ, ◌+◌, ◌-◌, ◌*◌, ◌<◌, ◌≤◌, Bool, true, false, eqb, Result, OnOk, List, [], ◌∷◌, ◌++◌, length, drop, get_or, replicate, refl, sym, ap, ◌∙◌, subst, arith}
+use Rattle.std.proofs.Common.{◌≡◌, ◌≢◌, ◌⊎◌, inl, inr, ℕ, ◌+◌, ◌-◌, ◌*◌, ◌<◌, ◌≤◌, Bool, true, false, eqb, Result, OnOk, List, [], ◌∷◌, ◌++◌, length, drop, get_or, replicate, refl, sym, ap, ◌∙◌, subst, arith}
 use Rattle.std.proofs.lemmas.Bool.{cases_lt}
 use Rattle.std.proofs.lemmas.List.{ext_get_or, get_or-take, get_or-drop, get_or-replicate, get_or_append_left, get_or-append_right, length-take, length-drop, length-append, length-replicate}
 use Rattle.std.proofs.lemmas.Result.{on_ok_weaker}
 use Rattle.loop_disk.specs.declared.fault.DiskFault.{DiskFault}
-use Rattle.loop_disk.specs.Calls.{Stays, Writes}
+use Rattle.loop_disk.specs.Calls.{Called, Stays, Writes, failed_call}
 use Rattle.loop_disk.specs.Medium.{Medium, IsSound, IsSettled, LeavesOnly, SameOutside, TornAt, written, piece}
 use Rattle.loop_disk.specs.Steps.{Stores}
 use Rattle.loop_disk.proofs.Images.{get_or-written_before, get_or-written_there, length-written, get_or-piece}
@@ -12,9 +12,11 @@ use Rattle.loop_disk.proofs.Moments.{started, goes_on, joined, stored}
 use Rattle.loop_record.specs.declared.geometry.Geometry.{Geometry}
 use Rattle.loop_record.specs.Geometry.{clip_at, disk_size, segment_at}
 use Rattle.loop_record.specs.Layout.{is_open, super_bytes}
-use Rattle.loop_record.proofs.Decided.{equal}
+use Rattle.loop_record.proofs.Decided.{differ_test, equal}
 use Rattle.loop_record.proofs.Parts.{apart}
-use Rattle.loop_store.specs.Formatted.{LeavesClosed, IsClosed, IsLaid, WasOrClosed}
+use Rattle.loop_store.specs.Formatted.{LeavesClosed, IsClosed, IsLaid, IsLaidClosed, WasOrClosed}
+use Rattle.loop_store.specs.Held.{Brings}
+use Rattle.loop_store.proofs.Answered.{both_ok}
 use Rattle.loop_store.proofs.Looks.{stays-settled}
 
 -- ---- the gate is closed
@@ -42,6 +44,16 @@ closing old mid new r sound settled stays opened stores =
     let before : LeavesOnly old mid P = goes_on old old mid P old.may_leave (started old P sound (λ c left. inl left)) stays.time (λ c left. inl left) in
     joined old mid new P before (stored 0 (0 ∷ []) mid new r P (stays-settled old mid stays settled) stores (λ c torn.
     closing-torn old c sound opened (subst (λ (image : List ℕ). SameOutside 0 1 image c) stays.bytes torn)))
+
+-- at Ok it is closed in each image that a crash may leave
+pub closing-done : {T : Type 0} (mid new : Medium) (r : Result T DiskFault) → Stores 0 (0 ∷ []) mid new r → OnOk r (LeavesClosed new)
+closing-done mid new r stores = both_ok r (λ (done : new.bytes ≡ written 0 (0 ∷ []) mid.bytes) (settled : IsSettled new) c left. ap (λ (image : List ℕ). is_open image 0) (settled c left ∙ done)) stores.done stores.settled
+
+-- and so it is where it was read as closed
+pub closed-read : (old mid : Medium) (gate : List ℕ) → IsSettled old → Stays old mid → gate ≡ piece 0 1 old.bytes → get_or gate 0 0 ≢ 165 → LeavesClosed mid
+closed-read old mid gate settled stays is shut c left =
+    ap (λ (image : List ℕ). is_open image 0) (settled c (stays.images c left))
+    ∙ differ_test (get_or old.bytes 0 0) 165 (λ e. shut (ap (λ (bytes : List ℕ). get_or bytes 0 0) is ∙ get_or-piece 0 1 old.bytes 0 (omega arith) ∙ e))
 
 -- ---- behind a closed gate
 
@@ -149,3 +161,12 @@ pub header-laid : {T : Type 0} (g : Geometry) (at count : ℕ) (old new : Medium
 header-laid g at count old new r is below laid writes =
     on_ok_weaker r (λ (done : new.bytes ≡ written at (replicate 512 0) old.bytes).
     subst (λ (image : List ℕ). IsLaid g (count + 1) image) (sym (done ∙ (λ i. written (is i) (replicate 512 0) old.bytes))) (laid-header g count old.bytes below laid)) writes.done
+
+-- a write behind the closed gate brings the disk to this
+pub brings-laid : {T : Type 0} (g : Geometry) (count : ℕ) (old new : Medium) (r : Result T DiskFault) → (old.honest → IsSound new) → (old.honest → LeavesOnly old new IsClosed) → (old.honest → OnOk r (IsLaid g count new.bytes)) → Called old new (failed_call r)
+    → Brings IsClosed (IsLaidClosed g count) old new r
+brings-laid g count old new r sound moments laid called = record {
+  moments = moments;
+  such = λ honest. on_ok_weaker r (λ is. (run-closed old new (sound honest) (moments honest), is)) (laid honest);
+  called = called;
+}

@@ -1,5 +1,5 @@
 -- What a read of a slot says of the recording.
-use Rattle.std.proofs.Common.{◌≡◌, ℕ, ◌+◌, ◌*◌, ◌/◌, ◌%◌, ◌<◌, ◌≤◌, true, false, cond, eqb, ltb, Option, Some, None, Result, Ok, Err, IfNone, is_some, List, length, get_or, refl, sym, ap, ◌∙◌, subst, arith}
+use Rattle.std.proofs.Common.{◌≡◌, IsErrAnd, inr, inl, ℕ, ◌+◌, ◌*◌, ◌/◌, ◌%◌, ◌<◌, ◌≤◌, true, false, cond, eqb, ltb, Option, Some, None, Result, Ok, Err, IfNone, is_some, List, length, get_or, refl, sym, ap, ◌∙◌, subst, arith}
 use Rattle.std.proofs.Math.Nat.{div-add-mod'}
 use Rattle.std.proofs.lemmas.Bool.Decides.{nat_tests}
 use Rattle.std.proofs.lemmas.List.Folds.{list_any_at}
@@ -7,7 +7,8 @@ use Rattle.std.proofs.lemmas.List.Quantifiers.{position-Some}
 use Rattle.std.proofs.lemmas.Nat.{div-mul-add, mod-mul-add}
 use Rattle.std.specs.Prelude.{◌&&◌}
 use Rattle.std.specs.List.{list_any, position}
-use Rattle.loop_disk.specs.Medium.{piece}
+use Rattle.loop_disk.specs.Calls.{Called, Stays}
+use Rattle.loop_disk.specs.Medium.{Medium, piece}
 use Rattle.loop_record.specs.declared.damage.Damage.{Damage}
 use Rattle.loop_record.specs.declared.damage.Damage.TheVariants.{SlotHead}
 use Rattle.loop_record.specs.declared.frame.FrameHead.{FrameHead}
@@ -21,13 +22,15 @@ use Rattle.loop_record.proofs.Decided.{both, clash, equal, equal_test, untrue}
 use Rattle.loop_record.proofs.Readings.{whole-length}
 use Rattle.loop_record.proofs.Slots.{IsSlotOf, reading-slot}
 use Rattle.loop_ring.specs.Heads.{has_number, heads_of, is_of}
-use Rattle.loop_ring.specs.Reads.{AnswersHead, slot_of}
+use Rattle.loop_ring.specs.Reads.{AnswersHead, failed_read, slot_of}
 use Rattle.loop_ring.specs.declared.fault.SlotFault.{SlotFault}
 use Rattle.loop_ring.specs.declared.fault.SlotFault.TheVariants as slot
 use Rattle.loop_ring.proofs.Heads.{any-index, head-some, head-there, one-entry, position-none, there}
 use Rattle.loop_ring.proofs.Held.{held-number}
-use Rattle.loop_store.specs.Faults.{slot_refusal}
-use Rattle.loop_store.specs.Reads.{AnswersFrame, AnswersFramePart}
+use Rattle.loop_store.specs.declared.fault.StoreFault.{StoreFault}
+use Rattle.loop_store.specs.declared.fault.StoreFault.TheVariants.{Damaged}
+use Rattle.loop_store.specs.Faults.{failed_by, is_disk, slot_refusal}
+use Rattle.loop_store.specs.Reads.{AnswersFrame, AnswersFramePart, ReadsHeld}
 
 below : (m n : ℕ) → ltb m n ≡ true → m < n
 below m n e = grind (arith, nat_tests, e)
@@ -151,3 +154,14 @@ part-ok g r number at s out is bytes = record { picture = s.picture; there = is.
 
 pub part-err : (g : Geometry) (r : Recording) (number at : ℕ) (s : Slot) (fault : SlotFault) (out : List ℕ) → IsSlotOf g r number s → AnswersHead (slot_head (frame_bytes g) number s) (Err fault) → AnswersFramePart r number at (Err (slot_refusal fault)) out
 part-err g r number at s fault out is said = answers-err g r number s fault out is said
+
+-- ---- a read that failed
+
+pub held-refused : {T U : Type 0} (g : Geometry) (segment number : ℕ) (Answers : Recording → Type 0) (old new : Medium) (r : Result T StoreFault) (f : SlotFault)
+    → ((d : Damage) → let x : Result U SlotFault = Err f in let y : Result U SlotFault = Err (slot.Damaged d) in x ≡ y → d ≡ SlotHead) → (old.honest → Stays old new) → Called old new (failed_read (let x : Result U SlotFault = Err f in x))
+    → ((t : Recording) → old.honest → Holds g t old.bytes → has_number g.slots number (get_or (heads_of g old.bytes) segment None) ≡ true → Answers t) → IsErrAnd r (λ made. made ≡ slot_refusal f) → ReadsHeld g segment number Answers old new r
+held-refused g segment number Answers old new (Ok x) f only stays called frame made = absurd made
+held-refused g segment number Answers old new (Err e) (slot.Damaged d) only stays called frame made =
+    record { frame = frame; refusals = inl (made ∙ ap (λ (x : Damage). Damaged x) (only d refl)); stays = stays; called = subst (λ (x : StoreFault). Called old new (failed_by x)) (sym made) called }
+held-refused g segment number Answers old new (Err e) (slot.Disk fault) only stays called frame made =
+    record { frame = frame; refusals = inr (ap is_disk made); stays = stays; called = subst (λ (x : StoreFault). Called old new (failed_by x)) (sym made) called }

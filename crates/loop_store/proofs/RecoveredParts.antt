@@ -1,7 +1,9 @@
 -- What a read of each part of a disk says of its image.
 use Rattle.std.proofs.Common.{◌≡◌, ℕ, ◌+◌, ◌-◌, ◌*◌, ◌<◌, ◌≤◌, Bool, true, false, cond, IsTrue, IsErrAnd, Option, Some, None, Result, Ok, Err, List, [], ◌∷◌, ◌++◌, length, take, drop, get_or, map, refl, sym, ap, ◌∙◌, subst, arith}
 use Rattle.std.specs.List.{list_any, range_with_len}
-use Rattle.loop_disk.specs.Medium.{piece}
+use Rattle.loop_disk.specs.Calls.{Called, Stays}
+use Rattle.loop_disk.specs.Medium.{Medium, piece}
+use Rattle.loop_disk.proofs.Moments.{called_on}
 use Rattle.loop_record.specs.declared.clip.Span.{Span}
 use Rattle.loop_record.specs.declared.damage.Damage.{Damage}
 use Rattle.loop_record.specs.declared.damage.LayoutFault.{LayoutFault}
@@ -24,48 +26,72 @@ use Rattle.loop_record.proofs.Readings.{get_or-map_range}
 use Rattle.loop_record.specs.Recording.{head}
 use Rattle.byteorder.specs.Endian.{little_from}
 use Rattle.loop_ring.proofs.Held.{length-in_place}
-use Rattle.loop_ring.proofs.SlotReads.{head_read}
+use Rattle.loop_ring.proofs.SlotReads.{head_read, stays_on}
 use Rattle.loop_record.proofs.Readings.{length-range}
 use Rattle.loop_store.specs.declared.fault.StoreFault.{StoreFault}
+use Rattle.loop_store.specs.Faults.{failed_by}
 use Rattle.loop_ring.specs.Heads.{heads_of}
-use Rattle.loop_store.specs.Recovered.{IsHeadIn, Recovers, clips_of, refusal, segment_said, some_bad_clip}
+use Rattle.loop_store.specs.Recovered.{Finds, IsHeadIn, Recovers, clips_of, refusal, segment_said, some_bad_clip}
 
 -- ---- refusals
 
--- a refusal of the layout is answered as it is
-pub recovers-refusal : {T : Type 0} (r : Result T StoreFault) (fault : LayoutFault) (P : T → Type 0) (Q : LayoutFault → Type 0) → Q fault → IsErrAnd r (λ made. made ≡ refusal fault) → Recovers r P Q
-recovers-refusal (Ok x) fault P Q q made = absurd made
-recovers-refusal (Err e) LayoutFault.NotFormatted P Q q made = subst (λ (x : StoreFault). Recovers (Err x) P Q) (sym made) q
-recovers-refusal (Err e) (LayoutFault.Damaged d) P Q q made = subst (λ (x : StoreFault). Recovers (Err x) P Q) (sym made) q
+-- what was found where this was refused
+pub finds-err : {T : Type 0} (r : Result T StoreFault) (e : StoreFault) (P : T → Type 0) (Q : LayoutFault → Type 0) (old new : Medium) → (old.honest → Recovers (let s : Result T StoreFault = Err e in s) P Q) → (old.honest → Stays old new) → Called old new (failed_by e)
+    → IsErrAnd r (λ made. made ≡ e) → Finds P Q old new r
+finds-err (Ok x) e P Q old new said stays called made = absurd made
+finds-err (Err x) e P Q old new said stays called made = record {
+  found = λ honest. subst (λ (y : StoreFault). Recovers (Err y) P Q) (sym made) (said honest);
+  stays = stays;
+  called = subst (λ (y : StoreFault). Called old new (failed_by y)) (sym made) called;
+}
 
--- a damage is answered as it is
-pub recovers-damage : {T : Type 0} (r : Result T StoreFault) (d : Damage) (P : T → Type 0) (Q : LayoutFault → Type 0) → Q (LayoutFault.Damaged d) → IsErrAnd r (λ made. made ≡ StoreFault.Damaged d) → Recovers r P Q
-recovers-damage r d P Q q made = recovers-refusal r (LayoutFault.Damaged d) P Q q made
+-- a refusal of the layout is answered as it is
+recovers-refusal : {T : Type 0} (fault : LayoutFault) (P : T → Type 0) (Q : LayoutFault → Type 0) → Q fault → Recovers (let s : Result T StoreFault = Err (refusal fault) in s) P Q
+recovers-refusal LayoutFault.NotFormatted P Q q = q
+recovers-refusal (LayoutFault.Damaged d) P Q q = q
+
+refusal-called : (fault : LayoutFault) (old new : Medium) → Called old new None → Called old new (failed_by (refusal fault))
+refusal-called LayoutFault.NotFormatted old new called = called
+refusal-called (LayoutFault.Damaged d) old new called = called
+
+pub finds-refusal : {T : Type 0} (r : Result T StoreFault) (fault : LayoutFault) (P : T → Type 0) (Q : LayoutFault → Type 0) (old new : Medium) → (old.honest → Q fault) → (old.honest → Stays old new) → Called old new None → IsErrAnd r (λ made. made ≡ refusal fault) → Finds P Q old new r
+finds-refusal r fault P Q old new q stays called made = finds-err r (refusal fault) P Q old new (λ honest. recovers-refusal fault P Q (q honest)) stays (refusal-called fault old new called) made
 
 -- what a callee refused
-pub recovers-on : {T U : Type 0} (r : Result U StoreFault) (e : StoreFault) (P : T → Type 0) (P' : U → Type 0) (Q Q' : LayoutFault → Type 0) → ((f : LayoutFault) → Q f → Q' f) → IsErrAnd r (λ made. made ≡ e)
-    → Recovers (let s : Result T StoreFault = Err e in s) P Q → Recovers r P' Q'
-recovers-on {T} {U} (Ok x) e P P' Q Q' h made said = absurd made
-recovers-on {T} {U} (Err x) e P P' Q Q' h made said = subst (λ (y : StoreFault). Recovers (Err y) P' Q') (sym made) (go e said)
-  where
-    go : (y : StoreFault) → Recovers (let s : Result T StoreFault = Err y in s) P Q → Recovers (let s : Result U StoreFault = Err y in s) P' Q'
-    go StoreFault.NoMemory said = tt
-    go (StoreFault.Disk fault) said = tt
-    go StoreFault.NotFormatted said = h LayoutFault.NotFormatted said
-    go (StoreFault.Damaged d) said = h (LayoutFault.Damaged d) said
-    go StoreFault.MustReopen said = said
-    go StoreFault.NotHeld said = said
-    go StoreFault.BadGeometry said = said
-    go StoreFault.NumbersSpent said = said
-    go StoreFault.AllLocked said = said
-    go StoreFault.ClipEmpty said = said
-    go (StoreFault.ClipNotHeld number) said = said
-    go StoreFault.ClipTableFull said = said
-    go StoreFault.NoSuchClip said = said
-    go StoreFault.PendingFull said = said
-    go StoreFault.WrongSize said = said
-    go StoreFault.HandFull said = said
-    go StoreFault.HandEmpty said = said
+recovers-as : {T U : Type 0} (e : StoreFault) (P : T → Type 0) (P' : U → Type 0) (Q Q' : LayoutFault → Type 0) → ((f : LayoutFault) → Q f → Q' f)
+    → Recovers (let s : Result T StoreFault = Err e in s) P Q → Recovers (let s : Result U StoreFault = Err e in s) P' Q'
+recovers-as StoreFault.NoMemory P P' Q Q' h said = tt
+recovers-as (StoreFault.Disk fault) P P' Q Q' h said = tt
+recovers-as StoreFault.NotFormatted P P' Q Q' h said = h LayoutFault.NotFormatted said
+recovers-as (StoreFault.Damaged d) P P' Q Q' h said = h (LayoutFault.Damaged d) said
+recovers-as StoreFault.MustReopen P P' Q Q' h said = absurd said
+recovers-as StoreFault.NotHeld P P' Q Q' h said = absurd said
+recovers-as StoreFault.BadGeometry P P' Q Q' h said = absurd said
+recovers-as StoreFault.NumbersSpent P P' Q Q' h said = absurd said
+recovers-as StoreFault.AllLocked P P' Q Q' h said = absurd said
+recovers-as StoreFault.ClipEmpty P P' Q Q' h said = absurd said
+recovers-as (StoreFault.ClipNotHeld number) P P' Q Q' h said = absurd said
+recovers-as StoreFault.ClipTableFull P P' Q Q' h said = absurd said
+recovers-as StoreFault.NoSuchClip P P' Q Q' h said = absurd said
+recovers-as StoreFault.PendingFull P P' Q Q' h said = absurd said
+recovers-as StoreFault.WrongSize P P' Q Q' h said = absurd said
+recovers-as StoreFault.HandFull P P' Q Q' h said = absurd said
+recovers-as StoreFault.HandEmpty P P' Q Q' h said = absurd said
+
+-- what was found where a callee refused, after reads
+pub finds-on : {T U : Type 0} (r : Result U StoreFault) (e : StoreFault) (P : T → Type 0) (P' : U → Type 0) (Q Q' : LayoutFault → Type 0) (old mid new : Medium) → (old.honest → (f : LayoutFault) → Q f → Q' f) → (old.honest → Stays old mid) → Called old mid None
+    → IsErrAnd r (λ made. made ≡ e) → Finds P Q mid new (let s : Result T StoreFault = Err e in s) → Finds P' Q' old new r
+finds-on {T} {U} r e P P' Q Q' old mid new h stays called made inner =
+    finds-err r e P' Q' old new (λ honest. recovers-as {T = T} {U = U} e P P' Q Q' (h honest) (inner.found (called.honest.0 honest)))
+    (λ honest. stays_on old mid new (stays honest) (inner.stays (called.honest.0 honest))) (called_on old mid new (failed_by e) called inner.called) made
+
+-- what was found after reads, of the bytes from before them
+pub finds-after : {T : Type 0} (r : Result T StoreFault) (P : List ℕ → T → Type 0) (Q : List ℕ → LayoutFault → Type 0) (old mid new : Medium) → (old.honest → Stays old mid) → Called old mid None → Finds (P mid.bytes) (Q mid.bytes) mid new r → Finds (P old.bytes) (Q old.bytes) old new r
+finds-after r P Q old mid new stays called inner = record {
+  found = λ honest. subst (λ (image : List ℕ). Recovers r (P image) (Q image)) (stays honest).bytes (inner.found (called.honest.0 honest));
+  stays = λ honest. stays_on old mid new (stays honest) (inner.stays (called.honest.0 honest));
+  called = called_on old mid new _ called inner.called;
+}
 
 -- ---- the superblock
 

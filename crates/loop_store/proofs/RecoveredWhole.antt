@@ -9,13 +9,18 @@ use Rattle.loop_record.specs.declared.image.Found.{Found}
 use Rattle.loop_record.specs.declared.segment.SegmentHead.{SegmentHead}
 use Rattle.loop_record.specs.Geometry.{disk_size}
 use Rattle.loop_record.specs.Layout.{geometry_in}
-use Rattle.loop_record.specs.Plain.{segments_of}
+use Rattle.loop_record.specs.Plain.{AreIn, segments_of}
 use Rattle.loop_record.specs.Reading.{Holds, all_frames, by_block, is_bad_slot, is_high, lacks_frame, next_after, opened, parts_of, reading, repeats}
 use Rattle.loop_record.specs.Recording.{Recording, last_number, ring_of}
 use Rattle.loop_record.proofs.FoundSegments.{AreFull, IsFoundIn, fault-of, found-low, found-read, read-all, read-bad_clip, reading-bad_slot, reading-high}
 use Rattle.loop_ring.specs.Heads.{clip_counts, heads_of}
 use Rattle.loop_store.specs.declared.index.Index.{Index}
 use Rattle.loop_store.specs.Recovered.{IsFitting, IsHeadIn, IsOf, IsRecovered, clips_of, some_bad_clip}
+
+-- the segments that were found, in the order of their blocks
+pub found-by : (g : Geometry) (image : List ℕ) (fs xs : List Found) (heads : List (Option SegmentHead)) → geometry_in image ≡ Ok g → length image ≡ disk_size g → ((c : List ℕ) → heads ≡ heads_of g c → segments_of g c fs ≡ by_block (opened (parts_of g c).segments))
+    → heads ≡ heads_of g image → AreIn g fs → xs ≡ fs → IsFoundIn g image fs xs
+found-by g image fs xs heads geometry size order are within same = record { geometry = geometry; size = size; are = order image are; within = within; same = same }
 
 -- the segments that were found, once none repeats a block and none but the last lacks a frame
 pub full : (g : Geometry) (image : List ℕ) (fs xs : List Found) (twice lacks : Bool) → IsFoundIn g image fs xs → twice ≡ repeats (segments_of g image xs) → twice ≡ false → lacks ≡ lacks_frame g (segments_of g image xs) → lacks ≡ false → AreFull g image fs xs

@@ -1,12 +1,12 @@
 -- What formatting leaves of a disk.
 use Rattle.std.specs.Prelude.{◌≡◌, ◌⊎◌, ℕ, IsTrue, ◌<◌, true, false, Option, None, Result, Ok, Err, List, length, drop, slice_range}
 use Rattle.loop_disk.specs.declared.fault.DiskFault.{DiskFault}
-use Rattle.loop_disk.specs.Medium.{Medium}
+use Rattle.loop_disk.specs.Medium.{IsSettled, Medium}
 use Rattle.loop_record.specs.declared.damage.LayoutFault.TheVariants.{NotFormatted}
 use Rattle.loop_record.specs.declared.geometry.Geometry.{Geometry}
 use Rattle.loop_record.specs.Geometry.{clip_at, disk_size, is_good, segment_at}
 use Rattle.loop_record.specs.Layout.{is_open, super_bytes}
-use Rattle.loop_record.specs.Reading.{Holds, reading}
+use Rattle.loop_record.specs.Reading.{Holds, IsFreshImage, reading}
 use Rattle.loop_record.specs.Recording.{empty}
 use Rattle.loop_store.specs.declared.fault.OpenRefused.{OpenRefused}
 use Rattle.loop_store.specs.declared.fault.StoreFault.TheVariants.{BadGeometry, NoMemory}
@@ -43,6 +43,14 @@ pub record IsLaid (g : Geometry) (count : ℕ) (image : List ℕ) : Type 0 where
   pub superblock : slice_range image 1 512 ≡ drop 1 (super_bytes g)
   pub clips : (id : ℕ) → id < 64 → is_open image (clip_at id) ≡ false
   pub segments : (j : ℕ) → j < count → is_open image (segment_at g j) ≡ false
+
+-- so much is laid out, behind a gate that is closed in each image that a crash may leave too
+abbrev pub IsLaidClosed : Geometry → ℕ → Medium → Type 0
+IsLaidClosed g count m = LeavesClosed m × IsLaid g count m.bytes
+
+-- the disk holds an empty recording, just laid out, and a crash leaves nothing else
+abbrev pub HoldsFresh : Geometry → Medium → Type 0
+HoldsFresh g m = IsFreshImage g m.bytes × IsSettled m
 
 -- ---- the call
 

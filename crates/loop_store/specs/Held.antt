@@ -47,6 +47,14 @@ HasNoneStray g image = (j : ℕ) → j < g.segments → segment_in g image j ≢
 abbrev pub HasNext : ℕ → Recording → Type 0
 HasNext next r = r.next ≡ next
 
+-- What a call, reads among those of the disk, brings the disk to: whatever the moment of a stop, the image is one of
+-- the first; and at Ok the disk is such.
+pub record Brings {T : Type 0} (IsLeft : List ℕ → Type 0) (IsSuch : Medium → Type 0) (old new : Medium)
+    (result : Result T DiskFault) : Type 0 where
+  pub moments : old.honest → LeavesOnly old new IsLeft
+  pub such : old.honest → OnOk result (IsSuch new)
+  pub called : Called old new (failed_call result)
+
 -- A call made these steps of each such recording that the disk held: whatever the moment of a stop, the image reads
 -- as that recording after a beginning of the steps; and at Ok the disk holds it after all of them, the image is
 -- such, and a crash leaves nothing else. It fails for a write or a sync.

@@ -1,11 +1,17 @@
 -- What a read of a held frame answers.
-use Rattle.std.specs.Prelude.{◌≡◌, ◌⊎◌, ℕ, true, Result, Ok, Err, List}
+use Rattle.std.specs.Prelude.{◌≡◌, ◌⊎◌, ℕ, true, None, Result, Ok, Err, IfErr, List, slice_index_or}
+use Rattle.loop_disk.specs.Calls.{Called, Stays}
+use Rattle.loop_disk.specs.Medium.{Medium}
+use Rattle.loop_record.specs.declared.damage.Damage.TheVariants.{SlotHead}
 use Rattle.loop_record.specs.declared.frame.FrameHead.{FrameHead}
+use Rattle.loop_record.specs.declared.geometry.Geometry.{Geometry}
+use Rattle.loop_record.specs.Reading.{Holds}
 use Rattle.loop_record.specs.Recording.{Recording, holds}
+use Rattle.loop_ring.specs.Heads.{has_number, heads_of}
 use Rattle.loop_store.specs.declared.fault.StoreFault.{StoreFault}
-use Rattle.loop_store.specs.declared.fault.StoreFault.TheVariants.{NoMemory}
+use Rattle.loop_store.specs.declared.fault.StoreFault.TheVariants.{Damaged, NoMemory}
 use Rattle.loop_store.specs.Calls.{IsHeldFrame, IsPart}
-use Rattle.loop_store.specs.Faults.{is_disk}
+use Rattle.loop_store.specs.Faults.{failed_in, is_disk}
 
 -- the answer is the frame of that number, or a call of the disk has failed; there is such a frame
 abbrev pub AnswersFrame : Recording → ℕ → Result FrameHead StoreFault → List ℕ → Type 0
@@ -21,3 +27,15 @@ AnswersFramePart r number at (Err fault) out = (is_disk fault ≡ true) × (hold
 abbrev pub ReadsFrame : Recording → ℕ → Result FrameHead StoreFault → List ℕ → Type 0
 ReadsFrame r number (Ok h) out = IsHeldFrame r number h out
 ReadsFrame r number (Err fault) out = (fault ≡ NoMemory) ⊎ (is_disk fault ≡ true)
+
+-- ---- what only the store's own code looks at
+
+-- What a read in a segment did: where an honest disk holds a recording, and its header there has that number, it
+-- answers so for that recording. It fails for the slot's head or a call of the disk, and an honest disk stays.
+pub record ReadsHeld {T : Type 0} (g : Geometry) (segment number : ℕ) (Answers : Recording → Type 0) (old new : Medium)
+    (result : Result T StoreFault) : Type 0 where
+  pub frame : (r : Recording) → old.honest → Holds g r old.bytes
+      → has_number g.slots number (slice_index_or (heads_of g old.bytes) segment None) ≡ true → Answers r
+  pub refusals : IfErr result (λ fault. (fault ≡ Damaged SlotHead) ⊎ (is_disk fault ≡ true))
+  pub stays : old.honest → Stays old new
+  pub called : Called old new (failed_in result)

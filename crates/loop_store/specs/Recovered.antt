@@ -1,6 +1,8 @@
 -- What is found on a disk again, and in which order damage is answered.
 use Rattle.std.specs.Prelude.{◌≡◌, ℕ, ◌+◌, ◌/◌, ◌%◌, ◌≤◌, Bool, false, Option, Some, None, Result, Ok, Err, List, All, length, map, slice_set}
 use Rattle.std.specs.List.{list_any, range_with_len}
+use Rattle.loop_disk.specs.Calls.{Called, Stays}
+use Rattle.loop_disk.specs.Medium.{Medium}
 use Rattle.loop_record.specs.declared.clip.Span.{Span}
 use Rattle.loop_record.specs.declared.damage.LayoutFault.{LayoutFault}
 use Rattle.loop_record.specs.declared.geometry.Geometry.{Geometry}
@@ -15,6 +17,7 @@ use Rattle.loop_ring.specs.Heads.{clip_counts, heads_of}
 use Rattle.loop_store.specs.declared.fault.StoreFault.{StoreFault}
 use Rattle.loop_store.specs.declared.index.Index.{Index}
 use Rattle.loop_store.specs.Drawn.{drawn}
+use Rattle.loop_store.specs.Faults.{failed_in}
 
 -- the refusal that stands for the layout's
 abbrev pub refusal : LayoutFault → StoreFault
@@ -30,6 +33,13 @@ Recovers (Err (StoreFault.Disk fault)) P Q = Unit {0}
 Recovers (Err StoreFault.NotFormatted) P Q = Q LayoutFault.NotFormatted
 Recovers (Err (StoreFault.Damaged damage)) P Q = Q (LayoutFault.Damaged damage)
 Recovers (Err _) P Q = ⊥
+
+-- What a call that only reads found: of an honest disk it answers so, and leaves it as it was.
+pub record Finds {T : Type 0} (IsSuch : T → Type 0) (IsRefused : LayoutFault → Type 0) (old new : Medium)
+    (result : Result T StoreFault) : Type 0 where
+  pub found : old.honest → Recovers result IsSuch IsRefused
+  pub stays : old.honest → Stays old new
+  pub called : Called old new (failed_in result)
 
 -- ---- segments
 

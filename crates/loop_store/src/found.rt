@@ -3,19 +3,18 @@
 //!
 //! Each call reads and never writes; after a refusal the disk is as it was.
 
-ghost use Rattle.std.specs.Prelude.{◌≡◌, ◌+◌, ◌<◌, ◌≤◌, ◌↔◌, ℕ, List, Ok, Err, IsTrue, IfOk, OnOk, All, true, false, length};
+ghost use Rattle.std.specs.Prelude.{◌≡◌, ◌+◌, ◌<◌, ◌≤◌, ℕ, List, Ok, Err, IfOk, OnOk, All, true, false, length};
 ghost use Rattle.std.specs.List.{list_any};
-ghost use Rattle.loop_disk.specs.Calls.{Called, Stays};
 ghost use Rattle.loop_record.specs.declared.damage.Damage.{Damage};
 ghost use Rattle.loop_record.specs.declared.damage.LayoutFault.{LayoutFault};
 ghost use Rattle.loop_record.specs.declared.geometry.Geometry.{Geometry};
-ghost use Rattle.loop_record.specs.Geometry.{disk_size, frame_bytes, is_good, segment_at, slot_at};
-ghost use Rattle.loop_record.specs.Layout.{checked_header, geometry_in, header_at, is_slot_of, is_too_high, segment_in, slot_in};
+ghost use Rattle.loop_record.specs.Geometry.{frame_bytes, segment_at, slot_at};
+ghost use Rattle.loop_record.specs.Layout.{geometry_in, header_at, is_slot_of, is_too_high, segment_in, slot_in};
 ghost use Rattle.loop_record.specs.Plain.{AreIn, IsSomeHigh, lacks_number, segment_of, segments_of, with_segment};
 ghost use Rattle.loop_record.specs.Reading.{by_block, is_bad_slot, is_high, opened, parts_of, reading};
 ghost use Rattle.loop_ring.specs.Heads.{heads_of};
-ghost use Rattle.loop_store.specs.Faults.{failed_in};
-ghost use Rattle.loop_store.specs.Recovered.{IsHeadIn, Recovers, clips_of, refusal, segment_said, some_bad_clip};
+ghost use Rattle.loop_store.specs.Formatted.{FitsDisk};
+ghost use Rattle.loop_store.specs.Recovered.{Finds, IsHeadIn, clips_of, refusal, segment_said, some_bad_clip};
 
 use crate::StoreFault;
 use loop_disk::Disk;
@@ -38,13 +37,9 @@ impl From<LayoutFault> for StoreFault {
 
 /// The geometry in the superblock of a disk of its size: one read, or none where the disk has no room for a superblock.
 pub(crate) fn read_geometry<D: Disk>(disk: &mut D) -> Result<Geometry, StoreFault>
-    ensures good { IfOk result (λ geometry. IsTrue (is_good geometry)) }
-    ensures size { IfOk result (λ geometry. (D.medium disk.old).size ≡ disk_size geometry) }
-    ensures geometry { (D.medium disk.old).honest
-        → Recovers result (λ geometry. geometry_in (D.medium disk.old).bytes ≡ Ok geometry) (λ fault.
-        reading (D.medium disk.old).bytes ≡ Err fault) }
-    ensures disk { (D.medium disk.old).honest → Stays (D.medium disk.old) (D.medium disk.new) }
-    ensures called { Called (D.medium disk.old) (D.medium disk.new) (failed_in result) }
+    ensures fits { IfOk result (λ geometry. FitsDisk geometry (D.medium disk.old).size) }
+    ensures finds { let old = D.medium disk.old in Finds (λ geometry. geometry_in old.bytes ≡ Ok geometry)
+        (λ fault. reading old.bytes ≡ Err fault) old (D.medium disk.new) result }
 {
     let size = disk.size();
     if size < SUPER_SIZE as u64 {
@@ -65,17 +60,13 @@ fn read_head<D: Disk>(
     geometry: &Geometry,
     segment: u32,
 ) -> Result<Option<SegmentHead>, StoreFault>
-    requires good { IsTrue (is_good geometry.now) }
-    requires size { (D.medium disk.old).size ≡ disk_size geometry.now }
+    requires fits { FitsDisk geometry.now (D.medium disk.old).size }
     requires segment { segment < geometry.now.segments }
     ensures within { IfOk result (IsHeadIn geometry.now) }
-    ensures head { (D.medium disk.old).honest
-        → Recovers result (λ head.
-        head ≡ header_at geometry.now (D.medium disk.old).bytes (segment_at geometry.now segment))
-        (λ fault. (fault ≡ LayoutFault.Damaged Damage.BlockTooHigh)
-        × IsSomeHigh geometry.now (segment_in geometry.now (D.medium disk.old).bytes segment)) }
-    ensures disk { (D.medium disk.old).honest → Stays (D.medium disk.old) (D.medium disk.new) }
-    ensures called { Called (D.medium disk.old) (D.medium disk.new) (failed_in result) }
+    ensures finds { let g = geometry.now in let old = D.medium disk.old in
+        Finds (λ head. head ≡ header_at g old.bytes (segment_at g segment))
+        (λ fault. (fault ≡ LayoutFault.Damaged Damage.BlockTooHigh) × IsSomeHigh g (segment_in g old.bytes segment))
+        old (D.medium disk.new) result }
 {
     let mut header = [0; HEADER_SIZE];
     disk.read(geometry.segment_at(segment), &mut header)?;
@@ -90,17 +81,14 @@ pub(crate) fn read_heads<D: Disk, A: Allocator>(
     disk: &mut D,
     geometry: &Geometry,
 ) -> Result<Vec<Option<SegmentHead>, A>, StoreFault>
-    requires good { IsTrue (is_good geometry.now) }
-    requires size { (D.medium disk.old).size ≡ disk_size geometry.now }
+    requires fits { FitsDisk geometry.now (D.medium disk.old).size }
     ensures count { IfOk result (λ heads. length heads.items ≡ geometry.now.segments) }
     ensures within { IfOk result (λ heads. All (IsHeadIn geometry.now) heads.items) }
-    ensures heads { (D.medium disk.old).honest
-        → Recovers result (λ heads. heads.items ≡ heads_of geometry.now (D.medium disk.old).bytes)
+    ensures finds { let g = geometry.now in let old = D.medium disk.old in
+        Finds (λ heads. heads.items ≡ heads_of g old.bytes)
         (λ fault. (fault ≡ LayoutFault.Damaged Damage.BlockTooHigh)
-        × (list_any (is_high geometry.now)
-        (by_block (opened (parts_of geometry.now (D.medium disk.old).bytes).segments)) ≡ true)) }
-    ensures disk { (D.medium disk.old).honest → Stays (D.medium disk.old) (D.medium disk.new) }
-    ensures called { Called (D.medium disk.old) (D.medium disk.new) (failed_in result) }
+        × (list_any (is_high g) (by_block (opened (parts_of g old.bytes).segments)) ≡ true))
+        old (D.medium disk.new) result }
 {
     let mut heads = Vec::with_capacity(alloc, geometry.segments as usize)?;
     for segment in 0..geometry.segments {
@@ -165,17 +153,13 @@ fn check_slot<D: Disk>(
     slot: u32,
     number: u64,
 ) -> Result<(), StoreFault>
-    requires good { IsTrue (is_good geometry.now) }
-    requires size { (D.medium disk.old).size ≡ disk_size geometry.now }
+    requires fits { FitsDisk geometry.now (D.medium disk.old).size }
     requires segment { segment < geometry.now.segments }
     requires slot { slot < geometry.now.slots }
-    ensures slot { let n = frame_bytes geometry.now in let said = is_slot_of n number
-        (slot_in n (D.medium disk.old).bytes (slot_at geometry.now segment slot)) in
-        (D.medium disk.old).honest
-        → Recovers result (λ _. said ≡ true) (λ fault. (fault ≡ LayoutFault.Damaged Damage.SlotHead)
-        × (said ≡ false)) }
-    ensures disk { (D.medium disk.old).honest → Stays (D.medium disk.old) (D.medium disk.new) }
-    ensures called { Called (D.medium disk.old) (D.medium disk.new) (failed_in result) }
+    ensures { let n = frame_bytes geometry.now in let old = D.medium disk.old in
+        let said = is_slot_of n number (slot_in n old.bytes (slot_at geometry.now segment slot)) in
+        Finds (λ _. said ≡ true) (λ fault. (fault ≡ LayoutFault.Damaged Damage.SlotHead) × (said ≡ false)) old
+        (D.medium disk.new) result }
 {
     let mut head = [0; HEAD_SIZE];
     disk.read(geometry.slot_at(segment, slot), &mut head)?;
@@ -185,17 +169,14 @@ fn check_slot<D: Disk>(
 
 /// Whether the slots of a segment's whole frames hold these frames, or `SlotHead`: a read each.
 fn check_segment<D: Disk>(disk: &mut D, geometry: &Geometry, found: Found) -> Result<(), StoreFault>
-    requires good { IsTrue (is_good geometry.now) }
-    requires size { (D.medium disk.old).size ≡ disk_size geometry.now }
+    requires fits { FitsDisk geometry.now (D.medium disk.old).size }
     requires segment { found.segment < geometry.now.segments }
     requires few { found.frames ≤ geometry.now.slots }
     requires low { is_too_high geometry.now found.block ≡ false }
-    ensures slots { let bad = is_bad_slot geometry.now (segment_of geometry.now (D.medium disk.old).bytes found) in
-        (D.medium disk.old).honest
-        → Recovers result (λ _. bad ≡ false) (λ fault. (fault ≡ LayoutFault.Damaged Damage.SlotHead)
-        × (bad ≡ true)) }
-    ensures disk { (D.medium disk.old).honest → Stays (D.medium disk.old) (D.medium disk.new) }
-    ensures called { Called (D.medium disk.old) (D.medium disk.new) (failed_in result) }
+    ensures { let old = D.medium disk.old in
+        let bad = is_bad_slot geometry.now (segment_of geometry.now old.bytes found) in
+        Finds (λ _. bad ≡ false) (λ fault. (fault ≡ LayoutFault.Damaged Damage.SlotHead) × (bad ≡ true)) old
+        (D.medium disk.new) result }
 {
     let first = found.block * u64::from(geometry.slots);
     for slot in 0..found.frames {
@@ -210,16 +191,12 @@ pub(crate) fn check_slots<D: Disk>(
     geometry: &Geometry,
     open: &[Found],
 ) -> Result<(), StoreFault>
-    requires good { IsTrue (is_good geometry.now) }
-    requires size { (D.medium disk.old).size ≡ disk_size geometry.now }
+    requires fits { FitsDisk geometry.now (D.medium disk.old).size }
     requires within { AreIn geometry.now open.now }
-    ensures slots { let bad = list_any (is_bad_slot geometry.now)
-        (segments_of geometry.now (D.medium disk.old).bytes open.now) in
-        (D.medium disk.old).honest
-        → Recovers result (λ _. bad ≡ false) (λ fault. (fault ≡ LayoutFault.Damaged Damage.SlotHead)
-        × (bad ≡ true)) }
-    ensures disk { (D.medium disk.old).honest → Stays (D.medium disk.old) (D.medium disk.new) }
-    ensures called { Called (D.medium disk.old) (D.medium disk.new) (failed_in result) }
+    ensures { let old = D.medium disk.old in
+        let bad = list_any (is_bad_slot geometry.now) (segments_of geometry.now old.bytes open.now) in
+        Finds (λ _. bad ≡ false) (λ fault. (fault ≡ LayoutFault.Damaged Damage.SlotHead) × (bad ≡ true)) old
+        (D.medium disk.new) result }
 {
     let Some((first, others)) = open.split_first() else {
         return Ok(());
@@ -234,17 +211,13 @@ pub(crate) fn read_table<D: Disk>(
     geometry: &Geometry,
     open: &[Found],
 ) -> Result<[Option<Span>; 64], StoreFault>
-    requires good { IsTrue (is_good geometry.now) }
-    requires size { (D.medium disk.old).size ≡ disk_size geometry.now }
+    requires fits { FitsDisk geometry.now (D.medium disk.old).size }
     requires within { AreIn geometry.now open.now }
-    ensures clips { let bad = some_bad_clip geometry.now (D.medium disk.old).bytes open.now in
-        (D.medium disk.old).honest
-        → Recovers result (λ clips. (clips ≡ clips_of (D.medium disk.old).bytes) × (bad ≡ false))
-        (λ fault. (fault ≡ LayoutFault.Damaged Damage.ClipRange) × (bad ≡ true)) }
+    ensures finds { let old = D.medium disk.old in let bad = some_bad_clip geometry.now old.bytes open.now in
+        Finds (λ clips. (clips ≡ clips_of old.bytes) × (bad ≡ false))
+        (λ fault. (fault ≡ LayoutFault.Damaged Damage.ClipRange) × (bad ≡ true)) old (D.medium disk.new) result }
     ensures held { IfOk result (λ clips. (length clips ≡ 64)
         × (list_any (lacks_number geometry.now open.now) clips ≡ false)) }
-    ensures disk { (D.medium disk.old).honest → Stays (D.medium disk.old) (D.medium disk.new) }
-    ensures called { Called (D.medium disk.old) (D.medium disk.new) (failed_in result) }
 {
     let mut table = [0; TABLE_SIZE];
     disk.read(SUPER_SIZE as u64, &mut table)?;

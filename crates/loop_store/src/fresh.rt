@@ -1,12 +1,11 @@
 //! What formatting writes, in its order: the superblock's gate is closed first and opened last.
 
-ghost use Rattle.std.specs.Prelude.{◌≡◌, ◌+◌, ◌<◌, ◌≤◌, ◌↔◌, IsTrue, OnOk, ◌++◌, drop, false, length};
-ghost use Rattle.loop_disk.specs.Calls.{Called, failed_call};
-ghost use Rattle.loop_disk.specs.Medium.{IsSettled, LeavesOnly};
+ghost use Rattle.std.specs.Prelude.{◌≡◌, ◌+◌, ◌<◌, ◌≤◌, IsTrue, ◌++◌, drop, length};
+ghost use Rattle.loop_disk.specs.Medium.{IsSettled};
 ghost use Rattle.loop_record.specs.Geometry.{is_good};
-ghost use Rattle.loop_record.specs.Layout.{is_open, super_bytes};
-ghost use Rattle.loop_record.specs.Reading.{IsFreshImage};
-ghost use Rattle.loop_store.specs.Formatted.{LeavesClosed, FitsDisk, IsClosed, IsLaid, NoneOrEmpty, WasOrClosed, WasOrEmpty};
+ghost use Rattle.loop_record.specs.Layout.{super_bytes};
+ghost use Rattle.loop_store.specs.Formatted.{FitsDisk, HoldsFresh, IsClosed, IsLaid, IsLaidClosed, LeavesClosed, NoneOrEmpty, WasOrClosed, WasOrEmpty};
+ghost use Rattle.loop_store.specs.Held.{Brings};
 
 use loop_disk::{Disk, DiskFault, store};
 use loop_record::{Geometry, HEADER_SIZE, OPEN, SUPER_SIZE, encode_super};
@@ -18,11 +17,7 @@ const FRONT_SIZE: usize = 2560;
 fn close_gate<D: Disk>(disk: &mut D) -> Result<(), DiskFault>
     requires extent { 1 ≤ (D.medium disk.old).size }
     requires settled { (D.medium disk.old).honest → IsSettled (D.medium disk.old) }
-    ensures moments { (D.medium disk.old).honest
-        → LeavesOnly (D.medium disk.old) (D.medium disk.new) (WasOrClosed (D.medium disk.old)) }
-    ensures closed { (D.medium disk.old).honest → OnOk result (is_open (D.medium disk.new).bytes 0 ≡ false) }
-    ensures settled { (D.medium disk.old).honest → OnOk result (IsSettled (D.medium disk.new)) }
-    ensures called { Called (D.medium disk.old) (D.medium disk.new) (failed_call result) }
+    ensures { let old = D.medium disk.old in Brings (WasOrClosed old) LeavesClosed old (D.medium disk.new) result }
 {
     let mut gate = [0];
     disk.read(0, &mut gate)?;
@@ -36,10 +31,7 @@ fn close_gate<D: Disk>(disk: &mut D) -> Result<(), DiskFault>
 /// Settles the disk and closes the superblock's gate.
 fn unformat<D: Disk>(disk: &mut D) -> Result<(), DiskFault>
     requires extent { 1 ≤ (D.medium disk.old).size }
-    ensures moments { (D.medium disk.old).honest
-        → LeavesOnly (D.medium disk.old) (D.medium disk.new) (WasOrClosed (D.medium disk.old)) }
-    ensures closed { (D.medium disk.old).honest → OnOk result (LeavesClosed (D.medium disk.new)) }
-    ensures called { Called (D.medium disk.old) (D.medium disk.new) (failed_call result) }
+    ensures { let old = D.medium disk.old in Brings (WasOrClosed old) LeavesClosed old (D.medium disk.new) result }
 {
     disk.sync()?;
     close_gate(disk)
@@ -66,9 +58,7 @@ fn behind_gate(bytes: &[u8]) -> &[u8]
 fn write_front<D: Disk>(disk: &mut D, geometry: &Geometry) -> Result<(), DiskFault>
     requires fits { FitsDisk geometry.now (D.medium disk.old).size }
     requires closed { (D.medium disk.old).honest → LeavesClosed (D.medium disk.old) }
-    ensures moments { (D.medium disk.old).honest → LeavesOnly (D.medium disk.old) (D.medium disk.new) IsClosed }
-    ensures laid { (D.medium disk.old).honest → OnOk result (IsLaid geometry.now 0 (D.medium disk.new).bytes) }
-    ensures called { Called (D.medium disk.old) (D.medium disk.new) (failed_call result) }
+    ensures { Brings IsClosed (IsLaidClosed geometry.now 0) (D.medium disk.old) (D.medium disk.new) result }
 {
     let mut front = [0; FRONT_SIZE];
     put_super(&mut front, geometry);
@@ -79,12 +69,8 @@ fn write_front<D: Disk>(disk: &mut D, geometry: &Geometry) -> Result<(), DiskFau
 fn write_header<D: Disk>(disk: &mut D, geometry: &Geometry, segment: u32) -> Result<(), DiskFault>
     requires fits { FitsDisk geometry.now (D.medium disk.old).size }
     requires segment { segment < geometry.now.segments }
-    requires closed { (D.medium disk.old).honest → LeavesClosed (D.medium disk.old) }
-    requires laid { (D.medium disk.old).honest → IsLaid geometry.now segment (D.medium disk.old).bytes }
-    ensures moments { (D.medium disk.old).honest → LeavesOnly (D.medium disk.old) (D.medium disk.new) IsClosed }
-    ensures laid { (D.medium disk.old).honest
-        → OnOk result (IsLaid geometry.now (segment + 1) (D.medium disk.new).bytes) }
-    ensures called { Called (D.medium disk.old) (D.medium disk.new) (failed_call result) }
+    requires laid { (D.medium disk.old).honest → IsLaidClosed geometry.now segment (D.medium disk.old) }
+    ensures { Brings IsClosed (IsLaidClosed geometry.now (segment + 1)) (D.medium disk.old) (D.medium disk.new) result }
 {
     disk.write_at(geometry.segment_at(segment), &[0; HEADER_SIZE])
 }
@@ -92,12 +78,9 @@ fn write_header<D: Disk>(disk: &mut D, geometry: &Geometry, segment: u32) -> Res
 /// Writes the headers of all segments as zeros.
 fn write_headers<D: Disk>(disk: &mut D, geometry: &Geometry) -> Result<(), DiskFault>
     requires fits { FitsDisk geometry.now (D.medium disk.old).size }
-    requires closed { (D.medium disk.old).honest → LeavesClosed (D.medium disk.old) }
-    requires laid { (D.medium disk.old).honest → IsLaid geometry.now 0 (D.medium disk.old).bytes }
-    ensures moments { (D.medium disk.old).honest → LeavesOnly (D.medium disk.old) (D.medium disk.new) IsClosed }
-    ensures laid { (D.medium disk.old).honest
-        → OnOk result (IsLaid geometry.now geometry.now.segments (D.medium disk.new).bytes) }
-    ensures called { Called (D.medium disk.old) (D.medium disk.new) (failed_call result) }
+    requires laid { (D.medium disk.old).honest → IsLaidClosed geometry.now 0 (D.medium disk.old) }
+    ensures { let g = geometry.now in
+        Brings IsClosed (IsLaidClosed g g.segments) (D.medium disk.old) (D.medium disk.new) result }
 {
     for segment in 0..geometry.segments {
         write_header(disk, geometry, segment)?;
@@ -110,11 +93,8 @@ fn open_gate<D: Disk>(disk: &mut D, geometry: &Geometry) -> Result<(), DiskFault
     requires fits { FitsDisk geometry.now (D.medium disk.old).size }
     requires settled { (D.medium disk.old).honest → IsSettled (D.medium disk.old) }
     requires laid { (D.medium disk.old).honest → IsLaid geometry.now geometry.now.segments (D.medium disk.old).bytes }
-    ensures moments { (D.medium disk.old).honest
-        → LeavesOnly (D.medium disk.old) (D.medium disk.new) (NoneOrEmpty geometry.now) }
-    ensures fresh { (D.medium disk.old).honest → OnOk result (IsFreshImage geometry.now (D.medium disk.new).bytes) }
-    ensures settled { (D.medium disk.old).honest → OnOk result (IsSettled (D.medium disk.new)) }
-    ensures called { Called (D.medium disk.old) (D.medium disk.new) (failed_call result) }
+    ensures { let g = geometry.now in
+        Brings (NoneOrEmpty g) (HoldsFresh g) (D.medium disk.old) (D.medium disk.new) result }
 {
     store(disk, 0, &[OPEN])
 }
@@ -122,13 +102,9 @@ fn open_gate<D: Disk>(disk: &mut D, geometry: &Geometry) -> Result<(), DiskFault
 /// Settles what was laid out behind the gate, and opens it.
 fn finish<D: Disk>(disk: &mut D, geometry: &Geometry) -> Result<(), DiskFault>
     requires fits { FitsDisk geometry.now (D.medium disk.old).size }
-    requires closed { (D.medium disk.old).honest → LeavesClosed (D.medium disk.old) }
-    requires laid { (D.medium disk.old).honest → IsLaid geometry.now geometry.now.segments (D.medium disk.old).bytes }
-    ensures moments { (D.medium disk.old).honest
-        → LeavesOnly (D.medium disk.old) (D.medium disk.new) (NoneOrEmpty geometry.now) }
-    ensures fresh { (D.medium disk.old).honest → OnOk result (IsFreshImage geometry.now (D.medium disk.new).bytes) }
-    ensures settled { (D.medium disk.old).honest → OnOk result (IsSettled (D.medium disk.new)) }
-    ensures called { Called (D.medium disk.old) (D.medium disk.new) (failed_call result) }
+    requires laid { (D.medium disk.old).honest → IsLaidClosed geometry.now geometry.now.segments (D.medium disk.old) }
+    ensures { let g = geometry.now in
+        Brings (NoneOrEmpty g) (HoldsFresh g) (D.medium disk.old) (D.medium disk.new) result }
 {
     disk.sync()?;
     open_gate(disk, geometry)
@@ -137,11 +113,8 @@ fn finish<D: Disk>(disk: &mut D, geometry: &Geometry) -> Result<(), DiskFault>
 /// Writes an empty recording over whatever stands on a disk of the geometry's size.
 pub(crate) fn lay_out<D: Disk>(disk: &mut D, geometry: &Geometry) -> Result<(), DiskFault>
     requires fits { FitsDisk geometry.now (D.medium disk.old).size }
-    ensures moments { (D.medium disk.old).honest
-        → LeavesOnly (D.medium disk.old) (D.medium disk.new) (WasOrEmpty geometry.now (D.medium disk.old)) }
-    ensures fresh { (D.medium disk.old).honest → OnOk result (IsFreshImage geometry.now (D.medium disk.new).bytes) }
-    ensures settled { (D.medium disk.old).honest → OnOk result (IsSettled (D.medium disk.new)) }
-    ensures called { Called (D.medium disk.old) (D.medium disk.new) (failed_call result) }
+    ensures { let g = geometry.now in let old = D.medium disk.old in
+        Brings (WasOrEmpty g old) (HoldsFresh g) old (D.medium disk.new) result }
 {
     unformat(disk)?;
     write_front(disk, geometry)?;

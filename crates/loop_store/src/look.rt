@@ -1,20 +1,15 @@
 //! What a read of a frame looks at.
 
-ghost use Rattle.std.specs.Prelude.{◌≡◌, ◌∷◌, [], ◌<◌, ◌≤◌, ◌+◌, ◌*◌, ◌++◌, ◌↔◌, ◌⊎◌, ◌||◌, Bool, ℕ, List, IfErr, IfNone, IfOk, IfSome, IsTrue, None, false, length, slice_index_or, true, vec_capacity};
+ghost use Rattle.std.specs.Prelude.{◌≡◌, ◌∷◌, [], ◌<◌, ◌≤◌, ◌+◌, ◌*◌, ◌++◌, ◌||◌, Bool, ℕ, List, IfNone, IfOk, IfSome, IsTrue, None, false, length, slice_index_or, true, vec_capacity};
 ghost use Rattle.std.specs.List.{list_any, range_with_len};
-ghost use Rattle.loop_disk.specs.Calls.{Called, Stays};
 ghost use Rattle.loop_record.specs.Geometry.{disk_size, frame_bytes, is_good};
 ghost use Rattle.loop_record.specs.Layout.{is_too_high};
 ghost use Rattle.loop_record.specs.Plain.{AreIn};
-ghost use Rattle.loop_record.specs.Reading.{Holds};
 ghost use Rattle.loop_record.specs.Recording.{Recording, holds};
-ghost use Rattle.loop_record.specs.declared.damage.Damage.TheVariants.{SlotHead};
-ghost use Rattle.loop_ring.specs.Heads.{has_number, heads_of};
-ghost use Rattle.loop_store.specs.declared.fault.StoreFault.TheVariants.{Damaged};
-ghost use Rattle.loop_store.specs.Faults.{answers_disk, is_disk, failed_in};
+ghost use Rattle.loop_ring.specs.Heads.{has_number};
 ghost use Rattle.loop_store.specs.Numbers.{IsLeastFrom, numbers_in, numbers_under};
+ghost use Rattle.loop_store.specs.Reads.{AnswersFrame, AnswersFramePart, ReadsHeld};
 ghost use Rattle.loop_store.specs.Recovered.{IsHeadIn, IsIndex, IsIndexOf};
-ghost use Rattle.loop_store.specs.Reads.{AnswersFrame, AnswersFramePart};
 
 use crate::StoreFault;
 use crate::index::Index;
@@ -94,15 +89,8 @@ pub(crate) fn read_held<D: Disk>(
     requires extent { (D.medium disk.old).size ≡ disk_size ring.now.geometry }
     requires segment { segment < ring.now.geometry.segments }
     requires size { length out.old ≡ frame_bytes ring.now.geometry }
-    ensures frame { (r : Recording) → (D.medium disk.old).honest
-        → Holds ring.now.geometry r (D.medium disk.old).bytes
-        → has_number ring.now.geometry.slots number
-        (slice_index_or (heads_of ring.now.geometry (D.medium disk.old).bytes) segment None)
-        ≡ true
-        → AnswersFrame r number result out.new }
-    ensures refusals { IfErr result (λ fault. (fault ≡ Damaged SlotHead) ⊎ (is_disk fault ≡ true)) }
-    ensures stays { (D.medium disk.old).honest → Stays (D.medium disk.old) (D.medium disk.new) }
-    ensures called { Called (D.medium disk.old) (D.medium disk.new) (failed_in result) }
+    ensures { let g = ring.now.geometry in let old = D.medium disk.old in
+        ReadsHeld g segment number (λ r. AnswersFrame r number result out.new) old (D.medium disk.new) result }
 {
     let slot = (number % u64::from(ring.geometry.slots)) as u32;
     Ok(ring.read_slot(disk, segment, slot, number, out)?)
@@ -120,15 +108,8 @@ pub(crate) fn read_held_part<D: Disk>(
     requires extent { (D.medium disk.old).size ≡ disk_size ring.now.geometry }
     requires segment { segment < ring.now.geometry.segments }
     requires part { at + length out.old ≤ frame_bytes ring.now.geometry }
-    ensures frame { (r : Recording) → (D.medium disk.old).honest
-        → Holds ring.now.geometry r (D.medium disk.old).bytes
-        → has_number ring.now.geometry.slots number
-        (slice_index_or (heads_of ring.now.geometry (D.medium disk.old).bytes) segment None)
-        ≡ true
-        → AnswersFramePart r number at result out.new }
-    ensures refusals { IfErr result (λ fault. (fault ≡ Damaged SlotHead) ⊎ (is_disk fault ≡ true)) }
-    ensures stays { (D.medium disk.old).honest → Stays (D.medium disk.old) (D.medium disk.new) }
-    ensures called { Called (D.medium disk.old) (D.medium disk.new) (failed_in result) }
+    ensures { let g = ring.now.geometry in let old = D.medium disk.old in
+        ReadsHeld g segment number (λ r. AnswersFramePart r number at result out.new) old (D.medium disk.new) result }
 {
     let slot = (number % u64::from(ring.geometry.slots)) as u32;
     ring.read_part(disk, segment, slot, number, at, out)?;

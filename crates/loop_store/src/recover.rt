@@ -1,12 +1,10 @@
 //! What a disk's image reads as, found with few reads and without pixels.
 
-ghost use Rattle.std.specs.Prelude.{◌≡◌, Ok, Err, IfOk, IsTrue};
-ghost use Rattle.loop_disk.specs.Calls.{Called, Stays};
-ghost use Rattle.loop_record.specs.Geometry.{disk_size, is_good};
+ghost use Rattle.std.specs.Prelude.{◌≡◌, Ok, Err, IfOk};
 ghost use Rattle.loop_record.specs.Layout.{geometry_in};
 ghost use Rattle.loop_record.specs.Reading.{reading};
-ghost use Rattle.loop_store.specs.Faults.{failed_in};
-ghost use Rattle.loop_store.specs.Recovered.{IsFitting, IsRecovered, Recovers, SaysRecording};
+ghost use Rattle.loop_store.specs.Formatted.{FitsDisk};
+ghost use Rattle.loop_store.specs.Recovered.{Finds, IsFitting, IsRecovered, SaysRecording};
 
 use crate::StoreFault;
 use crate::found::{check_slots, in_order, read_geometry, read_heads, read_table};
@@ -21,16 +19,12 @@ fn recover_parts<D: Disk, A: Allocator + Copy>(
     disk: &mut D,
     geometry: Geometry,
 ) -> Result<Index<A>, StoreFault>
-    requires good { IsTrue (is_good geometry) }
-    requires size { (D.medium disk.old).size ≡ disk_size geometry }
+    requires fits { FitsDisk geometry (D.medium disk.old).size }
     requires geometry { (D.medium disk.old).honest → geometry_in (D.medium disk.old).bytes ≡ Ok geometry }
-    ensures fits { IfOk result (λ index. IsFitting index (D.medium disk.old).size) }
-    ensures known { IfOk result SaysRecording }
-    ensures recovered { (D.medium disk.old).honest
-        → Recovers result (λ index. IsRecovered index (D.medium disk.old).bytes)
-        (λ fault. reading (D.medium disk.old).bytes ≡ Err fault) }
-    ensures disk { (D.medium disk.old).honest → Stays (D.medium disk.old) (D.medium disk.new) }
-    ensures called { Called (D.medium disk.old) (D.medium disk.new) (failed_in result) }
+    ensures known { IfOk result (λ index. IsFitting index (D.medium disk.old).size × SaysRecording index) }
+    ensures finds { let old = D.medium disk.old in
+        Finds (λ index. IsRecovered index old.bytes) (λ fault. reading old.bytes ≡ Err fault) old
+        (D.medium disk.new) result }
 {
     let heads = read_heads(alloc, disk, &geometry)?;
     let segments = in_order(alloc, &geometry, heads.as_slice())?;
@@ -60,13 +54,10 @@ pub(crate) fn recover<D: Disk, A: Allocator + Copy>(
     alloc: A,
     disk: &mut D,
 ) -> Result<Index<A>, StoreFault>
-    ensures fits { IfOk result (λ index. IsFitting index (D.medium disk.old).size) }
-    ensures known { IfOk result SaysRecording }
-    ensures recovered { (D.medium disk.old).honest
-        → Recovers result (λ index. IsRecovered index (D.medium disk.old).bytes)
-        (λ fault. reading (D.medium disk.old).bytes ≡ Err fault) }
-    ensures disk { (D.medium disk.old).honest → Stays (D.medium disk.old) (D.medium disk.new) }
-    ensures called { Called (D.medium disk.old) (D.medium disk.new) (failed_in result) }
+    ensures known { IfOk result (λ index. IsFitting index (D.medium disk.old).size × SaysRecording index) }
+    ensures finds { let old = D.medium disk.old in
+        Finds (λ index. IsRecovered index old.bytes) (λ fault. reading old.bytes ≡ Err fault) old
+        (D.medium disk.new) result }
 {
     let geometry = read_geometry(disk)?;
     recover_parts(alloc, disk, geometry)

@@ -1,13 +1,14 @@
 //! Finds the recording on a disk again.
 
-ghost use Rattle.std.specs.Prelude.{◌≡◌, Err, IfErr, IfOk, OnOk, false};
-ghost use Rattle.loop_disk.specs.Calls.{Called, Stays, failed_call};
+ghost use Rattle.std.specs.Prelude.{◌≡◌, Err, IfErr, IfOk, false};
+ghost use Rattle.loop_disk.specs.Calls.{Called, Stays};
 ghost use Rattle.loop_disk.specs.Medium.{IsSettled, LeavesOnly};
 ghost use Rattle.loop_record.specs.Reading.{reading};
 ghost use Rattle.loop_store.specs.Faults.{is_disk, failed_in};
 ghost use Rattle.loop_store.specs.Formatted.{disk_after, failed_opening};
 ghost use Rattle.loop_store.specs.Opened.{IsOpened, IsRefusedOpen, ReadsAlike, TellsOne, WasOrReadsAlike};
-ghost use Rattle.loop_store.specs.Recovered.{IsFitting, IsRecovered, Recovers, SaysRecording};
+ghost use Rattle.loop_store.specs.Held.{Brings};
+ghost use Rattle.loop_store.specs.Recovered.{Finds, IsFitting, IsRecovered, Recovers, SaysRecording};
 ghost use Rattle.loop_store.specs.Seen.{IsGroupFor, IsPresent};
 
 use crate::index::Index;
@@ -19,14 +20,10 @@ use std::alloc::Allocator;
 
 /// Syncs, so that a stop leaves what a read gives, and finds what the disk's image reads as.
 fn reread<D: Disk, A: Allocator + Copy>(alloc: A, disk: &mut D) -> Result<Index<A>, StoreFault>
-    ensures fits { IfOk result (λ index. IsFitting index (D.medium disk.old).size) }
-    ensures known { IfOk result SaysRecording }
-    ensures recovered { (D.medium disk.old).honest
-        → Recovers result (λ index. IsRecovered index (D.medium disk.old).bytes)
-        (λ fault. reading (D.medium disk.old).bytes ≡ Err fault) }
-    ensures disk { (D.medium disk.old).honest → Stays (D.medium disk.old) (D.medium disk.new) }
-    ensures settled { (D.medium disk.old).honest → IfOk result (λ _. IsSettled (D.medium disk.new)) }
-    ensures called { Called (D.medium disk.old) (D.medium disk.new) (failed_in result) }
+    ensures known { IfOk result (λ index. IsFitting index (D.medium disk.old).size × SaysRecording index) }
+    ensures finds { let old = D.medium disk.old in let new = D.medium disk.new in
+        Finds (λ index. IsRecovered index old.bytes × IsSettled new) (λ fault. reading old.bytes ≡ Err fault) old
+        new result }
 {
     disk.sync()?;
     recover(alloc, disk)
@@ -38,10 +35,8 @@ fn clear_newest<D: Disk, A: Allocator>(disk: &mut D, index: &Index<A>) -> Result
     requires fits { IsFitting index.now (D.medium disk.old).size }
     requires settled { (D.medium disk.old).honest → IsSettled (D.medium disk.old) }
     requires told { (D.medium disk.old).honest → IsRecovered index.now (D.medium disk.old).bytes }
-    ensures moments { (D.medium disk.old).honest
-        → LeavesOnly (D.medium disk.old) (D.medium disk.new) (ReadsAlike (D.medium disk.old).bytes) }
-    ensures present { (D.medium disk.old).honest → OnOk result (IsPresent index.now (D.medium disk.new)) }
-    ensures called { Called (D.medium disk.old) (D.medium disk.new) (failed_call result) }
+    ensures { let old = D.medium disk.old in
+        Brings (ReadsAlike old.bytes) (IsPresent index.now) old (D.medium disk.new) result }
 {
     let slots = u64::from(index.ring.geometry.slots);
     match index.find(index.next / slots) {
@@ -57,8 +52,8 @@ fn reopen<D: Disk, A: Allocator + Copy>(
     alloc: A,
     disk: &mut D,
 ) -> Result<(Index<A>, Group<A>), StoreFault>
-    ensures fits { IfOk result (λ found. IsFitting found.0 (D.medium disk.new).size × IsGroupFor found.0 found.1) }
-    ensures known { IfOk result (λ found. SaysRecording found.0) }
+    ensures known { IfOk result (λ found. (IsFitting found.0 (D.medium disk.new).size × SaysRecording found.0)
+        × IsGroupFor found.0 found.1) }
     ensures present { (D.medium disk.old).honest → Recovers result (λ found. IsPresent found.0 (D.medium disk.new))
         (λ fault. reading (D.medium disk.old).bytes ≡ Err fault) }
     ensures moments { (D.medium disk.old).honest

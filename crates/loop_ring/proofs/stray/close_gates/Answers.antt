@@ -30,7 +30,7 @@ returns g c = record {
       )) (c.store.ensures.disk later).done;
   settled = search rules;
   quiet = λ honest closed.
-    let size = (g.met.D.Disk.sound c.args.disk.now honest).length_is in
-    never _ (sym c.has_open.ensures ∙ c.if-not-has_open.false) (none_open c.args.at c.args.count (g.D.Disk.medium c.args.disk.now).bytes _ (omega (arith, size, c.requires.inside)) (read_front c.args.at c.args.count (g.D.Disk.medium c.args.disk.now).bytes _ c.requires.few (c.in_ok-read.ensures.read honest)) closed);
+      let size = (g.met.D.Disk.sound c.args.disk.now honest).length_is in
+      never _ (sym c.has_open.ensures ∙ c.if-not-has_open.false) (none_open c.args.at c.args.count (g.D.Disk.medium c.args.disk.now).bytes _ (omega (arith, size, c.requires.inside)) (read_front c.args.at c.args.count (g.D.Disk.medium c.args.disk.now).bytes _ c.requires.few (c.in_ok-read.ensures.read honest)) closed);
   called = search rules;
 }

@@ -4,20 +4,25 @@ use Rattle.loop_record.specs.declared.clip.Span.{Span}
 use Rattle.loop_record.specs.Plain.{lacks_number}
 use Rattle.loop_record.specs.declared.damage.Damage.{Damage}
 use Rattle.loop_record.specs.declared.damage.LayoutFault.{LayoutFault}
-use Rattle.loop_store.proofs.RecoveredParts.{recovers-damage, table-bad, table-length, table-read}
+use Rattle.loop_store.specs.declared.fault.StoreFault.{StoreFault}
+use Rattle.loop_store.proofs.RecoveredParts.{finds-err, table-bad, table-length, table-read}
 use Rattle.loop_store.proofs.found.read_table.Goals as goal
 
-pub returns-in_err-clips-clause-clips : goal.returns-in_err-clips-clause-clips
-returns-in_err-clips-clause-clips g c = λ honest.
-    recovers-damage _ c.in_err-clips.field-0.0 _ _
-    (ap (λ (d : Damage). LayoutFault.Damaged d) c.in_err-clips.ensures.0, table-bad c.args.geometry.now (g.D.Disk.medium c.args.disk.now).bytes c.read.new.buf c.args.open.now true c.requires.good c.requires.within (c.in_ok-read.ensures.read honest) c.in_err-clips.ensures.1)
-    c.from_residual-in_err-clips.ensures.1
+pub returns-in_err-clips-clause-finds : goal.returns-in_err-clips-clause-finds
+returns-in_err-clips-clause-finds g c =
+    finds-err _ (StoreFault.Damaged c.in_err-clips.field-0.0) _ _ _ _
+    (λ honest. (ap (λ (d : Damage). LayoutFault.Damaged d) c.in_err-clips.ensures.0, table-bad c.args.geometry.now (g.D.Disk.medium c.args.disk.now).bytes c.read.new.buf c.args.open.now true c.requires.fits.0 c.requires.within (c.in_ok-read.ensures.read honest) c.in_err-clips.ensures.1))
+    c.in_ok-read.ensures.disk c.in_ok-read.ensures.called c.from_residual-in_err-clips.ensures.1
 
-pub returns-clause-clips : goal.returns-clause-clips
-returns-clause-clips g c = λ honest. (
-  table-read (g.D.Disk.medium c.args.disk.now).bytes c.read.new.buf c.in_ok-clips.clips (c.in_ok-read.ensures.read honest) c.in_ok-clips.ensures.0,
-  table-bad c.args.geometry.now (g.D.Disk.medium c.args.disk.now).bytes c.read.new.buf c.args.open.now false c.requires.good c.requires.within (c.in_ok-read.ensures.read honest) c.in_ok-clips.ensures.1,
-)
+pub returns-clause-finds : goal.returns-clause-finds
+returns-clause-finds g c = record {
+  found = λ honest. (
+    table-read (g.D.Disk.medium c.args.disk.now).bytes c.read.new.buf c.in_ok-clips.clips (c.in_ok-read.ensures.read honest) c.in_ok-clips.ensures.0,
+    table-bad c.args.geometry.now (g.D.Disk.medium c.args.disk.now).bytes c.read.new.buf c.args.open.now false c.requires.fits.0 c.requires.within (c.in_ok-read.ensures.read honest) c.in_ok-clips.ensures.1,
+  );
+  stays = c.in_ok-read.ensures.disk;
+  called = c.in_ok-read.ensures.called;
+}
 
 pub returns-clause-held : goal.returns-clause-held
 returns-clause-held g c = (
