@@ -1,5 +1,5 @@
 -- Calls of a desk, one after the other.
-use Rattle.std.proofs.Common.{◌≡◌, List, [], ◌++◌, refl, sym, ◌∙◌, subst}
+use Rattle.std.proofs.Common.{◌≡◌, List, [], ◌∷◌, ◌++◌, refl, sym, ◌∙◌, subst}
 use Rattle.loop_disk.specs.Medium.{Medium, IsSound}
 use Rattle.loop_record.specs.Turns.{Plays}
 use Rattle.loop_record.proofs.Turned.{plays-joined, plays-none, told-behind}
@@ -7,7 +7,7 @@ use Rattle.loop_store.specs.Calls.{Call}
 use Rattle.loop_store.specs.Goes.{Goes}
 use Rattle.loop_store.specs.Opened.{TellsOne}
 use Rattle.loop_store.proofs.Gone.{goes-joined, goes-none}
-use Rattle.loop_desk.specs.Desk.{DeskCall, DeskState, Rules, desk_after, desk_after_calls, desk_model, store_calls, store_calls_in}
+use Rattle.loop_desk.specs.Desk.{DeskCall, DeskState, IsDeskTold, Rules, desk_after, desk_after_calls, desk_model, store_calls, store_calls_in}
 use Rattle.loop_desk.specs.Seen.{DeskGoes, SeenDesk, TellsDesk, rules_of}
 
 -- the state of a desk that tells of a recording
@@ -25,6 +25,10 @@ module _ {D : Type 0} (medium : D → Medium) where
   -- the state of which it tells then
   pub told-then : (old new : SeenDesk D) (calls : List DeskCall) (goes : DeskGoes medium old new calls) → TellsDesk new (desk_after_calls (rules_of old) (state-of old goes.one) calls)
   told-then old new calls goes = (goes.plays (state-of old goes.one) (state-told old goes.one)).1
+
+  -- what one call was told
+  pub told-one : (old new : SeenDesk D) (c : DeskCall) (goes : DeskGoes medium old new (c ∷ [])) → IsDeskTold (rules_of old) (state-of old goes.one) c
+  told-one old new c goes = (goes.plays (state-of old goes.one) (state-told old goes.one)).0.0
 
   pub one-then : (old new : SeenDesk D) (calls : List DeskCall) → DeskGoes medium old new calls → TellsOne new.store
   one-then old new calls goes = (_, (told-then old new calls goes).store.recording)

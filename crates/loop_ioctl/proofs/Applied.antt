@@ -1,15 +1,17 @@
 -- Each ioctl is a step of queue and table.
 use Rattle.std.proofs.Common.{◌≡◌, ℕ, Bool, true, false, cond, List, [], Some, None, Ok, Err, refl, sym, ◌∙◌, ap, subst}
-use Rattle.std.specs.Prelude.{Result, IfErr, IfOk}
+use Rattle.std.specs.Prelude.{Result, IfErr, IfOk, OnErr}
 use Rattle.loop_plane.specs.Plane.{Plane}
 use Rattle.loop_plane.specs.Fds.{Fds}
+use Rattle.loop_vb2.specs.declared.reason.Errno.{Errno}
 use Rattle.loop_vb2.specs.declared.reason.Reason.TheVariants.{BadType}
+use Rattle.loop_vb2.specs.declared.buffer.BufferInfo.{BufferInfo}
 use Rattle.loop_vb2.specs.declared.reason.Refused.{Refused}
 use Rattle.loop_vb2.specs.Buffers.{mapped_as, stopped}
 use Rattle.loop_vb2.specs.Effects.{streaming, stopped_state, touched, body_streaming, settled}
 use Rattle.loop_vb2.specs.Errnos.{errno}
 use Rattle.loop_vb2.specs.State.{Body, QueueState, Lined}
-use Rattle.loop_vb2.specs.Events.{Happens, refusal_in, streamon, streamoff, mmap, munmap}
+use Rattle.loop_vb2.specs.Events.{Happens, refusal_in, refusal_of, streamon, streamoff, querybuf, mmap, munmap}
 use Rattle.loop_ioctl.specs.declared.call.BufferType.{BufferType}
 use Rattle.loop_ioctl.specs.declared.call.Ioctl.{Ioctl}
 use Rattle.loop_ioctl.specs.declared.call.Ioctl.TheVariants as call
@@ -19,7 +21,7 @@ use Rattle.loop_ioctl.specs.Types.{named_type, type_of, same_type}
 use Rattle.loop_ioctl.specs.Names.{Names, or_else}
 use Rattle.loop_ioctl.specs.Attached.{IsLinked}
 use Rattle.loop_ioctl.specs.Calls.{IoctlState, StandsIoctl, HandsBack, planes_given, supply_given, type_refusal, fds_refusal, IsAnsweredFor, Applies}
-use Rattle.loop_ioctl.specs.Parts.{Asks, AppliesTyped}
+use Rattle.loop_ioctl.specs.Parts.{AppliesTyped}
 use Rattle.loop_ioctl.proofs.Attached.{kept_changed, kept_mapped, in_buffers}
 use Rattle.loop_ioctl.proofs.Putting.{settled_fds, settled_kind, still_linked, moves, plain_applies}
 
@@ -45,6 +47,10 @@ mapped_linked mapped index s out n linked = still_linked s.body (touched (mapped
 pub stream_off_applies : {P : Type 0} (A : Type 0) (m : P → Plane) (type : BufferType) (q q' : Lined P) (table : Fds P) → Happens m q q' streamoff → AppliesTyped {A = A} m (call.StreamOff type) (Ok reply.Done) q table q' table
 stream_off_applies A m type q q' table step j stands =
     let t = step j.queue stands.queue in ((tt, tt), moves m q q' table j (stopped_state j.queue) stands t.1 (off_linked j.queue j.out j.names stands.linked))
+
+-- QUERYBUF
+pub query_applies : {P : Type 0} (A : Type 0) (m : P → Plane) (type : BufferType) (index : ℕ) (info : BufferInfo) (q : Lined P) (table : Fds P) → Happens m q q (querybuf index (Ok info)) → AppliesTyped {A = A} m (call.QueryBuf type index) (Ok (reply.Info info)) q table q table
+query_applies A m type index info q table step j stands = (((step j.queue stands.queue).0, tt), stands)
 
 module _ {P A : Type 0} (m : P → Plane) where
   type_read : (c : Ioctl P A) (b : Bool) (q : Lined P) (t : Fds P) (j : IoctlState) → StandsIoctl m q t j → same_type (named_type c) (type_of q.body.format) ≡ b → type_refusal c j ≡ cond b None (Some BadType)
@@ -73,14 +79,12 @@ module _ {P A : Type 0} (m : P → Plane) where
   unmap_applies type index result q q' table =
       plain_applies m (call.Munmap type index) (munmap index) q q' table result (λ j stands. record { passes = refl; is = λ r. refl; left = λ e. refl; linked = λ r may. mapped_linked false index j.queue j.out j.names stands.linked }) (λ j r. refl)
 
-  -- ---- QUERYBUF
+  -- QUERYBUF
+  pub query_refused : (type : BufferType) (index : ℕ) (r : Refused P A) (e : Errno) (q : Lined P) (table : Fds P) → r.errno ≡ e → HandsBack None [] r → Happens m q q (querybuf index (Err e)) → AppliesTyped m (call.QueryBuf type index) (Err r) q table q table
+  query_refused type index r e q table is back step j stands = (((step j.queue stands.queue).0 ∙ ap Some (sym is), back), stands)
 
-  pub query_applies : (type : BufferType) (index : ℕ) (result : Result (IoctlReply P A) (Refused P A)) (q : Lined P) (table : Fds P) → Asks m index q result → IfErr result (HandsBack None []) → AppliesTyped m (call.QueryBuf type index) result q table q table
-  query_applies type index result q table step back = by result step back
-    where
-      by : (x : Result (IoctlReply P A) (Refused P A)) → Asks m index q x → IfErr x (HandsBack None []) → AppliesTyped m (call.QueryBuf type index) x q table q table
-      by (Ok (reply.Info info)) step back j stands = (((step j.queue stands.queue).0, tt), stands)
-      by (Ok (reply.Granted g)) step back j stands = absurd step
-      by (Ok (reply.Dequeued d)) step back j stands = absurd step
-      by (Ok reply.Done) step back j stands = absurd step
-      by (Err r) step back j stands = (((step j.queue stands.queue).0, back), stands)
+-- what holds where the queue refuses
+pub where_refused : {P A U V : Type 0} (X : Type 0) (r : Result U (Refused P A)) (told : Result V Errno) → refusal_in r ≡ refusal_of told → OnErr told X → OnErr r X
+where_refused X (Ok u) told is h = tt
+where_refused X (Err r) (Ok v) is h = absurd (cc)
+where_refused X (Err r) (Err e) is h = h

@@ -132,11 +132,13 @@ module _ {P A : Type 0} where
   abbrev pub type_refusal : Ioctl P A → IoctlState → Option Reason
   type_refusal c j = cond (same_type (named_type c) (type_of j.queue.body.format)) None (Some BadType)
 
+  -- then the planes by fd
   abbrev pub fds_refusal : Ioctl P A → IoctlState → Option Reason
   fds_refusal (call.PrepareBuf type index given) j = memory_refusal index given j
   fds_refusal (call.QBuf type index given) j = memory_refusal index given j
   fds_refusal c j = None
 
+  -- why an ioctl is refused before it comes to the queue
   abbrev pub refusal_before : Ioctl P A → IoctlState → Option Reason
   refusal_before c j = or_else (type_refusal c j) (fds_refusal c j)
 
@@ -206,6 +208,7 @@ module _ {P A : Type 0} (meaning : P → Plane) where
   IsAnsweredFor (Some reason) c j result = refusal_in result ≡ Some (errno reason)
   IsAnsweredFor None c j result = MayHappenIf j.queue (call_event meaning c result j)
 
+  -- it is answered so: a refusal hands back what the call brought
   abbrev pub IsReplied : Ioctl P A → IoctlState → Result (IoctlReply P A) (Refused P A) → Type 0
   IsReplied c j result = IsAnsweredFor (refusal_before c j) c j result × ComesBack meaning c j result
 

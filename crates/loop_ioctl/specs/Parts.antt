@@ -1,5 +1,5 @@
 -- What the parts of an ioctl do. Only private functions say it.
-use Rattle.std.specs.Prelude.{◌≡◌, ℕ, List, Option, Result, Ok, Err}
+use Rattle.std.specs.Prelude.{◌≡◌, ℕ, List, Option, Result}
 use Rattle.loop_plane.specs.Plane.{Plane}
 use Rattle.loop_plane.specs.Fds.{Fds}
 use Rattle.loop_plane.specs.declared.memory.Memory.{Memory}
@@ -8,13 +8,12 @@ use Rattle.loop_vb2.specs.declared.planes.PlaneSet.{PlaneSet}
 use Rattle.loop_vb2.specs.declared.reason.Errno.{Errno}
 use Rattle.loop_vb2.specs.declared.reason.Refused.{Refused}
 use Rattle.loop_vb2.specs.State.{Lined}
-use Rattle.loop_vb2.specs.Events.{Event, Happens, prepare_buf, qbuf, querybuf}
+use Rattle.loop_vb2.specs.Events.{Event, prepare_buf, qbuf}
 use Rattle.loop_ioctl.specs.declared.call.BufferMemory.{BufferMemory}
 use Rattle.loop_ioctl.specs.declared.call.BufferType.{BufferType}
 use Rattle.loop_ioctl.specs.declared.call.Ioctl.{Ioctl}
 use Rattle.loop_ioctl.specs.declared.call.Ioctl.TheVariants.{PrepareBuf, QBuf}
 use Rattle.loop_ioctl.specs.declared.call.IoctlReply.{IoctlReply}
-use Rattle.loop_ioctl.specs.declared.call.IoctlReply.TheVariants as reply
 use Rattle.loop_ioctl.specs.declared.put.Use.{Use}
 use Rattle.loop_ioctl.specs.declared.put.Use.TheVariants.{Prepare, Queue}
 use Rattle.loop_ioctl.specs.Names.{values_of, GivesBack}
@@ -37,12 +36,6 @@ LetsOut UserPtr sets before after_ioctl = after_ioctl ≡ before
 LetsOut DmaBuf sets before after_ioctl = GivesBack (values_of sets) before after_ioctl
 
 module _ {P A : Type 0} (meaning : P → Plane) where
-  -- QUERYBUF
-  abbrev pub Asks : ℕ → Lined P → Result (IoctlReply P A) (Refused P A) → Type 0
-  Asks index now (Ok (reply.Info info)) = Happens meaning now now (querybuf index (Ok info))
-  Asks index now (Ok r) = ⊥
-  Asks index now (Err r) = Happens meaning now now (querybuf index (Err r.errno))
-
   -- an ioctl, whose buffer type is the queue's, in a state
   abbrev pub AppliesAt : IoctlState → Ioctl P A → Result (IoctlReply P A) (Refused P A) → Lined P → Fds P → Type 0
   AppliesAt j c result new_queue new_table =

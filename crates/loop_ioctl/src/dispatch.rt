@@ -1,13 +1,13 @@
 // One ioctl.
-ghost use Rattle.std.specs.Prelude.{◌≡◌, None, [], option_to_list, Ok, IfOk, IfErr, OnErr};
+ghost use Rattle.std.specs.Prelude.{◌≡◌, None, [], option_to_list, IfOk, IfErr, OnErr};
 ghost use Rattle.slab.specs.Slab.{SameValues};
 ghost use Rattle.loop_vb2.specs.Errnos.{errno};
-ghost use Rattle.loop_vb2.specs.Events.{Happens, refusal_in, streamon, streamoff, mmap, munmap};
+ghost use Rattle.loop_vb2.specs.Events.{refusal_in, refusal_of};
 ghost use Rattle.loop_ioctl.specs.Types.{same_type, named_type, type_of};
 ghost use Rattle.loop_ioctl.specs.Calls.{HandsBack, planes_of, planes_given, supply_given, handed_out, Applies};
 ghost use Rattle.loop_ioctl.specs.declared.call.IoctlReply.TheVariants.{Done};
 ghost use Rattle.loop_ioctl.specs.declared.call.Ioctl.TheVariants.{DqBuf, ReqBufs};
-ghost use Rattle.loop_ioctl.specs.Parts.{LetsOut, Asks, AppliesTyped, AppliesOfAny};
+ghost use Rattle.loop_ioctl.specs.Parts.{LetsOut, AppliesTyped, AppliesOfAny};
 
 use crate::call::{BufferMemory, BufferType, Ioctl, IoctlReply};
 use crate::fds::{give_all, give_set};
@@ -17,80 +17,18 @@ use loop_record::PixelFormat;
 use loop_vb2::{Dequeued, Errno, Granted, PlaneSet, Queue, Reason, Refused};
 use std::alloc::Allocator;
 
-// STREAMON.
-fn stream_on<P: PlaneMemory, A: Allocator + Copy>(
-    queue: &mut Queue<P, A>,
+// The answer of a call of the queue that tells nothing but its refusal.
+fn done_unless<P, A: Allocator>(
+    alloc: A,
+    told: Result<(), Errno>,
 ) -> Result<IoctlReply<P, A>, Refused<P, A>>
-    ensures step { Happens P.plane queue.old queue.new (streamon (refusal_in result)) }
+    ensures refusal { refusal_in result ≡ refusal_of told }
     ensures done { IfOk result (λ reply. reply ≡ Done) }
     ensures back { IfErr result (λ refused. HandsBack None [] refused) }
-    ensures same { OnErr result (queue.new ≡ queue.old) }
-    ensures shape { queue.new.body.shape ≡ queue.old.body.shape }
 {
-    match queue.stream_on() {
+    match told {
         Ok(()) => Ok(IoctlReply::Done),
-        Err(errno) => Err(refuse(queue.allocator(), errno, None)),
-    }
-}
-
-// STREAMOFF.
-fn stream_off<P: PlaneMemory, A: Allocator + Copy>(
-    queue: &mut Queue<P, A>,
-) -> Result<IoctlReply<P, A>, Refused<P, A>>
-    ensures step { Happens P.plane queue.old queue.new streamoff }
-    ensures done { result ≡ Ok Done }
-    ensures same { OnErr result (queue.new ≡ queue.old) }
-    ensures shape { queue.new.body.shape ≡ queue.old.body.shape }
-{
-    queue.stream_off();
-    Ok(IoctlReply::Done)
-}
-
-// QUERYBUF.
-fn query<P: PlaneMemory, A: Allocator + Copy>(
-    queue: &Queue<P, A>,
-    index: u32,
-) -> Result<IoctlReply<P, A>, Refused<P, A>>
-    ensures step { Asks P.plane index queue.now result }
-    ensures back { IfErr result (λ refused. HandsBack None [] refused) }
-{
-    match queue.query(index) {
-        Ok(info) => Ok(IoctlReply::Info(info)),
-        Err(errno) => Err(refuse(queue.allocator(), errno, None)),
-    }
-}
-
-// mmap of a buffer.
-fn map<P: PlaneMemory, A: Allocator + Copy>(
-    queue: &mut Queue<P, A>,
-    index: u32,
-) -> Result<IoctlReply<P, A>, Refused<P, A>>
-    ensures step { Happens P.plane queue.old queue.new (mmap index (refusal_in result)) }
-    ensures done { IfOk result (λ reply. reply ≡ Done) }
-    ensures back { IfErr result (λ refused. HandsBack None [] refused) }
-    ensures same { OnErr result (queue.new ≡ queue.old) }
-    ensures shape { queue.new.body.shape ≡ queue.old.body.shape }
-{
-    match queue.map(index) {
-        Ok(()) => Ok(IoctlReply::Done),
-        Err(errno) => Err(refuse(queue.allocator(), errno, None)),
-    }
-}
-
-// munmap of a buffer.
-fn unmap<P: PlaneMemory, A: Allocator + Copy>(
-    queue: &mut Queue<P, A>,
-    index: u32,
-) -> Result<IoctlReply<P, A>, Refused<P, A>>
-    ensures step { Happens P.plane queue.old queue.new (munmap index (refusal_in result)) }
-    ensures done { IfOk result (λ reply. reply ≡ Done) }
-    ensures back { IfErr result (λ refused. HandsBack None [] refused) }
-    ensures same { OnErr result (queue.new ≡ queue.old) }
-    ensures shape { queue.new.body.shape ≡ queue.old.body.shape }
-{
-    match queue.unmap(index) {
-        Ok(()) => Ok(IoctlReply::Done),
-        Err(errno) => Err(refuse(queue.allocator(), errno, None)),
+        Err(errno) => Err(refuse(alloc, errno, None)),
     }
 }
 
@@ -243,6 +181,7 @@ fn dispatch<P: PlaneMemory, A: Allocator + Copy>(
     ensures still { OnErr result (SameValues table.old table.new) }
     ensures shape { queue.new.body.shape ≡ queue.old.body.shape }
 {
+    let alloc = queue.allocator();
     match call {
         Ioctl::ReqBufs {
             count,
@@ -250,16 +189,22 @@ fn dispatch<P: PlaneMemory, A: Allocator + Copy>(
             supply,
             ..
         } => { request(queue, table, count, memory, supply) }
-        Ioctl::QueryBuf { index, .. } => query(queue, index),
+        Ioctl::QueryBuf { index, .. } => match queue.query(index) {
+            Ok(info) => Ok(IoctlReply::Info(info)),
+            Err(errno) => Err(refuse(alloc, errno, None)),
+        },
         Ioctl::PrepareBuf { index, memory, .. } => {
             use_buffer(queue, table, Use::Prepare, index, memory)
         }
         Ioctl::QBuf { index, memory, .. } => use_buffer(queue, table, Use::Queue, index, memory),
         Ioctl::DqBuf { .. } => dequeue(queue, table),
-        Ioctl::StreamOn { .. } => stream_on(queue),
-        Ioctl::StreamOff { .. } => stream_off(queue),
-        Ioctl::Mmap { index, .. } => map(queue, index),
-        Ioctl::Munmap { index, .. } => unmap(queue, index),
+        Ioctl::StreamOn { .. } => done_unless(alloc, queue.stream_on()),
+        Ioctl::StreamOff { .. } => {
+            queue.stream_off();
+            Ok(IoctlReply::Done)
+        }
+        Ioctl::Mmap { index, .. } => done_unless(alloc, queue.map(index)),
+        Ioctl::Munmap { index, .. } => done_unless(alloc, queue.unmap(index)),
     }
 }
 

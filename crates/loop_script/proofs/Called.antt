@@ -1,5 +1,5 @@
 -- The calls that a session makes of its desk.
-use Rattle.std.proofs.Common.{◌≡◌, ℕ, ◌+◌, ◌-◌, ◌^◌, min, Result, Ok, Err, List, [], ◌∷◌, length, inl, inr, refl, sym, subst}
+use Rattle.std.proofs.Common.{◌≡◌, ℕ, ◌+◌, ◌-◌, ◌^◌, min, Result, Ok, Err, List, [], ◌∷◌, length, inl, inr, refl, sym, ap, subst}
 use Rattle.std.specs.Prelude.{IfErr}
 use Rattle.loop_disk.specs.declared.memory.MemDisk.{MemDisk}
 use Rattle.loop_disk.specs.Behind.{moment_now}
@@ -73,3 +73,9 @@ pub accepted-stored : (count after : ℕ) (result : Result Flushed StoreFault) �
 accepted-stored count after (Ok f) locked is = is
 accepted-stored count after (Err fault) locked is =
     subst (λ (x : StoreFault). after ≡ accepted_after {T = Flushed} count (Err x)) (sym locked) is
+
+-- and after a submit that was refused
+pub accepted-refused : (count : ℕ) (fault : StoreFault) → RefusesFrame fault → count ≡ accepted_after {T = ℕ} count (Err fault)
+accepted-refused count fault (inl e) = sym (ap (λ (x : StoreFault). accepted_after {T = ℕ} count (Err x)) e)
+accepted-refused count fault (inr (inl e)) = sym (ap (λ (x : StoreFault). accepted_after {T = ℕ} count (Err x)) e)
+accepted-refused count fault (inr (inr e)) = sym (ap (λ (x : StoreFault). accepted_after {T = ℕ} count (Err x)) e)

@@ -83,6 +83,7 @@ impl<A: Allocator + Copy> Session<A> {
         ensures unchanged { OnErr result (self.new ≡ self.old) }
         ensures accepted { self.new.accepted ≡ accepted_after self.old.accepted result }
     {
+        self.desk.opens();
         let frame = match next_frame(alloc, &mut self.desk, self.accepted) {
             Ok(frame) => frame,
             Err(_) => return Err(StoreFault::NoMemory),

@@ -1,5 +1,5 @@
 -- A group that was appended, or wasn't.
-use Rattle.std.proofs.Common.{◌≡◌, ◌≢◌, ◌⊎◌, inl, inr, ℕ, Bool, true, false, not, ◌&&◌, eqb, is_some, Option, None, Some, Result, Ok, Err, List, [], ◌∷◌, if◌then◌else◌, refl, sym, ap, ◌∙◌}
+use Rattle.std.proofs.Common.{◌≡◌, ◌≢◌, ◌⊎◌, inl, inr, ℕ, Bool, true, false, not, ◌&&◌, eqb, is_some, Option, None, Some, Result, Ok, Err, List, [], ◌∷◌, if◌then◌else◌, refl, sym, ap, ◌∙◌, subst}
 use Rattle.loop_disk.specs.declared.fault.DiskFault.{DiskFault}
 use Rattle.loop_disk.specs.Calls.{Called, is_write_or_sync}
 use Rattle.loop_disk.specs.Medium.{Medium, IsSound, LeavesOnly}
@@ -8,7 +8,7 @@ use Rattle.loop_record.specs.Recording.{Picture, Recording, last_number, needs_r
 use Rattle.loop_record.proofs.Decided.{differ, differ_test, equal_test}
 use Rattle.loop_store.specs.declared.fault.StoreFault.{StoreFault}
 use Rattle.loop_store.specs.declared.fault.StoreFault.TheVariants.{AllLocked, Disk, MustReopen, NumbersSpent}
-use Rattle.loop_store.specs.Calls.{Call, IsAnswered, AnswersOtherwise, StoreState, appended, asked, checks, checks_on, first_of, lacks_victim, was_refused}
+use Rattle.loop_store.specs.Calls.{AnswersDue, Call, IsAnswered, AnswersOtherwise, StoreState, appended, asked, checks, checks_on, due, first_of, lacks_victim, was_refused}
 use Rattle.loop_store.specs.Faults.{failed_by, is_disk, is_early}
 use Rattle.loop_store.specs.Goes.{Goes, Stands, TellsState}
 use Rattle.loop_store.specs.Held.{HoldsSome}
@@ -70,6 +70,20 @@ answered-number H g s ps number said = (due-none (first_of (checks g s (appended
 -- and the store needn't be reopened
 pub answered-fine : (H : Type 0) (g : Geometry) (s : StoreState) (ps : List Picture) (number : ℕ) → IsAnswered H g s (appended ps (Ok number)) → s.must_reopen ≡ false
 answered-fine H g s ps number said = (passes s.must_reopen MustReopen _ (due-none (first_of (checks g s (appended ps (Ok number)))) (appended ps (Ok number)) (AnswersOtherwise H s.recording (appended ps (Ok number))) said refl).0).0
+
+-- and where a number is left, it is refused since no block may go, or the disk failed
+pub answered-refusal : (H : Type 0) (g : Geometry) (s : StoreState) (ps : List Picture) (fault : StoreFault) → s.must_reopen ≡ false → s.recording.next ≢ last_number (ring_of g) → IsAnswered H g s (appended ps (Err fault)) → (fault ≡ AllLocked) ⊎ (is_disk fault ≡ true)
+answered-refusal H g s ps fault fine unspent said = go (lacks_victim (ring_of g) s.recording) (subst (λ (o : Option StoreFault). AnswersDue o (appended ps (Err fault)) (is_disk fault ≡ true)) first said)
+  where
+    first : first_of (checks g s (appended ps (Err fault))) ≡ first_of (due (lacks_victim (ring_of g) s.recording) AllLocked ∷ [])
+    first = passed s.must_reopen MustReopen _ fine ∙ passed (eqb s.recording.next (last_number (ring_of g))) NumbersSpent _ (differ_test s.recording.next (last_number (ring_of g)) unspent)
+
+    same : (a b : StoreFault) → Some a ≡ Some b → a ≡ b
+    same a b e = cc
+
+    go : (b : Bool) → AnswersDue (first_of (due b AllLocked ∷ [])) (appended ps (Err fault)) (is_disk fault ≡ true) → (fault ≡ AllLocked) ⊎ (is_disk fault ≡ true)
+    go true is = inl (same fault AllLocked is)
+    go false is = inr is
 
 -- ---- refused before the disk was called
 

@@ -10,8 +10,8 @@ use Rattle.loop_record.specs.declared.frame.FrameHead.{FrameHead}
 use Rattle.loop_record.specs.Recording.{Step, holds, plain, ring_of}
 use Rattle.loop_record.proofs.Decided.{clash}
 use Rattle.loop_store.specs.declared.fault.StoreFault.{StoreFault}
-use Rattle.loop_store.specs.declared.fault.StoreFault.TheVariants.{Damaged, NoMemory, NotHeld}
-use Rattle.loop_store.specs.Calls.{Call, ReadFails, IsAnswered, StoreState, begun, checks_on, failed_for, first_of, has_failed, made, part_with, read_with, was_read, was_read_part, was_refused}
+use Rattle.loop_store.specs.declared.fault.StoreFault.TheVariants.{Damaged, MustReopen, NoMemory, NotHeld}
+use Rattle.loop_store.specs.Calls.{AnswersDue, Call, ReadFails, IsAnswered, StoreState, begun, checks_on, due, failed_for, first_of, has_failed, made, part_with, read_with, was_read, was_read_part, was_refused}
 use Rattle.loop_store.specs.Faults.{answers_disk, failed_in, fault_in, is_damage, is_disk, is_early}
 use Rattle.loop_store.specs.Goes.{Goes, Stands, TellsState}
 use Rattle.loop_store.specs.Opened.{TellsOne}
@@ -110,6 +110,20 @@ read-missing H g s number fine none = answer-due H g s (was_read number (Err Not
 
 pub part-missing : (H : Type 0) (g : Geometry) (s : StoreState) (number at : ℕ) → s.must_reopen ≡ false → holds s.recording number ≡ false → IsAnswered H g s (was_read_part number at (Err NotHeld))
 part-missing H g s number at fine none = answer-due H g s (was_read_part number at (Err NotHeld)) NotHeld fine (failed (not (holds s.recording number)) NotHeld [] (ap not none)) refl
+
+-- why a read is refused
+pub read-refusal : (H : Type 0) (g : Geometry) (s : StoreState) (number : ℕ) (fault : StoreFault) → s.must_reopen ≡ false → IsAnswered H g s (was_read number (Err fault)) → (fault ≡ NotHeld) ⊎ ((fault ≡ NoMemory) ⊎ ((fault ≡ Damaged SlotHead) ⊎ (is_disk fault ≡ true)))
+read-refusal H g s number fault fine said =
+    go (not (holds s.recording number)) (subst (λ (o : Option StoreFault). AnswersDue o (was_read number (Err fault)) ((fault ≡ NoMemory) ⊎ ReadFails H fault)) (passed s.must_reopen MustReopen (due (not (holds s.recording number)) NotHeld ∷ []) fine) said)
+  where
+    same : (a b : StoreFault) → Some a ≡ Some b → a ≡ b
+    same a b e = cc
+
+    go : (b : Bool) → AnswersDue (first_of (due b NotHeld ∷ [])) (was_read number (Err fault)) ((fault ≡ NoMemory) ⊎ ReadFails H fault) → (fault ≡ NotHeld) ⊎ ((fault ≡ NoMemory) ⊎ ((fault ≡ Damaged SlotHead) ⊎ (is_disk fault ≡ true)))
+    go true is = inl (same fault NotHeld is)
+    go false (inl is) = inr (inl is)
+    go false (inr (inl is)) = inr (inr (inr is))
+    go false (inr (inr is)) = inr (inr (inl is.0))
 
 -- one for which there is no memory
 pub read-unread : (H : Type 0) (g : Geometry) (s : StoreState) (number : ℕ) → s.must_reopen ≡ false → holds s.recording number ≡ true → IsAnswered H g s (was_read number (Err NoMemory))

@@ -184,8 +184,8 @@ abbrev pub running : Recording → StoreState
 running r = record { recording = r; must_reopen = false }
 
 -- a read of a held frame is refused only where the disk failed or isn't honest
-pub part_refused : (H : Type 0) (g : Geometry) (r : Recording) (number at : ℕ) (p : Picture) (fault : StoreFault) (held : Option (List ℕ)) (bytes : List ℕ) → frame_under r.frames number ≡ Some p → IsAnswered H g (running r) (was_read_part number at (Err fault)) → Stopped H (Store fault) held held bytes
-part_refused H g r number at p fault held bytes there said = go fault (due-some (first_of (checks g (running r) (was_read_part number at (Err fault)))) (was_read_part number at (Err fault)) (ReadFails H fault) said)
+pub part_refused : (H K : Type 0) → (H → K) → (g : Geometry) (r : Recording) (number at : ℕ) (p : Picture) (fault : StoreFault) (held : Option (List ℕ)) (bytes : List ℕ) → frame_under r.frames number ≡ Some p → IsAnswered K g (running r) (was_read_part number at (Err fault)) → Stopped H (Store fault) held held bytes
+part_refused H K to g r number at p fault held bytes there said = go fault (due-some (first_of (checks g (running r) (was_read_part number at (Err fault)))) (was_read_part number at (Err fault)) (ReadFails K fault) said)
   where
     none : first_of (checks g (running r) (was_read_part number at (Err fault))) ≡ None
     none = passed (not (holds r number)) NotHeld [] (ap (λ (o : Option Picture). not (is_some o)) there)
@@ -197,13 +197,13 @@ part_refused H g r number at p fault held bytes there said = go fault (due-some 
     failed (store.Disk f) e = λ h. nothing_yet held bytes
     failed f e = absurd cc
 
-    go : (f : StoreFault) → (first_of (checks g (running r) (was_read_part number at (Err fault))) ≡ Some f) ⊎ ((first_of (checks g (running r) (was_read_part number at (Err fault))) ≡ None) × ReadFails H f) → Stopped H (Store f) held held bytes
+    go : (f : StoreFault) → (first_of (checks g (running r) (was_read_part number at (Err fault))) ≡ Some f) ⊎ ((first_of (checks g (running r) (was_read_part number at (Err fault))) ≡ None) × ReadFails K f) → Stopped H (Store f) held held bytes
     go f (inl e) = absurd (apart f (sym none ∙ e))
     go f (inr x) = fails x.1
       where
-        fails : ReadFails H f → Stopped H (Store f) held held bytes
+        fails : ReadFails K f → Stopped H (Store f) held held bytes
         fails (inl is) = failed f is
-        fails (inr damaged) = subst (λ (k : StoreFault). Stopped H (Store k) held held bytes) (sym damaged.0) damaged.1
+        fails (inr damaged) = subst (λ (k : StoreFault). Stopped H (Store k) held held bytes) (sym damaged.0) (λ h. damaged.1 (to h))
 
 -- a part that was read of an honest disk is one of the frame
 pub part_given : (H : Type 0) (g : Geometry) (r : Recording) (number at : ℕ) (bytes : List ℕ) → IsAnswered H g (running r) (was_read_part number at (Ok bytes)) → H → IsPart r number at bytes

@@ -27,8 +27,8 @@ Stopped Honest Write old new bytes = Honest → AppendsSome old new bytes
 Stopped Honest _ old new bytes = ⊥
 
 -- The answer to an export of these frames: it must be reopened, or otherwise there is none of them, or otherwise
--- memory was refused, and then nothing was written; otherwise they are counted, or what came in between says which
--- fault. Only what was written then, their text or a beginning of it, is said of honest disks alone.
+-- memory was refused, and then nothing was written; otherwise they are counted, or something failed in between. Only
+-- what was written then, their text or a beginning of it, is said of honest disks alone.
 abbrev pub IsExport : Type 0 → Geometry → Bool → List (List ℕ) → Option (List ℕ) → Option (List ℕ)
     → Result ℕ ExportFault → Type 0
 IsExport Honest g must_reopen frames old new (Err (Store MustReopen)) = (must_reopen ≡ true) × (new ≡ old)
