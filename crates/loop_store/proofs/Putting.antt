@@ -9,14 +9,14 @@ use Rattle.loop_record.proofs.Decided.{differ, differ_test, equal_test}
 use Rattle.loop_store.specs.declared.fault.StoreFault.{StoreFault}
 use Rattle.loop_store.specs.declared.fault.StoreFault.TheVariants.{AllLocked, Disk, MustReopen, NumbersSpent}
 use Rattle.loop_store.specs.Calls.{AnswersDue, Call, IsAnswered, AnswersOtherwise, StoreState, appended, asked, checks, checks_on, due, first_of, lacks_victim, was_refused}
-use Rattle.loop_store.specs.Faults.{failed_by, is_disk, is_early}
+use Rattle.loop_store.specs.Faults.{failed_by, is_disk, is_early, is_write_fault}
 use Rattle.loop_store.specs.Goes.{Goes, Stands, TellsState}
 use Rattle.loop_store.specs.Held.{HoldsSome}
 use Rattle.loop_store.specs.Places.{RefusesPlace}
 use Rattle.loop_store.specs.Opened.{TellsOne}
 use Rattle.loop_store.specs.Seen.{HasFailed, Seen, StandsFor, Tells}
 use Rattle.loop_store.proofs.Appended.{steps-some}
-use Rattle.loop_store.proofs.Checked.{answer-due, answer-given, due-none, failed, passed, passes}
+use Rattle.loop_store.proofs.Checked.{answer-due, answer-given, due-none, failed, passed, passes, write-disk}
 use Rattle.loop_store.proofs.Alike.{place-same}
 use Rattle.loop_store.proofs.Same.{IsSame}
 use Rattle.loop_store.proofs.Once.{goes-done, goes-failed, goes-refused}
@@ -73,7 +73,7 @@ answered-fine H g s ps number said = (passes s.must_reopen MustReopen _ (due-non
 
 -- and where a number is left, it is refused since no block may go, or the disk failed
 pub answered-refusal : (H : Type 0) (g : Geometry) (s : StoreState) (ps : List Picture) (fault : StoreFault) → s.must_reopen ≡ false → s.recording.next ≢ last_number (ring_of g) → IsAnswered H g s (appended ps (Err fault)) → (fault ≡ AllLocked) ⊎ (is_disk fault ≡ true)
-answered-refusal H g s ps fault fine unspent said = go (lacks_victim (ring_of g) s.recording) (subst (λ (o : Option StoreFault). AnswersDue o (appended ps (Err fault)) (is_disk fault ≡ true)) first said)
+answered-refusal H g s ps fault fine unspent said = go (lacks_victim (ring_of g) s.recording) (subst (λ (o : Option StoreFault). AnswersDue o (appended ps (Err fault)) (is_write_fault fault ≡ true)) first said)
   where
     first : first_of (checks g s (appended ps (Err fault))) ≡ first_of (due (lacks_victim (ring_of g) s.recording) AllLocked ∷ [])
     first = passed s.must_reopen MustReopen _ fine ∙ passed (eqb s.recording.next (last_number (ring_of g))) NumbersSpent _ (differ_test s.recording.next (last_number (ring_of g)) unspent)
@@ -81,9 +81,9 @@ answered-refusal H g s ps fault fine unspent said = go (lacks_victim (ring_of g)
     same : (a b : StoreFault) → Some a ≡ Some b → a ≡ b
     same a b e = cc
 
-    go : (b : Bool) → AnswersDue (first_of (due b AllLocked ∷ [])) (appended ps (Err fault)) (is_disk fault ≡ true) → (fault ≡ AllLocked) ⊎ (is_disk fault ≡ true)
+    go : (b : Bool) → AnswersDue (first_of (due b AllLocked ∷ [])) (appended ps (Err fault)) (is_write_fault fault ≡ true) → (fault ≡ AllLocked) ⊎ (is_disk fault ≡ true)
     go true is = inl (same fault AllLocked is)
-    go false is = inr is
+    go false is = inr (write-disk fault is)
 
 -- ---- refused before the disk was called
 
