@@ -6,7 +6,7 @@ use Rattle.std.proofs.lemmas.Result.{on_ok_weaker}
 use Rattle.byteorder.specs.Endian.{little_from}
 use Rattle.byteorder.specs.Numbers.{little_number-reads_back}
 use Rattle.loop_disk.specs.declared.fault.DiskFault.{DiskFault}
-use Rattle.loop_disk.specs.Medium.{Medium, written, SameOutside, IsSettled, LeavesOnly}
+use Rattle.loop_disk.specs.Medium.{Medium, with_bytes_at, SameOutside, IsSettled, LeavesOnly}
 use Rattle.loop_disk.specs.Steps.{Stores, StoresInTurn, TornInTurn}
 use Rattle.loop_disk.proofs.Moments.{stored, weaker}
 use Rattle.loop_disk.proofs.Images.{both, get_or-written_there, length-written, widened, written_outside}
@@ -46,16 +46,16 @@ none_closed c id e = go (is_open c (clip_at id)) _ e
 -- ---- a lock
 
 -- an image with that entry behind its gate
-entry_there : (id k : ℕ) (entry old c : List ℕ) → length entry ≡ 31 → clip_at id + 32 ≤ length old → SameOutside (clip_at id) 1 (written (clip_at id + 1) entry old) c → k < 31
+entry_there : (id k : ℕ) (entry old c : List ℕ) → length entry ≡ 31 → clip_at id + 32 ≤ length old → SameOutside (clip_at id) 1 (with_bytes_at (clip_at id + 1) entry old) c → k < 31
     → get_or c (clip_at id + 1 + k) 0 ≡ get_or entry k 0
 entry_there id k entry old c size fits torn l =
     torn.behind (clip_at id + 1 + k) (omega arith) ∙ get_or-written_there (clip_at id + 1) entry old k (omega (arith, fits)) (omega (arith, size, l))
 
-entry_outside : (id : ℕ) (entry old : List ℕ) → length entry ≡ 31 → clip_at id + 32 ≤ length old → SameOutside (clip_at id) 32 old (written (clip_at id + 1) entry old)
+entry_outside : (id : ℕ) (entry old : List ℕ) → length entry ≡ 31 → clip_at id + 32 ≤ length old → SameOutside (clip_at id) 32 old (with_bytes_at (clip_at id + 1) entry old)
 entry_outside id entry old size fits =
     widened (clip_at id + 1) (length entry) (clip_at id) 32 old _ (written_outside (clip_at id + 1) entry old (omega (arith, size, fits))) (omega arith) (omega (arith, size))
 
-locked_there : (id : ℕ) (s : Span) (entry old c : List ℕ) → IsEntry s entry → clip_at id + 32 ≤ length old → SameOutside (clip_at id) 1 (written (clip_at id + 1) entry old) c
+locked_there : (id : ℕ) (s : Span) (entry old c : List ℕ) → IsEntry s entry → clip_at id + 32 ≤ length old → SameOutside (clip_at id) 1 (with_bytes_at (clip_at id + 1) entry old) c
     → is_open c (clip_at id) ≡ true → clip_in c id ≡ Some s
 locked_there id s entry old c e fits torn gate =
     let at : (p k : ℕ) → p + k < 31 → get_or c (clip_at id + (p + 1) + k) 0 ≡ get_or entry (p + k) 0 = λ p k l.
@@ -82,14 +82,14 @@ lock_torn id s entry old c e fits closed (inr torn) = go (is_open c (clip_at id)
 
 -- both stores done
 lock_done : (id : ℕ) (s : Span) (entry old : List ℕ) → IsEntry s entry → clip_at id + 32 ≤ length old
-    → ShowsClip id (Some s) old (written (clip_at id) (165 ∷ []) (written (clip_at id + 1) entry old))
+    → ShowsClip id (Some s) old (with_bytes_at (clip_at id) (165 ∷ []) (with_bytes_at (clip_at id + 1) entry old))
 lock_done id s entry old e fits =
     let at = clip_at id in
-    let mid = written (at + 1) entry old in
+    let mid = with_bytes_at (at + 1) entry old in
     let size = length-written (at + 1) entry old (omega (arith, e.size, fits)) in
-    let torn : SameOutside at 1 mid (written at (165 ∷ []) mid) = written_outside at (165 ∷ []) mid (omega (arith, e.size, fits, size)) in
+    let torn : SameOutside at 1 mid (with_bytes_at at (165 ∷ []) mid) = written_outside at (165 ∷ []) mid (omega (arith, e.size, fits, size)) in
     let there : at ≡ at + 0 = omega arith in
-    let gate : get_or (written at (165 ∷ []) mid) at 0 ≡ 165 = ap (λ (k : ℕ). get_or (written at (165 ∷ []) mid) k 0) there ∙ get_or-written_there at (165 ∷ []) mid 0 (omega (arith, fits, size)) (omega arith) in record {
+    let gate : get_or (with_bytes_at at (165 ∷ []) mid) at 0 ≡ 165 = ap (λ (k : ℕ). get_or (with_bytes_at at (165 ∷ []) mid) k 0) there ∙ get_or-written_there at (165 ∷ []) mid 0 (omega (arith, fits, size)) (omega arith) in record {
       outside = both at 32 old mid _ (entry_outside id entry old e.size fits) (widened at 1 at 32 mid _ torn (omega arith) (omega arith));
       holds = locked_there id s entry old _ e fits torn (ap (λ (k : ℕ). eqb k 0xA5) gate);
     }
@@ -108,7 +108,7 @@ lock_moments id s at entry gate old new r is opens e fits closed stores =
 pub lock_ok : {T : Type 0} (id : ℕ) (s : Span) (at : ℕ) (entry gate : List ℕ) (old new : Medium) (r : Result T DiskFault) → at ≡ clip_at id → gate ≡ 165 ∷ [] → IsEntry s entry → clip_at id + 32 ≤ length old.bytes
     → StoresInTurn (at + 1) entry at gate old new r → OnOk r (ShowsClip id (Some s) old.bytes new.bytes)
 lock_ok id s at entry gate old new r is opens e fits stores =
-    on_ok_weaker r (λ (d : new.bytes ≡ written (clip_at id) (165 ∷ []) (written (clip_at id + 1) entry old.bytes)). subst (ShowsClip id (Some s) old.bytes) (sym d) (lock_done id s entry old.bytes e fits)) (stores_there id at entry gate old new r is opens stores).done
+    on_ok_weaker r (λ (d : new.bytes ≡ with_bytes_at (clip_at id) (165 ∷ []) (with_bytes_at (clip_at id + 1) entry old.bytes)). subst (ShowsClip id (Some s) old.bytes) (sym d) (lock_done id s entry old.bytes e fits)) (stores_there id at entry gate old new r is opens stores).done
 
 -- ---- an unlock
 
@@ -135,11 +135,11 @@ unlock_torn id old c some torn = go (is_open c (clip_at id)) refl
         let to = field 15 in
         inl (record { outside = wide; holds = λ i. cond ((o ∙ sym (some_open old id some)) i) (Some (record { from = from i; to = to i })) None })
 
-unlock_done : (id : ℕ) (old : List ℕ) → clip_at id + 32 ≤ length old → ShowsClip id None old (written (clip_at id) (0 ∷ []) old)
+unlock_done : (id : ℕ) (old : List ℕ) → clip_at id + 32 ≤ length old → ShowsClip id None old (with_bytes_at (clip_at id) (0 ∷ []) old)
 unlock_done id old fits =
     let at = clip_at id in
     let there : at + 0 ≡ at = omega arith in
-    let gate : get_or (written at (0 ∷ []) old) at 0 ≡ 0 = sym (ap (λ (k : ℕ). get_or (written at (0 ∷ []) old) k 0) there) ∙ get_or-written_there at (0 ∷ []) old 0 (omega (arith, fits)) (omega arith) in record {
+    let gate : get_or (with_bytes_at at (0 ∷ []) old) at 0 ≡ 0 = sym (ap (λ (k : ℕ). get_or (with_bytes_at at (0 ∷ []) old) k 0) there) ∙ get_or-written_there at (0 ∷ []) old 0 (omega (arith, fits)) (omega arith) in record {
       outside = widened at 1 at 32 old _ (written_outside at (0 ∷ []) old (omega (arith, fits))) (omega arith) (omega arith);
       holds = closed_none _ id (ap (λ (k : ℕ). eqb k 0xA5) gate);
     }
@@ -150,7 +150,7 @@ unlock_moments id at old new r is settled some stores =
 
 pub unlock_ok : {T : Type 0} (id at : ℕ) (old new : Medium) (r : Result T DiskFault) → at ≡ clip_at id → clip_at id + 32 ≤ length old.bytes → Stores at (0 ∷ []) old new r → OnOk r (ShowsClip id None old.bytes new.bytes)
 unlock_ok id at old new r is fits stores =
-    on_ok_weaker r (λ (e : new.bytes ≡ written at (0 ∷ []) old.bytes). subst (ShowsClip id None old.bytes) (sym (e ∙ ap (λ (k : ℕ). written k (0 ∷ []) old.bytes) is)) (unlock_done id old.bytes fits)) stores.done
+    on_ok_weaker r (λ (e : new.bytes ≡ with_bytes_at at (0 ∷ []) old.bytes). subst (ShowsClip id None old.bytes) (sym (e ∙ ap (λ (k : ℕ). with_bytes_at k (0 ∷ []) old.bytes) is)) (unlock_done id old.bytes fits)) stores.done
 
 -- ---- the first free place
 

@@ -7,10 +7,10 @@ use Rattle.loop_record.specs.Layout.{clip_in}
 use Rattle.loop_record.specs.Recording.{first_free}
 
 -- the clips that stand, each with its id; the first place is that of this id
-abbrev pub listed : ℕ → List (Option Span) → List Clip
-listed id [] = []
-listed id (None ∷ clips) = listed (id + 1) clips
-listed id (Some s ∷ clips) = record { id = id; from = s.from; to = s.to } ∷ listed (id + 1) clips
+abbrev pub clip_list : ℕ → List (Option Span) → List Clip
+clip_list id [] = []
+clip_list id (None ∷ clips) = clip_list (id + 1) clips
+clip_list id (Some s ∷ clips) = record { id = id; from = s.from; to = s.to } ∷ clip_list (id + 1) clips
 
 -- the least id of these without a clip, or none where each has one
 abbrev pub IsFirstFree : List (Option Span) → Option ℕ → Type 0

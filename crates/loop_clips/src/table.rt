@@ -1,7 +1,7 @@
 // The clips of a store in memory: the place of a clip is its id.
 ghost use Rattle.std.specs.Prelude.{◌≡◌, ◌≢◌, ◌≤◌, ◌<◌, IfOk, IfSome, IsTrue, List, None, Option, Some, is_some, length, not, position, replicate, slice_index_or, slice_set};
 ghost use Rattle.std.specs.List.{list_any};
-ghost use Rattle.loop_clips.specs.Table.{IsFirstFree, ShowsClipOrNot, listed};
+ghost use Rattle.loop_clips.specs.Table.{IsFirstFree, ShowsClipOrNot, clip_list};
 ghost use Rattle.loop_disk.specs.Medium.{IsSettled};
 ghost use Rattle.loop_disk.specs.Steps.{Changes};
 ghost use Rattle.loop_record.specs.Change.{ShowsClip};
@@ -129,7 +129,7 @@ impl ClipTable {
 
     /// The clips that stand, by rising id. Its only error is want of memory.
     pub fn list<A: Allocator>(&self, alloc: A) -> Result<Vec<Clip, A>, AllocError>
-        ensures { IfOk result (λ list. list.items ≡ listed 0 self.now) }
+        ensures { IfOk result (λ list. list.items ≡ clip_list 0 self.now) }
     {
         let mut list = Vec::with_capacity(alloc, CLIPS)?;
         for (id, clip) in self.clips.iter().enumerate() {

@@ -4,7 +4,7 @@
 ghost use Rattle.std.specs.Prelude.{◌≡◌, ◌++◌, ◌∷◌, ◌⊎◌, ℕ, List, None, Option, [], codes, map};
 ghost use Rattle.std.specs.Prelude.{IfErr, IfOk, IfSome, IsSome, OnErr, OnOk};
 ghost use Rattle.std.specs.Io.KnownBytes.{Appends, Keeps};
-ghost use Rattle.loop_clips.specs.Table.{listed};
+ghost use Rattle.loop_clips.specs.Table.{clip_list};
 ghost use Rattle.loop_record.specs.Recording.{Recording};
 ghost use Rattle.loop_store.specs.Calls.{locked, unlocked};
 ghost use Rattle.loop_store.specs.Goes.{Goes};
@@ -60,7 +60,7 @@ pub fn list<D: Disk + Drop, A: Allocator + Copy, W: Write>(
     ensures next { IfOk result.answer (λ listing. listing.next ≡ store.now.next) }
     ensures numbers { (r : Recording) → StandsFor D.medium store.now r
         → IfOk result.answer (λ listing. listing.numbers.items ≡ map (λ f. f.0) r.frames) }
-    ensures clips { IfOk result.answer (λ listing. listing.clips.items ≡ listed 0 store.now.clips) }
+    ensures clips { IfOk result.answer (λ listing. listing.clips.items ≡ clip_list 0 store.now.clips) }
     ensures refusals { IfErr result.answer
         (λ fault. (fault ≡ StoreFault.MustReopen) ⊎ (fault ≡ StoreFault.NoMemory)) }
     ensures silent { OnErr result.answer (out.new ≡ out.old) }

@@ -4,13 +4,13 @@ use Rattle.std.proofs.lemmas.List.{drop-map, length-map, map-append, take-map}
 use Rattle.std.specs.Prelude.{◌==◌, ◌&&◌, ◌||◌, nat_lt}
 use Rattle.std.specs.List.{filter, find, range_with_len}
 use Rattle.std.specs.Option.{option_map}
-use Rattle.loop_clips.specs.Table.{listed}
+use Rattle.loop_clips.specs.Table.{clip_list}
 use Rattle.loop_disk.specs.Medium.{Medium}
 use Rattle.loop_record.specs.declared.geometry.Geometry.{Geometry}
 use Rattle.loop_record.specs.Geometry.{frame_bytes}
-use Rattle.loop_record.specs.Recording.{Picture, Recording, Ring, Step, after as stepped, block, blocks_of, frame_under, free_id, holds, is_locked, last_number, lock, needs_recycling, plain, recycle, recycling_first, ring_of, steps, store, stores_after, unlock, victim, with_block}
+use Rattle.loop_record.specs.Recording.{Picture, Recording, Ring, Step, after_step as stepped, block, blocks_of, frame_under, free_id, holds, is_locked, last_number, lock, needs_recycling, plain, recycle, recycling_first, ring_of, steps, store, stores_after, unlock, victim, with_block}
 use Rattle.loop_store.specs.declared.fault.StoreFault.{StoreFault}
-use Rattle.loop_store.specs.Calls.{AnswersDue, AreAnswered, Call, IsAnswered, AnswersOtherwise, StoreState, after as stored, after_calls, appended, asked, checks, due, fault_answered, first_of, has_failed, lacks_victim, locked, made, steps_of, unlocked, was_read, was_read_part}
+use Rattle.loop_store.specs.Calls.{AnswersDue, AreAnswered, Call, IsAnswered, AnswersOtherwise, StoreState, after_store_call as stored, after_calls, appended, steps_asked, checks, due, fault_answered, first_of, has_failed, lacks_victim, locked, made_by, steps_of, unlocked, was_read, was_read_part}
 use Rattle.loop_store.specs.Steps.{if_answered, steps_or_none}
 use Rattle.loop_desk.specs.declared.limits.Flushed.{Flushed}
 use Rattle.loop_desk.specs.declared.limits.Outline.{Outline}
@@ -97,7 +97,7 @@ or-none-bare : (o : Option (List Step)) → steps_or_none (option_map (map bare_
 or-none-bare None = refl
 or-none-bare (Some l) = refl
 
-asked-bare : (g : Geometry) (r : Recording) (ps : List Picture) → asked g (bare_recording r) (map bare ps) ≡ map bare_step (asked g r ps)
+asked-bare : (g : Geometry) (r : Recording) (ps : List Picture) → steps_asked g (bare_recording r) (map bare ps) ≡ map bare_step (steps_asked g r ps)
 asked-bare g r ps = ap steps_or_none (steps-bare (ring_of g) r ps) ∙ or-none-bare (steps (ring_of g) r ps)
 
 -- ---- the answers of the store
@@ -160,7 +160,7 @@ steps-of-bare g s (unlocked id result) = refl
 steps-of-bare g s (was_read number result) = refl
 steps-of-bare g s (was_read_part number at result) = refl
 
-made-bare : (g : Geometry) (s : StoreState) (c : Call) → made g (bare_store s) (bare_stored c) ≡ map bare_step (made g s c)
+made-bare : (g : Geometry) (s : StoreState) (c : Call) → made_by g (bare_store s) (bare_stored c) ≡ map bare_step (made_by g s c)
 made-bare g s c =
     let same = fault-bare c in
     let steps = steps-of-bare g s c in
@@ -176,7 +176,7 @@ failed-bare (was_read_part number at result) = refl
 stored-bare : (g : Geometry) (s : StoreState) (c : Call) → stored g (bare_store s) (bare_stored c) ≡ bare_store (stored g s c)
 stored-bare g s c =
     let ring = ring_of g in
-    let recording = ap (plain ring (bare_recording s.recording)) (made-bare g s c) ∙ plain-bare ring s.recording (made g s c) in
+    let recording = ap (plain ring (bare_recording s.recording)) (made-bare g s c) ∙ plain-bare ring s.recording (made_by g s c) in
     let failed = failed-bare c in
     λ i. record { recording = recording i; must_reopen = s.must_reopen || failed i }
 
@@ -272,7 +272,7 @@ outline-tells medium d outline s told stands now =
     record {
       next = told.next ∙ tells.next_is;
       frames = told.frames s.store.recording stands.store.recording;
-      clips = told.clips ∙ ap (listed 0) tells.clips_are;
+      clips = told.clips ∙ ap (clip_list 0) tells.clips_are;
       pending = told.pending ∙ ap (λ l. length l) stands.pending;
     }
 

@@ -15,14 +15,14 @@ use Rattle.loop_vb2.specs.declared.planes.PlaneSet.{PlaneSet}
 use Rattle.loop_vb2.specs.declared.planes.Shape.{Shape}
 use Rattle.loop_vb2.specs.declared.state.BufferState.{BufferState}
 use Rattle.loop_vb2.specs.declared.state.BufferState.TheVariants.{Dequeued, Prepared, Queued, Active, Done, Error}
-use Rattle.loop_vb2.specs.Buffers.{changed, state_at, holds_at, woken, stopped, queued_with, prepared_with, completed_with, failed_with, dequeued_from, mapped_as, emptied}
+use Rattle.loop_vb2.specs.Buffers.{change_at, state_at, holds_at, wake_buffer, stop_buffer, queued_with, prepared_with, completed_with, failed_with, dequeued_from, mapped_as, without_planes}
 use Rattle.loop_vb2.specs.Checks.{queue_checks, queue_refusal, prepare_refusal, take_checks, end_refusal}
-use Rattle.loop_vb2.specs.Effects.{awake, device_runs, settled, with_buffer, body_streaming, body_stopped}
+use Rattle.loop_vb2.specs.Effects.{awake, device_runs, settle_device, with_buffer, body_streaming, body_stopped}
 use Rattle.loop_vb2.specs.Events as model
 use Rattle.loop_vb2.specs.Events.{Event, stops}
 use Rattle.loop_vb2.specs.First.{shape_of}
 use Rattle.loop_vb2.specs.Lines.{lists, Once}
-use Rattle.loop_vb2.specs.Owner.{waits, is_ended, is_dequeued, activated}
+use Rattle.loop_vb2.specs.Owner.{waits, is_ended, is_dequeued, activate}
 use Rattle.loop_vb2.specs.Planes.{alike, frame_size, has_count}
 use Rattle.loop_vb2.specs.Requests.{grants_or_none, new_buffers}
 use Rattle.loop_vb2.specs.State.{Body, QueueState, AllFit, BufferFits, EachFits}
@@ -35,7 +35,7 @@ use Rattle.loop_vb2.proofs.Requested.{new_state}
 use Rattle.loop_vb2.proofs.States.{state_at-map}
 use Rattle.loop_vb2.proofs.Steps.{queue_idle, prepare_dequeued, end_within, end_active, held_there}
 use Rattle.loop_desk.specs.Front.{taken_bytes, taken_frame, was_given_up}
-use Rattle.loop_desk.specs.Lane.{completed_frame, unflagged}
+use Rattle.loop_desk.specs.Lane.{completed_frame, without_flags}
 use Rattle.loop_desk.proofs.Completed.{whole_taken}
 use Rattle.loop_desk.proofs.Queued.{get-within}
 
@@ -44,7 +44,7 @@ use Rattle.loop_desk.proofs.Queued.{get-within}
 -- that of a buffer, unless the device gave it up
 abbrev pub shot : Shape → Option (Buffer Plane) → List Picture
 shot shape None = []
-shot shape (Some b) = cond (was_given_up b.state) [] (unflagged (taken_frame shape b) ∷ [])
+shot shape (Some b) = cond (was_given_up b.state) [] (without_flags (taken_frame shape b) ∷ [])
 
 abbrev pub shots : Shape → List (Buffer Plane) → List ℕ → List Picture
 shots shape bs line = flat_map (λ i. shot shape (slice_get bs i)) line
@@ -62,14 +62,14 @@ IsWhole s e = Unit {0}
 abbrev pub IsCounted : QueueState → Event → Type 0
 IsCounted s e = model.MayHappen s e × IsWhole s e
 
-got_other : {X : Type 0} (f : X → X) (xs : List X) (x i : ℕ) → (i ≡ x → ⊥) → slice_get (changed f x xs) i ≡ slice_get xs i
+got_other : {X : Type 0} (f : X → X) (xs : List X) (x i : ℕ) → (i ≡ x → ⊥) → slice_get (change_at f x xs) i ≡ slice_get xs i
 got_other f [] x i h = refl
 got_other f (y ∷ ys) zero zero h = absurd (h refl)
 got_other f (y ∷ ys) zero (suc i) h = refl
 got_other f (y ∷ ys) (suc x) zero h = refl
 got_other f (y ∷ ys) (suc x) (suc i) h = got_other f ys x i (λ e. h (ap suc e))
 
-got_here : {X : Type 0} (f : X → X) (xs : List X) (x : ℕ) (y : X) → slice_get xs x ≡ Some y → slice_get (changed f x xs) x ≡ Some (f y)
+got_here : {X : Type 0} (f : X → X) (xs : List X) (x : ℕ) (y : X) → slice_get xs x ≡ Some y → slice_get (change_at f x xs) x ≡ Some (f y)
 got_here f [] x y e = absurd (cc)
 got_here f (z ∷ zs) zero y e = let g : z ≡ y = cc in ap (λ w. Some (f w)) g
 got_here f (z ∷ zs) (suc x) y e = got_here f zs x y e
@@ -79,7 +79,7 @@ state_got [] index b e = absurd (cc)
 state_got (x ∷ bs) zero b e = let g : x ≡ b = cc in ap (λ y. y.state) g
 state_got (x ∷ bs) (suc index) b e = state_got bs index b e
 
-shot_kept : (sh : Shape) (f : Buffer Plane → Buffer Plane) → ((b : Buffer Plane) → shot sh (Some (f b)) ≡ shot sh (Some b)) → (bs : List (Buffer Plane)) (x i : ℕ) → shot sh (slice_get (changed f x bs) i) ≡ shot sh (slice_get bs i)
+shot_kept : (sh : Shape) (f : Buffer Plane → Buffer Plane) → ((b : Buffer Plane) → shot sh (Some (f b)) ≡ shot sh (Some b)) → (bs : List (Buffer Plane)) (x i : ℕ) → shot sh (slice_get (change_at f x bs) i) ≡ shot sh (slice_get bs i)
 shot_kept sh f h [] x i = refl
 shot_kept sh f h (b ∷ bs) zero zero = h b
 shot_kept sh f h (b ∷ bs) zero (suc i) = refl
@@ -91,7 +91,7 @@ shot_map sh f h [] i = refl
 shot_map sh f h (b ∷ bs) zero = h b
 shot_map sh f h (b ∷ bs) (suc i) = shot_map sh f h bs i
 
-given_up_woken : (t : BufferState) → was_given_up (activated t) ≡ was_given_up t
+given_up_woken : (t : BufferState) → was_given_up (activate t) ≡ was_given_up t
 given_up_woken Dequeued = refl
 given_up_woken Prepared = refl
 given_up_woken Queued = refl
@@ -99,14 +99,14 @@ given_up_woken Active = refl
 given_up_woken Done = refl
 given_up_woken Error = refl
 
-shot_woken : (sh : Shape) (b : Buffer Plane) → shot sh (Some (woken b)) ≡ shot sh (Some b)
-shot_woken sh b = ap (λ t. cond t [] (unflagged (taken_frame sh b) ∷ [])) (given_up_woken b.state)
+shot_woken : (sh : Shape) (b : Buffer Plane) → shot sh (Some (wake_buffer b)) ≡ shot sh (Some b)
+shot_woken sh b = ap (λ t. cond t [] (without_flags (taken_frame sh b) ∷ [])) (given_up_woken b.state)
 
-shot_settled : (sh : Shape) (b : Body Plane) (i : ℕ) → shot sh (slice_get (settled b).buffers i) ≡ shot sh (slice_get b.buffers i)
-shot_settled sh b i = elim (device_runs b) as (λ t. shot sh (slice_get (cond t (awake b) b).buffers i) ≡ shot sh (slice_get b.buffers i)) [ true ↦ shot_map sh woken (shot_woken sh) b.buffers i | false ↦ refl ]
+shot_settled : (sh : Shape) (b : Body Plane) (i : ℕ) → shot sh (slice_get (settle_device b).buffers i) ≡ shot sh (slice_get b.buffers i)
+shot_settled sh b i = elim (device_runs b) as (λ t. shot sh (slice_get (cond t (awake b) b).buffers i) ≡ shot sh (slice_get b.buffers i)) [ true ↦ shot_map sh wake_buffer (shot_woken sh) b.buffers i | false ↦ refl ]
 
 shot_streaming : (sh : Shape) (b : Body Plane) (i : ℕ) → shot sh (slice_get (body_streaming b).buffers i) ≡ shot sh (slice_get b.buffers i)
-shot_streaming sh b i = elim b.streaming as (λ t. shot sh (slice_get (cond t b (settled (record b { streaming = true }))).buffers i) ≡ shot sh (slice_get b.buffers i)) [ true ↦ refl | false ↦ shot_settled sh (record b { streaming = true }) i ]
+shot_streaming sh b i = elim b.streaming as (λ t. shot sh (slice_get (cond t b (settle_device (record b { streaming = true }))).buffers i) ≡ shot sh (slice_get b.buffers i)) [ true ↦ refl | false ↦ shot_settled sh (record b { streaming = true }) i ]
 
 shots_same : (sh : Shape) (bs cs : List (Buffer Plane)) (line : List ℕ) → ((i : ℕ) → lists line i ≡ true → shot sh (slice_get cs i) ≡ shot sh (slice_get bs i)) → shots sh cs line ≡ shots sh bs line
 shots_same sh bs cs [] h = refl
@@ -119,8 +119,8 @@ shots_same sh bs cs (k ∷ ks) h =
 apart_of : (s : QueueState) (line : List ℕ) → Runs s line → (x : ℕ) → is_ended (state_at s.body.buffers x) ≡ false → (i : ℕ) → lists line i ≡ true → i ≡ x → ⊥
 apart_of s line r x off i there e = not_both (lists line i) there (r.shows.done.listed i ∙ (ap (λ j. is_ended (state_at s.body.buffers j)) e ∙ off))
 
-shots_beside : (s : QueueState) (line : List ℕ) → Runs s line → (f : Buffer Plane → Buffer Plane) (x : ℕ) → is_ended (state_at s.body.buffers x) ≡ false → shots s.body.shape (changed f x s.body.buffers) line ≡ shots s.body.shape s.body.buffers line
-shots_beside s line r f x off = shots_same s.body.shape s.body.buffers (changed f x s.body.buffers) line (λ i there. ap (shot s.body.shape) (got_other f s.body.buffers x i (apart_of s line r x off i there)))
+shots_beside : (s : QueueState) (line : List ℕ) → Runs s line → (f : Buffer Plane → Buffer Plane) (x : ℕ) → is_ended (state_at s.body.buffers x) ≡ false → shots s.body.shape (change_at f x s.body.buffers) line ≡ shots s.body.shape s.body.buffers line
+shots_beside s line r f x off = shots_same s.body.shape s.body.buffers (change_at f x s.body.buffers) line (λ i there. ap (shot s.body.shape) (got_other f s.body.buffers x i (apart_of s line r x off i there)))
 
 -- ---- who waits for a frame holds planes
 
@@ -131,7 +131,7 @@ abbrev pub AreHeld : List (Buffer Plane) → Type 0
 AreHeld [] = Unit {0}
 AreHeld (b ∷ bs) = IsHeld b × AreHeld bs
 
-held_changed : (f : Buffer Plane → Buffer Plane) (bs : List (Buffer Plane)) (x : ℕ) → ((b : Buffer Plane) → slice_get bs x ≡ Some b → IsHeld b → IsHeld (f b)) → AreHeld bs → AreHeld (changed f x bs)
+held_changed : (f : Buffer Plane → Buffer Plane) (bs : List (Buffer Plane)) (x : ℕ) → ((b : Buffer Plane) → slice_get bs x ≡ Some b → IsHeld b → IsHeld (f b)) → AreHeld bs → AreHeld (change_at f x bs)
 held_changed f [] x h held = tt
 held_changed f (b ∷ bs) zero h held = (h b refl held.0, held.1)
 held_changed f (b ∷ bs) (suc x) h held = (held.0, held_changed f bs x h held.1)
@@ -149,22 +149,22 @@ pub held_none : (bs : List (Buffer Plane)) → ((i : ℕ) → waits (state_at bs
 held_none [] h = tt
 held_none (b ∷ bs) h = ((λ w. absurd (not_both (waits b.state) w (h zero))), held_none bs (λ i. h (suc i)))
 
-held_settled : (b : Body Plane) → AreHeld b.buffers → AreHeld (settled b).buffers
-held_settled b held = elim (device_runs b) as (λ t. AreHeld (cond t (awake b) b).buffers) [ true ↦ held_map woken b.buffers (λ x h w. h (sym (waits_woken x.state) ∙ w)) held | false ↦ held ]
+held_settled : (b : Body Plane) → AreHeld b.buffers → AreHeld (settle_device b).buffers
+held_settled b held = elim (device_runs b) as (λ t. AreHeld (cond t (awake b) b).buffers) [ true ↦ held_map wake_buffer b.buffers (λ x h w. h (sym (waits_woken x.state) ∙ w)) held | false ↦ held ]
 
-held_queued : (given : Option (PlaneSet Plane)) (bs : List (Buffer Plane)) (x : ℕ) → alike (is_some given) (holds_at bs x) ≡ false → AreHeld bs → AreHeld (changed (queued_with given) x bs)
+held_queued : (given : Option (PlaneSet Plane)) (bs : List (Buffer Plane)) (x : ℕ) → alike (is_some given) (holds_at bs x) ≡ false → AreHeld bs → AreHeld (change_at (queued_with given) x bs)
 held_queued None bs x e held = held_changed (queued_with None) bs x (λ b got was w. sym (held_there bs x b got) ∙ true_of (holds_at bs x) e) held
 held_queued (Some set) bs x e held = held_changed (queued_with (Some set)) bs x (λ b got was w. refl) held
 
 -- ---- what every event keeps
 
-shape_settled : (b : Body Plane) → (settled b).shape ≡ b.shape
+shape_settled : (b : Body Plane) → (settle_device b).shape ≡ b.shape
 shape_settled b = elim (device_runs b) as (λ t. (cond t (awake b) b).shape ≡ b.shape) [ true ↦ refl | false ↦ refl ]
 
 kept_shape : (s : QueueState) (e : Event) → (model.after_event s e).body.shape ≡ s.body.shape
 kept_shape s (model.reqbufs count kind sets (Ok g)) = elim (count == 0) as (λ t. (cond t (body_stopped s.body) s.body).shape ≡ s.body.shape) [ true ↦ refl | false ↦ refl ]
 kept_shape s (model.qbuf index kind given None) = shape_settled (with_buffer (queued_with given) index s.body)
-kept_shape s (model.streamon None) = elim s.body.streaming as (λ t. (cond t s.body (settled (record s.body { streaming = true }))).shape ≡ s.body.shape) [ true ↦ refl | false ↦ shape_settled (record s.body { streaming = true }) ]
+kept_shape s (model.streamon None) = elim s.body.streaming as (λ t. (cond t s.body (settle_device (record s.body { streaming = true }))).shape ≡ s.body.shape) [ true ↦ refl | false ↦ shape_settled (record s.body { streaming = true }) ]
 kept_shape s (model.reqbufs count kind sets (Err x)) = refl
 kept_shape s (model.prepare_buf index kind given None) = refl
 kept_shape s (model.prepare_buf index kind given (Some x)) = refl
@@ -230,16 +230,16 @@ kept_held s (model.qbuf index kind given None) a held =
 kept_held s (model.qbuf index kind given (Some x)) a held = held
 kept_held s (model.dqbuf (Ok d)) a held = held_changed (dequeued_from s.body.kind) s.body.buffers d.index (λ b got was w. absurd (not_both false w refl)) held
 kept_held s (model.dqbuf (Err x)) a held = held
-kept_held s (model.streamon None) a held = elim s.body.streaming as (λ t. AreHeld (cond t s.body (settled (record s.body { streaming = true }))).buffers) [ true ↦ held | false ↦ held_settled (record s.body { streaming = true }) held ]
+kept_held s (model.streamon None) a held = elim s.body.streaming as (λ t. AreHeld (cond t s.body (settle_device (record s.body { streaming = true }))).buffers) [ true ↦ held | false ↦ held_settled (record s.body { streaming = true }) held ]
 kept_held s (model.streamon (Some x)) a held = held
-kept_held s model.streamoff a held = held_map stopped s.body.buffers (λ b was w. absurd (not_both false w refl)) held
+kept_held s model.streamoff a held = held_map stop_buffer s.body.buffers (λ b was w. absurd (not_both false w refl)) held
 kept_held s (model.querybuf index answer) a held = held
 kept_held s (model.mmap index None) a held = held_changed (mapped_as true) s.body.buffers index (λ b got was. was) held
 kept_held s (model.mmap index (Some x)) a held = held
 kept_held s (model.munmap index None) a held = held_changed (mapped_as false) s.body.buffers index (λ b got was. was) held
 kept_held s (model.munmap index (Some x)) a held = held
 kept_held s (model.take_planes index (Ok set)) a held =
-    held_changed emptied s.body.buffers index
+    held_changed without_planes s.body.buffers index
     (λ b got was w. absurd (not_both (waits b.state) w (ap waits (sym (state_got s.body.buffers index b got)) ∙ idle_waits_not (state_at s.body.buffers index) (dequeued_idle (state_at s.body.buffers index) (take_dequeued s index set a))))) held
 kept_held s (model.take_planes index (Err x)) a held = held
 kept_held s (model.copy_plane index plane at count answer) a held = held
@@ -305,37 +305,37 @@ module _ (format : PixelFormat) (width height : ℕ) where
   frames_next s (model.prepare_buf index kind given None) line r n c on a w =
       let bs = s.body.buffers in
       let off = idle_ended_not (state_at bs index) (dequeued_idle (state_at bs index) (prepare_dequeued index kind given s.body (not_refused (prepare_refusal index kind given s.body) a))) in
-      idle_frames s.body.shape bs (changed (prepared_with given) index bs) line n.rest n.joined (shots_beside s line r (prepared_with given) index off)
+      idle_frames s.body.shape bs (change_at (prepared_with given) index bs) line n.rest n.joined (shots_beside s line r (prepared_with given) index off)
   frames_next s (model.prepare_buf index kind given (Some x)) line r n c on a w = idle_frames s.body.shape s.body.buffers s.body.buffers line n.rest n.joined refl
   frames_next s (model.qbuf index kind given None) line r n c on a w =
       let bs = s.body.buffers in
       let sh = s.body.shape in
       let mid : Body Plane = with_buffer (queued_with given) index s.body in
       let off = idle_ended_not (state_at bs index) (queue_idle index kind given s.body (not_refused (queue_refusal index kind given s.body) a)) in
-      idle_frames sh bs (settled mid).buffers line n.rest n.joined
-      (shots_same sh bs (settled mid).buffers line (λ i there. shot_settled sh mid i ∙ ap (shot sh) (got_other (queued_with given) bs index i (apart_of s line r index off i there))))
+      idle_frames sh bs (settle_device mid).buffers line n.rest n.joined
+      (shots_same sh bs (settle_device mid).buffers line (λ i there. shot_settled sh mid i ∙ ap (shot sh) (got_other (queued_with given) bs index i (apart_of s line r index off i there))))
   frames_next s (model.qbuf index kind given (Some x)) line r n c on a w = idle_frames s.body.shape s.body.buffers s.body.buffers line n.rest n.joined refl
   frames_next s (model.dqbuf (Ok d)) line r n c on a w =
       let bs = s.body.buffers in
       let sh = s.body.shape in
       let is : line ≡ d.index ∷ n.rest = sym (append-nil line) ∙ n.joined in
       let once : Once (d.index ∷ n.rest) = subst (λ (l : List ℕ). Once l) is (Rising-once s.end_number line r.shows.done.rising) in
-      taken_frames sh bs (changed (dequeued_from s.body.kind) d.index bs) line n.rest d.index n.joined
-      (shots_same sh bs (changed (dequeued_from s.body.kind) d.index bs) n.rest (λ i there. ap (shot sh) (got_other (dequeued_from s.body.kind) bs d.index i (λ e. not_both (lists n.rest i) there (ap (lists n.rest) e ∙ once.0)))))
+      taken_frames sh bs (change_at (dequeued_from s.body.kind) d.index bs) line n.rest d.index n.joined
+      (shots_same sh bs (change_at (dequeued_from s.body.kind) d.index bs) n.rest (λ i there. ap (shot sh) (got_other (dequeued_from s.body.kind) bs d.index i (λ e. not_both (lists n.rest i) there (ap (lists n.rest) e ∙ once.0)))))
   frames_next s (model.dqbuf (Err x)) line r n c on a w = idle_frames s.body.shape s.body.buffers s.body.buffers line n.rest n.joined refl
   frames_next s (model.streamon None) line r n c on a w = idle_frames s.body.shape s.body.buffers (body_streaming s.body).buffers line n.rest n.joined (shots_same s.body.shape s.body.buffers (body_streaming s.body).buffers line (λ i there. shot_streaming s.body.shape s.body i))
   frames_next s (model.streamon (Some x)) line r n c on a w = idle_frames s.body.shape s.body.buffers s.body.buffers line n.rest n.joined refl
   frames_next s model.streamoff line r n c on a w = absurd (cc)
   frames_next s (model.querybuf index answer) line r n c on a w = idle_frames s.body.shape s.body.buffers s.body.buffers line n.rest n.joined refl
   frames_next s (model.mmap index None) line r n c on a w =
-      idle_frames s.body.shape s.body.buffers (changed (mapped_as true) index s.body.buffers) line n.rest n.joined (shots_same s.body.shape s.body.buffers (changed (mapped_as true) index s.body.buffers) line (λ i there. shot_kept s.body.shape (mapped_as true) (λ b. refl) s.body.buffers index i))
+      idle_frames s.body.shape s.body.buffers (change_at (mapped_as true) index s.body.buffers) line n.rest n.joined (shots_same s.body.shape s.body.buffers (change_at (mapped_as true) index s.body.buffers) line (λ i there. shot_kept s.body.shape (mapped_as true) (λ b. refl) s.body.buffers index i))
   frames_next s (model.mmap index (Some x)) line r n c on a w = idle_frames s.body.shape s.body.buffers s.body.buffers line n.rest n.joined refl
   frames_next s (model.munmap index None) line r n c on a w =
-      idle_frames s.body.shape s.body.buffers (changed (mapped_as false) index s.body.buffers) line n.rest n.joined (shots_same s.body.shape s.body.buffers (changed (mapped_as false) index s.body.buffers) line (λ i there. shot_kept s.body.shape (mapped_as false) (λ b. refl) s.body.buffers index i))
+      idle_frames s.body.shape s.body.buffers (change_at (mapped_as false) index s.body.buffers) line n.rest n.joined (shots_same s.body.shape s.body.buffers (change_at (mapped_as false) index s.body.buffers) line (λ i there. shot_kept s.body.shape (mapped_as false) (λ b. refl) s.body.buffers index i))
   frames_next s (model.munmap index (Some x)) line r n c on a w = idle_frames s.body.shape s.body.buffers s.body.buffers line n.rest n.joined refl
   frames_next s (model.take_planes index (Ok set)) line r n c on a w =
       let bs = s.body.buffers in
-      idle_frames s.body.shape bs (changed emptied index bs) line n.rest n.joined (shots_beside s line r emptied index (idle_ended_not (state_at bs index) (dequeued_idle (state_at bs index) (take_dequeued s index set a))))
+      idle_frames s.body.shape bs (change_at without_planes index bs) line n.rest n.joined (shots_beside s line r without_planes index (idle_ended_not (state_at bs index) (dequeued_idle (state_at bs index) (take_dequeued s index set a))))
   frames_next s (model.take_planes index (Err x)) line r n c on a w = idle_frames s.body.shape s.body.buffers s.body.buffers line n.rest n.joined refl
   frames_next s (model.copy_plane index plane at count answer) line r n c on a w = idle_frames s.body.shape s.body.buffers s.body.buffers line n.rest n.joined refl
   frames_next s (model.complete index stamp bytes None) line r n c on a w =
@@ -344,7 +344,7 @@ module _ (format : PixelFormat) (width height : ℕ) where
       let f : Buffer Plane → Buffer Plane = completed_with sh stamp bytes in
       let passed = not_refused (end_refusal index s.body) a in
       let at = get-within bs index (end_within index s.body passed) in
-      ended_frames sh bs (changed f index bs) line n.rest index (completed_frame (model.complete index stamp bytes None)) n.joined (shots_beside s line r f index (active_ended_not (state_at bs index) (end_active index s.body passed)))
+      ended_frames sh bs (change_at f index bs) line n.rest index (completed_frame (model.complete index stamp bytes None)) n.joined (shots_beside s line r f index (active_ended_not (state_at bs index) (end_active index s.body passed)))
       (ap (λ o. shot sh o ++ []) (got_here f bs index at.0 at.1)
       ∙ ap (λ (l : List ℕ). record { sequence = stamp.sequence; flags = 0; timestamp = stamp.timestamp; bytes = l } ∷ []) (whole_there s index stamp bytes at.0 c passed w at.1))
   frames_next s (model.complete index stamp bytes (Some x)) line r n c on a w = idle_frames s.body.shape s.body.buffers s.body.buffers line n.rest n.joined refl
@@ -354,7 +354,7 @@ module _ (format : PixelFormat) (width height : ℕ) where
       let f : Buffer Plane → Buffer Plane = failed_with stamp in
       let passed = not_refused (end_refusal index s.body) a in
       let at = get-within bs index (end_within index s.body passed) in
-      ended_frames sh bs (changed f index bs) line n.rest index [] n.joined (shots_beside s line r f index (active_ended_not (state_at bs index) (end_active index s.body passed))) (ap (λ o. shot sh o ++ []) (got_here f bs index at.0 at.1))
+      ended_frames sh bs (change_at f index bs) line n.rest index [] n.joined (shots_beside s line r f index (active_ended_not (state_at bs index) (end_active index s.body passed))) (ap (λ o. shot sh o ++ []) (got_here f bs index at.0 at.1))
   frames_next s (model.fail index stamp (Some x)) line r n c on a w = idle_frames s.body.shape s.body.buffers s.body.buffers line n.rest n.joined refl
   frames_next s model.fatal line r n c on a w = idle_frames s.body.shape s.body.buffers s.body.buffers line n.rest n.joined refl
   frames_next s (model.take_fresh fresh) line r n c on a w = idle_frames s.body.shape s.body.buffers s.body.buffers line n.rest n.joined refl
@@ -393,7 +393,7 @@ frames_along format width height s (e ∷ es) line r c on each =
 -- ---- behind a stop
 
 pub stopped_waits : (s : QueueState) (e : Event) → stops e ≡ true → (i : ℕ) → waits (state_at (model.after_event s e).body.buffers i) ≡ false
-stopped_waits s model.streamoff is i = ap waits (state_at-map stopped (λ t. Dequeued) s.body.buffers i (λ b. refl) refl)
+stopped_waits s model.streamoff is i = ap waits (state_at-map stop_buffer (λ t. Dequeued) s.body.buffers i (λ b. refl) refl)
 stopped_waits s (model.reqbufs count kind sets (Ok g)) is i = ap waits (new_state (grants_or_none s.body.min_queued count) sets i)
 stopped_waits s (model.reqbufs count kind sets (Err x)) is i = absurd (cc)
 stopped_waits s (model.prepare_buf index kind given refusal) is i = absurd (cc)

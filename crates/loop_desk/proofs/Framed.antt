@@ -15,7 +15,7 @@ use Rattle.loop_vb2.specs.declared.planes.PlaneSet.{PlaneSet}
 use Rattle.loop_vb2.specs.declared.planes.Shape.{Shape}
 use Rattle.loop_vb2.specs.declared.reason.Errno.{Errno}
 use Rattle.loop_vb2.specs.declared.reason.Reason.{Reason}
-use Rattle.loop_vb2.specs.Buffers.{state_at, used_at, bytes_at, has_plane_at, handed, kept, dequeued_from}
+use Rattle.loop_vb2.specs.Buffers.{state_at, used_at, bytes_at, has_plane_at, handed_over, kept, dequeued_from}
 use Rattle.loop_vb2.specs.Checks.{copy_refusal}
 use Rattle.loop_vb2.specs.Errnos.{errno}
 use Rattle.loop_vb2.specs.Owner.{is_dequeued}
@@ -94,13 +94,13 @@ least_second : (a b : ℕ) → min a b ≤ b
 least_second a b = omega arith
 
 -- what DQBUF handed over is all that the buffer held
-given_all : (kind : Memory) (planes : Option (PlaneSet Plane)) (set : PlaneSet Plane) → Some set ≡ handed kind planes → planes ≡ Some set
+given_all : (kind : Memory) (planes : Option (PlaneSet Plane)) (set : PlaneSet Plane) → Some set ≡ handed_over kind planes → planes ≡ Some set
 given_all Mmap planes set e = absurd (cc)
 given_all UserPtr planes set e = sym e
 given_all DmaBuf planes set e = sym e
 
 -- where nothing was handed over, what the buffer held is still there
-kept_all : (kind : Memory) (planes : Option (PlaneSet Plane)) → None ≡ handed kind planes → kept kind planes ≡ planes
+kept_all : (kind : Memory) (planes : Option (PlaneSet Plane)) → None ≡ handed_over kind planes → kept kind planes ≡ planes
 kept_all Mmap planes e = refl
 kept_all UserPtr planes e = e
 kept_all DmaBuf planes e = e

@@ -8,11 +8,11 @@ use Rattle.loop_record.specs.Recording.{Picture, Recording, Ring, Step, store, l
 use Rattle.loop_record.specs.Turns.{after_all, EachIn}
 use Rattle.loop_record.proofs.Turned.{told-behind}
 use Rattle.loop_store.specs.declared.fault.StoreFault.{StoreFault}
-use Rattle.loop_store.specs.Calls.{AreAnswered, IsAnswered, StoreState, after, made, made_in}
+use Rattle.loop_store.specs.Calls.{AreAnswered, IsAnswered, StoreState, after_store_call, made_by, made_in}
 use Rattle.loop_store.specs.Steps.{steps_or_none}
 use Rattle.loop_store.proofs.Putting.{answered-some}
 use Rattle.loop_desk.specs.declared.limits.Flushed.{Flushed}
-use Rattle.loop_desk.specs.Desk.{AreTold, DeskCall, DeskState, IsFlush, IsDeskTold, Rules, accepted, accepted_in, append_of, clip_locked, clip_unlocked, desk_after, desk_after_calls, flushed, frame_read, frames_stored, group_of, pending_after, status_told, store_calls, store_calls_in, stored_by, submitted}
+use Rattle.loop_desk.specs.Desk.{AreTold, DeskCall, DeskState, IsFlush, IsDeskTold, Rules, frame_accepted, accepted_in, append_of, clip_locked, clip_unlocked, desk_after, desk_after_calls, flushed, frame_read, frames_stored, group_of, pending_after, status_told, store_calls, store_calls_in, stored_by, submitted}
 
 pub each-parts : {S X : Type 0} (next : S → X → S) (P : S → X → Type 0) (s : S) (xs ys : List X) → EachIn next P s (xs ++ ys) → EachIn next P s xs × EachIn next P (after_all next s xs) ys
 each-parts next P s [] ys both = (tt, both)
@@ -55,7 +55,7 @@ none-stored : (g : Geometry) (s : StoreState) (group : List Picture) (fault : St
 none-stored g s [] fault = refl
 none-stored g s (p ∷ ps) fault = refl
 
-call-frames : (k : Rules) (w : DeskState) (c : DeskCall) → IsDeskTold k w c → AreAnswered (Unit {0}) k.geometry w.store (store_calls k w c) → w.pending ++ accepted c ≡ frames_stored (made_in k.geometry w.store (store_calls k w c)) ++ pending_after w.pending c
+call-frames : (k : Rules) (w : DeskState) (c : DeskCall) → IsDeskTold k w c → AreAnswered (Unit {0}) k.geometry w.store (store_calls k w c) → w.pending ++ frame_accepted c ≡ frames_stored (made_in k.geometry w.store (store_calls k w c)) ++ pending_after w.pending c
 call-frames k w (submitted p size (Ok number)) told said = refl
 call-frames k w (submitted p size (Err fault)) told said = append-nil w.pending
 call-frames k w (flushed (Ok f)) told said =
@@ -77,11 +77,11 @@ none-lost k s (c ∷ calls) told said =
     let here = store_calls k s c in
     let t = desk_after k s c in
     let there = store_calls_in k t calls in
-    let parts = each-parts (after g) (IsAnswered (Unit {0}) g) s.store here there said in
+    let parts = each-parts (after_store_call g) (IsAnswered (Unit {0}) g) s.store here there said in
     let one = call-frames k s c told.0 parts.0 in
     let rest = none-lost k t calls told.1 parts.1 in
-    let split : frames_stored (made_in g s.store (here ++ there)) ≡ frames_stored (made_in g s.store here) ++ frames_stored (made_in g t.store there) = ap frames_stored (told-behind (after g) (made g) s.store here there) ∙ frames-both (made_in g s.store here) (made_in g t.store there) in
-    sym (append_assoc s.pending (accepted c) (accepted_in calls)) ∙ (λ i. one i ++ accepted_in calls)
+    let split : frames_stored (made_in g s.store (here ++ there)) ≡ frames_stored (made_in g s.store here) ++ frames_stored (made_in g t.store there) = ap frames_stored (told-behind (after_store_call g) (made_by g) s.store here there) ∙ frames-both (made_in g s.store here) (made_in g t.store there) in
+    sym (append_assoc s.pending (frame_accepted c) (accepted_in calls)) ∙ (λ i. one i ++ accepted_in calls)
     ∙ append_assoc (frames_stored (made_in g s.store here)) t.pending (accepted_in calls)
     ∙ ap (λ l. frames_stored (made_in g s.store here) ++ l) rest
     ∙ sym (append_assoc (frames_stored (made_in g s.store here)) (frames_stored (made_in g t.store there)) (desk_after_calls k t calls).pending)

@@ -2,7 +2,7 @@
 use Rattle.std.proofs.Common.{◌≡◌, List, [], ◌∷◌, refl, sym, ◌∙◌, subst}
 use Rattle.loop_disk.specs.Medium.{Medium}
 use Rattle.loop_record.proofs.Turned.{after-behind}
-use Rattle.loop_store.specs.Calls.{AreAnswered, IsAnswered, StoreState, after, after_calls}
+use Rattle.loop_store.specs.Calls.{AreAnswered, IsAnswered, StoreState, after_store_call, after_calls}
 use Rattle.loop_store.specs.Goes.{Stands}
 use Rattle.loop_store.proofs.Checked.{are-answered-as}
 use Rattle.loop_store.proofs.Gone.{told-of}
@@ -20,9 +20,9 @@ modelled k s [] told said = record { answers = tt; store = refl }
 modelled k s (c ∷ list) told said =
     let g = k.geometry in
     let t = desk_after k s c in
-    let parts = each-parts (after g) (IsAnswered (Unit {0}) g) s.store (store_calls k s c) (store_calls_in k t list) said in
+    let parts = each-parts (after_store_call g) (IsAnswered (Unit {0}) g) s.store (store_calls k s c) (store_calls_in k t list) said in
     let rest = modelled k t list told.1 parts.1 in
-    record { answers = ((told.0, parts.0), rest.answers); store = rest.store ∙ sym (after-behind (after g) s.store (store_calls k s c) (store_calls_in k t list)) }
+    record { answers = ((told.0, parts.0), rest.answers); store = rest.store ∙ sym (after-behind (after_store_call g) s.store (store_calls k s c) (store_calls_in k t list)) }
 
 -- a desk tells what the state says for which it stands
 pub desk-told : {D : Type 0} (medium : D → Medium) (d : SeenDesk D) (s : DeskState) → StandsAt medium d s → TellsDesk d s

@@ -13,7 +13,7 @@ use Rattle.loop_desk.specs.declared.event.LaneEvent.{LaneEvent}
 use Rattle.loop_desk.specs.declared.event.LaneReply.{LaneReply}
 use Rattle.loop_desk.specs.declared.lane.Lane.{Lane}
 use Rattle.loop_desk.specs.declared.hand.LaneFault.{LaneFault}
-use Rattle.loop_desk.specs.Desk.{DeskCall, accepted, accepted_in}
+use Rattle.loop_desk.specs.Desk.{DeskCall, frame_accepted, accepted_in}
 use Rattle.loop_desk.specs.Front.{Front, HandState, IsDequeue, IsRequeue, IsSubmit, dequeued, empty, front_after, full, offered, hand_given, hand_state, on_queue, requeued, spent}
 use Rattle.loop_desk.specs.Lane.{IsAtFront, IsLaneTurn, LaneKeeps, LaneRan, LaneTurn, StandsLane, after_turn, at_desk, at_front, calls_at, calls_of_turn, frame_at, frame_of_turn, frames_taken, hand_frame, lane_after, mixed, submit_calls, turn_at}
 use Rattle.loop_desk.proofs.Lasting.{keeps-footage}
@@ -31,7 +31,7 @@ requeue-frames j empty index said = refl
 requeue-frames j (full i p planes) index said = absurd (cc)
 requeue-frames j (spent i planes) index said = refl
 
-desk-frames : (h : List Picture) (c : DeskCall) → accepted c ≡ [] → accepted_in (c ∷ []) ++ h ≡ h ++ []
+desk-frames : (h : List Picture) (c : DeskCall) → frame_accepted c ≡ [] → accepted_in (c ∷ []) ++ h ≡ h ++ []
 desk-frames h c is = ap (λ (l : List Picture). (l ++ []) ++ h) is ∙ sym (append-nil h)
 
 dequeue-frames : {P : Type 0} (A : Type 0) (m : P → Plane) (j : IoctlState) (h : HandState) (result : Result ℕ LaneFault) → IsDequeue j h result
@@ -60,7 +60,7 @@ module _ {P A : Type 0} (m : P → Plane) where
       let rest = along next xs said.1 in
       let one = turn-frames f (turn_at f x) said.0 in
       let last = hand_frame (after_all (lane_after m) next xs).hand in
-      (λ i. flat_map-append accepted (calls_at f x) (told_in (lane_after m) calls_at next xs) i ++ last) ∙ append_assoc (accepted_in (calls_at f x)) (accepted_in (told_in (lane_after m) calls_at next xs)) last
+      (λ i. flat_map-append frame_accepted (calls_at f x) (told_in (lane_after m) calls_at next xs) i ++ last) ∙ append_assoc (accepted_in (calls_at f x)) (accepted_in (told_in (lane_after m) calls_at next xs)) last
       ∙ (λ i. accepted_in (calls_at f x) ++ rest i) ∙ sym (append_assoc (accepted_in (calls_at f x)) (hand_frame next.hand) (frames_taken m next xs))
       ∙ (λ i. one i ++ frames_taken m next xs) ∙ append_assoc (hand_frame f.hand) (frame_at m f x) (frames_taken m next xs)
 

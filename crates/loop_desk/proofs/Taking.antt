@@ -16,7 +16,7 @@ use Rattle.loop_vb2.specs.declared.planes.PlaneSet.{PlaneSet}
 use Rattle.loop_vb2.specs.declared.reason.Reason.{Reason}
 use Rattle.loop_vb2.specs.declared.reason.Reason.TheVariants.{BadType}
 use Rattle.loop_vb2.specs.declared.reason.Refused.{Refused}
-use Rattle.loop_vb2.specs.Buffers.{handed, state_at}
+use Rattle.loop_vb2.specs.Buffers.{handed_over, state_at}
 use Rattle.loop_vb2.specs.Events as model
 use Rattle.loop_vb2.specs.Events.{Event, stops}
 use Rattle.loop_vb2.specs.First.{shape_of}
@@ -46,7 +46,7 @@ use Rattle.loop_desk.specs.declared.hand.LaneFault.{LaneFault}
 use Rattle.loop_desk.specs.declared.hand.LaneFault.TheVariants.{Queue, Store}
 use Rattle.loop_desk.specs.declared.lane.Lane.{Lane}
 use Rattle.loop_desk.specs.Front.{dequeued, empty, forbids, Front, full, hand_with, HandState, index_in, kind_of, on_queue, requeue_event, requeued, spent, taken_frame, was_given_up}
-use Rattle.loop_desk.specs.Lane.{IsAtFront, IsLaneTurn, LaneRan, LaneTurn, StandsLane, TakesCompleted, TakesFrames, at_front, event_at, event_at_turn, frame_at, front_behind, frame_of_turn, frames_taken, hand_frame, is_dequeue, lane_after, mixed, queue_events, turn_at, turn_of, unflagged}
+use Rattle.loop_desk.specs.Lane.{IsAtFront, IsLaneTurn, LaneRan, LaneTurn, StandsLane, TakesCompleted, TakesFrames, at_front, event_at, event_at_turn, frame_at, front_behind, frame_of_turn, frames_taken, hand_frame, is_dequeue, lane_after, mixed, queue_events, turn_at, turn_of, without_flags}
 use Rattle.loop_desk.proofs.Completing.{IsCounted, IsHolding, IsWhole, all_fit, all_shaped, frames_along, held_none, shot, stopped_waits, taken_by}
 use Rattle.loop_desk.proofs.Queued.{lane-told}
 use Rattle.loop_desk.proofs.Turning.{taken_event}
@@ -130,20 +130,20 @@ module _ {P A : Type 0} (m : P → Plane) where
 -- ---- one turn
 
 taken-tells : (f : Front) (index : ℕ) (o : Option (Buffer Plane)) → slice_get f.queue.queue.body.buffers index ≡ o
-    → EachIn model.after_event IsWhole f.queue.queue (taken_event (kind_of f.queue) index o) × (map unflagged (hand_frame (hand_with f.queue.queue.body index o)) ≡ told_in model.after_event taken_by f.queue.queue (taken_event (kind_of f.queue) index o))
+    → EachIn model.after_event IsWhole f.queue.queue (taken_event (kind_of f.queue) index o) × (map without_flags (hand_frame (hand_with f.queue.queue.body index o)) ≡ told_in model.after_event taken_by f.queue.queue (taken_event (kind_of f.queue) index o))
 taken-tells f index None got = (tt, refl)
 taken-tells f index (Some b) got =
     let body : Body Plane = f.queue.queue.body in
-    let planes = handed body.kind b.planes in (
+    let planes = handed_over body.kind b.planes in (
       (tt, tt),
-      elim (was_given_up b.state) as (λ t. map unflagged (hand_frame (cond t (spent index planes) (full index (taken_frame body.shape b) planes))) ≡ cond t [] (unflagged (taken_frame body.shape b) ∷ []) ++ []) [ true ↦ refl | false ↦ refl ]
+      elim (was_given_up b.state) as (λ t. map without_flags (hand_frame (cond t (spent index planes) (full index (taken_frame body.shape b) planes))) ≡ cond t [] (without_flags (taken_frame body.shape b) ∷ []) ++ []) [ true ↦ refl | false ↦ refl ]
           ∙ sym (ap (λ o. shot body.shape o ++ []) got),
     )
 
 module _ {P A : Type 0} (m : P → Plane) where
   -- each completion is whole, and what the hand gets is what the event takes
   abbrev Tells : Front → LaneTurn P A → Type 0
-  Tells f t = EachIn model.after_event IsWhole f.queue.queue (event_at_turn m f t) × (map unflagged (frame_of_turn m f t) ≡ told_in model.after_event taken_by f.queue.queue (event_at_turn m f t))
+  Tells f t = EachIn model.after_event IsWhole f.queue.queue (event_at_turn m f t) × (map without_flags (frame_of_turn m f t) ≡ told_in model.after_event taken_by f.queue.queue (event_at_turn m f t))
 
 module _ {P : Type 0} (A : Type 0) (m : P → Plane) where
   dequeue-tells : (f : Front) (result : Result ℕ LaneFault) → Tells {P = P} {A = A} m f (at_front (dequeued result))
@@ -187,7 +187,7 @@ module _ {P A : Type 0} (m : P → Plane) where
   counted f xs each = all_told (lane_after m) (IsLaneTurn m) model.after_event IsCounted (λ x. x.queue.queue) (event_at m)
       (λ x t said. let told = lane-told m x (turn_at x t) said in (each-both x.queue.queue (event_at m x t) told.0 (lane-tells m x t.0 t.1 said).0, told.1)) f xs each
 
-  frames-told : (f : Front) (xs : List (LaneEvent P A × LaneReply P A)) → EachIn (lane_after m) (IsLaneTurn m) f xs → map unflagged (frames_taken m f xs) ≡ told_in model.after_event taken_by f.queue.queue (queue_events m f xs)
+  frames-told : (f : Front) (xs : List (LaneEvent P A × LaneReply P A)) → EachIn (lane_after m) (IsLaneTurn m) f xs → map without_flags (frames_taken m f xs) ≡ told_in model.after_event taken_by f.queue.queue (queue_events m f xs)
   frames-told f [] each = refl
   frames-told f (x ∷ xs) each =
       let next = lane_after m f x in
@@ -195,7 +195,7 @@ module _ {P A : Type 0} (m : P → Plane) where
       let here = lane-tells m f x.0 x.1 each.0 in
       let rest = frames-told next xs each.1 in
       let moved = (lane-told m f (turn_at f x) each.0).1 in
-      map-append unflagged (frame_at m f x) (frames_taken m next xs)
+      map-append without_flags (frame_at m f x) (frames_taken m next xs)
       ∙ ((λ i. here.1 i ++ rest i)
       ∙ (ap (λ (t : QueueState). told_in model.after_event taken_by s (event_at m f x) ++ told_in model.after_event taken_by t (queue_events m next xs)) moved
       ∙ sym (told-behind model.after_event taken_by s (event_at m f x) (queue_events m next xs))))

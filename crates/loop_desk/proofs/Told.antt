@@ -20,7 +20,7 @@ use Rattle.loop_desk.specs.declared.event.LaneReply.TheVariants as reply
 use Rattle.loop_desk.specs.declared.hand.LaneFault.{LaneFault}
 use Rattle.loop_desk.specs.declared.lane.Lane.{Lane}
 use Rattle.loop_desk.specs.declared.limits.Flushed.{Flushed}
-use Rattle.loop_desk.specs.Desk.{DeskCall, accepted, clip_locked, clip_unlocked, flushed, frame_read}
+use Rattle.loop_desk.specs.Desk.{DeskCall, frame_accepted, clip_locked, clip_unlocked, flushed, frame_read}
 use Rattle.loop_desk.specs.Front.{Front, FrontTurns, HandState, IsSubmit, StandsFront, Turn, dequeued, front_after, offered, hand_given, hand_state, on_queue, requeued}
 use Rattle.loop_desk.specs.Lane.{AreCallsAt, IsAtFront, LaneRan, LaneTurn, StandsLane, after_turn, at_desk, at_front, calls_of_turn, is_dequeue, lane_machine, mixed, submit_calls, turn_at, turn_of}
 use Rattle.loop_desk.specs.Seen.{DeskGoes}
@@ -92,7 +92,7 @@ module _ {D P A : Type 0} (m : P → Plane) (medium : D → Medium) where
       subst (λ x. StandsFront m x new.table new.hand f) (sym q) (subst (λ x. StandsFront m old.queue x new.hand f) (sym t) (subst (λ x. StandsFront m old.queue old.table x f) (sym h) stands))
 
   -- a call of the desk alone
-  at-desk : (old new : Lane D P A) (e : LaneEvent P A) (p : LaneReply P A) (c : DeskCall) → SameFront old new → accepted c ≡ [] → ((format : PixelFormat) → turn_of format e p ≡ at_desk c) → DeskGoes medium old.desk new.desk (c ∷ []) → LaneRan m medium old new (e ∷ []) (p ∷ [])
+  at-desk : (old new : Lane D P A) (e : LaneEvent P A) (p : LaneReply P A) (c : DeskCall) → SameFront old new → frame_accepted c ≡ [] → ((format : PixelFormat) → turn_of format e p ≡ at_desk c) → DeskGoes medium old.desk new.desk (c ∷ []) → LaneRan m medium old new (e ∷ []) (p ∷ [])
   at-desk old new e p c same none is goes = one old new e p (at_desk c) (c ∷ []) (is old.queue.body.format) refl goes (λ f stands. (none, stands-same old new f same stands))
 
   pub told-flush : (old new : Lane D P A) (result : Result Flushed StoreFault) → SameFront old new → DeskGoes medium old.desk new.desk (flushed result ∷ []) → LaneRan m medium old new (event.Flush ∷ []) (reply.Flush result ∷ [])

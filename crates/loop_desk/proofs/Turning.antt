@@ -12,7 +12,7 @@ use Rattle.loop_vb2.specs.declared.buffer.Dequeued.{Dequeued}
 use Rattle.loop_vb2.specs.declared.planes.PlaneSet.{PlaneSet}
 use Rattle.loop_vb2.specs.declared.reason.Errno.{Errno}
 use Rattle.loop_vb2.specs.declared.reason.Refused.{Refused}
-use Rattle.loop_vb2.specs.Buffers.{changed, handed, dequeued_from}
+use Rattle.loop_vb2.specs.Buffers.{change_at, handed_over, dequeued_from}
 use Rattle.loop_vb2.specs.Checks.{queue_refusal}
 use Rattle.loop_vb2.specs.Effects as effect
 use Rattle.loop_vb2.specs.State.{Body, QueueState, Lined, StandsQueue}
@@ -113,15 +113,15 @@ forbidden_ioctl held event.Fatal is = absurd (cc)
 
 -- ---- a dequeue
 
-left_there : (f : Buffer Plane → Buffer Plane) (bs : List (Buffer Plane)) (index : ℕ) (b : Buffer Plane) → slice_get bs index ≡ Some b → slice_get (changed f index bs) index ≡ Some (f b)
+left_there : (f : Buffer Plane → Buffer Plane) (bs : List (Buffer Plane)) (index : ℕ) (b : Buffer Plane) → slice_get bs index ≡ Some b → slice_get (change_at f index bs) index ≡ Some (f b)
 left_there f [] index b e = absurd (cc)
 left_there f (x ∷ bs) zero b e = let g : x ≡ b = cc in ap (λ y. Some (f y)) g
 left_there f (x ∷ bs) (suc index) b e = left_there f bs index b e
 
-hand_planes : (body : Body Plane) (index : ℕ) (b : Buffer Plane) → planes_held (hand_of body index b) ≡ handed body.kind b.planes
-hand_planes body index b = elim (was_given_up b.state) as (λ t. planes_held (cond t (spent index (handed body.kind b.planes)) (full index (taken_frame body.shape b) (handed body.kind b.planes))) ≡ handed body.kind b.planes) [ true ↦ refl | false ↦ refl ]
+hand_planes : (body : Body Plane) (index : ℕ) (b : Buffer Plane) → planes_held (hand_of body index b) ≡ handed_over body.kind b.planes
+hand_planes body index b = elim (was_given_up b.state) as (λ t. planes_held (cond t (spent index (handed_over body.kind b.planes)) (full index (taken_frame body.shape b) (handed_over body.kind b.planes))) ≡ handed_over body.kind b.planes) [ true ↦ refl | false ↦ refl ]
 
-handed_by_fd : (kind : Memory) (planes : Option (PlaneSet Plane)) → values_by_fd kind (option_to_list (handed kind planes)) ≡ values_by_fd kind (option_to_list planes)
+handed_by_fd : (kind : Memory) (planes : Option (PlaneSet Plane)) → values_by_fd kind (option_to_list (handed_over kind planes)) ≡ values_by_fd kind (option_to_list planes)
 handed_by_fd Mmap planes = refl
 handed_by_fd UserPtr planes = refl
 handed_by_fd DmaBuf planes = refl
@@ -130,16 +130,16 @@ moved_out : (a b h : ℕ) → (a + 0) + b ≡ h + 0 → a + b ≡ h + 0
 moved_out a b h e = omega (arith, e)
 
 -- the planes that leave the queue go to the hand, which was empty
-took_linked : (s : QueueState) (index : ℕ) (b : Buffer Plane) (h : HandState) (out : List (ℕ × Plane)) (n : Names Plane) → slice_get s.body.buffers index ≡ Some b → planes_held h ≡ handed s.body.kind b.planes → out ≡ [] → IsLinked s.body out n → IsLinked (effect.dequeued index s).body (values_by_fd s.body.kind (option_to_list (planes_held h))) n
+took_linked : (s : QueueState) (index : ℕ) (b : Buffer Plane) (h : HandState) (out : List (ℕ × Plane)) (n : Names Plane) → slice_get s.body.buffers index ≡ Some b → planes_held h ≡ handed_over s.body.kind b.planes → out ≡ [] → IsLinked s.body out n → IsLinked (effect.after_dequeue index s).body (values_by_fd s.body.kind (option_to_list (planes_held h))) n
 took_linked s index b h out n get planes none linked =
     let kind = s.body.kind in
     let bs = s.body.buffers in
     let vs : values_by_fd kind (option_to_list (planes_held h)) ≡ values_by_fd kind (option_to_list (planes_at bs index)) =
     ap (λ p. values_by_fd kind (option_to_list p)) planes
     ∙ (handed_by_fd kind b.planes ∙ ap (λ p. values_by_fd kind (option_to_list p)) (sym (planes_got bs index b get))) in
-    λ (fd : ℕ). once_same (fd_times fd (values_held kind bs) + fd_times fd out) (fd_times fd (values_held kind (changed (dequeued_from kind) index bs)) + fd_times fd (values_by_fd kind (option_to_list (planes_held h)))) (n fd) (n fd)
-    (ap (λ l. fd_times fd (values_held kind (changed (dequeued_from kind) index bs)) + fd_times fd l) vs
-    ∙ (moved_out (fd_times fd (values_held kind (changed (dequeued_from kind) index bs))) (fd_times fd (values_by_fd kind (option_to_list (planes_at bs index)))) (fd_times fd (values_held kind bs)) (out_count bs kind index 0 fd)
+    λ (fd : ℕ). once_same (fd_times fd (values_held kind bs) + fd_times fd out) (fd_times fd (values_held kind (change_at (dequeued_from kind) index bs)) + fd_times fd (values_by_fd kind (option_to_list (planes_held h)))) (n fd) (n fd)
+    (ap (λ l. fd_times fd (values_held kind (change_at (dequeued_from kind) index bs)) + fd_times fd l) vs
+    ∙ (moved_out (fd_times fd (values_held kind (change_at (dequeued_from kind) index bs))) (fd_times fd (values_by_fd kind (option_to_list (planes_at bs index)))) (fd_times fd (values_held kind bs)) (out_count bs kind index 0 fd)
     ∙ ap (λ l. fd_times fd (values_held kind bs) + fd_times fd l) (sym none)))
     refl (linked fd)
 
@@ -172,13 +172,13 @@ module _ {P A : Type 0} (m : P → Plane) where
       let t = step s stands.queue.queue in
       let b = t.0.2.0 in
       let get : slice_get body.buffers d.index ≡ Some b = t.0.2.1 in
-      let now : StandsQueue m q' (effect.dequeued d.index s) = t.1 in
-      let left : StaysIn (effect.dequeued d.index s).body d.index b = left_there (dequeued_from kind) body.buffers d.index b get in
+      let now : StandsQueue m q' (effect.after_dequeue d.index s) = t.1 in
+      let left : StaysIn (effect.after_dequeue d.index s).body d.index b = left_there (dequeued_from kind) body.buffers d.index b get in
       let none : j.out ≡ [] = stands.out ∙ (ap (λ x. values_by_fd kind (option_to_list (planes_held x))) (sym stands.hand) ∙ none_by_fd kind) in
       let front : StandsFront m q' table h (with_hand j (dqbuf (Ok (buffer_answer kind d.index b)) ∷ []) (hand_of body d.index b)) =
       record {
         queue = record { queue = now; names = stands.queue.names; linked = took_linked s d.index b (hand_of body d.index b) j.out j.names get (hand_planes body d.index b) none stands.queue.linked };
-        hand = holds (effect.dequeued d.index s) b now left t.0.2.2;
+        hand = holds (effect.after_dequeue d.index s) b now left t.0.2.2;
         out = refl;
       } in
       let said : MayHappen s (dqbuf (Ok (buffer_answer kind d.index b))) = (t.0.0, t.0.1, (b, get, record { sequence = refl; timestamp = refl; flags = refl; used = refl; planes = refl })) in
@@ -192,9 +192,9 @@ module _ {P A : Type 0} (m : P → Plane) where
 
 -- ---- a requeue
 
-back_none : (s : QueueState) (index fd : ℕ) → fd_times fd (values_held (effect.queued index None s).body.kind (effect.queued index None s).body.buffers) + 0 ≡ fd_times fd (values_held s.body.kind s.body.buffers) + fd_times fd (values_by_fd {T = Plane} s.body.kind [])
+back_none : (s : QueueState) (index fd : ℕ) → fd_times fd (values_held (effect.after_queue index None s).body.kind (effect.after_queue index None s).body.buffers) + 0 ≡ fd_times fd (values_held s.body.kind s.body.buffers) + fd_times fd (values_by_fd {T = Plane} s.body.kind [])
 back_none s index fd =
-    let t = effect.queued index None s in
+    let t = effect.after_queue index None s in
     ap (λ k. fd_times fd (values_held k t.body.buffers) + 0) (queued_kind index None s)
     ∙ (ap (λ n. n + 0) (queued_none index s fd)
     ∙ ap (λ l. fd_times fd (values_held s.body.kind s.body.buffers) + fd_times fd l) (sym (none_by_fd s.body.kind)))
@@ -208,16 +208,16 @@ set_back Mmap bs cs set fd e = refl
 set_back UserPtr bs cs set fd e = refl
 set_back DmaBuf bs cs set fd e = some_back (in_buffers fd cs) (in_buffers fd bs) (in_buffer fd (Some set)) e
 
-back_count : (s : QueueState) (index : ℕ) (planes : Option (PlaneSet Plane)) (fd : ℕ) → queue_refusal index s.body.kind planes s.body ≡ None → fd_times fd (values_held (effect.queued index planes s).body.kind (effect.queued index planes s).body.buffers) + 0 ≡ fd_times fd (values_held s.body.kind s.body.buffers) + fd_times fd (values_by_fd s.body.kind (option_to_list planes))
+back_count : (s : QueueState) (index : ℕ) (planes : Option (PlaneSet Plane)) (fd : ℕ) → queue_refusal index s.body.kind planes s.body ≡ None → fd_times fd (values_held (effect.after_queue index planes s).body.kind (effect.after_queue index planes s).body.buffers) + 0 ≡ fd_times fd (values_held s.body.kind s.body.buffers) + fd_times fd (values_by_fd s.body.kind (option_to_list planes))
 back_count s index None fd e = back_none s index fd
 back_count s index (Some set) fd e =
-    let t = effect.queued index (Some set) s in
+    let t = effect.after_queue index (Some set) s in
     ap (λ k. fd_times fd (values_held k t.body.buffers) + 0) (queued_kind index (Some set) s)
     ∙ set_back s.body.kind s.body.buffers t.body.buffers set fd (queued_some index set s fd e)
 
-back_linked : (s : QueueState) (index : ℕ) (planes : Option (PlaneSet Plane)) (out : List (ℕ × Plane)) (n : Names Plane) → out ≡ values_by_fd s.body.kind (option_to_list planes) → queue_refusal index s.body.kind planes s.body ≡ None → IsLinked s.body out n → IsLinked (effect.queued index planes s).body [] n
+back_linked : (s : QueueState) (index : ℕ) (planes : Option (PlaneSet Plane)) (out : List (ℕ × Plane)) (n : Names Plane) → out ≡ values_by_fd s.body.kind (option_to_list planes) → queue_refusal index s.body.kind planes s.body ≡ None → IsLinked s.body out n → IsLinked (effect.after_queue index planes s).body [] n
 back_linked s index planes out n is e linked =
-    let t = effect.queued index planes s in
+    let t = effect.after_queue index planes s in
     λ (fd : ℕ). once_same (fd_times fd (values_held s.body.kind s.body.buffers) + fd_times fd out) (fd_times fd (values_held t.body.kind t.body.buffers) + 0) (n fd) (n fd)
     (back_count s index planes fd e ∙ ap (λ l. fd_times fd (values_held s.body.kind s.body.buffers) + fd_times fd l) (sym is))
     refl (linked fd)
@@ -251,7 +251,7 @@ module _ {P A : Type 0} (m : P → Plane) where
       let said = subst (λ k. MayHappen s (qbuf i k given None)) (own_kind m kind q table j is stands.queue) t.0 in
       let out : j.out ≡ values_by_fd (kind_of j) (option_to_list given) = stands.out ∙ ap (λ x. values_by_fd (kind_of j) (option_to_list (planes_held x))) (sym stands.hand) in
       let none = none_by_fd (kind_of j) in
-      let after = effect.queued i given s in
+      let after = effect.after_queue i given s in
       let front : StandsFront {A = A} m q' table hand.Empty (with_hand j (requeue_event (kind_of j) (spent i given) (Ok i)) empty) =
       record {
         queue = record {

@@ -2,7 +2,7 @@
 use Rattle.std.proofs.Common.{◌≡◌, ℕ, ◌+◌, ◌<◌, ◌≤◌, Bool, true, false, not, cond, eqb, is_some, Option, Some, None, List, [], ◌∷◌, ◌++◌, refl, sym, ap, ◌∙◌, subst, arith}
 use Rattle.std.proofs.lemmas.List.{append-nil, append_assoc}
 use Rattle.std.specs.List.{enumerate_from, filter}
-use Rattle.loop_record.specs.Recording.{IsWellFormed, Picture, Recording, RiseBetween, Ring, Step, after, block, frame_under, lock, plain, recycle, store, unlock}
+use Rattle.loop_record.specs.Recording.{IsWellFormed, Picture, Recording, RiseBetween, Ring, Step, after_step, block, frame_under, lock, plain, recycle, store, unlock}
 use Rattle.loop_record.proofs.Decided.{clash, differ_test, equal}
 use Rattle.loop_record.proofs.Retired.{under-filter}
 use Rattle.loop_desk.specs.Desk.{frames_stored}
@@ -64,7 +64,7 @@ none-held None e h = absurd (cc)
 none-held (Some x) e h = absurd (cc)
 
 -- a step leaves them below
-below-after : (ring : Ring) (r : Recording) (step : Step) → AreBelow r → AreBelow (after ring r step)
+below-after : (ring : Ring) (r : Recording) (step : Step) → AreBelow r → AreBelow (after_step ring r step)
 below-after ring r (store p) below = λ n held. go n (frame_under r.frames n) refl (subst (λ (o : Option Picture). is_some o ≡ true) (under-both n r.frames ((r.next, p) ∷ [])) held)
   where
     new : (n : ℕ) (t : Bool) → eqb r.next n ≡ t → is_some (cond t (Some p) None) ≡ true → n < r.next + 1
@@ -83,12 +83,12 @@ below-after ring r (lock span) below = below
 below-after ring r (unlock id) below = below
 
 -- of what is there after a block has gone, it is all the same whether it has
-ever-recycled : (ring : Ring) (r : Recording) (b n : ℕ) (later : List (ℕ × Picture)) → AreBelow r → (n < r.next → frame_under later n ≡ None) → is_some (frame_under ((after ring r (recycle b)).frames ++ later) n) ≡ true
-    → frame_under ((after ring r (recycle b)).frames ++ later) n ≡ frame_under (r.frames ++ later) n
+ever-recycled : (ring : Ring) (r : Recording) (b n : ℕ) (later : List (ℕ × Picture)) → AreBelow r → (n < r.next → frame_under later n ≡ None) → is_some (frame_under ((after_step ring r (recycle b)).frames ++ later) n) ≡ true
+    → frame_under ((after_step ring r (recycle b)).frames ++ later) n ≡ frame_under (r.frames ++ later) n
 ever-recycled ring r b n later below low held = under-both n left later ∙ go (eqb (block ring n) b) refl ∙ sym (under-both n r.frames later)
   where
     left : List (ℕ × Picture)
-    left = (after ring r (recycle b)).frames
+    left = (after_step ring r (recycle b)).frames
 
     new : (o : Option Picture) → frame_under r.frames n ≡ o → is_some (frame_under later n) ≡ true → frame_under later n ≡ either_of o (frame_under later n)
     new None e h = refl
@@ -105,14 +105,14 @@ ever-recycled ring r b n later below low held = under-both n left later ∙ go (
 given-under : (ring : Ring) (r : Recording) (steps : List Step) (n : ℕ) → AreBelow r → is_some (frame_under (plain ring r steps).frames n) ≡ true → frame_under (plain ring r steps).frames n ≡ frame_under (ever r steps) n
 given-under ring r [] n below held = ap (λ (fs : List (ℕ × Picture)). frame_under fs n) (sym (append-nil r.frames))
 given-under ring r (store p ∷ steps) n below held =
-    given-under ring (after ring r (store p)) steps n (below-after ring r (store p) below) held
+    given-under ring (after_step ring r (store p)) steps n (below-after ring r (store p) below) held
     ∙ ap (λ (fs : List (ℕ × Picture)). frame_under fs n) (append_assoc r.frames ((r.next, p) ∷ []) (enumerate_from (r.next + 1) (frames_stored steps)))
 given-under ring r (recycle b ∷ steps) n below held =
-    let next = after ring r (recycle b) in
+    let next = after_step ring r (recycle b) in
     let rest = given-under ring next steps n (below-after ring r (recycle b) below) held in
     rest ∙ ever-recycled ring r b n (enumerate_from r.next (frames_stored steps)) below (under-low n r.next (frames_stored steps)) (ap (λ (o : Option Picture). is_some o) (sym rest) ∙ held)
-given-under ring r (lock span ∷ steps) n below held = given-under ring (after ring r (lock span)) steps n below held
-given-under ring r (unlock id ∷ steps) n below held = given-under ring (after ring r (unlock id)) steps n below held
+given-under ring r (lock span ∷ steps) n below held = given-under ring (after_step ring r (lock span)) steps n below held
+given-under ring r (unlock id ∷ steps) n below held = given-under ring (after_step ring r (unlock id)) steps n below held
 
 some-there : (o : Option Picture) → is_some o ≡ true → (p : Picture) × (o ≡ Some p)
 some-there None h = absurd (cc)

@@ -1,6 +1,6 @@
 -- Histories without pixels: the same definitions, over frames without their bytes.
 use Rattle.std.specs.Prelude.{◌≡◌, ℕ, Result, Ok, Err, List, [], length, map}
-use Rattle.loop_clips.specs.Table.{listed}
+use Rattle.loop_clips.specs.Table.{clip_list}
 use Rattle.loop_record.specs.declared.frame.FrameHead.{FrameHead}
 use Rattle.loop_record.specs.Recording.{Picture, Recording}
 use Rattle.loop_store.specs.declared.fault.StoreFault.{StoreFault}
@@ -47,5 +47,5 @@ pub record IsBlind (k : Rules) (s : DeskState) (calls : List DeskCall) : Type 0 
 pub record IsOutlineOf {A : Type 0} (s : DeskState) (outline : Outline A) : Type 0 where
   pub next : outline.next ≡ s.store.recording.next
   pub frames : outline.frames.items ≡ map (λ f. f.0) s.store.recording.frames
-  pub clips : outline.clips.items ≡ listed 0 s.store.recording.clips
+  pub clips : outline.clips.items ≡ clip_list 0 s.store.recording.clips
   pub pending : outline.pending ≡ length s.pending

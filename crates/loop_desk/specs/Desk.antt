@@ -152,13 +152,13 @@ AreDeskAnswers k s calls = EachIn (desk_after k) (IsDeskAnswer k) s calls
 -- ---- the frames of calls
 
 -- the frame of a submit that was answered
-abbrev pub accepted : DeskCall → List Picture
-accepted (submitted p size (Ok number)) = p ∷ []
-accepted _ = []
+abbrev pub frame_accepted : DeskCall → List Picture
+frame_accepted (submitted p size (Ok number)) = p ∷ []
+frame_accepted _ = []
 
 -- those of calls, in order
 abbrev pub accepted_in : List DeskCall → List Picture
-accepted_in calls = flat_map accepted calls
+accepted_in calls = flat_map frame_accepted calls
 
 -- the frame of a step that stores one
 abbrev pub stored_by : Step → List Picture

@@ -14,7 +14,7 @@ use Rattle.loop_vb2.specs.declared.planes.Shape.{Shape}
 use Rattle.loop_vb2.specs.declared.reason.Reason.TheVariants.{HandHolds}
 use Rattle.loop_vb2.specs.declared.state.BufferState.{BufferState}
 use Rattle.loop_vb2.specs.declared.state.BufferState.TheVariants.{Error}
-use Rattle.loop_vb2.specs.Buffers.{handed}
+use Rattle.loop_vb2.specs.Buffers.{handed_over}
 use Rattle.loop_vb2.specs.Errnos.{errno}
 use Rattle.loop_vb2.specs.Events.{Event, MayHappen, after_event, dqbuf, qbuf}
 use Rattle.loop_vb2.specs.Flags.{dequeue_bits}
@@ -102,8 +102,8 @@ was_given_up state = false
 -- what the hand has of a buffer that was dequeued
 abbrev pub hand_of : Body Plane → ℕ → Buffer Plane → HandState
 hand_of body index b =
-    cond (was_given_up b.state) (spent index (handed body.kind b.planes))
-    (full index (taken_frame body.shape b) (handed body.kind b.planes))
+    cond (was_given_up b.state) (spent index (handed_over body.kind b.planes))
+    (full index (taken_frame body.shape b) (handed_over body.kind b.planes))
 
 abbrev pub hand_with : Body Plane → ℕ → Option (Buffer Plane) → HandState
 hand_with body index None = empty
@@ -147,7 +147,7 @@ buffer_answer kind index b = record {
   timestamp = b.stamp.timestamp;
   flags = record { 0 = dequeue_bits b.state b.mapped };
   used = b.used;
-  planes = handed kind b.planes;
+  planes = handed_over kind b.planes;
 }
 
 -- the queue's own event, where the hand asks for a buffer

@@ -24,7 +24,7 @@ use Rattle.loop_desk.specs.declared.event.LaneEvent.TheVariants as event
 use Rattle.loop_desk.specs.declared.event.LaneReply.{LaneReply}
 use Rattle.loop_desk.specs.declared.event.LaneReply.TheVariants as reply
 use Rattle.loop_desk.specs.declared.lane.Lane.{Lane}
-use Rattle.loop_desk.specs.Desk.{DeskCall, accepted, accepted_in, clip_locked, clip_unlocked, flushed, frame_read, submitted}
+use Rattle.loop_desk.specs.Desk.{DeskCall, frame_accepted, accepted_in, clip_locked, clip_unlocked, flushed, frame_read, submitted}
 use Rattle.loop_desk.specs.Footage.{KeepsFootage}
 use Rattle.loop_desk.specs.Front.{Front, HandState, IsFrontTurn, IsSubmit, StandsFront, Turn, dequeued, empty, front_after, front_event, full, hand_state, on_queue, requeued, spent, offered}
 use Rattle.loop_desk.specs.Seen.{DeskGoes}
@@ -83,7 +83,7 @@ module _ {P A : Type 0} (meaning : P → Plane) where
   -- taken in by a submit of the hand's alone
   abbrev pub IsAtFront : Front → LaneTurn P A → Type 0
   IsAtFront f (at_front t) = IsFrontTurn meaning f t
-  IsAtFront f (at_desk c) = accepted c ≡ []
+  IsAtFront f (at_desk c) = frame_accepted c ≡ []
   IsAtFront f mixed = ⊥
 
   abbrev pub IsLaneTurn : Front → LaneEvent P A × LaneReply P A → Type 0
@@ -191,8 +191,8 @@ LaneTurnsAreEvents {P} A meaning =
 -- ---- the device's frames
 
 -- a frame but for its flags, which tell whether its buffer was mapped as it was dequeued
-abbrev pub unflagged : Picture → Picture
-unflagged p = record p { flags = 0 }
+abbrev pub without_flags : Picture → Picture
+without_flags p = record p { flags = 0 }
 
 -- the frame that the device completed by the event
 abbrev pub completed_frame : Event → List Picture
@@ -211,7 +211,7 @@ module _ {P A : Type 0} (meaning : P → Plane) where
   TakesCompleted f part =
       (others : List Picture)
       × (flat_map completed_frame (queue_events meaning f part)
-      ≡ map unflagged (frames_taken meaning f part) ++ others)
+      ≡ map without_flags (frames_taken meaning f part) ++ others)
 
   -- So it is in a list of turns up to the next stop of the stream,
   pub record TakesFrames (f : Front) (turns : List (LaneEvent P A × LaneReply P A)) : Type 0 where

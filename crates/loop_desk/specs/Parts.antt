@@ -5,7 +5,7 @@ use Rattle.loop_vb2.specs.declared.buffer.Buffer.{Buffer}
 use Rattle.loop_vb2.specs.declared.buffer.Dequeued.{Dequeued}
 use Rattle.loop_vb2.specs.declared.planes.PlaneSet.{PlaneSet}
 use Rattle.loop_vb2.specs.Answers.{IsAnswer, read_answer}
-use Rattle.loop_vb2.specs.Buffers.{bytes_at, used_at, state_at, dequeued_from, handed}
+use Rattle.loop_vb2.specs.Buffers.{bytes_at, used_at, state_at, dequeued_from, handed_over}
 use Rattle.loop_vb2.specs.Owner.{is_dequeued}
 use Rattle.loop_vb2.specs.Planes.{number_at, bytes_in, plane_of_set, read_given}
 use Rattle.loop_vb2.specs.State.{Body, QueueState, Lined, StandsQueue}
@@ -73,7 +73,7 @@ abbrev pub CopiesFrame : {P : Type 0} → (P → Plane) → Lined P → ℕ → 
     → List ℕ → Type 0
 CopiesFrame meaning code index used planes before stop after =
     (s : QueueState) (b : Buffer Plane) → StandsQueue meaning code s → StaysIn s.body index b → used ≡ b.used
-    → read_given meaning planes ≡ handed s.body.kind b.planes
+    → read_given meaning planes ≡ handed_over s.body.kind b.planes
     → Appends (taken_bytes s.body.shape b) 0 before stop after
 
 -- the hand has the buffer

@@ -1,7 +1,7 @@
 -- A desk as its callers see it, and what calls make of it.
 use Rattle.std.specs.Prelude.{◌≡◌, ◌⊎◌, ◌+◌, ◌≤◌, true, false, Result, Ok, Err, List, All, length, map}
 use Rattle.circular_buffer.specs.Buffer.{Buffer}
-use Rattle.loop_clips.specs.Table.{listed}
+use Rattle.loop_clips.specs.Table.{clip_list}
 use Rattle.loop_disk.specs.Medium.{Medium}
 use Rattle.loop_record.specs.declared.frame.Frame.{Frame}
 use Rattle.loop_record.specs.Geometry.{frame_bytes}
@@ -70,7 +70,7 @@ pub record TellsStatus {D : Type 0} (medium : D → Medium) (d : SeenDesk D) (st
 pub record TellsOutline {D A : Type 0} (medium : D → Medium) (d : SeenDesk D) (outline : Outline A) : Type 0 where
   pub next : outline.next ≡ d.store.next
   pub pending : outline.pending ≡ length d.pending
-  pub clips : outline.clips.items ≡ listed 0 d.store.clips
+  pub clips : outline.clips.items ≡ clip_list 0 d.store.clips
   pub frames : (r : Recording) → StandsFor medium d.store r → outline.frames.items ≡ map (λ f. f.0) r.frames
 
 -- why no outline is given: the store must be reopened, or otherwise memory was refused

@@ -4,7 +4,7 @@ use Rattle.std.proofs.lemmas.Bool.{cases_lt, or_from, or_parts}
 use Rattle.std.proofs.lemmas.Bool.Decides.{nat_tests}
 use Rattle.std.proofs.lemmas.List.{ext_get_or}
 use Rattle.loop_disk.specs.declared.fault.Failures.{Failures}
-use Rattle.loop_disk.specs.Medium.{Medium, piece, written, SameOutside, TornAt, LeavesEachTorn, Meanwhile}
+use Rattle.loop_disk.specs.Medium.{Medium, piece, with_bytes_at, SameOutside, TornAt, LeavesEachTorn, Meanwhile}
 use Rattle.loop_disk.specs.Calls.{Stays, Writes, Syncs}
 use Rattle.loop_disk.specs.History.{Moment, after_write, after_sync, is_within, is_loose, IsLeft, medium_of}
 use Rattle.loop_disk.specs.Behind.{Behind, moment_now}
@@ -26,7 +26,7 @@ within_not at n i (inl below) = grind (arith, nat_tests)
 within_not at n i (inr above) = grind (arith, nat_tests)
 
 -- a byte outside the range of a write
-pub kept_outside : (at : ℕ) (bytes image : List ℕ) (i : ℕ) → at + length bytes ≤ length image → (i < at) ⊎ (at + length bytes ≤ i) → get_or (written at bytes image) i 0 ≡ get_or image i 0
+pub kept_outside : (at : ℕ) (bytes image : List ℕ) (i : ℕ) → at + length bytes ≤ length image → (i < at) ⊎ (at + length bytes ≤ i) → get_or (with_bytes_at at bytes image) i 0 ≡ get_or image i 0
 kept_outside at bytes image i fits (inl below) = get_or-written_before at bytes image i (omega (arith, fits)) below
 kept_outside at bytes image i fits (inr above) = get_or-written_behind at bytes image i (omega (arith, fits)) above
 
@@ -40,7 +40,7 @@ write_images f now earlier v c at fits left =
     let long : length held ≡ n = omega (arith, length-piece at n bytes, fits) in
     let size : length c ≡ length bytes = left.size ∙ length-written at v bytes fits in
     let room : at + length held ≤ length c = omega (arith, long, size, fits) in
-    let d = written at held c in
+    let d = with_bytes_at at held c in
     let outside : SameOutside at n c d = subst (λ (k : ℕ). SameOutside at k c d) long (written_outside at held c room) in
     let same : (i : ℕ) → is_loose now.loose i ≡ false → get_or d i 0 ≡ get_or bytes i 0 = λ i fixed.
     ⊎_elim
@@ -110,7 +110,7 @@ behind_write at n past bytes = record past { loose = (at, n) ∷ past.loose; mom
 
 -- a write as the memory disk has it
 pub writes_behind : (f : Failures) (past later : Behind) (bytes image v : List ℕ) (at : ℕ) → at + length v ≤ length bytes
-    → later ≡ behind_write at (length v) past bytes → image ≡ written at v bytes
+    → later ≡ behind_write at (length v) past bytes → image ≡ with_bytes_at at v bytes
     → Writes {T = Unit {0}} at v (medium_of f (moment_now past bytes) past.moments) (medium_of f (moment_now later image) later.moments) (Ok tt)
 writes_behind f past later bytes image v at fits noted there =
     let same : medium_of f (moment_now later image) later.moments ≡ medium_of f (after_write at v (moment_now past bytes)) (moment_now past bytes ∷ past.moments) =

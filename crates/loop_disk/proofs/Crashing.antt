@@ -11,10 +11,10 @@ use Rattle.loop_disk.specs.declared.crash.DeviceCall.{DeviceCall}
 use Rattle.loop_disk.specs.declared.crash.DeviceCall.TheVariants as call
 use Rattle.loop_disk.specs.declared.crash.Spoil.{Spoil}
 use Rattle.loop_disk.specs.declared.crash.Spoil.TheVariants as spoil
-use Rattle.loop_disk.specs.Medium.{LeavesEachTorn, Medium, written}
+use Rattle.loop_disk.specs.Medium.{LeavesEachTorn, Medium, with_bytes_at}
 use Rattle.loop_disk.specs.Calls.{Called, Stays, Writes, Syncs}
 use Rattle.loop_disk.specs.History.{Moment, at_rest, after_write, after_sync, is_within, is_loose, IsLeft, IsLeftSince, medium_of}
-use Rattle.loop_disk.specs.Crashing.{Tape, call_of, after_call, moment_after, moments_from, medium_after, IsWithin, IsSpoiled, spoiled}
+use Rattle.loop_disk.specs.Crashing.{Tape, call_of, after_call, moment_after, moments_from, medium_after, IsWithin, IsSpoiled, spoiled_byte}
 use Rattle.loop_disk.specs.Replay.{IsRecorded, IsReplayed, PutsSpoiled}
 use Rattle.std.proofs.lemmas.Bool.{cases_lt, or_parts}
 use Rattle.loop_disk.proofs.Images.{length-written, get_or-written_there}
@@ -62,13 +62,13 @@ view-more f t start calls later failures c seen more =
 
 -- a write, as the disk's fields have it
 pub written-recorded : {V : Type 0} (t : Tape) (start : List ℕ) (calls : List (DeviceCall V)) (f : V → List ℕ) (later : List (DeviceCall (List ℕ))) (bytes next : List ℕ) (failures : Failures) (at : ℕ) (v : List ℕ)
-    → record { start = start; calls = map (call_of f) calls; failures = failures } ≡ t → later ≡ map (call_of f) calls ++ call.Write at v ∷ [] → next ≡ written at v bytes
+    → record { start = start; calls = map (call_of f) calls; failures = failures } ≡ t → later ≡ map (call_of f) calls ++ call.Write at v ∷ [] → next ≡ with_bytes_at at v bytes
     → at + length v ≤ length (moment_after t.start t.calls).bytes → IsRecorded start (map (call_of f) calls) bytes → IsRecorded start later next
 written-recorded t start calls f later bytes next failures at v seen more is fits done =
     let same : length (moment_after t.start t.calls).bytes ≡ length bytes = ap (λ (tape : Tape). length (moment_after tape.start tape.calls).bytes) (sym seen) ∙ ap (λ (l : List ℕ). length l) (sym done.whole) in
     let room : at + length v ≤ length bytes = omega (arith, fits, same) in
     recorded-more start (map (call_of f) calls) later bytes next (call.Write at v) more (omega (arith, room, done.size))
-    (is ∙ ap (λ (l : List ℕ). written at v l) done.whole) (ap (λ (l : List ℕ). length l) is ∙ length-written at v bytes room ∙ done.size) done
+    (is ∙ ap (λ (l : List ℕ). with_bytes_at at v l) done.whole) (ap (λ (l : List ℕ). length l) is ∙ length-written at v bytes room ∙ done.size) done
 
 pub looked : (t later : Tape) → later ≡ record t { calls = t.calls ++ call.Read ∷ [] } → Stays (medium_after t) (medium_after later)
 looked t later more =
@@ -143,7 +143,7 @@ or_skips a b out is = sym (ap (λ (x : Bool). x || b) out) ∙ is
 
 -- what a crash leaves of a byte doesn't depend on what stood in its place
 spoils-alike : (s : Spoil) (m : Moment) (bytes image : List ℕ) (i present : ℕ) → IsReplayed s m bytes image → i < length image
-    → spoiled s i (get_or image i 0) present ≡ spoiled s i (get_or m.settled i 0) present
+    → spoiled_byte s i (get_or image i 0) present ≡ spoiled_byte s i (get_or m.settled i 0) present
 spoils-alike spoil.Keep m bytes image i present done within = refl
 spoils-alike spoil.Old m bytes image i present done within = old-there m bytes image i done within
 spoils-alike spoil.Zero m bytes image i present done within = refl
@@ -159,33 +159,33 @@ module _ (s : Spoil) (m : Moment) (bytes image later v : List ℕ) (at : ℕ) (f
   still i (inl below) = put.outside.before i below
   still i (inr above) = put.outside.behind i above
 
-  wrote-kept : (i : ℕ) → is_loose (after_write at v m).loose i ≡ false → get_or later i 0 ≡ get_or (written at v m.bytes) i 0
+  wrote-kept : (i : ℕ) → is_loose (after_write at v m).loose i ≡ false → get_or later i 0 ≡ get_or (with_bytes_at at v m.bytes) i 0
   wrote-kept i fixed =
       let parts = or_parts (is_within at (length v) i) (is_loose m.loose i) fixed in
       let out = outside_of at (length v) i parts.0 in
       still i out ∙ done.spoilt.left.kept i parts.1 ∙ sym (kept_outside at v m.bytes i room out)
 
-  wrote-steady : (i : ℕ) → is_loose (after_write at v m).loose i ≡ false → get_or (written at v m.bytes) i 0 ≡ get_or m.settled i 0
+  wrote-steady : (i : ℕ) → is_loose (after_write at v m).loose i ≡ false → get_or (with_bytes_at at v m.bytes) i 0 ≡ get_or m.settled i 0
   wrote-steady i fixed =
       let parts = or_parts (is_within at (length v) i) (is_loose m.loose i) fixed in
       kept_outside at v m.bytes i room (outside_of at (length v) i parts.0) ∙ done.steady i parts.1
 
-  there-loose : (i : ℕ) → at ≤ i → i < at + length v → get_or later i 0 ≡ spoiled s i (get_or m.settled i 0) (get_or (written at v m.bytes) i 0)
+  there-loose : (i : ℕ) → at ≤ i → i < at + length v → get_or later i 0 ≡ spoiled_byte s i (get_or m.settled i 0) (get_or (with_bytes_at at v m.bytes) i 0)
   there-loose i from inside =
       let k = i - at in
       let place : at + k ≡ i = omega (arith, from) in
-      let same : get_or (written at v m.bytes) (at + k) 0 ≡ get_or v k 0 = get_or-written_there at v m.bytes k (omega (arith, room)) (omega (arith, from, inside)) in
-      subst (λ (j : ℕ). get_or later j 0 ≡ spoiled s j (get_or m.settled j 0) (get_or (written at v m.bytes) j 0)) place
+      let same : get_or (with_bytes_at at v m.bytes) (at + k) 0 ≡ get_or v k 0 = get_or-written_there at v m.bytes k (omega (arith, room)) (omega (arith, from, inside)) in
+      subst (λ (j : ℕ). get_or later j 0 ≡ spoiled_byte s j (get_or m.settled j 0) (get_or (with_bytes_at at v m.bytes) j 0)) place
       (put.there k (omega (arith, from, inside))
       ∙ spoils-alike s m bytes image (at + k) (get_or v k 0) done (omega (arith, from, inside, fits, ap (λ (l : List ℕ). length l) done.whole, done.spoilt.left.size))
-      ∙ ap (λ (b : ℕ). spoiled s (at + k) (get_or m.settled (at + k) 0) b) (sym same))
+      ∙ ap (λ (b : ℕ). spoiled_byte s (at + k) (get_or m.settled (at + k) 0) b) (sym same))
 
-  else-loose : (i : ℕ) → (i < at) ⊎ (at + length v ≤ i) → i < length later → is_loose (after_write at v m).loose i ≡ true → get_or later i 0 ≡ spoiled s i (get_or m.settled i 0) (get_or (written at v m.bytes) i 0)
+  else-loose : (i : ℕ) → (i < at) ⊎ (at + length v ≤ i) → i < length later → is_loose (after_write at v m).loose i ≡ true → get_or later i 0 ≡ spoiled_byte s i (get_or m.settled i 0) (get_or (with_bytes_at at v m.bytes) i 0)
   else-loose i out within loose =
       let before : is_loose m.loose i ≡ true = or_skips (is_within at (length v) i) (is_loose m.loose i) (within_not at (length v) i out) loose in
-      still i out ∙ done.spoilt.loose i (omega (arith, within, put.outside.size)) before ∙ ap (λ (b : ℕ). spoiled s i (get_or m.settled i 0) b) (sym (kept_outside at v m.bytes i room out))
+      still i out ∙ done.spoilt.loose i (omega (arith, within, put.outside.size)) before ∙ ap (λ (b : ℕ). spoiled_byte s i (get_or m.settled i 0) b) (sym (kept_outside at v m.bytes i room out))
 
-  wrote-loose : (i : ℕ) → i < length later → is_loose (after_write at v m).loose i ≡ true → get_or later i 0 ≡ spoiled s i (get_or m.settled i 0) (get_or (written at v m.bytes) i 0)
+  wrote-loose : (i : ℕ) → i < length later → is_loose (after_write at v m).loose i ≡ true → get_or later i 0 ≡ spoiled_byte s i (get_or m.settled i 0) (get_or (with_bytes_at at v m.bytes) i 0)
   wrote-loose i within loose =
       ⊎_elim
       (λ (below : i < at). else-loose i (inl below) within loose)
@@ -196,9 +196,9 @@ module _ (s : Spoil) (m : Moment) (bytes image later v : List ℕ) (at : ℕ) (f
       (cases_lt i (at + length v)))
       (cases_lt i at)
 
-  pub replay-writes : IsReplayed s (after_write at v m) (written at v bytes) later
+  pub replay-writes : IsReplayed s (after_write at v m) (with_bytes_at at v bytes) later
   replay-writes = record {
-    whole = ap (λ (l : List ℕ). written at v l) done.whole;
+    whole = ap (λ (l : List ℕ). with_bytes_at at v l) done.whole;
     spoilt = record {
       left = record { size = put.outside.size ∙ done.spoilt.left.size ∙ sym (length-written at v m.bytes room); kept = wrote-kept };
       loose = wrote-loose;
@@ -209,12 +209,12 @@ module _ (s : Spoil) (m : Moment) (bytes image later v : List ℕ) (at : ℕ) (f
 
 -- the same, of a write as it is remembered
 pub replay-wrote : {V : Type 0} (f : V → List ℕ) (s : Spoil) (m : Moment) (bytes image next later v u : List ℕ) (it : DeviceCall V) (at : ℕ) (w : V) → it ≡ call.Write at w
-    → v ≡ f w → u ≡ f w → next ≡ written at v bytes → PutsSpoiled s at u image later → IsWithin (length bytes) (call_of f it) → IsReplayed s m bytes image
+    → v ≡ f w → u ≡ f w → next ≡ with_bytes_at at v bytes → PutsSpoiled s at u image later → IsWithin (length bytes) (call_of f it) → IsReplayed s m bytes image
     → IsReplayed s (after_call m (call_of f it)) next later
 replay-wrote f s m bytes image next later v u it at w is same_v same_u whole put within done =
     let fits : at + length (f w) ≤ length bytes = subst (λ (c : DeviceCall _). IsWithin (length bytes) (call_of f c)) is within in
     let there : PutsSpoiled s at (f w) image later = subst (λ (l : List ℕ). PutsSpoiled s at l image later) same_u put in
-    let all : next ≡ written at (f w) bytes = whole ∙ ap (λ (l : List ℕ). written at l bytes) same_v in
+    let all : next ≡ with_bytes_at at (f w) bytes = whole ∙ ap (λ (l : List ℕ). with_bytes_at at l bytes) same_v in
     subst (λ (c : DeviceCall _). IsReplayed s (after_call m (call_of f c)) next later) (sym is)
     (subst (λ (l : List ℕ). IsReplayed s (after_write at (f w) m) l later) (sym all) (replay-writes s m bytes image later (f w) at fits done there))
 

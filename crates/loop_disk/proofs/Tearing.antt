@@ -3,7 +3,7 @@ use Rattle.std.proofs.lemmas.Bool.{cases_lt}
 use Rattle.std.proofs.Common.{◌≡◌, ◌⊎◌, inl, inr, ℕ, ◌+◌, ◌-◌, ◌<◌, ◌≤◌, min, List, length, take, get_or, Result, Ok, Err, IsErr, OnOk, refl, sym, ◌∙◌, ap, subst, arith}
 use Rattle.std.proofs.lemmas.List.{ext_get_or, take_min, length-take}
 use Rattle.loop_disk.specs.declared.fault.DiskFault.{DiskFault}
-use Rattle.loop_disk.specs.Medium.{IsSound, LeavesEach, LeavesEachTorn, Medium, piece, written, SameOutside, TornAt}
+use Rattle.loop_disk.specs.Medium.{IsSound, LeavesEach, LeavesEachTorn, Medium, piece, with_bytes_at, SameOutside, TornAt}
 use Rattle.loop_disk.specs.Calls.{Stays, Writes}
 use Rattle.loop_disk.specs.Failing.{Tears}
 use Rattle.loop_disk.proofs.Images.{get_or-piece, get_or-written_there, length-piece, written-piece, written_outside, untouched, widened, both}
@@ -56,7 +56,7 @@ tears_failed at n bytes other old new r failed is tears = record { done = none f
     none (Err e) h = tt
 
 -- a write is one of these
-written_tears : {T : Type 0} (at : ℕ) (bytes : List ℕ) (old new : Medium) (r : Result T DiskFault) → Writes at bytes old new r → Tears at (length bytes) (written at bytes old.bytes) old new r
+written_tears : {T : Type 0} (at : ℕ) (bytes : List ℕ) (old new : Medium) (r : Result T DiskFault) → Writes at bytes old new r → Tears at (length bytes) (with_bytes_at at bytes old.bytes) old new r
 written_tears at bytes old new r writes = record { done = writes.done; elsewhere = writes.elsewhere; images = writes.images; time = writes.time; keeps = writes.keeps }
 
 pub tears_same : {T : Type 0} (at n : ℕ) (bytes other : List ℕ) (old new : Medium) (r : Result T DiskFault) → bytes ≡ other → Tears at n bytes old new r → Tears at n other old new r
@@ -67,8 +67,8 @@ pub read_and_written : {T : Type 0} (at n : ℕ) (seen : List ℕ) (old mid new 
     → seen ≡ piece at n old.bytes → Stays old mid → Writes at seen mid new r → Tears at n old.bytes old new r
 read_and_written at n seen old mid new r fits is stays writes =
     let count : length seen ≡ n = ap (λ (l : List ℕ). length l) is ∙ omega (arith, length-piece at n old.bytes, fits) in
-    let again : written at seen mid.bytes ≡ old.bytes = (λ i. written at (is i) (stays.bytes i)) ∙ written-piece at n old.bytes fits in
-    let second : Tears at n old.bytes mid new r = tears_same at n (written at seen mid.bytes) old.bytes mid new r again (subst (λ (k : ℕ). Tears at k (written at seen mid.bytes) mid new r) count (written_tears at seen mid new r writes)) in
+    let again : with_bytes_at at seen mid.bytes ≡ old.bytes = (λ i. with_bytes_at at (is i) (stays.bytes i)) ∙ written-piece at n old.bytes fits in
+    let second : Tears at n old.bytes mid new r = tears_same at n (with_bytes_at at seen mid.bytes) old.bytes mid new r again (subst (λ (k : ℕ). Tears at k (with_bytes_at at seen mid.bytes) mid new r) count (written_tears at seen mid new r writes)) in
     let first : Tears {T = Unit {0}} at n old.bytes old mid (Ok tt) = record {
       done = stays.bytes;
       elsewhere = subst (λ (l : List ℕ). SameOutside at n old.bytes l) (sym stays.bytes) (untouched at n old.bytes);
@@ -81,13 +81,13 @@ read_and_written at n seen old mid new r fits is stays writes =
 -- the first bytes are written, and then the present ones behind them
 pub kept_and_rewritten : {T : Type 0} (at keep : ℕ) (bytes front : List ℕ) (old mid new : Medium) (x : Unit {0}) (r : Result T DiskFault)
     → front ≡ take (min keep (length bytes)) bytes → Writes at front old mid (Ok x) → Tears at (length bytes) mid.bytes mid new r
-    → Tears at (length bytes) (written at (take keep bytes) old.bytes) old new r
+    → Tears at (length bytes) (with_bytes_at at (take keep bytes) old.bytes) old new r
 kept_and_rewritten at keep bytes front old mid new x r is writes rest =
     let kept : front ≡ take keep bytes = is ∙ take_min keep bytes in
     let few : length front ≤ length bytes = omega (arith, ap (λ (l : List ℕ). length l) kept, length-take keep bytes) in
-    let first : Tears at (length bytes) (written at front old.bytes) old mid (Ok x) = tears_within at (length front) at (length bytes) (written at front old.bytes) old mid (Ok x) (omega arith) (omega (arith, few)) (written_tears at front old mid (Ok x) writes) in
-    tears_same at (length bytes) mid.bytes (written at (take keep bytes) old.bytes) old new r (writes.done ∙ ap (λ (l : List ℕ). written at l old.bytes) kept)
-    (tears_then at (length bytes) (written at front old.bytes) mid.bytes old mid new x r first rest)
+    let first : Tears at (length bytes) (with_bytes_at at front old.bytes) old mid (Ok x) = tears_within at (length front) at (length bytes) (with_bytes_at at front old.bytes) old mid (Ok x) (omega arith) (omega (arith, few)) (written_tears at front old mid (Ok x) writes) in
+    tears_same at (length bytes) mid.bytes (with_bytes_at at (take keep bytes) old.bytes) old new r (writes.done ∙ ap (λ (l : List ℕ). with_bytes_at at l old.bytes) kept)
+    (tears_then at (length bytes) (with_bytes_at at front old.bytes) mid.bytes old mid new x r first rest)
 
 -- ---- each image of a torn write may be left
 
@@ -124,7 +124,7 @@ torn_joined a m n old mid new sound room first second c torn = second c (e, firs
     fits = omega (arith, count, long, room)
 
     e : List ℕ
-    e = written a p d
+    e = with_bytes_at a p d
 
     here : SameOutside a m d e
     here = subst (λ (k : ℕ). SameOutside a k d e) count (written_outside a p d fits)

@@ -3,7 +3,7 @@ use Rattle.std.specs.Prelude.{◌≡◌, ◌↔◌, ℕ, ◌+◌, ◌-◌, ◌^�
 use Rattle.loop_disk.specs.declared.fault.Failures.{Failures}
 use Rattle.loop_disk.specs.declared.fault.DiskFault.{DiskFault}
 use Rattle.loop_disk.specs.declared.fault.DiskFault.TheVariants.{Read, Write, Sync}
-use Rattle.loop_disk.specs.Medium.{Medium, written, SameOutside, TornAt, Only, Meanwhile, Remembers}
+use Rattle.loop_disk.specs.Medium.{Medium, with_bytes_at, SameOutside, TornAt, Only, Meanwhile, Remembers}
 
 -- a count after one more; it stops at the greatest u64
 abbrev pub one_more : ℕ → ℕ
@@ -47,7 +47,7 @@ pub record Stays (old new : Medium) : Type 0 where
 
 -- A write, done or failed. The range may hold anything after a crash, and after a failure.
 pub record Writes {T : Type 0} (at : ℕ) (bytes : List ℕ) (old new : Medium) (result : Result T DiskFault) : Type 0 where
-  pub done : OnOk result (new.bytes ≡ written at bytes old.bytes)
+  pub done : OnOk result (new.bytes ≡ with_bytes_at at bytes old.bytes)
   pub elsewhere : SameOutside at (length bytes) old.bytes new.bytes
   pub images : (c : List ℕ) → new.may_leave c → TornAt at (length bytes) old c
   pub time : Meanwhile old new (TornAt at (length bytes) old)

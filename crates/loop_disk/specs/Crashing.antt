@@ -48,16 +48,16 @@ IsWithin size call.Sync = Unit {0}
 
 -- what is left of a byte that was written since the last sync: i is its place, `settled` the byte at that sync,
 -- and `present` the present one
-abbrev pub spoiled : Spoil → ℕ → ℕ → ℕ → ℕ
-spoiled spoil.Keep i settled present = present
-spoiled spoil.Old i settled present = settled
-spoiled spoil.Zero i settled present = 0
-spoiled spoil.Ones i settled present = 255
-spoiled spoil.Gate i settled present = 165
-spoiled (spoil.Mix m) i settled present = (167 * i + m) % 256
+abbrev pub spoiled_byte : Spoil → ℕ → ℕ → ℕ → ℕ
+spoiled_byte spoil.Keep i settled present = present
+spoiled_byte spoil.Old i settled present = settled
+spoiled_byte spoil.Zero i settled present = 0
+spoiled_byte spoil.Ones i settled present = 255
+spoiled_byte spoil.Gate i settled present = 165
+spoiled_byte (spoil.Mix m) i settled present = (167 * i + m) % 256
 
 -- the image that a crash leaves at this moment, where it spoils so what was written since the last sync
 pub record IsSpoiled (s : Spoil) (m : Moment) (image : List ℕ) : Type 0 where
   pub left : IsLeft m image
   pub loose : (i : ℕ) → i < length image → is_loose m.loose i ≡ true
-      → get_or image i 0 ≡ spoiled s i (get_or m.settled i 0) (get_or m.bytes i 0)
+      → get_or image i 0 ≡ spoiled_byte s i (get_or m.settled i 0) (get_or m.bytes i 0)

@@ -2,7 +2,7 @@
 use Rattle.std.specs.Prelude.{◌≡◌, ℕ, ◌-◌, ◌^◌, ◌<◌, Bool, true, false, ◌==◌, if◌then◌else◌, List, length, take, Option, Some, None, Result, IsErr, OnOk}
 use Rattle.loop_disk.specs.declared.fault.Failures.{Failures}
 use Rattle.loop_disk.specs.declared.fault.DiskFault.{DiskFault}
-use Rattle.loop_disk.specs.Medium.{LeavesEachTorn, Medium, written, SameOutside, TornAt, Meanwhile, Remembers}
+use Rattle.loop_disk.specs.Medium.{LeavesEachTorn, Medium, with_bytes_at, SameOutside, TornAt, Meanwhile, Remembers}
 use Rattle.loop_disk.specs.Calls.{Called, failed_call}
 
 -- A call that is due to fail fails and doesn't reach the inner disk. Any other is the inner disk's own, and
@@ -44,5 +44,5 @@ pub record IsCounting (failures : Failures) : Type 0 where
 pub record IsTorn {T : Type 0} (harsh : Type 0) (at : ℕ) (bytes : List ℕ) (keep : ℕ) (old new : Medium)
     (result : Result T DiskFault) : Type 0 where
   pub fails : IsErr result
-  pub kept : IsCounting old.failures → new.failures ≡ old.failures → new.bytes ≡ written at (take keep bytes) old.bytes
+  pub kept : IsCounting old.failures → new.failures ≡ old.failures → new.bytes ≡ with_bytes_at at (take keep bytes) old.bytes
   pub loose : harsh → IsCounting old.failures → new.failures ≡ old.failures → LeavesEachTorn at (length bytes) old new

@@ -2,7 +2,7 @@
 -- more after each write and each sync.
 use Rattle.std.specs.Prelude.{◌≡◌, ◌⊎◌, ℕ, ◌+◌, ◌≤◌, Bool, false, ◌&&◌, ◌||◌, nat_le, nat_lt, List, [], ◌∷◌, length, get_or}
 use Rattle.loop_disk.specs.declared.fault.Failures.{Failures}
-use Rattle.loop_disk.specs.Medium.{Medium, written}
+use Rattle.loop_disk.specs.Medium.{Medium, with_bytes_at}
 
 -- a moment between two calls
 pub record Moment : Type 0 where
@@ -19,7 +19,7 @@ at_rest image = record { settled = image; loose = []; bytes = image }
 
 -- the moment after a write
 abbrev pub after_write : ℕ → List ℕ → Moment → Moment
-after_write at bytes m = record m { loose = (at, length bytes) ∷ m.loose; bytes = written at bytes m.bytes }
+after_write at bytes m = record m { loose = (at, length bytes) ∷ m.loose; bytes = with_bytes_at at bytes m.bytes }
 
 -- the moment after a sync
 abbrev pub after_sync : Moment → Moment

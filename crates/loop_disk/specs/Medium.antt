@@ -23,8 +23,8 @@ abbrev pub piece : ℕ → ℕ → List ℕ → List ℕ
 piece at n image = take n (drop at image)
 
 -- the image with these bytes at `at`
-abbrev pub written : ℕ → List ℕ → List ℕ → List ℕ
-written at bytes image = take at image ++ bytes ++ drop (at + length bytes) image
+abbrev pub with_bytes_at : ℕ → List ℕ → List ℕ → List ℕ
+with_bytes_at at bytes image = take at image ++ bytes ++ drop (at + length bytes) image
 
 -- the same image but for the n bytes from `at` on, which may be any
 pub record SameOutside (at n : ℕ) (old new : List ℕ) : Type 0 where

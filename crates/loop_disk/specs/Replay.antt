@@ -5,7 +5,7 @@ use Rattle.loop_disk.specs.declared.crash.DeviceCall.{DeviceCall}
 use Rattle.loop_disk.specs.declared.crash.Spoil.{Spoil}
 use Rattle.loop_disk.specs.Medium.{SameOutside}
 use Rattle.loop_disk.specs.History.{Moment, is_loose}
-use Rattle.loop_disk.specs.Crashing.{moment_after, IsWithin, IsSpoiled, spoiled}
+use Rattle.loop_disk.specs.Crashing.{moment_after, IsWithin, IsSpoiled, spoiled_byte}
 
 -- the disk that began so holds these bytes after these calls, each within its size
 pub record IsRecorded (start : List ℕ) (calls : List (DeviceCall (List ℕ))) (bytes : List ℕ) : Type 0 where
@@ -25,4 +25,4 @@ pub record IsReplayed (s : Spoil) (m : Moment) (bytes image : List ℕ) : Type 0
 pub record PutsSpoiled (s : Spoil) (at : ℕ) (bytes old new : List ℕ) : Type 0 where
   pub outside : SameOutside at (length bytes) old new
   pub there : (i : ℕ) → i < length bytes
-      → get_or new (at + i) 0 ≡ spoiled s (at + i) (get_or old (at + i) 0) (get_or bytes i 0)
+      → get_or new (at + i) 0 ≡ spoiled_byte s (at + i) (get_or old (at + i) 0) (get_or bytes i 0)

@@ -3,11 +3,11 @@ ghost use Rattle.std.specs.Prelude.{⊤, ◌≡◌, ◌≤◌, ◌<◌, ◌+◌,
 ghost use Rattle.std.specs.List.{All};
 ghost use Rattle.loop_disk.specs.declared.fault.DiskFault.TheVariants.{Read, Write, Sync};
 ghost use Rattle.loop_disk.specs.declared.crash.DeviceCall.TheVariants as call;
-ghost use Rattle.loop_disk.specs.Medium.{written, piece, IsSettled, LeavesEach, LeavesEachTorn};
+ghost use Rattle.loop_disk.specs.Medium.{with_bytes_at, piece, IsSettled, LeavesEach, LeavesEachTorn};
 ghost use Rattle.loop_disk.specs.Calls.{Called, Stays, Writes, Syncs, failed_call, no_failures, with_failed};
 ghost use Rattle.loop_disk.specs.History.{Moment, at_rest};
 ghost use Rattle.loop_disk.specs.Sound.{sound_of};
-ghost use Rattle.loop_disk.specs.Crashing.{Tape, call_of, after_call, moment_after, moments_from, medium_after, IsWithin, IsSpoiled, spoiled};
+ghost use Rattle.loop_disk.specs.Crashing.{Tape, call_of, after_call, moment_after, moments_from, medium_after, IsWithin, IsSpoiled, spoiled_byte};
 ghost use Rattle.loop_disk.specs.Replay.{IsReplayed, PutsSpoiled};
 
 use crate::memory::put;
@@ -235,7 +235,7 @@ fn remember_write<A: Allocator>(
     requires { at + length bytes.now ≤ length image.old.items }
     ensures call { OnOk result (map (call_of (λ v. v.items)) calls.new.items ≡ map (call_of (λ v.
         v.items)) calls.old.items ++ call.Write at bytes.now ∷ []) }
-    ensures image { OnOk result (image.new.items ≡ written at bytes.now image.old.items) }
+    ensures image { OnOk result (image.new.items ≡ with_bytes_at at bytes.now image.old.items) }
     ensures no_call { OnErr result (calls.new.items ≡ calls.old.items) }
     ensures same { OnErr result (image.new.items ≡ image.old.items) }
 {
@@ -302,7 +302,7 @@ fn spoil_range(range: &mut [u8], start: usize, bytes: &[u8], spoil: Spoil)
     requires fits { start + length bytes.now < 2 ^ 64 }
     ensures size { length range.new ≡ length range.old }
     ensures there { (i : ℕ) → i < length bytes.now
-        → get_or range.new i 0 ≡ spoiled spoil (start + i) (get_or range.old i 0) (get_or bytes.now i 0) }
+        → get_or range.new i 0 ≡ spoiled_byte spoil (start + i) (get_or range.old i 0) (get_or bytes.now i 0) }
 {
     match spoil {
         Spoil::Keep => range.copy_from_slice(bytes),

@@ -1,7 +1,7 @@
 // A disk in memory. A crash may leave any bytes in each range that was written since the last sync.
 ghost use Rattle.std.specs.Prelude.{⊤, ◌≡◌, ◌≤◌, ◌+◌, ◌∷◌, length, IfOk, OnOk, IsOk, replicate, IfErr};
 ghost use Rattle.loop_disk.specs.declared.fault.DiskFault.TheVariants.{Read, Write, Sync};
-ghost use Rattle.loop_disk.specs.Medium.{written, piece, IsFresh, IsSame, LeavesEach, LeavesEachTorn};
+ghost use Rattle.loop_disk.specs.Medium.{with_bytes_at, piece, IsFresh, IsSame, LeavesEach, LeavesEachTorn};
 ghost use Rattle.loop_disk.specs.Calls.{Called, Stays, Writes, Syncs, failed_call, no_failures};
 ghost use Rattle.loop_disk.specs.History.{medium_of};
 ghost use Rattle.loop_disk.specs.Behind.{moment_now};
@@ -122,7 +122,7 @@ impl<A: Allocator> Disk for MemDisk<A> {
 // Puts bytes in their place.
 pub(crate) fn put<A: Allocator>(image: &mut Vec<u8, A>, at: u64, bytes: &[u8])
     requires { at + length bytes.now ≤ length image.old.items }
-    ensures { image.new.items ≡ written at bytes.now image.old.items }
+    ensures { image.new.items ≡ with_bytes_at at bytes.now image.old.items }
 {
     let start = at as usize;
     let end = start + bytes.len();

@@ -1,7 +1,7 @@
 // A disk that fails one call, over another disk.
 ghost use Rattle.std.specs.Prelude.{◌≡◌, ◌+◌, ◌-◌, ◌≤◌, ℕ, length, take, true, false, OnOk, Err, IsErr, Some, None, IfErr};
 ghost use Rattle.loop_disk.specs.declared.fault.DiskFault.TheVariants.{Read, Write, Sync};
-ghost use Rattle.loop_disk.specs.Medium.{piece, written, LeavesEach, LeavesEachTorn};
+ghost use Rattle.loop_disk.specs.Medium.{piece, with_bytes_at, LeavesEach, LeavesEachTorn};
 ghost use Rattle.loop_disk.specs.Calls.{Called, Stays, Writes, Syncs, failed_call, no_failures, with_failed};
 ghost use Rattle.loop_disk.specs.Sound.{sound_recounted};
 ghost use Rattle.loop_disk.specs.Failing.{FailsOrPasses, IsTorn, Tears, is_due, left_after};
@@ -182,7 +182,7 @@ impl<D: Disk> Disk for OnceDisk<D> {
 fn tear<D: Disk>(disk: &mut D, at: u64, bytes: &[u8], keep: usize) -> Result<(), DiskFault>
     requires { at + length bytes.now ≤ (D.medium disk.old).size }
     ensures disk { (D.medium disk.old).honest
-        → Tears at (length bytes.now) (written at (take keep bytes.now) (D.medium disk.old).bytes) (D.medium disk.old)
+        → Tears at (length bytes.now) (with_bytes_at at (take keep bytes.now) (D.medium disk.old).bytes) (D.medium disk.old)
         (D.medium disk.new) result }
     ensures harsh { D.harsh disk.old → D.harsh disk.new }
     ensures each { (D.medium disk.old).honest → D.harsh disk.old

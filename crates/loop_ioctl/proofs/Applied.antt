@@ -7,8 +7,8 @@ use Rattle.loop_vb2.specs.declared.reason.Errno.{Errno}
 use Rattle.loop_vb2.specs.declared.reason.Reason.TheVariants.{BadType}
 use Rattle.loop_vb2.specs.declared.buffer.BufferInfo.{BufferInfo}
 use Rattle.loop_vb2.specs.declared.reason.Refused.{Refused}
-use Rattle.loop_vb2.specs.Buffers.{mapped_as, stopped}
-use Rattle.loop_vb2.specs.Effects.{streaming, stopped_state, touched, body_streaming, settled}
+use Rattle.loop_vb2.specs.Buffers.{mapped_as, stop_buffer}
+use Rattle.loop_vb2.specs.Effects.{streaming, stopped_state, change_buffer, body_streaming, settle_device}
 use Rattle.loop_vb2.specs.Errnos.{errno}
 use Rattle.loop_vb2.specs.State.{Body, QueueState, Lined}
 use Rattle.loop_vb2.specs.Events.{Happens, refusal_in, refusal_of, streamon, streamoff, querybuf, mmap, munmap}
@@ -29,19 +29,19 @@ use Rattle.loop_ioctl.proofs.Putting.{settled_fds, settled_kind, still_linked, m
 
 on_fds : (b : Body Plane) (fd : ℕ) → in_buffers fd (body_streaming b).buffers ≡ in_buffers fd b.buffers
 on_fds b fd =
-    elim b.streaming as (λ t. in_buffers fd (cond t b (settled (record b { streaming = true }))).buffers ≡ in_buffers fd b.buffers) [ true ↦ refl | false ↦ settled_fds (record b { streaming = true }) fd ]
+    elim b.streaming as (λ t. in_buffers fd (cond t b (settle_device (record b { streaming = true }))).buffers ≡ in_buffers fd b.buffers) [ true ↦ refl | false ↦ settled_fds (record b { streaming = true }) fd ]
 
 pub on_kind : (b : Body Plane) → (body_streaming b).kind ≡ b.kind
-on_kind b = elim b.streaming as (λ t. (cond t b (settled (record b { streaming = true }))).kind ≡ b.kind) [ true ↦ refl | false ↦ settled_kind (record b { streaming = true }) ]
+on_kind b = elim b.streaming as (λ t. (cond t b (settle_device (record b { streaming = true }))).kind ≡ b.kind) [ true ↦ refl | false ↦ settled_kind (record b { streaming = true }) ]
 
 on_linked : (s : QueueState) (out : List (ℕ × Plane)) (n : Names Plane) → IsLinked s.body out n → IsLinked (streaming s).body out n
 on_linked s out n linked = still_linked s.body (streaming s).body out n (on_kind s.body) (on_fds s.body) linked
 
 off_linked : (s : QueueState) (out : List (ℕ × Plane)) (n : Names Plane) → IsLinked s.body out n → IsLinked (stopped_state s).body out n
-off_linked s out n linked = still_linked s.body (stopped_state s).body out n refl (λ (fd : ℕ). kept_mapped stopped s.body.buffers fd (λ b d. refl)) linked
+off_linked s out n linked = still_linked s.body (stopped_state s).body out n refl (λ (fd : ℕ). kept_mapped stop_buffer s.body.buffers fd (λ b d. refl)) linked
 
-mapped_linked : (mapped : Bool) (index : ℕ) (s : QueueState) (out : List (ℕ × Plane)) (n : Names Plane) → IsLinked s.body out n → IsLinked (touched (mapped_as mapped) index s).body out n
-mapped_linked mapped index s out n linked = still_linked s.body (touched (mapped_as mapped) index s).body out n refl (λ (fd : ℕ). kept_changed (mapped_as mapped) index s.body.buffers fd (λ b d. refl)) linked
+mapped_linked : (mapped : Bool) (index : ℕ) (s : QueueState) (out : List (ℕ × Plane)) (n : Names Plane) → IsLinked s.body out n → IsLinked (change_buffer (mapped_as mapped) index s).body out n
+mapped_linked mapped index s out n linked = still_linked s.body (change_buffer (mapped_as mapped) index s).body out n refl (λ (fd : ℕ). kept_changed (mapped_as mapped) index s.body.buffers fd (λ b d. refl)) linked
 
 -- STREAMOFF is never refused
 pub stream_off_applies : {P : Type 0} (A : Type 0) (m : P → Plane) (type : BufferType) (q q' : Lined P) (table : Fds P) → Happens m q q' streamoff → AppliesTyped {A = A} m (call.StreamOff type) (Ok reply.Done) q table q' table

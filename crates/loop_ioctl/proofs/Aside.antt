@@ -9,7 +9,7 @@ use Rattle.loop_vb2.specs.declared.planes.PlaneSet.{PlaneSet}
 use Rattle.loop_vb2.specs.declared.reason.Errno.{Errno}
 use Rattle.loop_vb2.specs.declared.reason.Refused.{Refused}
 use Rattle.loop_vb2.specs.Checks.{queue_refusal}
-use Rattle.loop_vb2.specs.Effects.{queued}
+use Rattle.loop_vb2.specs.Effects.{after_queue}
 use Rattle.loop_vb2.specs.Events.{Event, after_event, prepare_buf, qbuf, streamon, mmap, munmap}
 use Rattle.loop_vb2.specs.State.{Body, QueueState}
 use Rattle.loop_ioctl.specs.declared.call.Ioctl.{Ioctl}
@@ -44,13 +44,13 @@ new_queues_stand m code table s stands none = record { queue = stands; names = r
 
 -- ---- the fds of planes that are queued
 
-pub queued_kind : (index : ℕ) (given : Option (PlaneSet Plane)) (s : QueueState) → (queued index given s).body.kind ≡ s.body.kind
+pub queued_kind : (index : ℕ) (given : Option (PlaneSet Plane)) (s : QueueState) → (after_queue index given s).body.kind ≡ s.body.kind
 queued_kind index given s = used_kind Queue index given s
 
-pub queued_none : (index : ℕ) (s : QueueState) (fd : ℕ) → fd_times fd (values_held s.body.kind (queued index None s).body.buffers) ≡ fd_times fd (values_held s.body.kind s.body.buffers)
-queued_none index s fd = held_same s.body.kind s.body.buffers (queued index None s).body.buffers fd (used_none Queue index s fd)
+pub queued_none : (index : ℕ) (s : QueueState) (fd : ℕ) → fd_times fd (values_held s.body.kind (after_queue index None s).body.buffers) ≡ fd_times fd (values_held s.body.kind s.body.buffers)
+queued_none index s fd = held_same s.body.kind s.body.buffers (after_queue index None s).body.buffers fd (used_none Queue index s fd)
 
-pub queued_some : (index : ℕ) (set : PlaneSet Plane) (s : QueueState) (fd : ℕ) → queue_refusal index s.body.kind (Some set) s.body ≡ None → in_buffers fd (queued index (Some set) s).body.buffers ≡ in_buffers fd s.body.buffers + in_buffer fd (Some set)
+pub queued_some : (index : ℕ) (set : PlaneSet Plane) (s : QueueState) (fd : ℕ) → queue_refusal index s.body.kind (Some set) s.body ≡ None → in_buffers fd (after_queue index (Some set) s).body.buffers ≡ in_buffers fd s.body.buffers + in_buffer fd (Some set)
 queued_some index set s fd e =
     let f : IsFit index s.body.kind s.body = fit Queue index s.body.kind set s.body e in used_some Queue index set s fd f.within f.empty
 

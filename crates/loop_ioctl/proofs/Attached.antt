@@ -4,9 +4,9 @@ use Rattle.std.specs.Prelude.{is_some, option_to_list}
 use Rattle.std.proofs.lemmas.Bool.{cases_eq}
 use Rattle.loop_vb2.specs.declared.buffer.Buffer.{Buffer}
 use Rattle.loop_vb2.specs.declared.planes.PlaneSet.{PlaneSet}
-use Rattle.loop_vb2.specs.Buffers.{changed, holds_at}
+use Rattle.loop_vb2.specs.Buffers.{change_at, holds_at}
 use Rattle.loop_vb2.specs.Planes.{number_at}
-use Rattle.loop_vb2.specs.Requests.{held}
+use Rattle.loop_vb2.specs.Requests.{held_sets}
 use Rattle.loop_ioctl.specs.declared.call.PlaneFds.{PlaneFds}
 use Rattle.loop_ioctl.specs.Names.{Names, renamed, fd_refusal, value_of, place_refusal, place_value, place_taken, first_taken, second_taken, set_taken, set_refusal, set_named, value_with_fd, values_in, values_of, given_back, AreAway}
 use Rattle.loop_ioctl.specs.Attached.{fd_times, IsOnce}
@@ -74,20 +74,20 @@ module _ {T : Type 0} where
   in_buffer fd planes = fd_times fd (values_of (option_to_list planes))
 
   abbrev pub in_buffers : ℕ → List (Buffer T) → ℕ
-  in_buffers fd bs = fd_times fd (values_of (held bs))
+  in_buffers fd bs = fd_times fd (values_of (held_sets bs))
 
   pub in_more : (fd : ℕ) (b : Buffer T) (bs : List (Buffer T)) → in_buffers fd (b ∷ bs) ≡ in_buffer fd b.planes + in_buffers fd bs
-  in_more fd b bs = fd_times_of-append fd (option_to_list b.planes) (held bs)
+  in_more fd b bs = fd_times_of-append fd (option_to_list b.planes) (held_sets bs)
 
   -- a change of a buffer that leaves its fds
   abbrev pub Keeps : (Buffer T → Buffer T) → Type 0
   Keeps f = (b : Buffer T) (fd : ℕ) → in_buffer fd (f b).planes ≡ in_buffer fd b.planes
 
-  pub kept_changed : (f : Buffer T → Buffer T) (index : ℕ) (bs : List (Buffer T)) (fd : ℕ) → Keeps f → in_buffers fd (changed f index bs) ≡ in_buffers fd bs
+  pub kept_changed : (f : Buffer T → Buffer T) (index : ℕ) (bs : List (Buffer T)) (fd : ℕ) → Keeps f → in_buffers fd (change_at f index bs) ≡ in_buffers fd bs
   kept_changed f index [] fd keeps = refl
   kept_changed f zero (b ∷ bs) fd keeps = in_more fd (f b) bs ∙ (ap (λ n. n + in_buffers fd bs) (keeps b fd) ∙ sym (in_more fd b bs))
   kept_changed f (suc index) (b ∷ bs) fd keeps =
-      in_more fd b (changed f index bs) ∙ (ap (λ n. in_buffer fd b.planes + n) (kept_changed f index bs fd keeps) ∙ sym (in_more fd b bs))
+      in_more fd b (change_at f index bs) ∙ (ap (λ n. in_buffer fd b.planes + n) (kept_changed f index bs fd keeps) ∙ sym (in_more fd b bs))
 
   pub kept_mapped : (f : Buffer T → Buffer T) (bs : List (Buffer T)) (fd : ℕ) → Keeps f → in_buffers fd (map f bs) ≡ in_buffers fd bs
   kept_mapped f [] fd keeps = refl
@@ -99,27 +99,27 @@ module _ {T : Type 0} where
   empty_none (Some set) fd e = absurd (cc)
 
   -- a buffer that held no planes gets these
-  pub added : (f : Buffer T → Buffer T) (planes : Option (PlaneSet T)) (index : ℕ) (bs : List (Buffer T)) (fd : ℕ) → index < length bs → holds_at bs index ≡ false → ((b : Buffer T) → (f b).planes ≡ planes) → in_buffers fd (changed f index bs) ≡ in_buffers fd bs + in_buffer fd planes
+  pub added : (f : Buffer T → Buffer T) (planes : Option (PlaneSet T)) (index : ℕ) (bs : List (Buffer T)) (fd : ℕ) → index < length bs → holds_at bs index ≡ false → ((b : Buffer T) → (f b).planes ≡ planes) → in_buffers fd (change_at f index bs) ≡ in_buffers fd bs + in_buffer fd planes
   added f planes index [] fd within empty makes = absurd (omega arith)
   added f planes zero (b ∷ bs) fd within empty makes =
       in_more fd (f b) bs
       ∙ (ap (λ p. in_buffer fd p + in_buffers fd bs) (makes b)
       ∙ (placed (in_buffer fd planes) (in_buffer fd b.planes) (in_buffers fd bs) (empty_none b.planes fd empty) ∙ ap (λ n. n + in_buffer fd planes) (sym (in_more fd b bs))))
   added f planes (suc index) (b ∷ bs) fd within empty makes =
-      in_more fd b (changed f index bs)
-      ∙ (further (in_buffer fd b.planes) (in_buffers fd (changed f index bs)) (in_buffers fd bs) (in_buffer fd planes) (added f planes index bs fd (omega arith) empty makes)
+      in_more fd b (change_at f index bs)
+      ∙ (further (in_buffer fd b.planes) (in_buffers fd (change_at f index bs)) (in_buffers fd bs) (in_buffer fd planes) (added f planes index bs fd (omega arith) empty makes)
       ∙ ap (λ n. n + in_buffer fd planes) (sym (in_more fd b bs)))
 
   -- a buffer lets its planes out
-  pub let_out : (f : Buffer T → Buffer T) (index : ℕ) (bs : List (Buffer T)) (fd : ℕ) → ((b : Buffer T) → (f b).planes ≡ None) → in_buffers fd bs ≡ in_buffers fd (changed f index bs) + in_buffer fd (planes_at bs index)
+  pub let_out : (f : Buffer T → Buffer T) (index : ℕ) (bs : List (Buffer T)) (fd : ℕ) → ((b : Buffer T) → (f b).planes ≡ None) → in_buffers fd bs ≡ in_buffers fd (change_at f index bs) + in_buffer fd (planes_at bs index)
   let_out f index [] fd makes = sym (none_first 0)
   let_out f zero (b ∷ bs) fd makes =
       in_more fd b bs
       ∙ (out_first (in_buffer fd (f b).planes) (in_buffer fd b.planes) (in_buffers fd bs) (ap (in_buffer fd) (makes b)) ∙ ap (λ n. n + in_buffer fd b.planes) (sym (in_more fd (f b) bs)))
   let_out f (suc index) (b ∷ bs) fd makes =
       in_more fd b bs
-      ∙ (further (in_buffer fd b.planes) (in_buffers fd bs) (in_buffers fd (changed f index bs)) (in_buffer fd (planes_at bs index)) (let_out f index bs fd makes)
-      ∙ ap (λ n. n + in_buffer fd (planes_at bs index)) (sym (in_more fd b (changed f index bs))))
+      ∙ (further (in_buffer fd b.planes) (in_buffers fd bs) (in_buffers fd (change_at f index bs)) (in_buffer fd (planes_at bs index)) (let_out f index bs fd makes)
+      ∙ ap (λ n. n + in_buffer fd (planes_at bs index)) (sym (in_more fd b (change_at f index bs))))
 
   -- ---- names
 

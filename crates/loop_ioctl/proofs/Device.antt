@@ -8,7 +8,7 @@ use Rattle.loop_vb2.specs.declared.planes.PlaneSet.{PlaneSet}
 use Rattle.loop_vb2.specs.declared.planes.Shape.{Shape}
 use Rattle.loop_vb2.specs.declared.reason.Errno.{Errno}
 use Rattle.loop_vb2.specs.Buffers.{completed_with, failed_with}
-use Rattle.loop_vb2.specs.Effects.{completed, failed, fatal_state}
+use Rattle.loop_vb2.specs.Effects.{after_complete, after_fail, fatal_state}
 use Rattle.loop_vb2.specs.Planes.{number_at, slot_filled, set_by, frame_size}
 use Rattle.loop_vb2.specs.State.{QueueState, Lined}
 use Rattle.loop_vb2.specs.Events.{Happens, refusal_of, complete, fail, fatal}
@@ -44,23 +44,23 @@ filled_fds shape bytes (Some set) fd =
     (slot_fds fd f1 set.planes.cb b1 (value_with_fd f0 (slot_filled set.planes.y b0)) (value_with_fd f0 set.planes.y) (last_fds fd f0 set.planes.y b0))
     ∙ sym (ap (fd_times fd) (last_none (values_in set))))
 
-pub completed_linked : (index : ℕ) (stamp : Stamp) (bytes : List ℕ) (s : QueueState) (out : List (ℕ × Plane)) (n : Names Plane) → IsLinked s.body out n → IsLinked (completed index stamp bytes s).body out n
+pub completed_linked : (index : ℕ) (stamp : Stamp) (bytes : List ℕ) (s : QueueState) (out : List (ℕ × Plane)) (n : Names Plane) → IsLinked s.body out n → IsLinked (after_complete index stamp bytes s).body out n
 completed_linked index stamp bytes s out n linked =
-    still_linked s.body (completed index stamp bytes s).body out n refl
+    still_linked s.body (after_complete index stamp bytes s).body out n refl
     (λ (fd : ℕ). kept_changed (completed_with s.body.shape stamp bytes) index s.body.buffers fd (λ b d. filled_fds s.body.shape bytes b.planes d)) linked
 
-pub failed_linked : (index : ℕ) (stamp : Stamp) (s : QueueState) (out : List (ℕ × Plane)) (n : Names Plane) → IsLinked s.body out n → IsLinked (failed index stamp s).body out n
-failed_linked index stamp s out n linked = still_linked s.body (failed index stamp s).body out n refl (λ (fd : ℕ). kept_changed (failed_with stamp) index s.body.buffers fd (λ b d. refl)) linked
+pub failed_linked : (index : ℕ) (stamp : Stamp) (s : QueueState) (out : List (ℕ × Plane)) (n : Names Plane) → IsLinked s.body out n → IsLinked (after_fail index stamp s).body out n
+failed_linked index stamp s out n linked = still_linked s.body (after_fail index stamp s).body out n refl (λ (fd : ℕ). kept_changed (failed_with stamp) index s.body.buffers fd (λ b d. refl)) linked
 
 module _ {P : Type 0} (A : Type 0) (m : P → Plane) where
   pub complete_reacts : (index : ℕ) (stamp : Stamp) (bytes : Vec ℕ A) (result : Result (Unit {0}) Errno) (q q' : Lined P) (table : Fds P) → Happens m q q' (complete index stamp bytes.items (refusal_of result)) → Reacts m (event.Complete index stamp bytes) (answer.Ended result) q table q' table
   complete_reacts index stamp bytes (Ok u) q q' table step j stands =
-      let t = step j.queue stands.queue in (t.0, moves m q q' table j (completed index stamp bytes.items j.queue) stands t.1 (completed_linked index stamp bytes.items j.queue j.out j.names stands.linked))
+      let t = step j.queue stands.queue in (t.0, moves m q q' table j (after_complete index stamp bytes.items j.queue) stands t.1 (completed_linked index stamp bytes.items j.queue j.out j.names stands.linked))
   complete_reacts index stamp bytes (Err e) q q' table step j stands = let t = step j.queue stands.queue in (t.0, stays m q q' table j stands t.1)
 
   pub fail_reacts : (index : ℕ) (stamp : Stamp) (result : Result (Unit {0}) Errno) (q q' : Lined P) (table : Fds P) → Happens m q q' (fail index stamp (refusal_of result)) → Reacts {A = A} m (event.Fail index stamp) (answer.Ended result) q table q' table
   fail_reacts index stamp (Ok u) q q' table step j stands =
-      let t = step j.queue stands.queue in (t.0, moves m q q' table j (failed index stamp j.queue) stands t.1 (failed_linked index stamp j.queue j.out j.names stands.linked))
+      let t = step j.queue stands.queue in (t.0, moves m q q' table j (after_fail index stamp j.queue) stands t.1 (failed_linked index stamp j.queue j.out j.names stands.linked))
   fail_reacts index stamp (Err e) q q' table step j stands = let t = step j.queue stands.queue in (t.0, stays m q q' table j stands t.1)
 
   pub fatal_reacts : (q q' : Lined P) (table : Fds P) → Happens m q q' fatal → Reacts {A = A} m event.Fatal answer.Fatal q table q' table

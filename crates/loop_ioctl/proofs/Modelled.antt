@@ -19,7 +19,7 @@ use Rattle.loop_ioctl.specs.declared.events.QueueEvent.TheVariants as event
 use Rattle.loop_ioctl.specs.declared.events.QueueReply.{QueueReply}
 use Rattle.loop_ioctl.specs.declared.events.QueueReply.TheVariants as answer
 use Rattle.loop_ioctl.specs.Calls.{IoctlState, MayHappenIf, after_event_if, call_event, refusal_before, IsAnsweredFor, after_ioctl}
-use Rattle.loop_ioctl.specs.Events.{IsTold, IsTurn, device_event, state_after, turned, turns}
+use Rattle.loop_ioctl.specs.Events.{IsTold, IsTurn, device_event, state_after, after_reply, turns}
 use Rattle.loop_ioctl.specs.Modelled.{unless_refused, event_of, events_of, events_in, TurnsAreEvents, RunsAreInOrder}
 
 -- ---- machines: a state is looked at as that of another machine, and each turn is told as turns of that one
@@ -71,7 +71,7 @@ module _ {P A : Type 0} (m : P → Plane) where
 -- ---- lists
 
 pub turns_are_events : {P : Type 0} (A : Type 0) (m : P → Plane) → TurnsAreEvents A m
-turns_are_events A m j xs each = all_told (turned m) (IsTurn m) model.after_event model.MayHappen (λ k. k.queue) (events_of m) (λ k x h. turn_told m x.0 x.1 k h) j xs each
+turns_are_events A m j xs each = all_told (after_reply m) (IsTurn m) model.after_event model.MayHappen (λ k. k.queue) (events_of m) (λ k x h. turn_told m x.0 x.1 k h) j xs each
 
 pub runs_are_in_order : {P : Type 0} (A : Type 0) (m : P → Plane) → RunsAreInOrder A m
 runs_are_in_order {P} A m events replies q q' t t' run j stands =

@@ -13,10 +13,10 @@ use Rattle.loop_vb2.specs.declared.planes.PlaneSet.{PlaneSet}
 use Rattle.loop_vb2.specs.declared.reason.Errno.{Errno}
 use Rattle.loop_vb2.specs.declared.reason.Refused.{Refused}
 use Rattle.loop_vb2.specs.declared.request.Granted.{Granted}
-use Rattle.loop_vb2.specs.Buffers.{changed, handed, dequeued_from}
-use Rattle.loop_vb2.specs.Checks.{is_supply, granted, serves, request_checks, request_refusal}
+use Rattle.loop_vb2.specs.Buffers.{change_at, handed_over, dequeued_from}
+use Rattle.loop_vb2.specs.Checks.{is_supply, grant_count, serves, request_checks, request_refusal}
 use Rattle.loop_vb2.specs.Planes.{read_set, read_given}
-use Rattle.loop_vb2.specs.Requests.{grants_or_none, new_buffer, new_buffers, held, left_in, body_requested}
+use Rattle.loop_vb2.specs.Requests.{grants_or_none, new_buffer, new_buffers, held_sets, left_in, body_requested}
 use Rattle.loop_vb2.specs.State.{Body, Lined}
 use Rattle.loop_vb2.specs.Events.{Happens, MayHappen, read_frame, read_grant, reqbufs, dqbuf}
 use Rattle.loop_ioctl.specs.declared.call.Ioctl.TheVariants as call
@@ -73,13 +73,13 @@ list_read : {P : Type 0} (m : P → Plane) (planes : Option (PlaneSet P)) → ma
 list_read m None = refl
 list_read m (Some set) = refl
 
-handed_all : (kind : Memory) (planes : Option (PlaneSet Plane)) → kind ≡ DmaBuf → handed kind planes ≡ planes
+handed_all : (kind : Memory) (planes : Option (PlaneSet Plane)) → kind ≡ DmaBuf → handed_over kind planes ≡ planes
 handed_all Mmap planes e = absurd (cc)
 handed_all UserPtr planes e = refl
 handed_all DmaBuf planes e = refl
 
 -- what is handed out of planes is what they mean
-out_read : {P : Type 0} (m : P → Plane) (kind : Memory) (planes : Option (PlaneSet P)) (b : Option (PlaneSet Plane)) → read_given m planes ≡ handed kind b → read_given m (handed_out None kind planes) ≡ handed_out None kind b
+out_read : {P : Type 0} (m : P → Plane) (kind : Memory) (planes : Option (PlaneSet P)) (b : Option (PlaneSet Plane)) → read_given m planes ≡ handed_over kind b → read_given m (handed_out None kind planes) ≡ handed_out None kind b
 out_read m Mmap planes b e = refl
 out_read m UserPtr planes b e = e
 out_read m DmaBuf planes b e = refl
@@ -91,15 +91,15 @@ nothing_apart : (o : ℕ) → (0 + o) + 0 ≡ 0 + o
 nothing_apart o = omega arith
 
 -- the planes of a buffer that goes to the application are the queue's no more
-pub out_count : (bs : List (Buffer Plane)) (kind : Memory) (index o fd : ℕ) → (fd_times fd (values_held kind (changed (dequeued_from kind) index bs)) + o) + fd_times fd (values_by_fd kind (option_to_list (planes_at bs index))) ≡ fd_times fd (values_held kind bs) + o
+pub out_count : (bs : List (Buffer Plane)) (kind : Memory) (index o fd : ℕ) → (fd_times fd (values_held kind (change_at (dequeued_from kind) index bs)) + o) + fd_times fd (values_by_fd kind (option_to_list (planes_at bs index))) ≡ fd_times fd (values_held kind bs) + o
 out_count bs Mmap index o fd = nothing_apart o
 out_count bs UserPtr index o fd = nothing_apart o
 out_count bs DmaBuf index o fd =
-    apart (in_buffers fd bs) (in_buffers fd (changed (dequeued_from DmaBuf) index bs)) (fd_times fd (values_of (option_to_list (planes_at bs index)))) o (let_out (dequeued_from DmaBuf) index bs fd (λ b. refl))
+    apart (in_buffers fd bs) (in_buffers fd (change_at (dequeued_from DmaBuf) index bs)) (fd_times fd (values_of (option_to_list (planes_at bs index)))) o (let_out (dequeued_from DmaBuf) index bs fd (λ b. refl))
 
-out_once : (bs : List (Buffer Plane)) (kind : Memory) (index : ℕ) (out : List (ℕ × Plane)) (before : Names Plane) → AreOnce (λ fd. fd_times fd (values_held kind bs) + fd_times fd out) before → AreOnce (λ x. (fd_times x (values_held kind (changed (dequeued_from kind) index bs)) + fd_times x out) + fd_times x (values_by_fd kind (option_to_list (planes_at bs index)))) before
+out_once : (bs : List (Buffer Plane)) (kind : Memory) (index : ℕ) (out : List (ℕ × Plane)) (before : Names Plane) → AreOnce (λ fd. fd_times fd (values_held kind bs) + fd_times fd out) before → AreOnce (λ x. (fd_times x (values_held kind (change_at (dequeued_from kind) index bs)) + fd_times x out) + fd_times x (values_by_fd kind (option_to_list (planes_at bs index)))) before
 out_once bs kind index out before linked =
-    λ (x : ℕ). once_same (fd_times x (values_held kind bs) + fd_times x out) ((fd_times x (values_held kind (changed (dequeued_from kind) index bs)) + fd_times x out) + fd_times x (values_by_fd kind (option_to_list (planes_at bs index)))) (before x) (before x)
+    λ (x : ℕ). once_same (fd_times x (values_held kind bs) + fd_times x out) ((fd_times x (values_held kind (change_at (dequeued_from kind) index bs)) + fd_times x out) + fd_times x (values_by_fd kind (option_to_list (planes_at bs index)))) (before x) (before x)
     (out_count bs kind index (fd_times x out) x) refl (linked x)
 
 module _ {P : Type 0} (m : P → Plane) where
@@ -112,14 +112,14 @@ module _ {P : Type 0} (m : P → Plane) where
       let buffer = t.0.2.0 in
       let planes : planes_at s.body.buffers answer.index ≡ buffer.planes = planes_got s.body.buffers answer.index buffer t.0.2.1 in
       let hs = option_to_list (planes_at s.body.buffers answer.index) in
-      let n : ℕ → ℕ = λ x. fd_times x (values_held s.body.kind (changed (dequeued_from s.body.kind) answer.index s.body.buffers)) + fd_times x j.out in
+      let n : ℕ → ℕ = λ x. fd_times x (values_held s.body.kind (change_at (dequeued_from s.body.kind) answer.index s.body.buffers)) + fd_times x j.out in
       let lets_here : LetsOut s.body.kind (option_to_list answer.planes) a b = subst (λ x. LetsOut x (option_to_list answer.planes) a b) k lets in
       let read : s.body.kind ≡ DmaBuf → map (read_set m) (option_to_list answer.planes) ≡ hs =
       λ (e : s.body.kind ≡ DmaBuf). list_read m answer.planes ∙ ap option_to_list (t.0.2.2.planes ∙ (handed_all s.body.kind buffer.planes e ∙ sym planes)) in
       let l : IsLeft m s.body.kind hs n j.names b = left m s.body.kind (option_to_list answer.planes) hs n a b j.names stands.names lets_here read (out_once s.body.buffers s.body.kind answer.index j.out j.names stands.linked) in
       subst (λ (d : Dequeued P). AppliesAt {P = P} {A = A} m j (call.DqBuf type) (Ok (reply.Dequeued d)) q' b) (sym (tells ∙ ap (λ x. record answer { planes = handed_out None x answer.planes }) k)) (
         (
-          (t.0.0, t.0.1, (buffer, t.0.2.1, record { sequence = t.0.2.2.sequence; timestamp = t.0.2.2.timestamp; flags = t.0.2.2.flags; used = t.0.2.2.used; planes = ap (handed s.body.kind) planes })),
+          (t.0.0, t.0.1, (buffer, t.0.2.1, record { sequence = t.0.2.2.sequence; timestamp = t.0.2.2.timestamp; flags = t.0.2.2.flags; used = t.0.2.2.used; planes = ap (handed_over s.body.kind) planes })),
           out_read m s.body.kind answer.planes buffer.planes t.0.2.2.planes ∙ ap (handed_out None s.body.kind) (sym planes),
         ),
         record { queue = t.1; names = l.names; linked = l.once },
@@ -149,7 +149,7 @@ new_none count UserPtr sets b e fd = refl
 new_none count DmaBuf sets b e fd =
     let p : Passed (request_checks count DmaBuf sets b) = all_passed (request_checks count DmaBuf sets b) e in
     let serves_it : is_supply b.shape b.min_queued count DmaBuf sets ≡ true = true_of (is_supply b.shape b.min_queued count DmaBuf sets) p.1.1.0 in
-    let none : sets ≡ [] = no_supply (nat_lt 0 count) ((length sets == granted b.min_queued count) && list_all (serves b.shape) sets) sets serves_it in
+    let none : sets ≡ [] = no_supply (nat_lt 0 count) ((length sets == grant_count b.min_queued count) && list_all (serves b.shape) sets) sets serves_it in
     ap (λ l. in_buffers fd (new_buffers (grants_or_none b.min_queued count) l)) none ∙ none_in_new (grants_or_none b.min_queued count) fd
 
 alone : (a o : ℕ) → a ≡ 0 → a + o ≡ o
@@ -159,7 +159,7 @@ new_linked : (count : ℕ) (kind : Memory) (sets : List (PlaneSet Plane)) (b : B
 new_linked count kind sets b out n e once =
     λ (x : ℕ). once_same (fd_times x out) (fd_times x (values_held kind (body_requested count kind sets b).buffers) + fd_times x out) (n x) (n x) (alone (fd_times x (values_held kind (body_requested count kind sets b).buffers)) (fd_times x out) (new_none count kind sets b e x)) refl (once x)
 
-left_all : (kind : Memory) (bs : List (Buffer Plane)) → kind ≡ DmaBuf → left_in kind bs ≡ held bs
+left_all : (kind : Memory) (bs : List (Buffer Plane)) → kind ≡ DmaBuf → left_in kind bs ≡ held_sets bs
 left_all Mmap bs e = absurd (cc)
 left_all UserPtr bs e = refl
 left_all DmaBuf bs e = refl
@@ -167,12 +167,12 @@ left_all DmaBuf bs e = refl
 behind : (a o : ℕ) → o + a ≡ a + o
 behind a o = omega arith
 
-old_once : (bs : List (Buffer Plane)) (kind : Memory) (out : List (ℕ × Plane)) (before : Names Plane) → AreOnce (λ fd. fd_times fd (values_held kind bs) + fd_times fd out) before → AreOnce (λ x. fd_times x out + fd_times x (values_by_fd kind (held bs))) before
+old_once : (bs : List (Buffer Plane)) (kind : Memory) (out : List (ℕ × Plane)) (before : Names Plane) → AreOnce (λ fd. fd_times fd (values_held kind bs) + fd_times fd out) before → AreOnce (λ x. fd_times x out + fd_times x (values_by_fd kind (held_sets bs))) before
 old_once bs kind out before linked =
-    λ (x : ℕ). once_same (fd_times x (values_held kind bs) + fd_times x out) (fd_times x out + fd_times x (values_by_fd kind (held bs))) (before x) (before x)
+    λ (x : ℕ). once_same (fd_times x (values_held kind bs) + fd_times x out) (fd_times x out + fd_times x (values_by_fd kind (held_sets bs))) (before x) (before x)
     (behind (fd_times x (values_held kind bs)) (fd_times x out)) refl (linked x)
 
-out_all : {P : Type 0} (m : P → Plane) (kind : Memory) (sets : List (PlaneSet P)) (bs : List (Buffer Plane)) → map (read_set m) sets ≡ left_in kind bs → map (read_set m) (handed_out [] kind sets) ≡ handed_out [] kind (held bs)
+out_all : {P : Type 0} (m : P → Plane) (kind : Memory) (sets : List (PlaneSet P)) (bs : List (Buffer Plane)) → map (read_set m) sets ≡ left_in kind bs → map (read_set m) (handed_out [] kind sets) ≡ handed_out [] kind (held_sets bs)
 out_all m Mmap sets bs e = refl
 out_all m UserPtr sets bs e = e
 out_all m DmaBuf sets bs e = refl
@@ -185,9 +185,9 @@ module _ {P A : Type 0} (m : P → Plane) where
       let s = j.queue in
       let k : own ≡ s.body.kind = is ∙ ap (λ x. x.kind) stands.queue.shown.body in
       let lets_here : LetsOut s.body.kind g.left.items a b = subst (λ x. LetsOut x g.left.items a b) k lets in
-      let l : IsLeft m s.body.kind (held s.body.buffers) (λ x. fd_times x j.out) j.names b =
-      left m s.body.kind g.left.items (held s.body.buffers) (λ x. fd_times x j.out) a b j.names stands.names lets_here (λ (e : s.body.kind ≡ DmaBuf). t.0.2 ∙ left_all s.body.kind s.body.buffers e) (old_once s.body.buffers s.body.kind j.out j.names stands.linked) in
-      let after = names_left s.body.kind (held s.body.buffers) j.names in (
+      let l : IsLeft m s.body.kind (held_sets s.body.buffers) (λ x. fd_times x j.out) j.names b =
+      left m s.body.kind g.left.items (held_sets s.body.buffers) (λ x. fd_times x j.out) a b j.names stands.names lets_here (λ (e : s.body.kind ≡ DmaBuf). t.0.2 ∙ left_all s.body.kind s.body.buffers e) (old_once s.body.buffers s.body.kind j.out j.names stands.linked) in
+      let after = names_left s.body.kind (held_sets s.body.buffers) j.names in (
         ((t.0.0, counts ∙ t.0.1, refl), ap (map (read_set m)) (leaves ∙ ap (λ x. handed_out [] x g.left.items) k) ∙ out_all m s.body.kind g.left.items s.body.buffers t.0.2),
         record {
           queue = t.1;

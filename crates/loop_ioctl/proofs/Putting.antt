@@ -14,9 +14,9 @@ use Rattle.loop_vb2.specs.declared.reason.Reason.TheVariants.{BadIndex, BadMemor
 use Rattle.loop_vb2.specs.declared.reason.Refused.{Refused}
 use Rattle.loop_vb2.specs.Errnos.{errno}
 use Rattle.loop_vb2.specs.Planes.{read_set, read_given, same_memory, are_kind, misfits}
-use Rattle.loop_vb2.specs.Buffers.{holds_at, woken, queued_with, prepared_with, read_buffer}
+use Rattle.loop_vb2.specs.Buffers.{holds_at, wake_buffer, queued_with, prepared_with, read_buffer}
 use Rattle.loop_vb2.specs.Checks.{prepare_checks, queue_checks, prepare_refusal, queue_refusal}
-use Rattle.loop_vb2.specs.Effects.{device_runs, awake, settled, with_buffer, prepared, queued}
+use Rattle.loop_vb2.specs.Effects.{device_runs, awake, settle_device, with_buffer, after_prepare, after_queue}
 use Rattle.loop_vb2.specs.State.{Body, QueueState, Lined, StandsQueue}
 use Rattle.loop_vb2.specs.Events.{Event, MayHappen, Happens, after_event, refusal_in, prepare_buf, qbuf}
 use Rattle.loop_vb2.proofs.Ordered.{not_refused}
@@ -57,8 +57,8 @@ use_refusal Prepare index kind given b = prepare_refusal index kind given b
 use_refusal Queue index kind given b = queue_refusal index kind given b
 
 abbrev pub used : Use → ℕ → Option (PlaneSet Plane) → QueueState → QueueState
-used Prepare index given s = prepared index given s
-used Queue index given s = queued index given s
+used Prepare index given s = after_prepare index given s
+used Queue index given s = after_queue index given s
 
 -- what QBUF and PREPARE_BUF of given planes have found where they aren't refused
 pub record IsFit (index : ℕ) (k : Memory) (b : Body Plane) : Type 0 where
@@ -80,11 +80,11 @@ fit Queue index kind set b e = let p : Passed (queue_checks index kind (Some set
 
 -- ---- the fds of a queue through such a call
 
-pub settled_fds : (b : Body Plane) (fd : ℕ) → in_buffers fd (settled b).buffers ≡ in_buffers fd b.buffers
+pub settled_fds : (b : Body Plane) (fd : ℕ) → in_buffers fd (settle_device b).buffers ≡ in_buffers fd b.buffers
 settled_fds b fd =
-    elim (device_runs b) as (λ t. in_buffers fd (cond t (awake b) b).buffers ≡ in_buffers fd b.buffers) [ true ↦ kept_mapped woken b.buffers fd (λ x d. refl) | false ↦ refl ]
+    elim (device_runs b) as (λ t. in_buffers fd (cond t (awake b) b).buffers ≡ in_buffers fd b.buffers) [ true ↦ kept_mapped wake_buffer b.buffers fd (λ x d. refl) | false ↦ refl ]
 
-pub settled_kind : (b : Body Plane) → (settled b).kind ≡ b.kind
+pub settled_kind : (b : Body Plane) → (settle_device b).kind ≡ b.kind
 settled_kind b = elim (device_runs b) as (λ t. (cond t (awake b) b).kind ≡ b.kind) [ true ↦ refl | false ↦ refl ]
 
 pub used_kind : (way : Use) (index : ℕ) (given : Option (PlaneSet Plane)) (s : QueueState) → (used way index given s).body.kind ≡ s.body.kind

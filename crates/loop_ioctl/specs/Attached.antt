@@ -5,7 +5,7 @@ use Rattle.loop_plane.specs.declared.memory.Memory.{Memory}
 use Rattle.loop_plane.specs.declared.memory.Memory.TheVariants.{Mmap, UserPtr, DmaBuf}
 use Rattle.loop_vb2.specs.declared.buffer.Buffer.{Buffer}
 use Rattle.loop_vb2.specs.declared.planes.PlaneSet.{PlaneSet}
-use Rattle.loop_vb2.specs.Requests.{held}
+use Rattle.loop_vb2.specs.Requests.{held_sets}
 use Rattle.loop_vb2.specs.State.{Body}
 use Rattle.loop_ioctl.specs.Names.{Names, values_of}
 
@@ -23,7 +23,7 @@ module _ {T : Type 0} where
 
   -- those that lie in a queue's buffers
   abbrev pub values_held : Memory → List (Buffer T) → List (ℕ × T)
-  values_held kind bs = values_by_fd kind (held bs)
+  values_held kind bs = values_by_fd kind (held_sets bs)
 
   -- an fd is there not at all, or once, and then it is attached
   abbrev pub IsOnce : ℕ → Option (Option T) → Type 0

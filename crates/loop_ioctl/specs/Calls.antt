@@ -12,11 +12,11 @@ use Rattle.loop_vb2.specs.declared.reason.Reason.TheVariants.{BadType, BadIndex,
 use Rattle.loop_vb2.specs.declared.reason.Refused.{Refused}
 use Rattle.loop_vb2.specs.Planes.{read_set, read_given, same_memory}
 use Rattle.loop_vb2.specs.Answers.{read_answer}
-use Rattle.loop_vb2.specs.Buffers.{handed}
+use Rattle.loop_vb2.specs.Buffers.{handed_over}
 use Rattle.loop_vb2.specs.Checks.{first_reason}
 use Rattle.loop_vb2.specs.Errnos.{errno}
 use Rattle.loop_vb2.specs.Events.{Event, MayHappen, after_event, refusal_in, reqbufs, prepare_buf, qbuf, dqbuf, streamon, streamoff, querybuf, mmap, munmap}
-use Rattle.loop_vb2.specs.Requests.{held, left_in}
+use Rattle.loop_vb2.specs.Requests.{held_sets, left_in}
 use Rattle.loop_vb2.specs.State.{Body, QueueState, Lined, StandsQueue}
 use Rattle.loop_ioctl.specs.declared.call.BufferMemory.{BufferMemory}
 use Rattle.loop_ioctl.specs.declared.call.BufferMemory.TheVariants as memory
@@ -95,7 +95,7 @@ module _ {P A : Type 0} (meaning : P → Plane) where
   call_event (call.QBuf type index given) result j =
       plain_event (qbuf index (kind_named given) (planes_brought meaning given j.names)) result
   call_event (call.DqBuf type) (Ok (reply.Dequeued answer)) j = Some (dqbuf (Ok (record (read_answer meaning answer) {
-    planes = handed j.queue.body.kind (planes_at j.queue.body.buffers answer.index);
+    planes = handed_over j.queue.body.kind (planes_at j.queue.body.buffers answer.index);
   })))
   call_event (call.DqBuf type) (Err r) j = Some (dqbuf (Err r.errno))
   call_event (call.StreamOn type) result j = plain_event streamon result
@@ -179,7 +179,7 @@ module _ {P A : Type 0} where
   -- a reply hands out the planes that leave the queue
   abbrev pub HandsOut : (P → Plane) → IoctlState → IoctlReply P A → Type 0
   HandsOut meaning j (reply.Granted g) =
-      map (read_set meaning) g.left.items ≡ handed_out [] j.queue.body.kind (held j.queue.body.buffers)
+      map (read_set meaning) g.left.items ≡ handed_out [] j.queue.body.kind (held_sets j.queue.body.buffers)
   HandsOut meaning j (reply.Dequeued answer) =
       read_given meaning answer.planes
       ≡ handed_out None j.queue.body.kind (planes_at j.queue.body.buffers answer.index)
@@ -195,7 +195,7 @@ module _ {P A : Type 0} where
   names_after (call.PrepareBuf type index given) j r = names_taken given j.names
   names_after (call.QBuf type index given) j r = names_taken given j.names
   names_after (call.ReqBufs type count kind supply) j r =
-      names_left j.queue.body.kind (held j.queue.body.buffers) j.names
+      names_left j.queue.body.kind (held_sets j.queue.body.buffers) j.names
   names_after (call.DqBuf type) j (reply.Dequeued answer) =
       names_left j.queue.body.kind (option_to_list (planes_at j.queue.body.buffers answer.index)) j.names
   names_after c j r = j.names

@@ -55,12 +55,12 @@ module _ {P A : Type 0} (meaning : P → Plane) where
   abbrev pub IsTurn : IoctlState → QueueEvent P A × QueueReply P A → Type 0
   IsTurn j turn = IsTold turn.0 turn.1 j
 
-  abbrev pub turned : IoctlState → QueueEvent P A × QueueReply P A → IoctlState
-  turned j turn = state_after turn.0 turn.1 j
+  abbrev pub after_reply : IoctlState → QueueEvent P A × QueueReply P A → IoctlState
+  after_reply j turn = state_after turn.0 turn.1 j
 
   -- the model of the ioctls and of the device's calls
   abbrev pub ioctl_machine : Machine IoctlState (QueueEvent P A × QueueReply P A)
-  ioctl_machine = record { after = turned; May = IsTurn }
+  ioctl_machine = record { after = after_reply; May = IsTurn }
 
   -- one event: the reply is the model's, and queue and table stand for the state after it
   abbrev pub Reacts : QueueEvent P A → QueueReply P A → Lined P → Fds P → Lined P → Fds P → Type 0

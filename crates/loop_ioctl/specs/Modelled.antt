@@ -13,7 +13,7 @@ use Rattle.loop_ioctl.specs.declared.events.QueueEvent.TheVariants as event
 use Rattle.loop_ioctl.specs.declared.events.QueueReply.{QueueReply}
 use Rattle.loop_ioctl.specs.declared.events.QueueReply.TheVariants as answer
 use Rattle.loop_ioctl.specs.Calls.{IoctlState, StandsIoctl, call_event, refusal_before}
-use Rattle.loop_ioctl.specs.Events.{IsTurn, Runs, device_event, turned, turns}
+use Rattle.loop_ioctl.specs.Events.{IsTurn, Runs, device_event, after_reply, turns}
 
 -- what is refused before it comes to the queue is no event of it
 abbrev pub unless_refused : Option Reason → List Event → List Event
@@ -32,7 +32,7 @@ module _ {P A : Type 0} (meaning : P → Plane) where
 
   -- those of a whole list, one after the other
   abbrev pub events_in : IoctlState → List (QueueEvent P A × QueueReply P A) → List Event
-  events_in j turns = told_in (turned meaning) events_of j turns
+  events_in j turns = told_in (after_reply meaning) events_of j turns
 
   -- buffers are dequeued in the order in which they ended
   abbrev pub RunsInOrder : List (QueueEvent P A) → List (QueueReply P A) → Lined P → Fds P → Lined P → Type 0
@@ -43,9 +43,9 @@ module _ {P A : Type 0} (meaning : P → Plane) where
 -- Turns, each told as the model of the ioctls has it, are events of the queue's model, and leave its state.
 abbrev pub TurnsAreEvents : {P : Type 0} → Type 0 → (P → Plane) → Type 0
 TurnsAreEvents {P} A meaning =
-    (j : IoctlState) (xs : List (QueueEvent P A × QueueReply P A)) → EachIn (turned meaning) (IsTurn meaning) j xs
+    (j : IoctlState) (xs : List (QueueEvent P A × QueueReply P A)) → EachIn (after_reply meaning) (IsTurn meaning) j xs
     → EachIn model.after_event model.MayHappen j.queue (events_in meaning j xs)
-    × ((after_all (turned meaning) j xs).queue ≡ after_all model.after_event j.queue (events_in meaning j xs))
+    × ((after_all (after_reply meaning) j xs).queue ≡ after_all model.after_event j.queue (events_in meaning j xs))
 
 -- Whatever the lists, a run's buffers are dequeued in the order in which they ended.
 abbrev pub RunsAreInOrder : {P : Type 0} → Type 0 → (P → Plane) → Type 0

@@ -5,7 +5,7 @@ use Rattle.std.proofs.lemmas.List.{take_all, take-append-le, take_more}
 use Rattle.std.proofs.lemmas.List.Sums.{fold-append}
 use Rattle.loop_disk.specs.declared.fault.Failures.{Failures}
 use Rattle.loop_disk.specs.declared.fault.DiskFault.{DiskFault}
-use Rattle.loop_disk.specs.Medium.{Medium, SameOutside, TornAt, written}
+use Rattle.loop_disk.specs.Medium.{Medium, SameOutside, TornAt, with_bytes_at}
 use Rattle.loop_disk.specs.Calls.{Stays, Syncs, Writes}
 use Rattle.loop_disk.proofs.Images.{length-written, untouched, written_outside}
 use Rattle.loop_overlay.specs.Layers.{KeptWrite, laid, laid_on, overlaid}
@@ -17,11 +17,11 @@ laid_more writes w image = fold-append laid_on image writes (w ∷ [])
 
 -- one that fits
 laid_fits : (writes : List KeptWrite) (w : KeptWrite) (image : List ℕ) → w.at + length w.bytes ≤ length image
-    → laid (writes ++ w ∷ []) image ≡ written w.at w.bytes (laid writes image)
+    → laid (writes ++ w ∷ []) image ≡ with_bytes_at w.at w.bytes (laid writes image)
 laid_fits writes w image fits =
     let size = length-laid writes image in
     laid_more writes w image
-    ∙ take_all (length (laid writes image)) (written w.at w.bytes (laid writes image)) (omega (arith, length-written w.at w.bytes (laid writes image) (omega (arith, fits, size))))
+    ∙ take_all (length (laid writes image)) (with_bytes_at w.at w.bytes (laid writes image)) (omega (arith, length-written w.at w.bytes (laid writes image) (omega (arith, fits, size))))
 
 torn_now : (m : Medium) (writes : List KeptWrite) (f : Failures) (at n : ℕ) (c : List ℕ) → SameOutside at n (laid writes m.bytes) c → TornAt at n (overlaid m writes f) c
 torn_now m writes f at n c outside = (laid writes m.bytes, refl, outside)
@@ -32,8 +32,8 @@ pub kept_write : (m : Medium) (writes : List KeptWrite) (f : Failures) (w : Kept
 kept_write m writes f w fits =
     let now = laid writes m.bytes in
     let n = length w.bytes in
-    let done : laid (writes ++ w ∷ []) m.bytes ≡ written w.at w.bytes now = laid_fits writes w m.bytes fits in
-    let outside : SameOutside w.at n now (written w.at w.bytes now) = written_outside w.at w.bytes now (omega (arith, fits, length-laid writes m.bytes)) in
+    let done : laid (writes ++ w ∷ []) m.bytes ≡ with_bytes_at w.at w.bytes now = laid_fits writes w m.bytes fits in
+    let outside : SameOutside w.at n now (with_bytes_at w.at w.bytes now) = written_outside w.at w.bytes now (omega (arith, fits, length-laid writes m.bytes)) in
     let torn : (c : List ℕ) → c ≡ laid (writes ++ w ∷ []) m.bytes → TornAt w.at n (overlaid m writes f) c =
     λ c left. torn_now m writes f w.at n c (subst (λ (l : List ℕ). SameOutside w.at n now l) (sym (left ∙ done)) outside) in
     let longer : length (writes ++ w ∷ []) ≡ length writes + 1 = length-append writes (w ∷ []) in

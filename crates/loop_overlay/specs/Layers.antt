@@ -1,7 +1,7 @@
 -- Writes that lie over an image, and the disk that shows them over another.
 use Rattle.std.specs.Prelude.{◌≡◌, ℕ, ◌≤◌, List, fold, length, take}
 use Rattle.loop_disk.specs.declared.fault.Failures.{Failures}
-use Rattle.loop_disk.specs.Medium.{Medium, written}
+use Rattle.loop_disk.specs.Medium.{Medium, with_bytes_at}
 
 -- a write that is kept: the place that it begins at, and its bytes
 pub record KeptWrite : Type 0 where
@@ -10,7 +10,7 @@ pub record KeptWrite : Type 0 where
 
 -- the image with a write over it, and no longer than it was
 abbrev pub laid_on : List ℕ → KeptWrite → List ℕ
-laid_on image w = take (length image) (written w.at w.bytes image)
+laid_on image w = take (length image) (with_bytes_at w.at w.bytes image)
 
 -- the image with writes over it, the first one first
 abbrev pub laid : List KeptWrite → List ℕ → List ℕ

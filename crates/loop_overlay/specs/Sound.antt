@@ -2,7 +2,7 @@
 use Rattle.std.proofs.Common.{◌≡◌, ℕ, ◌+◌, ◌≤◌, List, [], ◌∷◌, ◌++◌, length, take, drop, refl, sym, ◌∙◌, ap, arith, length-append, length-take, length-drop}
 use Rattle.std.proofs.lemmas.List.{take_all}
 use Rattle.loop_disk.specs.declared.fault.Failures.{Failures}
-use Rattle.loop_disk.specs.Medium.{IsSound, Medium, written}
+use Rattle.loop_disk.specs.Medium.{IsSound, Medium, with_bytes_at}
 use Rattle.loop_overlay.specs.Layers.{KeptWrite, laid, laid_on, overlaid}
 
 pub length-laid_on : (image : List ℕ) (w : KeptWrite) → length (laid_on image w) ≡ length image
@@ -10,7 +10,7 @@ length-laid_on image w =
     let end = w.at + length w.bytes in
     let front = length-append (take w.at image) w.bytes in
     let whole = length-append (take w.at image ++ w.bytes) (drop end image) in
-    let cut = length-take (length image) (written w.at w.bytes image) in
+    let cut = length-take (length image) (with_bytes_at w.at w.bytes image) in
     omega (arith, cut, whole, front, length-take w.at image, length-drop end image)
 
 pub length-laid : (writes : List KeptWrite) (image : List ℕ) → length (laid writes image) ≡ length image

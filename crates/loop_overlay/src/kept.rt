@@ -1,6 +1,6 @@
 // The writes that are kept in memory.
 ghost use Rattle.std.specs.Prelude.{◌≡◌, ◌≤◌, ◌+◌, ◌++◌, [], ◌∷◌, List, OnErr, OnOk, length, ℕ};
-ghost use Rattle.loop_disk.specs.Medium.{written};
+ghost use Rattle.loop_disk.specs.Medium.{with_bytes_at};
 ghost use Rattle.loop_overlay.specs.Layers.{laid, laid_on};
 ghost use Rattle.loop_overlay.specs.Parts.{IsBufferOf};
 
@@ -40,7 +40,7 @@ impl<A: Allocator> Kept<A> {
 // Puts bytes in their place.
 fn put(buf: &mut [u8], at: usize, bytes: &[u8])
     requires { at + length bytes.now ≤ length buf.old }
-    ensures { buf.new ≡ written at bytes.now buf.old }
+    ensures { buf.new ≡ with_bytes_at at bytes.now buf.old }
 {
     buf[at..at + bytes.len()].copy_from_slice(bytes);
 }

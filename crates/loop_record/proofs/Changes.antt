@@ -12,7 +12,7 @@ use Rattle.loop_record.specs.declared.geometry.Geometry.{Geometry}
 use Rattle.loop_record.specs.Geometry.{frame_bytes}
 use Rattle.loop_record.specs.Recording.{Recording, Ring, store, plain}
 use Rattle.loop_record.specs.Layout.{Slot, Segment}
-use Rattle.loop_record.specs.Reading.{frames_of, all_frames, next_after, lacks_frame, is_high, repeats, is_bad_slot, hold_from, has_bad_clip, recording_of, checked, begun}
+use Rattle.loop_record.specs.Reading.{frames_of, all_frames, next_after, lacks_frame, is_high, repeats, is_bad_slot, hold_from, has_bad_clip, recording_of, recording_or_damage, empty_segment}
 use Rattle.loop_record.proofs.Growth.{AllBelow, grown, checked-grown}
 use Rattle.loop_record.proofs.Segments.{AllAbove, has_block, any_move, repeats_move}
 use Rattle.loop_record.proofs.Decided.{neither}
@@ -38,7 +38,7 @@ ok x = Ok x
 done : {X : Type 0} (x y : X) → ok x ≡ ok y → x ≡ y
 done x y e = cc
 
-pub shown_of : (g : Geometry) (ss : List Segment) (clips : List (Option Span)) (r : Recording) → checked g ss clips ≡ Ok r → Shown g ss clips r
+pub shown_of : (g : Geometry) (ss : List Segment) (clips : List (Option Span)) (r : Recording) → recording_or_damage g ss clips ≡ Ok r → Shown g ss clips r
 shown_of g ss clips r e =
     let p1 = passed (list_any (is_high g) ss) BlockTooHigh _ r e in
     let p2 = passed (repeats ss) RepeatedBlock _ r p1.1 in
@@ -47,7 +47,7 @@ shown_of g ss clips r e =
     let p5 = passed (has_bad_clip (recording_of g ss clips)) ClipRange _ r p4.1 in
     record { low_enough = p1.0; single = p2.0; full = p3.0; right = p4.0; held = p5.0; is = done (recording_of g ss clips) r p5.1 }
 
-pub of_shown : (g : Geometry) (ss : List Segment) (clips : List (Option Span)) (r : Recording) → Shown g ss clips r → checked g ss clips ≡ Ok r
+pub of_shown : (g : Geometry) (ss : List Segment) (clips : List (Option Span)) (r : Recording) → Shown g ss clips r → recording_or_damage g ss clips ≡ Ok r
 of_shown g ss clips r s =
     (λ i. cond (s.low_enough i) (Err BlockTooHigh) (cond (s.single i) (Err RepeatedBlock) (cond (s.full i) (Err ClosedGate) (cond (s.right i) (Err SlotHead) (cond (s.held i) (Err ClipRange) (ok (s.is i)))))))
 
@@ -73,11 +73,11 @@ grown-last ts (s ∷ t ∷ ss) u = ap (λ vs. s ∷ vs) (grown-last ts (t ∷ ss
 
 pub checked-commit : (ring : Ring) (g : Geometry) (ts : List Slot) (u : Segment) (lower higher : List Segment) (clips : List (Option Span)) (r : Recording)
     → AllAbove u.block higher → r.next < (u.block + 1) * g.slots → hold_from (frame_bytes g) r.next ts ≡ true
-    → checked g (lower ++ u ∷ higher) clips ≡ Ok r
-    → checked g (lower ++ record u { slots = u.slots ++ ts } ∷ higher) clips ≡ Ok (plain ring r (map store (map (λ t. t.picture) ts)))
+    → recording_or_damage g (lower ++ u ∷ higher) clips ≡ Ok r
+    → recording_or_damage g (lower ++ record u { slots = u.slots ++ ts } ∷ higher) clips ≡ Ok (plain ring r (map store (map (λ t. t.picture) ts)))
 checked-commit ring g ts u [] [] clips r above within hold e = checked-grown ring g ts u [] clips r e hold
 checked-commit ring g ts u (s ∷ lower) [] clips r above within hold e =
-    sym (ap (λ vs. checked g vs clips) (grown-last ts (s ∷ lower) u)) ∙ checked-grown ring g ts s (lower ++ u ∷ []) clips r e hold
+    sym (ap (λ vs. recording_or_damage g vs clips) (grown-last ts (s ∷ lower) u)) ∙ checked-grown ring g ts s (lower ++ u ∷ []) clips r e hold
 checked-commit ring g ts u lower (h ∷ hs) clips r above within hold e =
     let is = (shown_of g (lower ++ u ∷ h ∷ hs) clips r e).is in
     let next : r.next ≡ next_after g (h ∷ hs) = sym (ap (λ (q : Recording). q.next) is) ∙ next_after-behind g lower u (h ∷ hs) in
@@ -85,7 +85,7 @@ checked-commit ring g ts u lower (h ∷ hs) clips r above within hold e =
 
 -- where the next number comes in it
 pub newest-next : (g : Geometry) (u : Segment) (lower higher : List Segment) (clips : List (Option Span)) (r : Recording)
-    → AllAbove u.block higher → r.next < (u.block + 1) * g.slots → checked g (lower ++ u ∷ higher) clips ≡ Ok r → r.next ≡ u.block * g.slots + length u.slots
+    → AllAbove u.block higher → r.next < (u.block + 1) * g.slots → recording_or_damage g (lower ++ u ∷ higher) clips ≡ Ok r → r.next ≡ u.block * g.slots + length u.slots
 newest-next g u lower [] clips r above within e =
     sym (ap (λ (q : Recording). q.next) (shown_of g (lower ++ u ∷ []) clips r e).is) ∙ next_after-behind g lower u []
 newest-next g u lower (h ∷ hs) clips r above within e =
@@ -117,7 +117,7 @@ full_last g b s below fits next =
     let is : length s.slots ≡ g.slots = omega (arith, le, split, most, next) in
     grind (arith, nat_tests, is)
 
-lacks_frame-begun : (g : Geometry) (b : ℕ) (ss : List Segment) → AllBelow b ss → list_any (is_overfull g) ss ≡ false → next_after g ss ≡ b * g.slots → lacks_frame g ss ≡ false → lacks_frame g (ss ++ begun b ∷ []) ≡ false
+lacks_frame-begun : (g : Geometry) (b : ℕ) (ss : List Segment) → AllBelow b ss → list_any (is_overfull g) ss ≡ false → next_after g ss ≡ b * g.slots → lacks_frame g ss ≡ false → lacks_frame g (ss ++ empty_segment b ∷ []) ≡ false
 lacks_frame-begun g b [] below fits next full = refl
 lacks_frame-begun g b (s ∷ []) below fits next full =
     let k = neither (is_overfull g s) false fits in
@@ -130,9 +130,9 @@ lacks_frame-begun g b (s ∷ t ∷ ss) below fits next full =
     λ i. f.0 i || rest i
 
 pub checked-begin : (g : Geometry) (b : ℕ) (lower higher : List Segment) (clips : List (Option Span)) (r : Recording)
-    → 1 ≤ g.slots → AllBelow b lower → AllAbove b higher → list_any (is_overfull g) (lower ++ higher) ≡ false → r.next ≡ b * g.slots → is_high g (begun b) ≡ false
-    → checked g (lower ++ higher) clips ≡ Ok r
-    → checked g (lower ++ begun b ∷ higher) clips ≡ Ok r
+    → 1 ≤ g.slots → AllBelow b lower → AllAbove b higher → list_any (is_overfull g) (lower ++ higher) ≡ false → r.next ≡ b * g.slots → is_high g (empty_segment b) ≡ false
+    → recording_or_damage g (lower ++ higher) clips ≡ Ok r
+    → recording_or_damage g (lower ++ empty_segment b ∷ higher) clips ≡ Ok r
 checked-begin g b lower (h ∷ hs) clips r some below above fits next low e =
     let is = (shown_of g (lower ++ h ∷ hs) clips r e).is in
     let last : r.next ≡ next_after g (h ∷ hs) = sym (ap (λ (q : Recording). q.next) is) ∙ next_after-behind g lower h hs in
@@ -140,22 +140,22 @@ checked-begin g b lower (h ∷ hs) clips r some below above fits next low e =
     absurd (omega (arith, some, next, last, split, next_after-above g b h hs above))
 checked-begin g b lower [] clips r some below above fits next low e =
     let whole = append-nil lower in
-    let old = shown_of g lower clips r (ap (λ vs. checked g vs clips) (sym whole) ∙ e) in
+    let old = shown_of g lower clips r (ap (λ vs. recording_or_damage g vs clips) (sym whole) ∙ e) in
     let fits' : list_any (is_overfull g) lower ≡ false = ap (list_any (is_overfull g)) (sym whole) ∙ fits in
     let next' : next_after g lower ≡ b * g.slots = ap (λ (q : Recording). q.next) old.is ∙ next in
     let apart = has_block-below b lower below in
-    let same_next : next_after g (lower ++ begun b ∷ []) ≡ next_after g lower = next_after-behind g lower (begun b) [] ∙ omega (arith, next') in
-    let same_frames : all_frames g (lower ++ begun b ∷ []) ≡ all_frames g lower = all_frames-append g lower (begun b ∷ []) ∙ append-nil (all_frames g lower) in
-    let same : recording_of g (lower ++ begun b ∷ []) clips ≡ recording_of g lower clips = λ i. record { next = same_next i; frames = same_frames i; clips = clips } in
+    let same_next : next_after g (lower ++ empty_segment b ∷ []) ≡ next_after g lower = next_after-behind g lower (empty_segment b) [] ∙ omega (arith, next') in
+    let same_frames : all_frames g (lower ++ empty_segment b ∷ []) ≡ all_frames g lower = all_frames-append g lower (empty_segment b ∷ []) ∙ append-nil (all_frames g lower) in
+    let same : recording_of g (lower ++ empty_segment b ∷ []) clips ≡ recording_of g lower clips = λ i. record { next = same_next i; frames = same_frames i; clips = clips } in
     let high : list_any (is_high g) (lower ++ []) ≡ false = ap (list_any (is_high g)) whole ∙ old.low_enough in
     let bad : list_any (is_bad_slot g) (lower ++ []) ≡ false = ap (list_any (is_bad_slot g)) whole ∙ old.right in
     let apart' : has_block b (lower ++ []) ≡ false = ap (has_block b) whole ∙ apart in
     let single' : repeats (lower ++ []) ≡ false = ap repeats whole ∙ old.single in
-    of_shown g (lower ++ begun b ∷ []) clips r (record {
-      low_enough = any_move (is_high g) (begun b) lower [] ∙ (λ i. low i || high i);
-      single = repeats_move (begun b) lower [] ∙ (λ i. apart' i || single' i);
+    of_shown g (lower ++ empty_segment b ∷ []) clips r (record {
+      low_enough = any_move (is_high g) (empty_segment b) lower [] ∙ (λ i. low i || high i);
+      single = repeats_move (empty_segment b) lower [] ∙ (λ i. apart' i || single' i);
       full = lacks_frame-begun g b lower below fits' next' old.full;
-      right = any_move (is_bad_slot g) (begun b) lower [] ∙ bad;
+      right = any_move (is_bad_slot g) (empty_segment b) lower [] ∙ bad;
       held = ap has_bad_clip same ∙ old.held;
       is = same ∙ old.is;
     })

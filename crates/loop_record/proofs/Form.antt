@@ -8,7 +8,7 @@ use Rattle.loop_record.specs.declared.clip.Span.{Span}
 use Rattle.loop_record.specs.declared.geometry.Geometry.{Geometry}
 use Rattle.loop_record.specs.Recording.{Recording, holds_all, RiseBetween, IsWhole, IsWellFormed}
 use Rattle.loop_record.specs.Layout.{Segment, clip_in}
-use Rattle.loop_record.specs.Reading.{frames_of, all_frames, next_after, recording_of, is_bad_clip, has_bad_clip, parts_of, opened, by_block, Holds}
+use Rattle.loop_record.specs.Reading.{frames_of, all_frames, next_after, recording_of, is_bad_clip, has_bad_clip, parts_of, open_segments, by_block, Holds}
 use Rattle.loop_record.proofs.Decided.{neither, not_false, not_below, at_most_test}
 use Rattle.loop_record.proofs.Rising.{RiseBetween-lower, RiseBetween-append, RiseBetween-enumerate, none-each}
 use Rattle.loop_record.proofs.Segments.{Rises, Rises-by_block, repeats-by_block}
@@ -52,9 +52,9 @@ reading-well_formed g r image e =
     let was = reading-stages g r image e in
     let ps = (parts_of g image).segments in
     let clips = (parts_of g image).clips in
-    let ss = by_block (opened ps) in
+    let ss = by_block (open_segments ps) in
     let s = shown_of g ss clips r was.recording in
-    let rises = Rises-by_block (opened ps) (sym (repeats-by_block (opened ps)) ∙ s.single) in
+    let rises = Rises-by_block (open_segments ps) (sym (repeats-by_block (open_segments ps)) ∙ s.single) in
     let rising = rising_of g ss rises (overfull_none g image) in
     let held : has_bad_clip r ≡ false = sym (ap has_bad_clip s.is) ∙ s.held in
     let few : length (recording_of g ss clips).clips ≡ 64 = length-map (range_with_len 0 64) (clip_in image) ∙ length-range 0 64 in

@@ -16,7 +16,7 @@ use Rattle.loop_record.specs.declared.image.Found.{Found}
 use Rattle.loop_record.specs.declared.segment.SegmentHead.{SegmentHead}
 use Rattle.loop_record.specs.Geometry.{frame_bytes, segment_at, segment_size, slot_at, disk_size}
 use Rattle.loop_record.specs.Layout.{Slot, Segment, slot_head, is_open, is_slot_of, is_too_high, slot_in, segment_in, whole_frames, entry_at, clip_in, geometry_in, header_at, checked_header}
-use Rattle.loop_record.specs.Reading.{reading, Contents, Holds, contents, with_geometry, shown, checked, recording_of, is_bad_clip, has_bad_clip, parts_of, opened, by_block, in_place, repeats, lacks_frame, hold_from, is_bad_slot, is_high, next_after, all_frames}
+use Rattle.loop_record.specs.Reading.{reading, Contents, Holds, contents, with_geometry, shown_by, recording_or_damage, recording_of, is_bad_clip, has_bad_clip, parts_of, open_segments, by_block, in_place, repeats, lacks_frame, hold_from, is_bad_slot, is_high, next_after, all_frames}
 use Rattle.loop_record.specs.Plain.{segment_of, segments_of, found_of, found_at, held_clip, lacks_number, table_clips, with_segment, IsIn, AreIn, IsSomeHigh}
 use Rattle.loop_record.proofs.Fresh.{header_at-slice, entry_at-slice}
 use Rattle.std.proofs.Math.Nat.{mul-le-mul_right, add-mul}
@@ -213,42 +213,42 @@ AreIn-insert g x (y ∷ ys) zero i h = (i, h)
 AreIn-insert g x (y ∷ ys) (suc k) i h = (h.0, AreIn-insert g x ys k i h.1)
 
 -- one more segment, of lower index than those before
-pub opened-more : (g : Geometry) (image : List ℕ) (done : ℕ) → done < g.segments → by_block (opened (map (segment_in g image) (range_with_len (g.segments - (done + 1)) (done + 1)))) ≡ with_segment (segment_in g image (g.segments - 1 - done)) (by_block (opened (map (segment_in g image) (range_with_len (g.segments - done) done))))
+pub opened-more : (g : Geometry) (image : List ℕ) (done : ℕ) → done < g.segments → by_block (open_segments (map (segment_in g image) (range_with_len (g.segments - (done + 1)) (done + 1)))) ≡ with_segment (segment_in g image (g.segments - 1 - done)) (by_block (open_segments (map (segment_in g image) (range_with_len (g.segments - done) done))))
 opened-more g image done l =
     let j = g.segments - 1 - done in
     let a : g.segments - (done + 1) ≡ j = omega arith in
     let b : done + 1 ≡ suc done = omega arith in
     let c : j + 1 ≡ g.segments - done = omega (arith, l) in
-    (λ i. by_block (opened (map (segment_in g image) (range_with_len (a i) (b i))))) ∙ go (segment_in g image j)
-    ∙ ap (λ (k : ℕ). with_segment (segment_in g image j) (by_block (opened (map (segment_in g image) (range_with_len k done))))) c
+    (λ i. by_block (open_segments (map (segment_in g image) (range_with_len (a i) (b i))))) ∙ go (segment_in g image j)
+    ∙ ap (λ (k : ℕ). with_segment (segment_in g image j) (by_block (open_segments (map (segment_in g image) (range_with_len k done))))) c
   where
     rest : List (Option Segment)
     rest = map (segment_in g image) (range_with_len (g.segments - 1 - done + 1) done)
 
-    go : (o : Option Segment) → by_block (opened (o ∷ rest)) ≡ with_segment o (by_block (opened rest))
+    go : (o : Option Segment) → by_block (open_segments (o ∷ rest)) ≡ with_segment o (by_block (open_segments rest))
     go None = refl
     go (Some s) = refl
 
-pub some-high : (g : Geometry) (image : List ℕ) (j : ℕ) → j < g.segments → IsSomeHigh g (segment_in g image j) → list_any (is_high g) (by_block (opened (parts_of g image).segments)) ≡ true
-some-high g image j l high = any-by_block (is_high g) (opened (parts_of g image).segments) ∙ among 0 g.segments (omega arith) (omega (arith, l))
+pub some-high : (g : Geometry) (image : List ℕ) (j : ℕ) → j < g.segments → IsSomeHigh g (segment_in g image j) → list_any (is_high g) (by_block (open_segments (parts_of g image).segments)) ≡ true
+some-high g image j l high = any-by_block (is_high g) (open_segments (parts_of g image).segments) ∙ among 0 g.segments (omega arith) (omega (arith, l))
   where
-    first : (o : Option Segment) (xs : List (Option Segment)) → IsSomeHigh g o → list_any (is_high g) (opened (o ∷ xs)) ≡ true
+    first : (o : Option Segment) (xs : List (Option Segment)) → IsSomeHigh g o → list_any (is_high g) (open_segments (o ∷ xs)) ≡ true
     first None xs h = elim h [ ]
-    first (Some s) xs h = λ i. h i || list_any (is_high g) (opened xs)
+    first (Some s) xs h = λ i. h i || list_any (is_high g) (open_segments xs)
 
-    behind : (o : Option Segment) (xs : List (Option Segment)) → list_any (is_high g) (opened xs) ≡ true → list_any (is_high g) (opened (o ∷ xs)) ≡ true
+    behind : (o : Option Segment) (xs : List (Option Segment)) → list_any (is_high g) (open_segments xs) ≡ true → list_any (is_high g) (open_segments (o ∷ xs)) ≡ true
     behind None xs e = e
-    behind (Some s) xs e = or_true (is_high g s) (list_any (is_high g) (opened xs)) e
+    behind (Some s) xs e = or_true (is_high g s) (list_any (is_high g) (open_segments xs)) e
       where
         or_true : (a c : Bool) → c ≡ true → (a || c) ≡ true
         or_true true c e = refl
         or_true false c e = e
 
-    among : (lo n : ℕ) → lo ≤ j → j < lo + n → list_any (is_high g) (opened (map (segment_in g image) (range_with_len lo n))) ≡ true
+    among : (lo n : ℕ) → lo ≤ j → j < lo + n → list_any (is_high g) (open_segments (map (segment_in g image) (range_with_len lo n))) ≡ true
     among lo zero low up = absurd (omega (arith, low, up))
     among lo (suc n) low up = pick (eqb lo j) refl (λ l. among (lo + 1) n l (omega (arith, up)))
       where
-        pick : (t : Bool) → eqb lo j ≡ t → (lo + 1 ≤ j → list_any (is_high g) (opened (map (segment_in g image) (range_with_len (lo + 1) n))) ≡ true) → list_any (is_high g) (opened (map (segment_in g image) (range_with_len lo (suc n)))) ≡ true
+        pick : (t : Bool) → eqb lo j ≡ t → (lo + 1 ≤ j → list_any (is_high g) (open_segments (map (segment_in g image) (range_with_len (lo + 1) n))) ≡ true) → list_any (is_high g) (open_segments (map (segment_in g image) (range_with_len lo (suc n)))) ≡ true
         pick true is rest = first (segment_in g image lo) (map (segment_in g image) (range_with_len (lo + 1) n)) (subst (λ (k : ℕ). IsSomeHigh g (segment_in g image k)) (sym (equal lo j is)) high)
         pick false is rest = behind (segment_in g image lo) (map (segment_in g image) (range_with_len (lo + 1) n)) (rest (beyond is))
           where
@@ -372,7 +372,7 @@ reading-no_geometry image f e = ap (contents image) (sym e)
 pub reading-other_size : (g : Geometry) (image : List ℕ) → (let r : Result Geometry LayoutFault = Ok g in r) ≡ geometry_in image → (length image ≡ disk_size g → ⊥) → reading image ≡ Err (Damaged DiskSize)
 reading-other_size g image e other =
     let sized : eqb (length image) (disk_size g) ≡ false = differ_test (length image) (disk_size g) other in
-    ap (contents image) (sym e) ∙ (λ i. cond (sized i) (with_geometry g (shown g (parts_of g image))) (Err (Damaged DiskSize)))
+    ap (contents image) (sym e) ∙ (λ i. cond (sized i) (with_geometry g (shown_by g (parts_of g image))) (Err (Damaged DiskSize)))
 
 -- found segments aren't too high
 pub AreIn-low : (g : Geometry) (image : List ℕ) (fs : List Found) → AreIn g fs → list_any (is_high g) (segments_of g image fs) ≡ false
@@ -391,18 +391,18 @@ passed t x y e = ap (λ (s : Bool). cond s x y) e
 pub record IsRead (g : Geometry) (image : List ℕ) (ss : List Segment) : Type 0 where
   pub geometry : geometry_in image ≡ Ok g
   pub size : length image ≡ disk_size g
-  pub are : ss ≡ by_block (opened (parts_of g image).segments)
+  pub are : ss ≡ by_block (open_segments (parts_of g image).segments)
 
 abbrev pub clips_in : List ℕ → List (Option Span)
 clips_in image = map (clip_in image) (range_with_len 0 64)
 
-reading-is : (g : Geometry) (image : List ℕ) (ss : List Segment) → IsRead g image ss → reading image ≡ with_geometry g (checked g ss (clips_in image))
+reading-is : (g : Geometry) (image : List ℕ) (ss : List Segment) → IsRead g image ss → reading image ≡ with_geometry g (recording_or_damage g ss (clips_in image))
 reading-is g image ss r =
     let sized : eqb (length image) (disk_size g) ≡ true = equal_test (length image) (disk_size g) r.size in
-    ap (contents image) r.geometry ∙ (λ i. cond (sized i) (with_geometry g (shown g (parts_of g image))) (Err (Damaged DiskSize))) ∙ ap (λ (xs : List Segment). with_geometry g (checked g xs (clips_in image))) (sym r.are)
+    ap (contents image) r.geometry ∙ (λ i. cond (sized i) (with_geometry g (shown_by g (parts_of g image))) (Err (Damaged DiskSize))) ∙ ap (λ (xs : List Segment). with_geometry g (recording_or_damage g xs (clips_in image))) (sym r.are)
 
-pub reading-high : (g : Geometry) (image : List ℕ) → geometry_in image ≡ Ok g → length image ≡ disk_size g → list_any (is_high g) (by_block (opened (parts_of g image).segments)) ≡ true → reading image ≡ Err (Damaged BlockTooHigh)
-reading-high g image e size high = reading-is g image (by_block (opened (parts_of g image).segments)) (record { geometry = e; size = size; are = refl }) ∙ ap (with_geometry g) (picked (list_any (is_high g) (by_block (opened (parts_of g image).segments))) _ _ high)
+pub reading-high : (g : Geometry) (image : List ℕ) → geometry_in image ≡ Ok g → length image ≡ disk_size g → list_any (is_high g) (by_block (open_segments (parts_of g image).segments)) ≡ true → reading image ≡ Err (Damaged BlockTooHigh)
+reading-high g image e size high = reading-is g image (by_block (open_segments (parts_of g image).segments)) (record { geometry = e; size = size; are = refl }) ∙ ap (with_geometry g) (picked (list_any (is_high g) (by_block (open_segments (parts_of g image).segments))) _ _ high)
 
 pub reading-repeats : (g : Geometry) (image : List ℕ) (ss : List Segment) → IsRead g image ss → list_any (is_high g) ss ≡ false → repeats ss ≡ true → reading image ≡ Err (Damaged RepeatedBlock)
 reading-repeats g image ss r low twice = reading-is g image ss r ∙ ap (with_geometry g) (passed (list_any (is_high g) ss) _ _ low ∙ picked (repeats ss) _ _ twice)
@@ -436,7 +436,7 @@ reading-all g image ss s good = segments-sound g image ss s ∙ ap (with_geometr
 pub record IsFoundIn (g : Geometry) (image : List ℕ) (fs xs : List Found) : Type 0 where
   pub geometry : geometry_in image ≡ Ok g
   pub size : length image ≡ disk_size g
-  pub are : segments_of g image fs ≡ by_block (opened (parts_of g image).segments)
+  pub are : segments_of g image fs ≡ by_block (open_segments (parts_of g image).segments)
   pub within : AreIn g fs
   pub same : xs ≡ fs
 

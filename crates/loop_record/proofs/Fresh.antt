@@ -14,7 +14,7 @@ use Rattle.loop_record.specs.declared.geometry.Geometry.{Geometry}
 use Rattle.loop_record.specs.Geometry.{format_named, frame_bytes, is_good, segment_at, slot_at, clip_at}
 use Rattle.loop_record.specs.Recording.{Picture, empty, head}
 use Rattle.loop_record.specs.Layout.{magic, has_bytes, format_at, geometry_fields, checked_geometry, is_open, open_gates, whole_frames, segment_in, entry_at, clip_in, header_at, super_bytes, header_bytes, entry_bytes, geometry_in, slot_in, slot_bytes, slot_head}
-use Rattle.loop_record.specs.Reading.{checked, by_block, opened, begun, Holds, IsFreshImage}
+use Rattle.loop_record.specs.Reading.{recording_or_damage, by_block, open_segments, empty_segment, Holds, IsFreshImage}
 use Rattle.loop_record.specs.Laws.{FitsSlot, WrittenIsRead}
 use Rattle.loop_record.proofs.Bounds.{limits}
 use Rattle.loop_record.proofs.Decided.{equal_test, at_most_test}
@@ -25,7 +25,7 @@ use Rattle.loop_record.proofs.Written.{slot_in-slot_bytes, geometry_in-super_byt
 
 -- ---- a fresh image
 
-none_opened : (g : Geometry) (image : List ℕ) (lo n : ℕ) → ((j : ℕ) → lo ≤ j → j < lo + n → is_open image (segment_at g j) ≡ false) → opened (map (segment_in g image) (range_with_len lo n)) ≡ []
+none_opened : (g : Geometry) (image : List ℕ) (lo n : ℕ) → ((j : ℕ) → lo ≤ j → j < lo + n → is_open image (segment_at g j) ≡ false) → open_segments (map (segment_in g image) (range_with_len lo n)) ≡ []
 none_opened g image lo zero closed = refl
 none_opened g image lo (suc n) closed =
     let first = closed lo (omega arith) (omega arith) in
@@ -44,7 +44,7 @@ reading-fresh g image good f =
     stages-reading g empty image (record {
       geometry = ap geometry_in whole ∙ geometry_in-super_bytes g (drop 512 image) good;
       size = f.size;
-      recording = λ i. checked g (by_block (segments i)) (clips i);
+      recording = λ i. recording_or_damage g (by_block (segments i)) (clips i);
     })
   where
     closed : (id : ℕ) → is_open image (clip_at id) ≡ false → clip_in image id ≡ None
@@ -59,7 +59,7 @@ byte-slice at n i image l =
     sym (get_or-drop at image i 0) ∙ sym (get_or-take (at + n - at) (drop at image) i 0 (omega (arith, size)))
 
 -- a segment whose header was written without frames is begun
-pub segment_in-header_bytes : (g : Geometry) (image : List ℕ) (j b : ℕ) → b < 2 ^ 64 → 1 ≤ g.slots → slice_range image (segment_at g j) (segment_at g j + 512) ≡ header_bytes b → segment_in g image j ≡ Some (begun b)
+pub segment_in-header_bytes : (g : Geometry) (image : List ℕ) (j b : ℕ) → b < 2 ^ 64 → 1 ≤ g.slots → slice_range image (segment_at g j) (segment_at g j + 512) ≡ header_bytes b → segment_in g image j ≡ Some (empty_segment b)
 segment_in-header_bytes g image j b fits some e =
     let at = segment_at g j in
     let byte : (i : ℕ) → i < 512 → get_or image (at + i) 0 ≡ get_or (header_bytes b) i 0 = λ i l. byte-slice at 512 i image l ∙ ap (λ (bs : List ℕ). get_or bs i 0) e in

@@ -14,7 +14,7 @@ use Rattle.loop_record.specs.Recording.{Recording}
 use Rattle.loop_disk.specs.Medium.{SameOutside}
 use Rattle.loop_record.specs.Change.{ShowsSegment}
 use Rattle.loop_record.specs.Layout.{Segment, segment_in, clip_in, geometry_in, checked_geometry, geometry_fields, format_at, is_formatted, is_super_of}
-use Rattle.loop_record.specs.Reading.{parts_of, shown, Contents, with_geometry, contents, reading}
+use Rattle.loop_record.specs.Reading.{parts_of, shown_by, Contents, with_geometry, contents, reading}
 use Rattle.loop_record.proofs.Bounds.{limits}
 use Rattle.loop_record.proofs.Framing.{SameWithin, map_range, same_segment, same_clip, same_geometry}
 
@@ -70,7 +70,7 @@ parts-shows g j part old new few l s =
 pub record ReadsAs (g : Geometry) (r : Recording) (image : List ℕ) : Type 0 where
   pub geometry : geometry_in image ≡ Ok g
   pub size : length image ≡ disk_size g
-  pub recording : shown g (parts_of g image) ≡ Ok r
+  pub recording : shown_by g (parts_of g image) ≡ Ok r
 
 abbrev pub these : Geometry → Recording → Contents
 these g r = record { geometry = g; recording = r }
@@ -100,13 +100,13 @@ reading-stages g r image e = go (geometry_in image) refl e
     go : (o : Result Geometry LayoutFault) → geometry_in image ≡ o → contents image o ≡ Ok (these g r) → ReadsAs g r image
     go (Err d) is e = absurd cc
     go (Ok h) is e =
-        let k = sized h (eqb (length image) (disk_size h)) (with_geometry h (shown h (parts_of h image))) e in
-        let q = inner h (shown h (parts_of h image)) k.1 in
+        let k = sized h (eqb (length image) (disk_size h)) (with_geometry h (shown_by h (parts_of h image))) e in
+        let q = inner h (shown_by h (parts_of h image)) k.1 in
         let size : length image ≡ disk_size h = equal (length image) (disk_size h) k.0 in
         record {
           geometry = is ∙ (λ i. Ok (q.0 i));
           size = size ∙ ap disk_size q.0;
-          recording = subst (λ (x : Geometry). shown x (parts_of x image) ≡ Ok r) q.0 q.1;
+          recording = subst (λ (x : Geometry). shown_by x (parts_of x image) ≡ Ok r) q.0 q.1;
         }
 
 pub stages-reading : (g : Geometry) (r : Recording) (image : List ℕ) → ReadsAs g r image → reading image ≡ Ok (these g r)
@@ -150,7 +150,7 @@ geometry-good g image e = go (is_formatted image) e
 
 -- where segment j of an image has changed, the rest read the same
 pub reading-shows : (g : Geometry) (r s : Recording) (j : ℕ) (part : Option Segment) (old new : List ℕ) → reading old ≡ Ok (these g r) → j < g.segments → ShowsSegment g j part old new
-    → shown g (record { segments = set (parts_of g old).segments j part; clips = (parts_of g old).clips }) ≡ Ok s → reading new ≡ Ok (these g s)
+    → shown_by g (record { segments = set (parts_of g old).segments j part; clips = (parts_of g old).clips }) ≡ Ok s → reading new ≡ Ok (these g s)
 reading-shows g r s j part old new e l shows is =
     let was = reading-stages g r old e in
     let limit = limits g (geometry-good g old was.geometry) in
@@ -158,5 +158,5 @@ reading-shows g r s j part old new e l shows is =
     stages-reading g s new (record {
       geometry = same_geometry new old (within_before (segment_at g j) (segment_size g) 0 512 old new shows.outside (omega arith)) ∙ was.geometry;
       size = shows.outside.size ∙ was.size;
-      recording = ap (shown g) parts ∙ is;
+      recording = ap (shown_by g) parts ∙ is;
     })

@@ -7,9 +7,9 @@ use Rattle.std.specs.Prelude.{◌||◌}
 use Rattle.std.specs.List.{list_any, range_with_len}
 use Rattle.loop_record.specs.declared.geometry.Geometry.{Geometry}
 use Rattle.loop_record.specs.Geometry.{frame_bytes, gate_at}
-use Rattle.loop_record.specs.Recording.{Recording, store, recycle, plain, after, victim, ring_of}
+use Rattle.loop_record.specs.Recording.{Recording, store, recycle, plain, after_step, victim, ring_of}
 use Rattle.loop_record.specs.Layout.{Slot, Segment, segment_in, whole_frames, is_open}
-use Rattle.loop_record.specs.Reading.{opened, by_block, repeats, is_high, hold_from, parts_of, checked, reading, begun}
+use Rattle.loop_record.specs.Reading.{open_segments, by_block, repeats, is_high, hold_from, parts_of, recording_or_damage, reading, empty_segment}
 use Rattle.loop_record.specs.Change.{ShowsSegment}
 use Rattle.loop_record.proofs.Bounds.{limits}
 use Rattle.loop_record.proofs.Framing.{prefix_range-le}
@@ -37,7 +37,7 @@ segment_there g image j l =
     let at : 0 + j ≡ j = omega arith in
     get_or-map_range (segment_in g image) 0 g.segments j None l ∙ ap (segment_in g image) at
 
-opened_fit : (g : Geometry) (image : List ℕ) (lo n : ℕ) → list_any (is_overfull g) (opened (map (segment_in g image) (range_with_len lo n))) ≡ false
+opened_fit : (g : Geometry) (image : List ℕ) (lo n : ℕ) → list_any (is_overfull g) (open_segments (map (segment_in g image) (range_with_len lo n))) ≡ false
 opened_fit g image lo zero = refl
 opened_fit g image lo (suc n) = go (segment_in g image lo) (one lo) (opened_fit g image (lo + 1) n)
   where
@@ -58,14 +58,14 @@ opened_fit g image lo (suc n) = go (segment_in g image lo) (one lo) (opened_fit 
             grind (arith, nat_tests, le')
         cases false b f le = tt
 
-    go : (o : Option Segment) → fits o → list_any (is_overfull g) (opened (map (segment_in g image) (range_with_len (lo + 1) n))) ≡ false
-        → list_any (is_overfull g) (opened (o ∷ map (segment_in g image) (range_with_len (lo + 1) n))) ≡ false
+    go : (o : Option Segment) → fits o → list_any (is_overfull g) (open_segments (map (segment_in g image) (range_with_len (lo + 1) n))) ≡ false
+        → list_any (is_overfull g) (open_segments (o ∷ map (segment_in g image) (range_with_len (lo + 1) n))) ≡ false
     go None f rest = rest
     go (Some s) f rest = λ i. f i || rest i
 
 -- no segment of an image has more slots than there are
-pub overfull_none : (g : Geometry) (image : List ℕ) → list_any (is_overfull g) (by_block (opened (parts_of g image).segments)) ≡ false
-overfull_none g image = any-by_block (is_overfull g) (opened (parts_of g image).segments) ∙ opened_fit g image 0 g.segments
+pub overfull_none : (g : Geometry) (image : List ℕ) → list_any (is_overfull g) (by_block (open_segments (parts_of g image).segments)) ≡ false
+overfull_none g image = any-by_block (is_overfull g) (open_segments (parts_of g image).segments) ∙ opened_fit g image 0 g.segments
 
 -- ---- commit
 
@@ -80,23 +80,23 @@ reading-commit g r old new j u ts e l there newest hold shows =
     let was = reading-stages g r old e in
     let limit = limits g (geometry-good g old was.geometry) in
     let is : get_or ps j None ≡ Some u = segment_there g old j l ∙ there in
-    let single = (shown_of g (by_block (opened ps)) clips r was.recording).single in
+    let single = (shown_of g (by_block (open_segments ps)) clips r was.recording).single in
     let p = placed_there u j ps (omega (arith, l, segments_length g old)) is single in
     let whole : set ps j (Some u) ≡ ps = sym (ap (λ (q : Option Segment). set ps j q) is) ∙ set-get_or ps j None in
-    let sorted : by_block (opened ps) ≡ p.lower ++ u ∷ p.higher = sym (ap (λ qs. by_block (opened qs)) whole) ∙ p.with_it u refl in
-    let before : checked g (p.lower ++ u ∷ p.higher) clips ≡ Ok r = sym (ap (λ ss. checked g ss clips) sorted) ∙ was.recording in
+    let sorted : by_block (open_segments ps) ≡ p.lower ++ u ∷ p.higher = sym (ap (λ qs. by_block (open_segments qs)) whole) ∙ p.with_it u refl in
+    let before : recording_or_damage g (p.lower ++ u ∷ p.higher) clips ≡ Ok r = sym (ap (λ ss. recording_or_damage g ss clips) sorted) ∙ was.recording in
     let room : r.next < (u.block + 1) * g.slots = (div-lt_iff_lt-mul limit.slots.0).0 (omega (arith, newest)) in
     let after' = checked-commit (ring_of g) g ts u p.lower p.higher clips r p.above room hold before in
     reading-shows g r (plain (ring_of g) r (map store (map (λ t. t.picture) ts))) j (Some (record u { slots = u.slots ++ ts })) old new e l shows
-    (ap (λ ss. checked g ss clips) (p.with_it (record u { slots = u.slots ++ ts }) refl) ∙ after')
+    (ap (λ ss. recording_or_damage g ss clips) (p.with_it (record u { slots = u.slots ++ ts }) refl) ∙ after')
 
 -- ---- begin
 
 -- Where a closed segment has become an empty one of the next number's block, the image reads as before.
 pub reading-begin : (g : Geometry) (r : Recording) (old new : List ℕ) (j b : ℕ)
     → reading old ≡ Ok (these g r) → j < g.segments → segment_in g old j ≡ None
-    → has_block b (opened (parts_of g old).segments) ≡ false → r.next ≡ b * g.slots → is_high g (begun b) ≡ false
-    → ShowsSegment g j (Some (begun b)) old new
+    → has_block b (open_segments (parts_of g old).segments) ≡ false → r.next ≡ b * g.slots → is_high g (empty_segment b) ≡ false
+    → ShowsSegment g j (Some (empty_segment b)) old new
     → reading new ≡ Ok (these g r)
 reading-begin g r old new j b e l there apart next low shows =
     let ps = (parts_of g old).segments in
@@ -104,14 +104,14 @@ reading-begin g r old new j b e l there apart next low shows =
     let was = reading-stages g r old e in
     let limit = limits g (geometry-good g old was.geometry) in
     let is : get_or ps j None ≡ None = segment_there g old j l ∙ there in
-    let single = (shown_of g (by_block (opened ps)) clips r was.recording).single in
+    let single = (shown_of g (by_block (open_segments ps)) clips r was.recording).single in
     let whole : set ps j None ≡ ps = sym (ap (λ (q : Option Segment). set ps j q) is) ∙ set-get_or ps j None in
-    let p = placed b j ps (omega (arith, l, segments_length g old)) (ap (λ qs. has_block b (opened qs)) whole ∙ apart) (ap (λ qs. repeats (opened qs)) whole ∙ sym (repeats-by_block (opened ps)) ∙ single) in
-    let sorted : by_block (opened ps) ≡ p.lower ++ p.higher = sym (ap (λ qs. by_block (opened qs)) whole) ∙ p.without in
-    let before : checked g (p.lower ++ p.higher) clips ≡ Ok r = sym (ap (λ ss. checked g ss clips) sorted) ∙ was.recording in
+    let p = placed b j ps (omega (arith, l, segments_length g old)) (ap (λ qs. has_block b (open_segments qs)) whole ∙ apart) (ap (λ qs. repeats (open_segments qs)) whole ∙ sym (repeats-by_block (open_segments ps)) ∙ single) in
+    let sorted : by_block (open_segments ps) ≡ p.lower ++ p.higher = sym (ap (λ qs. by_block (open_segments qs)) whole) ∙ p.without in
+    let before : recording_or_damage g (p.lower ++ p.higher) clips ≡ Ok r = sym (ap (λ ss. recording_or_damage g ss clips) sorted) ∙ was.recording in
     let fits : list_any (is_overfull g) (p.lower ++ p.higher) ≡ false = sym (ap (list_any (is_overfull g)) sorted) ∙ overfull_none g old in
     let after' = checked-begin g b p.lower p.higher clips r limit.slots.0 p.below p.above fits next low before in
-    reading-shows g r r j (Some (begun b)) old new e l shows (ap (λ ss. checked g ss clips) (p.with_it (begun b) refl) ∙ after')
+    reading-shows g r r j (Some (empty_segment b)) old new e l shows (ap (λ ss. recording_or_damage g ss clips) (p.with_it (empty_segment b) refl) ∙ after')
 
 -- ---- retire
 
@@ -119,21 +119,21 @@ reading-begin g r old new j b e l there apart next low shows =
 pub reading-retire : (g : Geometry) (r : Recording) (old new : List ℕ) (j : ℕ) (u : Segment)
     → reading old ≡ Ok (these g r) → j < g.segments → segment_in g old j ≡ Some u → victim (ring_of g) r ≡ Some u.block
     → ShowsSegment g j None old new
-    → reading new ≡ Ok (these g (after (ring_of g) r (recycle u.block)))
+    → reading new ≡ Ok (these g (after_step (ring_of g) r (recycle u.block)))
 reading-retire g r old new j u e l there chosen shows =
     let ps = (parts_of g old).segments in
     let clips = (parts_of g old).clips in
     let was = reading-stages g r old e in
     let limit = limits g (geometry-good g old was.geometry) in
     let is : get_or ps j None ≡ Some u = segment_there g old j l ∙ there in
-    let single = (shown_of g (by_block (opened ps)) clips r was.recording).single in
+    let single = (shown_of g (by_block (open_segments ps)) clips r was.recording).single in
     let p = placed_there u j ps (omega (arith, l, segments_length g old)) is single in
     let whole : set ps j (Some u) ≡ ps = sym (ap (λ (q : Option Segment). set ps j q) is) ∙ set-get_or ps j None in
-    let sorted : by_block (opened ps) ≡ p.lower ++ u ∷ p.higher = sym (ap (λ qs. by_block (opened qs)) whole) ∙ p.with_it u refl in
-    let before : checked g (p.lower ++ u ∷ p.higher) clips ≡ Ok r = sym (ap (λ ss. checked g ss clips) sorted) ∙ was.recording in
+    let sorted : by_block (open_segments ps) ≡ p.lower ++ u ∷ p.higher = sym (ap (λ qs. by_block (open_segments qs)) whole) ∙ p.with_it u refl in
+    let before : recording_or_damage g (p.lower ++ u ∷ p.higher) clips ≡ Ok r = sym (ap (λ ss. recording_or_damage g ss clips) sorted) ∙ was.recording in
     let fits : list_any (is_overfull g) (p.lower ++ u ∷ p.higher) ≡ false = sym (ap (list_any (is_overfull g)) sorted) ∙ overfull_none g old in
     let after' = checked-retire (ring_of g) g u p.lower p.higher clips r refl limit.slots.0 p.below p.above fits chosen before in
-    reading-shows g r (after (ring_of g) r (recycle u.block)) j None old new e l shows (ap (λ ss. checked g ss clips) p.without ∙ after')
+    reading-shows g r (after_step (ring_of g) r (recycle u.block)) j None old new e l shows (ap (λ ss. recording_or_damage g ss clips) p.without ∙ after')
 
 -- ---- nothing
 
@@ -143,7 +143,7 @@ reading-same g r old new j e l shows =
     let ps = (parts_of g old).segments in
     let clips = (parts_of g old).clips in
     let whole : set ps j (segment_in g old j) ≡ ps = ap (λ (q : Option Segment). set ps j q) (sym (segment_there g old j l)) ∙ set-get_or ps j None in
-    reading-shows g r r j (segment_in g old j) old new e l shows (ap (λ qs. checked g (by_block (opened qs)) clips) whole ∙ (reading-stages g r old e).recording)
+    reading-shows g r r j (segment_in g old j) old new e l shows (ap (λ qs. recording_or_damage g (by_block (open_segments qs)) clips) whole ∙ (reading-stages g r old e).recording)
 
 -- an open segment has a slot for each whole frame
 pub whole-length : (g : Geometry) (image : List ℕ) (j : ℕ) (u : Segment) → segment_in g image j ≡ Some u → whole_frames g image j ≡ length u.slots
@@ -169,11 +169,11 @@ reading-newest g r image j u e l there newest =
     let was = reading-stages g r image e in
     let limit = limits g (geometry-good g image was.geometry) in
     let is : get_or ps j None ≡ Some u = segment_there g image j l ∙ there in
-    let single = (shown_of g (by_block (opened ps)) clips r was.recording).single in
+    let single = (shown_of g (by_block (open_segments ps)) clips r was.recording).single in
     let p = placed_there u j ps (omega (arith, l, segments_length g image)) is single in
     let whole : set ps j (Some u) ≡ ps = sym (ap (λ (q : Option Segment). set ps j q) is) ∙ set-get_or ps j None in
-    let sorted : by_block (opened ps) ≡ p.lower ++ u ∷ p.higher = sym (ap (λ qs. by_block (opened qs)) whole) ∙ p.with_it u refl in
-    let before : checked g (p.lower ++ u ∷ p.higher) clips ≡ Ok r = sym (ap (λ ss. checked g ss clips) sorted) ∙ was.recording in
+    let sorted : by_block (open_segments ps) ≡ p.lower ++ u ∷ p.higher = sym (ap (λ qs. by_block (open_segments qs)) whole) ∙ p.with_it u refl in
+    let before : recording_or_damage g (p.lower ++ u ∷ p.higher) clips ≡ Ok r = sym (ap (λ ss. recording_or_damage g ss clips) sorted) ∙ was.recording in
     let room : r.next < (u.block + 1) * g.slots = (div-lt_iff_lt-mul limit.slots.0).0 (omega (arith, newest)) in
     let next = newest-next g u p.lower p.higher clips r p.above room before in
     let product : u.block * g.slots ≡ r.next / g.slots * g.slots = ap (λ (b : ℕ). b * g.slots) newest in

@@ -9,9 +9,9 @@ use Rattle.std.specs.Prelude.{◌||◌}
 use Rattle.std.specs.List.{list_any, list_all, filter, find, enumerate_from, range_with_len}
 use Rattle.loop_record.specs.declared.clip.Span.{Span}
 use Rattle.loop_record.specs.declared.geometry.Geometry.{Geometry}
-use Rattle.loop_record.specs.Recording.{Picture, Recording, Ring, recycle, after, holds, holds_all, frame_under, block, meets, with_block, blocks_of, held_blocks, older_blocks, is_locked, victim}
+use Rattle.loop_record.specs.Recording.{Picture, Recording, Ring, recycle, after_step, holds, holds_all, frame_under, block, meets, with_block, blocks_of, held_blocks, older_blocks, is_locked, victim}
 use Rattle.loop_record.specs.Layout.{Segment}
-use Rattle.loop_record.specs.Reading.{frames_of, all_frames, next_after, lacks_frame, is_high, repeats, is_bad_slot, is_bad_clip, has_bad_clip, recording_of, checked}
+use Rattle.loop_record.specs.Reading.{frames_of, all_frames, next_after, lacks_frame, is_high, repeats, is_bad_slot, is_bad_clip, has_bad_clip, recording_of, recording_or_damage}
 use Rattle.loop_record.proofs.Growth.{AllBelow}
 use Rattle.loop_record.proofs.Segments.{AllAbove, has_block, any_move, repeats_move}
 use Rattle.loop_record.proofs.Changes.{shown_of, of_shown, next_after-behind, all_frames-append, is_overfull}
@@ -196,22 +196,22 @@ outside_clip ring b n s some free low high = differ_test (block ring n) b (λ is
         let d : leb b (s.to / ring.slots) ≡ true = grind (arith, nat_tests, to_le, is) in
         λ i. a i && c i && d i
 
-clip_kept : (ring : Ring) (r : Recording) (b : ℕ) (c : Option Span) → 1 ≤ ring.slots → meets ring b c ≡ false → is_bad_clip r c ≡ false → is_bad_clip (after ring r (recycle b)) c ≡ false
+clip_kept : (ring : Ring) (r : Recording) (b : ℕ) (c : Option Span) → 1 ≤ ring.slots → meets ring b c ≡ false → is_bad_clip r c ≡ false → is_bad_clip (after_step ring r (recycle b)) c ≡ false
 clip_kept ring r b None some free e = refl
 clip_kept ring r b (Some s) some free e =
     let k = neither (ltb s.to s.from) (not (holds_all r s)) e in
     let held : holds_all r s ≡ true = not_false (holds_all r s) k.1 in
     let order : s.from ≤ s.to = grind (arith, nat_tests, k.0) in
-    let still = still_all (holds r) (holds (after ring r (recycle b))) s.from (s.to + 1 - s.from) (λ n low high h.
+    let still = still_all (holds r) (holds (after_step ring r (recycle b))) s.from (s.to + 1 - s.from) (λ n low high h.
     ap is_some (under-filter ring b n r.frames (outside_clip ring b n s some free low (omega (arith, order, high)))) ∙ h) held in
     λ i. k.0 i || not (still i)
 
-clips_kept : (ring : Ring) (r : Recording) (b : ℕ) (cs : List (Option Span)) → 1 ≤ ring.slots → list_any (meets ring b) cs ≡ false → list_any (is_bad_clip r) cs ≡ false → list_any (is_bad_clip (after ring r (recycle b))) cs ≡ false
+clips_kept : (ring : Ring) (r : Recording) (b : ℕ) (cs : List (Option Span)) → 1 ≤ ring.slots → list_any (meets ring b) cs ≡ false → list_any (is_bad_clip r) cs ≡ false → list_any (is_bad_clip (after_step ring r (recycle b))) cs ≡ false
 clips_kept ring r b [] some free e = refl
 clips_kept ring r b (c ∷ cs) some free e =
     let f = neither (meets ring b c) (list_any (meets ring b) cs) free in
     let k = neither (is_bad_clip r c) (list_any (is_bad_clip r) cs) e in
-    or_false (is_bad_clip (after ring r (recycle b)) c) (list_any (is_bad_clip (after ring r (recycle b))) cs) (clip_kept ring r b c some f.0 k.0) (clips_kept ring r b cs some f.1 k.1)
+    or_false (is_bad_clip (after_step ring r (recycle b)) c) (list_any (is_bad_clip (after_step ring r (recycle b))) cs) (clip_kept ring r b c some f.0 k.0) (clips_kept ring r b cs some f.1 k.1)
 
 -- ---- the whole
 
@@ -228,8 +228,8 @@ lacks_frame-without g (x ∷ z ∷ xs) u y ys e =
 pub checked-retire : (ring : Ring) (g : Geometry) (u : Segment) (lower higher : List Segment) (clips : List (Option Span)) (r : Recording)
     → ring.slots ≡ g.slots → 1 ≤ g.slots → AllBelow u.block lower → AllAbove u.block higher → list_any (is_overfull g) (lower ++ u ∷ higher) ≡ false
     → victim ring r ≡ Some u.block
-    → checked g (lower ++ u ∷ higher) clips ≡ Ok r
-    → checked g (lower ++ higher) clips ≡ Ok (after ring r (recycle u.block))
+    → recording_or_damage g (lower ++ u ∷ higher) clips ≡ Ok r
+    → recording_or_damage g (lower ++ higher) clips ≡ Ok (after_step ring r (recycle u.block))
 checked-retire ring g u lower [] clips r same some below above fits chosen e =
     let b = u.block in
     let old = shown_of g (lower ++ u ∷ []) clips r e in
@@ -264,14 +264,14 @@ checked-retire ring g u lower (h ∷ hs) clips r same some below above fits chos
     ap (filter keep) (all_frames-append g lower (u ∷ higher)) ∙ filter-append keep (all_frames g lower) (frames_of g u ++ all_frames g higher)
     ∙ (λ i. front i ++ filter-append keep (frames_of g u) (all_frames g higher) i) ∙ (λ i. all_frames g lower ++ (mid i ++ back i)) in
     let frames : all_frames g (lower ++ higher) ≡ filter keep (all_frames g (lower ++ u ∷ higher)) = all_frames-append g lower higher ∙ sym kept in
-    let is : recording_of g (lower ++ higher) clips ≡ after ring (recording_of g (lower ++ u ∷ higher) clips) (recycle b) = λ i. record { next = next i; frames = frames i; clips = clips } in
-    of_shown g (lower ++ higher) clips (after ring r (recycle b)) (record {
+    let is : recording_of g (lower ++ higher) clips ≡ after_step ring (recording_of g (lower ++ u ∷ higher) clips) (recycle b) = λ i. record { next = next i; frames = frames i; clips = clips } in
+    of_shown g (lower ++ higher) clips (after_step ring r (recycle b)) (record {
       low_enough = low.1;
       single = single.1;
       full = lacks_frame-without g lower u h hs old.full;
       right = right.1;
       held = ap has_bad_clip is ∙ clips_kept ring (recording_of g (lower ++ u ∷ higher) clips) b clips (subst (λ (k : ℕ). 1 ≤ k) (sym same) some) unmet old.held;
-      is = is ∙ ap (λ (q : Recording). after ring q (recycle b)) old.is;
+      is = is ∙ ap (λ (q : Recording). after_step ring q (recycle b)) old.is;
     })
   where
     unnot_true : (t : Bool) → not t ≡ true → t ≡ false

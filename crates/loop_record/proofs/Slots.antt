@@ -9,7 +9,7 @@ use Rattle.loop_record.specs.declared.geometry.Geometry.{Geometry}
 use Rattle.loop_record.specs.Geometry.{frame_bytes, slot_at}
 use Rattle.loop_record.specs.Recording.{Picture, Recording, frame_under}
 use Rattle.loop_record.specs.Layout.{Slot, Segment, is_open, slot_in, is_slot_of, segment_in, whole_frames}
-use Rattle.loop_record.specs.Reading.{Holds, hold_from, is_bad_slot, frames_of, all_frames, opened, by_block, parts_of, checked}
+use Rattle.loop_record.specs.Reading.{Holds, hold_from, is_bad_slot, frames_of, all_frames, open_segments, by_block, parts_of, recording_or_damage}
 use Rattle.loop_record.proofs.Decided.{both, neither, not_false}
 use Rattle.loop_record.proofs.Parts.{reading-stages}
 use Rattle.loop_record.proofs.Growth.{AllBelow}
@@ -100,11 +100,11 @@ reading-slot g r image j i u e l there within =
     let s : Slot = slot_in (frame_bytes g) image (slot_at g j i) in
     let was = reading-stages g r image e in
     let is : get_or ps j None ≡ Some u = segment_there g image j l ∙ there in
-    let found = shown_of g (by_block (opened ps)) clips r was.recording in
+    let found = shown_of g (by_block (open_segments ps)) clips r was.recording in
     let p = placed_there u j ps (omega (arith, l, segments_length g image)) is found.single in
     let whole : set ps j (Some u) ≡ ps = sym (ap (λ (q : Option Segment). set ps j q) is) ∙ set-get_or ps j None in
-    let sorted : by_block (opened ps) ≡ p.lower ++ u ∷ p.higher = sym (ap (λ qs. by_block (opened qs)) whole) ∙ p.with_it u refl in
-    let now = shown_of g (p.lower ++ u ∷ p.higher) clips r (sym (ap (λ ss. checked g ss clips) sorted) ∙ was.recording) in
+    let sorted : by_block (open_segments ps) ≡ p.lower ++ u ∷ p.higher = sym (ap (λ qs. by_block (open_segments qs)) whole) ∙ p.with_it u refl in
+    let now = shown_of g (p.lower ++ u ∷ p.higher) clips r (sym (ap (λ ss. recording_or_damage g ss clips) sorted) ∙ was.recording) in
     let count : length u.slots ≡ whole_frames g image j = sym (whole-length g image j u there) in
     let at : 0 + i ≡ i = omega arith in
     let slot : get_or u.slots i s ≡ s = ap (λ (ss : List Slot). get_or ss i s) (slots-are g image j u there) ∙ get_or-map_range (λ k. slot_in (frame_bytes g) image (slot_at g j k)) 0 (whole_frames g image j) i s within

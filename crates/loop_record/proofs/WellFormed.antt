@@ -3,7 +3,7 @@ use Rattle.std.proofs.Common.{◌≡◌, ◌⊎◌, inl, inr, ℕ, zero, suc, �
 use Rattle.std.proofs.lemmas.List.{length-set}
 use Rattle.std.specs.Prelude.{Contains}
 use Rattle.loop_record.specs.declared.clip.Span.{Span}
-use Rattle.loop_record.specs.Recording.{Picture, Recording, Ring, Step, store, recycle, lock, unlock, after, is_legal, holds, holds_all, free_id, victim, is_that, is_locked, older_blocks, meets, block, steps, plain, empty, stores_after, recycling_first, needs_recycling, last_number, IsWhole, IsWellFormed}
+use Rattle.loop_record.specs.Recording.{Picture, Recording, Ring, Step, store, recycle, lock, unlock, after_step, is_legal, holds, holds_all, free_id, victim, is_that, is_locked, older_blocks, meets, block, steps, plain, empty, stores_after, recycling_first, needs_recycling, last_number, IsWhole, IsWellFormed}
 use Rattle.loop_record.specs.Laws.{AreLegal}
 use Rattle.loop_record.proofs.Decided.{clash, both, not_true, at_most, equal, equal_test}
 use Rattle.loop_record.proofs.Growth.{under-append}
@@ -29,7 +29,7 @@ whole_of r s order all =
     record { some = le; each = λ n low high. all_range-each (holds r) s.from (s.to + 1 - s.from) n all low (omega (arith, le, high)) }
 
 -- a step that may be made leaves a well-formed recording
-pub after-well_formed : (ring : Ring) (r : Recording) (step : Step) → 1 ≤ ring.slots → IsWellFormed r → IsTrue (is_legal ring r step) → IsWellFormed (after ring r step)
+pub after-well_formed : (ring : Ring) (r : Recording) (step : Step) → 1 ≤ ring.slots → IsWellFormed r → IsTrue (is_legal ring r step) → IsWellFormed (after_step ring r step)
 after-well_formed ring r (store p) some w legal = record {
   rising = RiseBetween-append 0 r.next (r.next + 1) r.frames ((r.next, p) ∷ []) w.rising (omega arith, omega arith);
   clips = λ s c. record { some = (w.clips s c).some; each = λ n low high. under-append r.frames ((r.next, p) ∷ []) n ((w.clips s c).each n low high) };
@@ -64,7 +64,7 @@ after-well_formed ring r (lock s) some w legal =
     same_span : (a b : Span) → (let o : Option Span = Some a in o) ≡ Some b → a ≡ b
     same_span a b e = cc
 
-    go : (t : Span) → IsWhole r s → ((let o : Option Span = Some s in o) ≡ Some t) ⊎ Contains r.clips (Some t) → IsWhole (after ring r (lock s)) t
+    go : (t : Span) → IsWhole r s → ((let o : Option Span = Some s in o) ≡ Some t) ⊎ Contains r.clips (Some t) → IsWhole (after_step ring r (lock s)) t
     go t new (inl is) =
         let e = same_span s t is in
         record { some = omega (arith, new.some, ap (λ (x : Span). x.from) e, ap (λ (x : Span). x.to) e); each = λ n low high. new.each n (omega (arith, low, ap (λ (x : Span). x.from) e)) (omega (arith, high, ap (λ (x : Span). x.to) e)) }
@@ -78,13 +78,13 @@ after-well_formed ring r (unlock id) some w legal = record {
     none : Option Span
     none = None
 
-    go : (t : Span) → (none ≡ Some t) ⊎ Contains r.clips (Some t) → IsWhole (after ring r (unlock id)) t
+    go : (t : Span) → (none ≡ Some t) ⊎ Contains r.clips (Some t) → IsWhole (after_step ring r (unlock id)) t
     go t (inl is) = absurd cc
     go t (inr c) = record { some = (w.clips t c).some; each = (w.clips t c).each }
 
 stores-legal : (ring : Ring) (r : Recording) (ps : List Picture) → AreLegal ring r (map store ps)
 stores-legal ring r [] = tt
-stores-legal ring r (p ∷ ps) = (refl, stores-legal ring (after ring r (store p)) ps)
+stores-legal ring r (p ∷ ps) = (refl, stores-legal ring (after_step ring r (store p)) ps)
 
 -- the steps of an append may be made, one after the other
 pub steps-legal : (ring : Ring) (r : Recording) (group : List Picture) (list : List Step) → steps ring r group ≡ Some list → AreLegal ring r list
@@ -104,7 +104,7 @@ steps-legal ring r group list e = spent (eqb r.next (last_number ring)) e
     first true None is e = absurd cc
     first true (Some b) is e =
         let legal : IsTrue (is_legal ring r (recycle b)) = ap (λ (o : Option ℕ). is_that o b) is ∙ that b in
-        subst (AreLegal ring r) (same_list (recycle b ∷ map store group) list e) (legal, stores-legal ring (after ring r (recycle b)) group)
+        subst (AreLegal ring r) (same_list (recycle b ∷ map store group) list e) (legal, stores-legal ring (after_step ring r (recycle b)) group)
 
     spent : (t : Bool) → cond t None (stores_after (recycling_first (needs_recycling ring r) (victim ring r)) group) ≡ Some list → AreLegal ring r list
     spent true e = absurd cc
@@ -113,7 +113,7 @@ steps-legal ring r group list e = spent (eqb r.next (last_number ring)) e
 -- after steps that may be made, one after the other, a recording is well formed
 pub plain-well_formed : (ring : Ring) (r : Recording) (list : List Step) → 1 ≤ ring.slots → IsWellFormed r → AreLegal ring r list → IsWellFormed (plain ring r list)
 plain-well_formed ring r [] some w legal = w
-plain-well_formed ring r (s ∷ ss) some w legal = plain-well_formed ring (after ring r s) ss some (after-well_formed ring r s some w legal.0) legal.1
+plain-well_formed ring r (s ∷ ss) some w legal = plain-well_formed ring (after_step ring r s) ss some (after-well_formed ring r s some w legal.0) legal.1
 
 -- the empty recording is well formed
 pub empty-well_formed : IsWellFormed empty

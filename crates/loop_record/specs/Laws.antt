@@ -3,7 +3,7 @@ use Rattle.std.specs.Prelude.{◌≡◌, ◌↔◌, ℕ, ◌≤◌, ◌<◌, ◌
 use Rattle.loop_record.specs.declared.clip.Span.{Span}
 use Rattle.loop_record.specs.declared.geometry.Geometry.{Geometry}
 use Rattle.loop_record.specs.Geometry.{is_good}
-use Rattle.loop_record.specs.Recording.{Picture, Recording, Ring, Step, head, empty, victim, is_legal, after, steps, IsWellFormed, MayGo, IsVictim}
+use Rattle.loop_record.specs.Recording.{Picture, Recording, Ring, Step, head, empty, victim, is_legal, after_step, steps, IsWellFormed, MayGo, IsVictim}
 use Rattle.loop_record.specs.Layout.{super_bytes, slot_bytes, header_bytes, entry_bytes, geometry_in, slot_in, slot_head, header_at, entry_at}
 use Rattle.loop_record.specs.Reading.{Holds, IsFreshImage}
 
@@ -20,12 +20,12 @@ VictimsAreLeast = (ring : Ring) (r : Recording) → 1 ≤ ring.slots → IsWellF
 abbrev pub LegalStepsKeepForm : Type 0
 LegalStepsKeepForm =
     (ring : Ring) (r : Recording) (step : Step) → 1 ≤ ring.slots → IsWellFormed r → IsTrue (is_legal ring r step)
-    → IsWellFormed (after ring r step)
+    → IsWellFormed (after_step ring r step)
 
 -- each step may be made after those before it
 abbrev pub AreLegal : Ring → Recording → List Step → Type 0
 AreLegal ring r [] = Unit {0}
-AreLegal ring r (s ∷ ss) = IsTrue (is_legal ring r s) × AreLegal ring (after ring r s) ss
+AreLegal ring r (s ∷ ss) = IsTrue (is_legal ring r s) × AreLegal ring (after_step ring r s) ss
 
 -- the steps of an append may be made
 abbrev pub AppendsAreLegal : Type 0

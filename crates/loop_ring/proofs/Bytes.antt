@@ -4,7 +4,7 @@ use Rattle.std.proofs.lemmas.List.{length-drop, length-take, get_or-take, get_or
 use Rattle.std.specs.Prelude.{slice_range}
 use Rattle.std.specs.List.{range_with_len, prefix_len}
 use Rattle.byteorder.specs.Endian.{little_from}
-use Rattle.loop_disk.specs.Medium.{SameOutside, written}
+use Rattle.loop_disk.specs.Medium.{SameOutside, with_bytes_at}
 use Rattle.loop_disk.specs.Steps.{TornInTurn}
 use Rattle.loop_record.specs.declared.geometry.Geometry.{Geometry}
 use Rattle.loop_record.specs.Change.{ShowsSegment}
@@ -21,9 +21,9 @@ shows g j part old new s is = record { outside = record { size = s.size; before 
 pub torn_at : (a b a' b' n n' : ℕ) (first old c : List ℕ) → a ≡ a' → b ≡ b' → n ≡ n' → TornInTurn a first b n old c → TornInTurn a' first b' n' old c
 torn_at a b a' b' n n' first old c e f h (inl torn) = inl (subst (λ (k : ℕ). SameOutside k (length first) old c) e torn)
 torn_at a b a' b' n n' first old c e f h (inr torn) =
-    let one = subst (λ (k : ℕ). SameOutside b n (written k first old) c) e torn in
-    let two = subst (λ (k : ℕ). SameOutside k n (written a' first old) c) f one in
-    inr (subst (λ (k : ℕ). SameOutside b' k (written a' first old) c) h two)
+    let one = subst (λ (k : ℕ). SameOutside b n (with_bytes_at k first old) c) e torn in
+    let two = subst (λ (k : ℕ). SameOutside k n (with_bytes_at a' first old) c) f one in
+    inr (subst (λ (k : ℕ). SameOutside b' k (with_bytes_at a' first old) c) h two)
 
 -- ---- a segment's bytes
 

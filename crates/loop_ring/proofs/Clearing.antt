@@ -5,7 +5,7 @@ use Rattle.std.proofs.lemmas.List.{get_or-replicate, get_or-take, length-take}
 use Rattle.std.proofs.lemmas.List.Elements.{All-from_get_or}
 use Rattle.std.proofs.lemmas.List.Folds.{list_any_at, list_any_none}
 use Rattle.std.specs.List.{list_any, range_with_len, prefix_len}
-use Rattle.loop_disk.specs.Medium.{SameOutside, piece, written}
+use Rattle.loop_disk.specs.Medium.{SameOutside, piece, with_bytes_at}
 use Rattle.loop_disk.proofs.Images.{get_or-piece, get_or-written_there, length-piece, untouched, widened}
 use Rattle.loop_record.specs.declared.geometry.Geometry.{Geometry}
 use Rattle.loop_record.specs.Change.{ShowsSegment}
@@ -59,13 +59,13 @@ none_open at n image gates fits read closed = list_any_none (λ gate. eqb gate 0
     ap (λ (l : List ℕ). eqb (get_or l i 0) 0xA5) read ∙ ap (λ (k : ℕ). eqb k 0xA5) (get_or-piece at n image i within) ∙ closed (at + i) (omega arith) (omega (arith, within))))
 
 -- zeros are closed gates
-pub closed_written : (at n : ℕ) (image new : List ℕ) → n ≤ 256 → at + n ≤ length image → new ≡ written at (zeros n) image → AreClosed at n new
+pub closed_written : (at n : ℕ) (image new : List ℕ) → n ≤ 256 → at + n ≤ length image → new ≡ with_bytes_at at (zeros n) image → AreClosed at n new
 closed_written at n image new few fits is i low high =
     let place : at + (i - at) ≡ i = omega (arith, low) in
     let within : i - at < n = omega (arith, low, high) in
     let size = length-zeros n few in
-    let byte : get_or (written at (zeros n) image) i 0 ≡ 0 =
-    sym (ap (λ (k : ℕ). get_or (written at (zeros n) image) k 0) place) ∙ get_or-written_there at (zeros n) image (i - at) (omega (arith, fits)) (omega (arith, within, size))
+    let byte : get_or (with_bytes_at at (zeros n) image) i 0 ≡ 0 =
+    sym (ap (λ (k : ℕ). get_or (with_bytes_at at (zeros n) image) k 0) place) ∙ get_or-written_there at (zeros n) image (i - at) (omega (arith, fits)) (omega (arith, within, size))
     ∙ zero_there n (i - at) few within in
     ap (λ (l : List ℕ). is_open l i) is ∙ ap (λ (k : ℕ). eqb k 0xA5) byte
 

@@ -7,7 +7,7 @@ use Rattle.std.proofs.lemmas.Result.{on_ok_weaker}
 use Rattle.std.specs.List.{range_with_len}
 use Rattle.byteorder.specs.Endian.{little_from}
 use Rattle.loop_disk.specs.declared.fault.DiskFault.{DiskFault}
-use Rattle.loop_disk.specs.Medium.{Medium, written, SameOutside, LeavesOnly}
+use Rattle.loop_disk.specs.Medium.{Medium, with_bytes_at, SameOutside, LeavesOnly}
 use Rattle.loop_disk.specs.Steps.{TornInTurn, StoresInTurn}
 use Rattle.loop_disk.proofs.Moments.{weaker}
 use Rattle.loop_disk.proofs.Images.{get_or-written_there, written_outside, widened, both}
@@ -71,9 +71,9 @@ slots_torn g j first count bytes old c can torn =
 
 -- the slots are on the disk, and some gates of theirs
 abbrev Gated : Geometry → ℕ → ℕ → ℕ → List ℕ → List ℕ → List ℕ → Type 0
-Gated g j first count bytes old c = SameOutside (gate_at g j first) count (written (slot_at g j first) bytes old) c
+Gated g j first count bytes old c = SameOutside (gate_at g j first) count (with_bytes_at (slot_at g j first) bytes old) c
 
-slots_written : (g : Geometry) (j first count : ℕ) (bytes old : List ℕ) → CanCommit g j first count bytes old → SameOutside (slot_at g j first) (length bytes) old (written (slot_at g j first) bytes old)
+slots_written : (g : Geometry) (j first count : ℕ) (bytes old : List ℕ) → CanCommit g j first count bytes old → SameOutside (slot_at g j first) (length bytes) old (with_bytes_at (slot_at g j first) bytes old)
 slots_written g j first count bytes old can = written_outside (slot_at g j first) bytes old (omega (arith, can.size, can.fits, slots_end g j first count can.room))
 
 -- a byte of the header that isn't a gate of theirs
@@ -85,7 +85,7 @@ header_kept g j first count k bytes old c can gated h (inr l) = gated.behind k l
 new_slots : (g : Geometry) (j first count k : ℕ) (bytes old c : List ℕ) → CanCommit g j first count bytes old → Gated g j first count bytes old c → k ≤ count → slots_from g c j first k ≡ slots_in (frame_bytes g) bytes k
 new_slots g j first count k bytes old c can gated le = go k first 0 (omega arith) (omega (arith, le))
   where
-    wrote : SameOutside (slot_at g j first) (length bytes) old (written (slot_at g j first) bytes old)
+    wrote : SameOutside (slot_at g j first) (length bytes) old (with_bytes_at (slot_at g j first) bytes old)
     wrote = slots_written g j first count bytes old can
 
     one : (i : ℕ) → i < count → slot_in (frame_bytes g) c (slot_at g j (first + i)) ≡ slot_in (frame_bytes g) bytes (i * slot_size g)
@@ -96,7 +96,7 @@ new_slots g j first count k bytes old c can gated le = go k first 0 (omega arith
         let end = slots_end g j first count can.room in
         moved_slot (frame_bytes g) (slot_at g j (first + i)) (i * slot_size g) c bytes (omega (arith, split, most, next, end, can.fits, gated.size, wrote.size)) (omega (arith, most, next, can.size)) (λ k u.
         let at : slot_at g j (first + i) + k ≡ slot_at g j first + (i * slot_size g + k) = omega (arith, split) in
-        gated.behind (slot_at g j (first + i) + k) (omega (arith, split, can.few, can.room)) ∙ ap (λ (x : ℕ). get_or (written (slot_at g j first) bytes old) x 0) at
+        gated.behind (slot_at g j (first + i) + k) (omega (arith, split, can.few, can.room)) ∙ ap (λ (x : ℕ). get_or (with_bytes_at (slot_at g j first) bytes old) x 0) at
         ∙ get_or-written_there (slot_at g j first) bytes old (i * slot_size g + k) (omega (arith, can.fits, end)) (omega (arith, u, most, next, can.size)))
 
     go : (n p i : ℕ) → p ≡ first + i → i + n ≤ count → slots_from g c j p n ≡ map (λ x. slot_in (frame_bytes g) bytes (x * slot_size g)) (range_with_len i n)
@@ -191,13 +191,13 @@ pub record AreGates (count : ℕ) (gates : List ℕ) : Type 0 where
   pub open_all : (i : ℕ) → i < count → get_or gates i 0 ≡ 165
 
 abbrev pub committed : Geometry → ℕ → ℕ → List ℕ → List ℕ → List ℕ → List ℕ
-committed g j first bytes gates old = written (gate_at g j first) gates (written (slot_at g j first) bytes old)
+committed g j first bytes gates old = with_bytes_at (gate_at g j first) gates (with_bytes_at (slot_at g j first) bytes old)
 
 commit_image : (g : Geometry) (j first count : ℕ) (bytes gates old : List ℕ) → CanCommit g j first count bytes old → AreGates count gates → Gated g j first count bytes old (committed g j first bytes gates old)
 commit_image g j first count bytes gates old can are =
     let wrote = slots_written g j first count bytes old can in
-    subst (λ (n : ℕ). SameOutside (gate_at g j first) n (written (slot_at g j first) bytes old) (committed g j first bytes gates old)) are.size
-    (written_outside (gate_at g j first) gates (written (slot_at g j first) bytes old) (omega (arith, are.size, wrote.size, can.fits, can.few, can.room)))
+    subst (λ (n : ℕ). SameOutside (gate_at g j first) n (with_bytes_at (slot_at g j first) bytes old) (committed g j first bytes gates old)) are.size
+    (written_outside (gate_at g j first) gates (with_bytes_at (slot_at g j first) bytes old) (omega (arith, are.size, wrote.size, can.fits, can.few, can.room)))
 
 commit_whole : (g : Geometry) (j first count : ℕ) (bytes gates old : List ℕ) → CanCommit g j first count bytes old → AreGates count gates → whole_frames g (committed g j first bytes gates old) j ≡ first + count
 commit_whole g j first count bytes gates old can are =
@@ -206,7 +206,7 @@ commit_whole g j first count bytes gates old can are =
     let range = wholes g j first count count bytes old (committed g j first bytes gates old) can gated (omega arith) (λ i low h.
     let at : gate_at g j i ≡ gate_at g j first + (i - first) = omega (arith, low) in
     ap (λ (x : ℕ). is_open (committed g j first bytes gates old) x) at
-    ∙ ap (λ (x : ℕ). eqb x 0xA5) (get_or-written_there (gate_at g j first) gates (written (slot_at g j first) bytes old) (i - first) (omega (arith, wrote.size, can.fits, can.few, can.room)) (omega (arith, low, h, are.size)) ∙ are.open_all (i - first) (omega (arith, low, h)))) in
+    ∙ ap (λ (x : ℕ). eqb x 0xA5) (get_or-written_there (gate_at g j first) gates (with_bytes_at (slot_at g j first) bytes old) (i - first) (omega (arith, wrote.size, can.fits, can.few, can.room)) (omega (arith, low, h, are.size)) ∙ are.open_all (i - first) (omega (arith, low, h)))) in
     omega (arith, range.0, range.1)
 
 pub commit_done : (g : Geometry) (j first count : ℕ) (bytes gates old : List ℕ) → CanCommit g j first count bytes old → AreGates count gates → ShowsStaged g j bytes count old (committed g j first bytes gates old)
@@ -254,13 +254,13 @@ commit_moments g j first number at gate frames bytes gates old new r ready store
     some : (c : List ℕ) → ShowsSome g j bytes (length frames) old.bytes c → ShowsBeginning g j number frames old.bytes c
     some c shown = (shown.0, (shown.1.0, as_frames g j number shown.0 frames bytes old.bytes c ready.staged shown.1.0 shown.1.1))
 
-commit_is : (g : Geometry) (j first at gate : ℕ) (bytes gates old new : List ℕ) → at ≡ slot_at g j first → gate ≡ gate_at g j first → new ≡ written gate gates (written at bytes old) → committed g j first bytes gates old ≡ new
-commit_is g j first at gate bytes gates old new is gate_is e = sym (e ∙ (λ i. written (gate_is i) gates (written (is i) bytes old)))
+commit_is : (g : Geometry) (j first at gate : ℕ) (bytes gates old new : List ℕ) → at ≡ slot_at g j first → gate ≡ gate_at g j first → new ≡ with_bytes_at gate gates (with_bytes_at at bytes old) → committed g j first bytes gates old ≡ new
+commit_is g j first at gate bytes gates old new is gate_is e = sym (e ∙ (λ i. with_bytes_at (gate_is i) gates (with_bytes_at (is i) bytes old)))
 
 pub commit_ok : {T : Type 0} (g : Geometry) (j first number at gate : ℕ) (frames : List Picture) (bytes gates : List ℕ) (old new : Medium) (r : Result T DiskFault) → IsReady g j first number frames at gate bytes gates old.bytes
     → StoresInTurn at bytes gate gates old new r → OnOk r (ShowsFrames g j number frames old.bytes new.bytes)
 commit_ok g j first number at gate frames bytes gates old new r ready stores =
-    on_ok_weaker r (λ (e : new.bytes ≡ written gate gates (written at bytes old.bytes)). shown new.bytes (subst (ShowsStaged g j bytes (length frames) old.bytes) (commit_is g j first at gate bytes gates old.bytes new.bytes ready.at_is ready.gate_is e) (commit_done g j first (length frames) bytes gates old.bytes ready.can ready.gates_are))) stores.done
+    on_ok_weaker r (λ (e : new.bytes ≡ with_bytes_at gate gates (with_bytes_at at bytes old.bytes)). shown new.bytes (subst (ShowsStaged g j bytes (length frames) old.bytes) (commit_is g j first at gate bytes gates old.bytes new.bytes ready.at_is ready.gate_is e) (commit_done g j first (length frames) bytes gates old.bytes ready.can ready.gates_are))) stores.done
   where
     shown : (c : List ℕ) → ShowsStaged g j bytes (length frames) old.bytes c → ShowsFrames g j number frames old.bytes c
     shown c s = subst (λ (slots : List Slot). ShowsSegment g j (with_more slots (segment_in g old.bytes j)) old.bytes c) ready.staged.slots s
@@ -268,4 +268,4 @@ commit_ok g j first number at gate frames bytes gates old new r ready stores =
 pub commit_stray_done : {T : Type 0} (g : Geometry) (j first count at gate : ℕ) (bytes gates : List ℕ) (old new : Medium) (r : Result T DiskFault) → at ≡ slot_at g j first → gate ≡ gate_at g j first → CanCommit g j first count bytes old.bytes → AreGates count gates
     → StoresInTurn at bytes gate gates old new r → OnOk r (HasNoStray g j new.bytes)
 commit_stray_done g j first count at gate bytes gates old new r at_is gate_is can are stores =
-    on_ok_weaker r (λ (e : new.bytes ≡ written gate gates (written at bytes old.bytes)). subst (HasNoStray g j) (commit_is g j first at gate bytes gates old.bytes new.bytes at_is gate_is e) (commit_stray g j first count bytes gates old.bytes can are)) stores.done
+    on_ok_weaker r (λ (e : new.bytes ≡ with_bytes_at gate gates (with_bytes_at at bytes old.bytes)). subst (HasNoStray g j) (commit_is g j first at gate bytes gates old.bytes new.bytes at_is gate_is e) (commit_stray g j first count bytes gates old.bytes can are)) stores.done

@@ -15,7 +15,7 @@ use Rattle.loop_record.specs.Change.{ShowsSegment}
 use Rattle.loop_record.specs.Geometry.{frame_bytes, segment_at}
 use Rattle.loop_record.specs.Layout.{Slot, Segment, is_open, whole_frames, segment_in, header_at}
 use Rattle.loop_record.specs.Recording.{Picture, Recording}
-use Rattle.loop_record.specs.Reading.{parts_of, opened, by_block, next_after, repeats, Holds}
+use Rattle.loop_record.specs.Reading.{parts_of, open_segments, by_block, next_after, repeats, Holds}
 use Rattle.loop_record.proofs.Bounds.{limits}
 use Rattle.loop_record.proofs.Changes.{shown_of, is_overfull}
 use Rattle.loop_record.proofs.Decided.{clash, neither, equal, equal_test, differ, not_below}
@@ -105,7 +105,7 @@ there {X} xs j x e = go (cases_lt j (length xs))
         clash' e = absurd cc
 
 -- what some segment passes, some entry does
-pub any-heads : (q : Option SegmentHead → Bool) (ps : List (Option Segment)) → q None ≡ false → list_any q (map head_of ps) ≡ list_any (λ s. q (head_of (Some s))) (opened ps)
+pub any-heads : (q : Option SegmentHead → Bool) (ps : List (Option Segment)) → q None ≡ false → list_any q (map head_of ps) ≡ list_any (λ s. q (head_of (Some s))) (open_segments ps)
 any-heads q [] none = refl
 any-heads q (None ∷ ps) none = ap (λ (t : Bool). t || list_any q (map head_of ps)) none ∙ any-heads q ps none
 any-heads q (Some s ∷ ps) none = ap (λ (t : Bool). q (head_of (Some s)) || t) (any-heads q ps none)
@@ -151,32 +151,32 @@ of_block : (b : ℕ) (o : Option SegmentHead) (h : SegmentHead) → o ≡ Some h
 of_block b o h e is = ap (is_of b) e ∙ equal_test h.block b is
 
 -- no entry has a block that no segment has
-none-of : (ps : List (Option Segment)) (b j : ℕ) (k : SegmentHead) → get_or (map head_of ps) j None ≡ Some k → has_block b (opened ps) ≡ false → k.block ≡ b → ⊥
+none-of : (ps : List (Option Segment)) (b j : ℕ) (k : SegmentHead) → get_or (map head_of ps) j None ≡ Some k → has_block b (open_segments ps) ≡ false → k.block ≡ b → ⊥
 none-of ps b j k at none is =
     clash (list_any (is_of b) (map head_of ps))
     (list_any_at (is_of b) (map head_of ps) j None (there (map head_of ps) j k at) (of_block b (get_or (map head_of ps) j None) k at is))
     (any-heads (is_of b) ps refl ∙ none)
 
-single : (ps : List (Option Segment)) (i j : ℕ) (h k : SegmentHead) → repeats (opened ps) ≡ false → get_or (map head_of ps) i None ≡ Some h → get_or (map head_of ps) j None ≡ Some k → h.block ≡ k.block → i ≡ j
+single : (ps : List (Option Segment)) (i j : ℕ) (h k : SegmentHead) → repeats (open_segments ps) ≡ false → get_or (map head_of ps) i None ≡ Some h → get_or (map head_of ps) j None ≡ Some k → h.block ≡ k.block → i ≡ j
 single [] i j h k e a b same = absurd (omega (arith, there (map head_of []) i h a))
 single (None ∷ ps) zero j h k e a b same = absurd cc
 single (None ∷ ps) (suc i) zero h k e a b same = absurd cc
 single (None ∷ ps) (suc i) (suc j) h k e a b same = ap suc (single ps i j h k e a b same)
 single (Some s ∷ ps) zero zero h k e a b same = refl
 single (Some s ∷ ps) zero (suc j) h k e a b same =
-    absurd (none-of ps s.block j k b (neither (has_block s.block (opened ps)) (repeats (opened ps)) e).0 (sym same ∙ sym (head-block s h a)))
+    absurd (none-of ps s.block j k b (neither (has_block s.block (open_segments ps)) (repeats (open_segments ps)) e).0 (sym same ∙ sym (head-block s h a)))
 single (Some s ∷ ps) (suc i) zero h k e a b same =
-    absurd (none-of ps s.block i h a (neither (has_block s.block (opened ps)) (repeats (opened ps)) e).0 (same ∙ sym (head-block s k b)))
-single (Some s ∷ ps) (suc i) (suc j) h k e a b same = ap suc (single ps i j h k (neither (has_block s.block (opened ps)) (repeats (opened ps)) e).1 a b same)
+    absurd (none-of ps s.block i h a (neither (has_block s.block (open_segments ps)) (repeats (open_segments ps)) e).0 (same ∙ sym (head-block s k b)))
+single (Some s ∷ ps) (suc i) (suc j) h k e a b same = ap suc (single ps i j h k (neither (has_block s.block (open_segments ps)) (repeats (open_segments ps)) e).1 a b same)
 
 -- no two entries have one block
 pub one-entry : (g : Geometry) (r : Recording) (image : List ℕ) (i j : ℕ) (h k : SegmentHead) → Holds g r image → get_or (heads_of g image) i None ≡ Some h → get_or (heads_of g image) j None ≡ Some k → h.block ≡ k.block → i ≡ j
 one-entry g r image i j h k e a b same =
     let ps = (parts_of g image).segments in
     let was = reading-stages g r image e in
-    let apart = (shown_of g (by_block (opened ps)) (parts_of g image).clips r was.recording).single in
+    let apart = (shown_of g (by_block (open_segments ps)) (parts_of g image).clips r was.recording).single in
     let is = heads-are g image in
-    single ps i j h k (sym (repeats-by_block (opened ps)) ∙ apart) (ap (λ (hs : List (Option SegmentHead)). get_or hs i None) (sym is) ∙ a) (ap (λ (hs : List (Option SegmentHead)). get_or hs j None) (sym is) ∙ b) same
+    single ps i j h k (sym (repeats-by_block (open_segments ps)) ∙ apart) (ap (λ (hs : List (Option SegmentHead)). get_or hs i None) (sym is) ∙ a) (ap (λ (hs : List (Option SegmentHead)). get_or hs j None) (sym is) ∙ b) same
 
 -- ---- the newest segment
 
@@ -242,17 +242,17 @@ newest-found g r image j e found = go (get_or (heads_of g image) j None) refl at
 
 -- where nothing is found, no segment has the block, and the next number is the first of it
 pub newest-missing : (g : Geometry) (r : Recording) (image : List ℕ) → Holds g r image → position (is_of (r.next / g.slots)) (heads_of g image) ≡ None
-    → (has_block (r.next / g.slots) (opened (parts_of g image).segments) ≡ false) × (r.next % g.slots ≡ 0)
+    → (has_block (r.next / g.slots) (open_segments (parts_of g image).segments) ≡ false) × (r.next % g.slots ≡ 0)
 newest-missing g r image e missing =
     let ps = (parts_of g image).segments in
     let was = reading-stages g r image e in
-    let shown = shown_of g (by_block (opened ps)) (parts_of g image).clips r was.recording in
-    let next : next_after g (by_block (opened ps)) ≡ r.next = ap (λ (q : Recording). q.next) shown.is in
+    let shown = shown_of g (by_block (open_segments ps)) (parts_of g image).clips r was.recording in
+    let next : next_after g (by_block (open_segments ps)) ≡ r.next = ap (λ (q : Recording). q.next) shown.is in
     let b = r.next / g.slots in
-    let none : has_block b (opened ps) ≡ false = sym (any-heads (is_of b) ps refl) ∙ ap (list_any (is_of b)) (sym (heads-are g image)) ∙ position-none (is_of b) (heads_of g image) missing in
-    let none' : has_block (next_after g (by_block (opened ps)) / g.slots) (by_block (opened ps)) ≡ false =
-    ap (λ (n : ℕ). has_block (n / g.slots) (by_block (opened ps))) next ∙ any-by_block (λ t. eqb t.block b) (opened ps) ∙ none in
-    let full = full_next g (by_block (opened ps)) (limits g (geometry-good g image was.geometry)).slots.0 (overfull_none g image) none' in
+    let none : has_block b (open_segments ps) ≡ false = sym (any-heads (is_of b) ps refl) ∙ ap (list_any (is_of b)) (sym (heads-are g image)) ∙ position-none (is_of b) (heads_of g image) missing in
+    let none' : has_block (next_after g (by_block (open_segments ps)) / g.slots) (by_block (open_segments ps)) ≡ false =
+    ap (λ (n : ℕ). has_block (n / g.slots) (by_block (open_segments ps))) next ∙ any-by_block (λ t. eqb t.block b) (open_segments ps) ∙ none in
+    let full = full_next g (by_block (open_segments ps)) (limits g (geometry-good g image was.geometry)).slots.0 (overfull_none g image) none' in
     (none, ap (λ (n : ℕ). n % g.slots) (sym next) ∙ full)
 
 -- ---- a segment that gains frames

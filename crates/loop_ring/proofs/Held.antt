@@ -11,7 +11,7 @@ use Rattle.loop_record.specs.declared.geometry.Geometry.{Geometry}
 use Rattle.loop_record.specs.declared.segment.SegmentHead.{SegmentHead}
 use Rattle.loop_record.specs.Recording.{Picture, Recording, Ring, ring_of, block, with_block, blocks_of, held_blocks, frame_under, holds}
 use Rattle.loop_record.specs.Layout.{Segment}
-use Rattle.loop_record.specs.Reading.{parts_of, opened, by_block, in_place, frames_of, all_frames, next_after, lacks_frame, Holds}
+use Rattle.loop_record.specs.Reading.{parts_of, open_segments, by_block, in_place, frames_of, all_frames, next_after, lacks_frame, Holds}
 use Rattle.loop_record.proofs.Bounds.{limits}
 use Rattle.loop_record.proofs.Changes.{shown_of, is_overfull}
 use Rattle.loop_record.proofs.Decided.{clash, both, neither, untrue, equal, equal_test, differ_test, at_most, at_most_test, not_below, not_false, differ}
@@ -33,10 +33,10 @@ kept-length : {X Y : Type 0} (t : Bool) (x : X) (y : Y) (xs : List X) (ys : List
 kept-length true x y xs ys e = ap suc e
 kept-length false x y xs ys e = e
 
-count-heads : (ps : List (Option Segment)) → length (filter has_frame (map head_of ps)) ≡ length (filter has_slot (opened ps))
+count-heads : (ps : List (Option Segment)) → length (filter has_frame (map head_of ps)) ≡ length (filter has_slot (open_segments ps))
 count-heads [] = refl
 count-heads (None ∷ ps) = count-heads ps
-count-heads (Some s ∷ ps) = kept-length (has_slot s) (head_of (Some s)) s (filter has_frame (map head_of ps)) (filter has_slot (opened ps)) (count-heads ps)
+count-heads (Some s ∷ ps) = kept-length (has_slot s) (head_of (Some s)) s (filter has_frame (map head_of ps)) (filter has_slot (open_segments ps)) (count-heads ps)
 
 kept-swap : {X : Type 0} (a b : Bool) (x y : X) (xs ys : List X) → length ys ≡ length (cond a (x ∷ xs) xs) → length (cond b (y ∷ ys) ys) ≡ length (cond a (x ∷ cond b (y ∷ xs) xs) (cond b (y ∷ xs) xs))
 kept-swap true true x y xs ys e = ap suc e
@@ -121,34 +121,34 @@ blocks-are g (s ∷ ss) rises fits =
 -- what is known of the sorted segments of an image
 pub record Sorted (g : Geometry) (r : Recording) (image : List ℕ) : Type 0 where
   pub some : 1 ≤ g.slots
-  pub rises : Rises (by_block (opened (parts_of g image).segments))
-  pub fits : list_any (is_overfull g) (by_block (opened (parts_of g image).segments)) ≡ false
-  pub frames : all_frames g (by_block (opened (parts_of g image).segments)) ≡ r.frames
+  pub rises : Rises (by_block (open_segments (parts_of g image).segments))
+  pub fits : list_any (is_overfull g) (by_block (open_segments (parts_of g image).segments)) ≡ false
+  pub frames : all_frames g (by_block (open_segments (parts_of g image).segments)) ≡ r.frames
 
 pub sorted : (g : Geometry) (r : Recording) (image : List ℕ) → Holds g r image → Sorted g r image
 sorted g r image e =
     let ps = (parts_of g image).segments in
     let was = reading-stages g r image e in
-    let shown = shown_of g (by_block (opened ps)) (parts_of g image).clips r was.recording in
+    let shown = shown_of g (by_block (open_segments ps)) (parts_of g image).clips r was.recording in
     record {
       some = (limits g (geometry-good g image was.geometry)).slots.0;
-      rises = Rises-by_block (opened ps) (sym (repeats-by_block (opened ps)) ∙ shown.single);
+      rises = Rises-by_block (open_segments ps) (sym (repeats-by_block (open_segments ps)) ∙ shown.single);
       fits = overfull_none g image;
       frames = ap (λ (q : Recording). q.frames) shown.is;
     }
 
 -- the held blocks are those of the segments that have a frame
-pub held-are : (g : Geometry) (r : Recording) (image : List ℕ) → Holds g r image → held_blocks (ring_of g) r ≡ blocks_with (by_block (opened (parts_of g image).segments))
+pub held-are : (g : Geometry) (r : Recording) (image : List ℕ) → Holds g r image → held_blocks (ring_of g) r ≡ blocks_with (by_block (open_segments (parts_of g image).segments))
 held-are g r image e =
     let s = sorted g r image e in
-    ap (λ (fs : List (ℕ × Picture)). blocks_of (ring_of g) fs) (sym s.frames) ∙ blocks-are g (by_block (opened (parts_of g image).segments)) s.rises s.fits
+    ap (λ (fs : List (ℕ × Picture)). blocks_of (ring_of g) fs) (sym s.frames) ∙ blocks-are g (by_block (open_segments (parts_of g image).segments)) s.rises s.fits
 
 -- and are counted by their headers
 pub held-count : (g : Geometry) (r : Recording) (image : List ℕ) → Holds g r image → count_by has_frame (heads_of g image) ≡ length (held_blocks (ring_of g) r)
 held-count g r image e =
     let ps = (parts_of g image).segments in
-    let ss = by_block (opened ps) in
-    ap (count_by has_frame) (heads-are g image) ∙ sym (length-filter has_frame (map head_of ps)) ∙ count-heads ps ∙ sym (count-by_block has_slot (opened ps))
+    let ss = by_block (open_segments ps) in
+    ap (count_by has_frame) (heads-are g image) ∙ sym (length-filter has_frame (map head_of ps)) ∙ count-heads ps ∙ sym (count-by_block has_slot (open_segments ps))
     ∙ sym (length-map (filter has_slot ss) (λ s. s.block))
     ∙ ap (λ (bs : List ℕ). length bs) (sym (held-are g r image e))
 
@@ -184,17 +184,17 @@ any-among b (s ∷ ss) e = subst (Among b) (sym (with-kept s ss)) (go (has_slot 
     go false true is rest k = rest k
     go false false is rest k = rest k
 
-any-held : (g : Geometry) (image : List ℕ) (b : ℕ) → list_any (is_held b) (heads_of g image) ≡ list_any (λ s. eqb s.block b && has_slot s) (by_block (opened (parts_of g image).segments))
+any-held : (g : Geometry) (image : List ℕ) (b : ℕ) → list_any (is_held b) (heads_of g image) ≡ list_any (λ s. eqb s.block b && has_slot s) (by_block (open_segments (parts_of g image).segments))
 any-held g image b =
     let ps = (parts_of g image).segments in
-    ap (list_any (is_held b)) (heads-are g image) ∙ any-heads (is_held b) ps refl ∙ sym (any-by_block (λ s. eqb s.block b && has_slot s) (opened ps))
+    ap (list_any (is_held b)) (heads-are g image) ∙ any-heads (is_held b) ps refl ∙ sym (any-by_block (λ s. eqb s.block b && has_slot s) (open_segments ps))
 
 -- a held block is that of some entry with a frame, and the other way round
 pub held-any : (g : Geometry) (r : Recording) (image : List ℕ) (b : ℕ) → Holds g r image → Among b (held_blocks (ring_of g) r) → list_any (is_held b) (heads_of g image) ≡ true
-held-any g r image b e at = any-held g image b ∙ among-any b (by_block (opened (parts_of g image).segments)) (subst (Among b) (held-are g r image e) at)
+held-any g r image b e at = any-held g image b ∙ among-any b (by_block (open_segments (parts_of g image).segments)) (subst (Among b) (held-are g r image e) at)
 
 pub any-held_block : (g : Geometry) (r : Recording) (image : List ℕ) (b : ℕ) → Holds g r image → list_any (is_held b) (heads_of g image) ≡ true → Among b (held_blocks (ring_of g) r)
-any-held_block g r image b e any = subst (Among b) (sym (held-are g r image e)) (any-among b (by_block (opened (parts_of g image).segments)) (sym (any-held g image b) ∙ any))
+any-held_block g r image b e any = subst (Among b) (sym (held-are g r image e)) (any-among b (by_block (open_segments (parts_of g image).segments)) (sym (any-held g image b) ∙ any))
 
 -- ---- one held number
 
@@ -284,8 +284,8 @@ held-number g r image n e =
     let ps = (parts_of g image).segments in
     let s = sorted g r image e in
     ap (list_any (has_number g.slots n)) (heads-are g image) ∙ any-heads (has_number g.slots n) ps refl
-    ∙ sym (any-by_block (λ s. eqb s.block (n / g.slots) && ltb (n % g.slots) (length s.slots)) (opened ps))
-    ∙ sym (under-frames g n (by_block (opened ps)) s.some s.fits)
+    ∙ sym (any-by_block (λ s. eqb s.block (n / g.slots) && ltb (n % g.slots) (length s.slots)) (open_segments ps))
+    ∙ sym (under-frames g n (by_block (open_segments ps)) s.some s.fits)
     ∙ ap (λ (fs : List (ℕ × Picture)). is_some (frame_under fs n)) s.frames
 
 -- ---- where none is closed
@@ -302,7 +302,7 @@ length-by_block : (ss : List Segment) → length (by_block ss) ≡ length ss
 length-by_block [] = refl
 length-by_block (s ∷ ss) = length-in_place s (by_block ss) ∙ ap suc (length-by_block ss)
 
-all_opened : (ps : List (Option Segment)) → list_any (λ h. not (is_some h)) (map head_of ps) ≡ false → length (opened ps) ≡ length ps
+all_opened : (ps : List (Option Segment)) → list_any (λ h. not (is_some h)) (map head_of ps) ≡ false → length (open_segments ps) ≡ length ps
 all_opened [] e = refl
 all_opened (None ∷ ps) e = absurd cc
 all_opened (Some s ∷ ps) e = ap suc (all_opened ps e)
@@ -332,14 +332,14 @@ pub none-closed : (g : Geometry) (r : Recording) (image : List ℕ) → Holds g 
     → length (held_blocks (ring_of g) r) ≡ g.segments
 none-closed g r image e missing closed =
     let ps = (parts_of g image).segments in
-    let ss = by_block (opened ps) in
+    let ss = by_block (open_segments ps) in
     let was = reading-stages g r image e in
     let shown = shown_of g ss (parts_of g image).clips r was.recording in
     let next : next_after g ss ≡ r.next = ap (λ (q : Recording). q.next) shown.is in
     let b = r.next / g.slots in
-    let none : has_block b (opened ps) ≡ false = (newest-missing g r image e missing).0 in
-    let apart : has_block (next_after g ss / g.slots) ss ≡ false = ap (λ (n : ℕ). has_block (n / g.slots) ss) next ∙ any-by_block (λ t. eqb t.block b) (opened ps) ∙ none in
+    let none : has_block b (open_segments ps) ≡ false = (newest-missing g r image e missing).0 in
+    let apart : has_block (next_after g ss / g.slots) ss ≡ false = ap (λ (n : ℕ). has_block (n / g.slots) ss) next ∙ any-by_block (λ t. eqb t.block b) (open_segments ps) ∙ none in
     let whole : list_any (λ h. not (is_some h)) (map head_of ps) ≡ false = ap (list_any (λ h. not (is_some h))) (sym (heads-are g image)) ∙ position-none (λ h. not (is_some h)) (heads_of g image) closed in
     ap (λ (bs : List ℕ). length bs) (held-are g r image e) ∙ length-map (filter has_slot ss) (λ s. s.block)
     ∙ all_held g ss (limits g (geometry-good g image was.geometry)).slots.0 shown.full apart
-    ∙ length-by_block (opened ps) ∙ all_opened ps whole ∙ segments_length g image
+    ∙ length-by_block (open_segments ps) ∙ all_opened ps whole ∙ segments_length g image

@@ -2,7 +2,7 @@
 use Rattle.std.proofs.Common.{◌≡◌, ◌≢◌, inl, inr, ℕ, ◌+◌, ◌≤◌, Bool, true, false, eqb, None, Result, OnOk, List, [], ◌∷◌, length, get_or, refl, sym, ap, ◌∙◌, subst, arith}
 use Rattle.std.proofs.lemmas.Result.{on_ok_weaker}
 use Rattle.loop_disk.specs.declared.fault.DiskFault.{DiskFault}
-use Rattle.loop_disk.specs.Medium.{Medium, written, SameOutside, IsSettled, LeavesOnly}
+use Rattle.loop_disk.specs.Medium.{Medium, with_bytes_at, SameOutside, IsSettled, LeavesOnly}
 use Rattle.loop_disk.specs.Steps.{Stores}
 use Rattle.loop_disk.proofs.Moments.{stored}
 use Rattle.loop_disk.proofs.Images.{get_or-written_there, written_outside, widened}
@@ -27,11 +27,11 @@ retire_torn g j old c few there torn = go (is_open c (segment_at g j)) refl
     go true e = inl (shows g j _ old c wide (same_but_gate g c old j few (after_gate (segment_at g j) (segment_size g) old c torn) (e ∙ sym (some_open g old j there))))
     go false e = inr (shows g j _ old c wide (closed_none g c j e))
 
-pub retire_done : (g : Geometry) (j : ℕ) (old : List ℕ) → segment_at g j + segment_size g ≤ length old → ShowsSegment g j None old (written (segment_at g j) (0 ∷ []) old)
+pub retire_done : (g : Geometry) (j : ℕ) (old : List ℕ) → segment_at g j + segment_size g ≤ length old → ShowsSegment g j None old (with_bytes_at (segment_at g j) (0 ∷ []) old)
 retire_done g j old fits =
     let at = segment_at g j in
     let there : at + 0 ≡ at = omega arith in
-    let gate : get_or (written at (0 ∷ []) old) at 0 ≡ 0 = sym (ap (λ (k : ℕ). get_or (written at (0 ∷ []) old) k 0) there) ∙ get_or-written_there at (0 ∷ []) old 0 (omega (arith, fits)) (omega arith) in
+    let gate : get_or (with_bytes_at at (0 ∷ []) old) at 0 ≡ 0 = sym (ap (λ (k : ℕ). get_or (with_bytes_at at (0 ∷ []) old) k 0) there) ∙ get_or-written_there at (0 ∷ []) old 0 (omega (arith, fits)) (omega arith) in
     shows g j None old _ (widened at 1 at (segment_size g) old _ (written_outside at (0 ∷ []) old (omega (arith, fits))) (omega arith) (omega arith)) (closed_none g _ j (ap (λ (k : ℕ). eqb k 0xA5) gate))
 
 -- ---- what the call says
@@ -44,4 +44,4 @@ retire_moments g j at old new r is few settled there stores =
 pub retire_ok : {T : Type 0} (g : Geometry) (j at : ℕ) (old new : Medium) (r : Result T DiskFault) → at ≡ segment_at g j → segment_at g j + segment_size g ≤ length old.bytes
     → Stores at (0 ∷ []) old new r → OnOk r (ShowsSegment g j None old.bytes new.bytes)
 retire_ok g j at old new r is fits stores =
-    on_ok_weaker r (λ (e : new.bytes ≡ written at (0 ∷ []) old.bytes). subst (ShowsSegment g j None old.bytes) (sym (e ∙ ap (λ (k : ℕ). written k (0 ∷ []) old.bytes) is)) (retire_done g j old.bytes fits)) stores.done
+    on_ok_weaker r (λ (e : new.bytes ≡ with_bytes_at at (0 ∷ []) old.bytes). subst (ShowsSegment g j None old.bytes) (sym (e ∙ ap (λ (k : ℕ). with_bytes_at k (0 ∷ []) old.bytes) is)) (retire_done g j old.bytes fits)) stores.done

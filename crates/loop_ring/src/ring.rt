@@ -7,7 +7,7 @@ ghost use Rattle.loop_record.specs.Change.{ShowsSegment};
 ghost use Rattle.loop_record.specs.declared.damage.Damage.{Damage};
 ghost use Rattle.loop_record.specs.Geometry.{disk_size, frame_bytes, is_good};
 ghost use Rattle.loop_record.specs.Layout.{segment_in, whole_frames};
-ghost use Rattle.loop_record.specs.Reading.{begun};
+ghost use Rattle.loop_record.specs.Reading.{empty_segment};
 ghost use Rattle.loop_ring.specs.Reads.{AnswersSlot, failed_read, slot_of, AnswersPart};
 ghost use Rattle.loop_ring.specs.Writes.{HasNoStray, ShowsBeginning, ShowsFrames, ShowsOrNot};
 
@@ -63,8 +63,8 @@ impl Ring {
         requires closed { (D.medium disk.old).honest
             → segment_in self.now.geometry (D.medium disk.old).bytes segment ≡ None }
         ensures { let g = self.now.geometry in let old = D.medium disk.old in
-            Changes (ShowsOrNot g segment (Some (begun block)) old.bytes)
-            (λ image. ShowsSegment g segment (Some (begun block)) old.bytes image × HasNoStray g segment image)
+            Changes (ShowsOrNot g segment (Some (empty_segment block)) old.bytes)
+            (λ image. ShowsSegment g segment (Some (empty_segment block)) old.bytes image × HasNoStray g segment image)
             old (D.medium disk.new) result }
     {
         // Whole, with its closed frame gates, so that none stays open from an earlier block.

@@ -1,6 +1,6 @@
 // What `list` prints.
 ghost use Rattle.std.specs.Prelude.{◌≡◌, ◌⊎◌, IfErr, IfOk, map};
-ghost use Rattle.loop_clips.specs.Table.{listed};
+ghost use Rattle.loop_clips.specs.Table.{clip_list};
 ghost use Rattle.loop_record.specs.Recording.{Recording};
 ghost use Rattle.loop_store.specs.Seen.{StandsFor};
 
@@ -27,7 +27,7 @@ impl<A: Allocator + Copy> Listing<A> {
         ensures next { IfOk result (λ listing. listing.next ≡ store.now.next) }
         ensures numbers { (r : Recording) → StandsFor D.medium store.now r
             → IfOk result (λ listing. listing.numbers.items ≡ map (λ f. f.0) r.frames) }
-        ensures clips { IfOk result (λ listing. listing.clips.items ≡ listed 0 store.now.clips) }
+        ensures clips { IfOk result (λ listing. listing.clips.items ≡ clip_list 0 store.now.clips) }
         ensures refusals { IfErr result (λ fault. (fault ≡ StoreFault.MustReopen) ⊎ (fault ≡ StoreFault.NoMemory)) }
     {
         Ok(Listing {

@@ -3,7 +3,7 @@ use Rattle.std.proofs.Common.{◌≡◌, inl, inr, ℕ, ◌+◌, ◌-◌, Bool, 
 use Rattle.std.specs.List.{find, range_with_len}
 use Rattle.loop_record.specs.declared.clip.Span.{Span}
 use Rattle.loop_record.specs.declared.geometry.Geometry.{Geometry}
-use Rattle.loop_record.specs.Recording.{Picture, Recording, Ring, Step, after, clip_of, first_free, free_id, lock, needs_recycling, plain, recycling_first, ring_of, store, unlock, victim}
+use Rattle.loop_record.specs.Recording.{Picture, Recording, Ring, Step, after_step, clip_of, first_free, free_id, lock, needs_recycling, plain, recycling_first, ring_of, store, unlock, victim}
 use Rattle.loop_record.proofs.Steps.{plain-append}
 use Rattle.loop_store.specs.declared.fault.StoreFault.{StoreFault}
 use Rattle.loop_store.specs.declared.fault.StoreFault.TheVariants.{ClipEmpty, ClipNotHeld, ClipTableFull}
@@ -26,10 +26,10 @@ span-same r t span same = λ i. first_of (due (ltb span.to span.from) ClipEmpty 
 pub clip-same : (r t : Recording) (id : ℕ) → IsSame r t → clip_of r id ≡ clip_of t id
 clip-same r t id same = ap (λ (cs : List (Option Span)). get_or cs id None) same.clips
 
-pub locked-same : (ring : Ring) (r t : Recording) (span : Span) → IsSame r t → IsSame (after ring r (lock span)) (after ring t (lock span))
+pub locked-same : (ring : Ring) (r t : Recording) (span : Span) → IsSame r t → IsSame (after_step ring r (lock span)) (after_step ring t (lock span))
 locked-same ring r t span same = clips-same r t _ _ same (λ i. set (same.clips i) (free-same r t same i) (Some span))
 
-pub unlocked-same : (ring : Ring) (r t : Recording) (id : ℕ) → IsSame r t → IsSame (after ring r (unlock id)) (after ring t (unlock id))
+pub unlocked-same : (ring : Ring) (r t : Recording) (id : ℕ) → IsSame r t → IsSame (after_step ring r (unlock id)) (after_step ring t (unlock id))
 unlocked-same ring r t id same = clips-same r t _ _ same (ap (λ (cs : List (Option Span)). set cs id None) same.clips)
 
 -- ---- an append

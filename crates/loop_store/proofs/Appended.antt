@@ -20,7 +20,7 @@ use Rattle.loop_store.specs.declared.index.Index.{Index}
 use Rattle.loop_store.specs.declared.place.Place.{Place}
 use Rattle.loop_store.specs.declared.place.Place.TheVariants.{Newest, Closed, Victim}
 use Rattle.loop_store.specs.Held.{HasNoneStray}
-use Rattle.loop_store.specs.Drawn.{drawn}
+use Rattle.loop_store.specs.Drawn.{drawn_image}
 use Rattle.loop_store.specs.Places.{IsGrownAt, IsKnown, IsPlaceAt, place_segment, steps_before}
 use Rattle.loop_store.specs.Recovered.{IsHeadIn, IsIndex, IsIndexOf, IsNoted, IsRecovered, head_after}
 use Rattle.loop_store.specs.Seen.{IsKept, StandsFor, Tells, seen_with}
@@ -206,9 +206,9 @@ pub record IsPlaced {A : Type 0} (was : Index A) (place : Place) (n : ℕ) : Typ
 pub record HasGrown {A : Type 0} (was now : Index A) (r : Recording) (n : ℕ) : Type 0 where
   pub pictures : List Picture
   pub size : length pictures ≡ n
-  pub known : IsIndexOf now (plain (ring_of was.ring.geometry) r (steps_before was.ring.geometry r ++ map store pictures)) (drawn now.ring.geometry now.table.heads now.clips)
+  pub known : IsIndexOf now (plain (ring_of was.ring.geometry) r (steps_before was.ring.geometry r ++ map store pictures)) (drawn_image now.ring.geometry now.table.heads now.clips)
 
-pub has-grown : {A : Type 0} (was now : Index A) (place : Place) (n : ℕ) → (known : IsRecovered was (drawn was.ring.geometry was.table.heads was.clips)) → IsIndex was → IsNoted was now (place_segment place) n → IsPlaced was place n → HasGrown was now known.recording n
+pub has-grown : {A : Type 0} (was now : Index A) (place : Place) (n : ℕ) → (known : IsRecovered was (drawn_image was.ring.geometry was.table.heads was.clips)) → IsIndex was → IsNoted was now (place_segment place) n → IsPlaced was place n → HasGrown was now known.recording n
 has-grown was now place n known whole noted placed =
     let g = was.ring.geometry in
     let j = place_segment place in
@@ -217,7 +217,7 @@ has-grown was now place n known whole noted placed =
     let some = (limits g was.ring.good).slots.0 in
     let head : IsHeadIn g (Some (head_after g was.next n)) = (placed.room, appended-low g was.next some whole.few placed.unspent) in
     let next = known.known.next_is in
-    let is = placed.at r (drawn g heads was.clips) known.known in
+    let is = placed.at r (drawn_image g heads was.clips) known.known in
     let drawn_on : Regrown g (set heads j (Some (head_after g r.next n))) was.clips r (steps_before g r) n =
     regrown g heads was.clips r place n was.ring.good whole.count whole.within placed.within known.known.held is.1 (subst (λ (k : ℕ). IsHeadIn g (Some (head_after g k n))) next head) in
     let back : Regrown g (set heads j (Some (head_after g was.next n))) was.clips r (steps_before g r) n = subst (λ (k : ℕ). Regrown g (set heads j (Some (head_after g k n))) was.clips r (steps_before g r) n) (sym next) drawn_on in
@@ -265,11 +265,11 @@ told-grown medium old new was now place n j ps must r kept told_before at placed
     let r0 = kept.known.recording in
     let same = alike-by medium old was must r kept told_before in
     let grown = has-grown was now place n kept.known kept.fits.whole (noted-at was now j (place_segment place) n at noted) placed in
-    let is = placed.at r0 (drawn g was.table.heads was.clips) kept.known.known in
-    let steps_are : steps_before g r ++ map store ps ≡ steps_or_none (steps (ring_of g) r ps) = steps-are g r ps (λ spent. is.0 (same.next ∙ spent)) (λ none. place-some g r0 (drawn g was.table.heads was.clips) place is.1 (place-same g r0 r same ∙ none)) in
+    let is = placed.at r0 (drawn_image g was.table.heads was.clips) kept.known.known in
+    let steps_are : steps_before g r ++ map store ps ≡ steps_or_none (steps (ring_of g) r ps) = steps-are g r ps (λ spent. is.0 (same.next ∙ spent)) (λ none. place-some g r0 (drawn_image g was.table.heads was.clips) place is.1 (place-same g r0 r same ∙ none)) in
     let slots : 1 ≤ now.ring.geometry.slots = subst (λ (h : Geometry). 1 ≤ h.slots) (sym (ap (λ (x : LoopRing). x.geometry) noted.ring)) some in
     let t0 = plain (ring_of g) r0 (steps_before g r0 ++ map store grown.pictures) in
-    let told : Tells (seen_with new now must) t0 = told-by new now must t0 (drawn now.ring.geometry now.table.heads now.clips) slots (grown-index was now n j noted kept.fits.whole some placed.unspent placed.room).within grown.known in
+    let told : Tells (seen_with new now must) t0 = told-by new now must t0 (drawn_image now.ring.geometry now.table.heads now.clips) slots (grown-index was now n j noted kept.fits.whole some placed.unspent placed.room).within grown.known in
     subst (λ (l : List Step). Tells (seen_with new now must) (plain (ring_of g) r l)) steps_are
     (same-tells (seen_with new now must) t0 (plain (ring_of g) r (steps_before g r ++ map store ps)) told (appended-same g r0 r grown.pictures ps same (grown.size ∙ count)))
 

@@ -6,7 +6,7 @@ use Rattle.loop_store.specs.declared.fault.StoreFault.TheVariants as kind
 use Rattle.loop_store.specs.Faults.{is_disk, is_write_fault}
 use Rattle.loop_store.specs.declared.fault.StoreFault.TheVariants.{MustReopen}
 use Rattle.loop_record.specs.Recording.{Recording}
-use Rattle.loop_store.specs.Calls.{AnswersDue, AreAnswered, Call, IsAnswered, AnswersOtherwise, StoreState, after, appended, locked, unlocked, was_read, was_read_part, checks, checks_on, due, fault_answered, first_of}
+use Rattle.loop_store.specs.Calls.{AnswersDue, AreAnswered, Call, IsAnswered, AnswersOtherwise, StoreState, after_store_call, appended, locked, unlocked, was_read, was_read_part, checks, checks_on, due, fault_answered, first_of}
 
 -- ---- which is the first
 
@@ -106,7 +106,7 @@ answered-as H K g s c f said = go (first_of (checks g s c)) said
 
 pub are-answered-as : (H K : Type 0) (g : Geometry) (s : StoreState) (calls : List Call) → (K → H) → AreAnswered H g s calls → AreAnswered K g s calls
 are-answered-as H K g s [] f said = tt
-are-answered-as H K g s (c ∷ calls) f said = (answered-as H K g s c f said.0, are-answered-as H K g (after g s c) calls f said.1)
+are-answered-as H K g s (c ∷ calls) f said = (answered-as H K g s c f said.0, are-answered-as H K g (after_store_call g s c) calls f said.1)
 
 -- ---- which call of the disk failed
 

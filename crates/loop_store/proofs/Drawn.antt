@@ -17,7 +17,7 @@ use Rattle.loop_record.specs.declared.geometry.PixelFormat.TheVariants.{Grey, Ym
 use Rattle.loop_record.specs.declared.segment.SegmentHead.{SegmentHead}
 use Rattle.loop_record.specs.Geometry.{clip_at, disk_size, frame_bytes, is_good, segment_at, segment_size, slot_at, slot_size}
 use Rattle.loop_record.specs.Layout.{Slot, Segment, clip_in, entry_bytes, geometry_in, header_at, header_bytes, is_open, is_slot_of, open_gates, segment_in, slot_bytes, slot_in, super_bytes, whole_frames}
-use Rattle.loop_record.specs.Reading.{by_block, hold_from, is_bad_slot, opened, parts_of}
+use Rattle.loop_record.specs.Reading.{by_block, hold_from, is_bad_slot, open_segments, parts_of}
 use Rattle.loop_record.proofs.Bounds.{limits}
 use Rattle.loop_record.proofs.Decided.{at_most_test, equal_test, not_below_test}
 use Rattle.loop_record.proofs.Fields.{moved_number}
@@ -27,7 +27,7 @@ use Rattle.loop_record.proofs.Segments.{any-by_block}
 use Rattle.loop_record.proofs.Written.{geometry_in-super_bytes}
 use Rattle.loop_ring.specs.Heads.{heads_of}
 use Rattle.loop_ring.proofs.Bytes.{closed_none}
-use Rattle.loop_store.specs.Drawn.{blank, drawn, drawn_byte, entry_byte, segment_byte, slot_byte}
+use Rattle.loop_store.specs.Drawn.{blank, drawn_image, drawn_byte, entry_byte, segment_byte, slot_byte}
 
 -- ---- its bytes
 
@@ -46,16 +46,16 @@ Heads = List (Option SegmentHead)
 abbrev pub Clips : Type 0
 Clips = List (Option Span)
 
-pub drawn-length : (g : Geometry) (heads : Heads) (clips : Clips) → length (drawn g heads clips) ≡ disk_size g
+pub drawn-length : (g : Geometry) (heads : Heads) (clips : Clips) → length (drawn_image g heads clips) ≡ disk_size g
 drawn-length g heads clips = omega (arith, length-append (super_bytes g) (map (drawn_byte g heads clips) (range_with_len 512 (disk_size g - 512))), super-length g, length-map-range_with_len (drawn_byte g heads clips) 512 (disk_size g - 512))
 
-pub drawn-geometry : (g : Geometry) (heads : Heads) (clips : Clips) → IsTrue (is_good g) → geometry_in (drawn g heads clips) ≡ Ok g
+pub drawn-geometry : (g : Geometry) (heads : Heads) (clips : Clips) → IsTrue (is_good g) → geometry_in (drawn_image g heads clips) ≡ Ok g
 drawn-geometry g heads clips good = geometry_in-super_bytes g (map (drawn_byte g heads clips) (range_with_len 512 (disk_size g - 512))) good
 
-pub byte-front : (g : Geometry) (heads : Heads) (clips : Clips) (k : ℕ) → k < 512 → get_or (drawn g heads clips) k 0 ≡ get_or (super_bytes g) k 0
+pub byte-front : (g : Geometry) (heads : Heads) (clips : Clips) (k : ℕ) → k < 512 → get_or (drawn_image g heads clips) k 0 ≡ get_or (super_bytes g) k 0
 byte-front g heads clips k l = get_or_append_left (super_bytes g) (map (drawn_byte g heads clips) (range_with_len 512 (disk_size g - 512))) 0 k (omega (arith, l, super-length g))
 
-pub byte-behind : (g : Geometry) (heads : Heads) (clips : Clips) (k : ℕ) → 512 ≤ k → k < disk_size g → get_or (drawn g heads clips) k 0 ≡ drawn_byte g heads clips k
+pub byte-behind : (g : Geometry) (heads : Heads) (clips : Clips) (k : ℕ) → 512 ≤ k → k < disk_size g → get_or (drawn_image g heads clips) k 0 ≡ drawn_byte g heads clips k
 byte-behind g heads clips k low high =
     get_or-append_right (super_bytes g) (map (drawn_byte g heads clips) (range_with_len 512 (disk_size g - 512))) 512 k 0 (super-length g) low
     ∙ get_or-map-range_with_len (drawn_byte g heads clips) 512 (disk_size g - 512) (k - 512) k 0 (omega (arith, low, high)) (omega (arith, low))
@@ -81,7 +81,7 @@ segment-end g j l =
     let split : (j + 1) * segment_size g ≡ j * segment_size g + segment_size g = omega (arith, add-mul j 1 (segment_size g)) in
     omega (arith, le, split)
 
-pub byte-segment : (g : Geometry) (heads : Heads) (clips : Clips) (j o : ℕ) → j < g.segments → o < segment_size g → get_or (drawn g heads clips) (segment_at g j + o) 0 ≡ segment_byte g (head_in heads j) o
+pub byte-segment : (g : Geometry) (heads : Heads) (clips : Clips) (j o : ℕ) → j < g.segments → o < segment_size g → get_or (drawn_image g heads clips) (segment_at g j + o) 0 ≡ segment_byte g (head_in heads j) o
 byte-segment g heads clips j o l u =
     let k = segment_at g j + o in
     let place : k - 2560 ≡ j * segment_size g + o = omega arith in
@@ -107,10 +107,10 @@ slots_byte g h o =
     skipped (ltb (512 + o) 256) _ _ (not_below_test (512 + o) 256 (omega arith)) ∙ skipped (ltb (512 + o) 512) _ _ (not_below_test (512 + o) 512 (omega arith))
     ∙ ap (slot_byte g h.block) back
 
-pub closed-header : (g : Geometry) (heads : Heads) (clips : Clips) (j : ℕ) → j < g.segments → head_in heads j ≡ None → is_open (drawn g heads clips) (segment_at g j) ≡ false
+pub closed-header : (g : Geometry) (heads : Heads) (clips : Clips) (j : ℕ) → j < g.segments → head_in heads j ≡ None → is_open (drawn_image g heads clips) (segment_at g j) ≡ false
 closed-header g heads clips j l none =
     let at : segment_at g j ≡ segment_at g j + 0 = omega arith in
-    ap (λ (k : ℕ). is_open (drawn g heads clips) k) at ∙ ap (λ (b : ℕ). eqb b 0xA5) (byte-segment g heads clips j 0 l (omega arith) ∙ ap (λ (o : Option SegmentHead). segment_byte g o 0) none)
+    ap (λ (k : ℕ). is_open (drawn_image g heads clips) k) at ∙ ap (λ (b : ℕ). eqb b 0xA5) (byte-segment g heads clips j 0 l (omega arith) ∙ ap (λ (o : Option SegmentHead). segment_byte g o 0) none)
 
 -- what is known of the header of an open segment
 pub record IsDrawn (g : Geometry) (image : List ℕ) (j : ℕ) (h : SegmentHead) : Type 0 where
@@ -118,7 +118,7 @@ pub record IsDrawn (g : Geometry) (image : List ℕ) (j : ℕ) (h : SegmentHead)
   pub block : little_from (segment_at g j + 8) 8 image ≡ h.block
   pub whole : whole_frames g image j ≡ h.frames
 
-pub open-header : (g : Geometry) (heads : Heads) (clips : Clips) (j : ℕ) (h : SegmentHead) → j < g.segments → head_in heads j ≡ Some h → g.slots ≤ 256 → h.frames ≤ g.slots → h.block < 2 ^ 64 → IsDrawn g (drawn g heads clips) j h
+pub open-header : (g : Geometry) (heads : Heads) (clips : Clips) (j : ℕ) (h : SegmentHead) → j < g.segments → head_in heads j ≡ Some h → g.slots ≤ 256 → h.frames ≤ g.slots → h.block < 2 ^ 64 → IsDrawn g (drawn_image g heads clips) j h
 open-header g heads clips j h l is few fits low = record {
   gate = ap (λ (k : ℕ). is_open image k) at ∙ ap (λ (b : ℕ). eqb b 0xA5) (byte 0 (omega arith) ∙ front_byte g h 0 (omega arith));
   block =
@@ -130,7 +130,7 @@ open-header g heads clips j h l is few fits low = record {
 }
   where
     image : List ℕ
-    image = drawn g heads clips
+    image = drawn_image g heads clips
 
     at : segment_at g j ≡ segment_at g j + 0
     at = omega arith
@@ -149,11 +149,11 @@ open-header g heads clips j h l is few fits low = record {
 
 -- a slot of it: its number and its length
 pub slot-right : (g : Geometry) (heads : Heads) (clips : Clips) (j i : ℕ) (h : SegmentHead) → j < g.segments → head_in heads j ≡ Some h → i < g.slots → frame_bytes g < 2 ^ 32 → h.block * g.slots + i < 2 ^ 64
-    → is_slot_of (frame_bytes g) (h.block * g.slots + i) (slot_in (frame_bytes g) (drawn g heads clips) (slot_at g j i)) ≡ true
+    → is_slot_of (frame_bytes g) (h.block * g.slots + i) (slot_in (frame_bytes g) (drawn_image g heads clips) (slot_at g j i)) ≡ true
 slot-right g heads clips j i h l is u small low = λ k. first k && second k
   where
     image : List ℕ
-    image = drawn g heads clips
+    image = drawn_image g heads clips
 
     slot : List ℕ
     slot = slot_bytes (h.block * g.slots + i) (blank g)
@@ -219,13 +219,13 @@ block-low b slots some l =
     let le : b * 1 ≤ b * slots = mul-le-mul_left b some in
     omega (arith, le, l, add-mul b 1 slots)
 
-pub segment-drawn : (g : Geometry) (heads : Heads) (clips : Clips) (j : ℕ) (h : SegmentHead) → IsTrue (is_good g) → j < g.segments → head_in heads j ≡ Some h → MayStand g (Some h) → IsDrawn g (drawn g heads clips) j h
+pub segment-drawn : (g : Geometry) (heads : Heads) (clips : Clips) (j : ℕ) (h : SegmentHead) → IsTrue (is_good g) → j < g.segments → head_in heads j ≡ Some h → MayStand g (Some h) → IsDrawn g (drawn_image g heads clips) j h
 segment-drawn g heads clips j h good l is may =
     let m = limits g good in
     open-header g heads clips j h l is m.slots.1 may.0 (block-low h.block g.slots m.slots.0 may.1)
 
-pub header-drawn : (g : Geometry) (heads : Heads) (clips : Clips) (j : ℕ) (o : Option SegmentHead) → IsTrue (is_good g) → j < g.segments → head_in heads j ≡ o → MayStand g o → header_at g (drawn g heads clips) (segment_at g j) ≡ o
-header-drawn g heads clips j None good l is may = let gate = closed-header g heads clips j l is in λ i. cond (gate i) (Some (record { block = little_from (segment_at g j + 8) 8 (drawn g heads clips); frames = open_gates g.slots (drawn g heads clips) (segment_at g j + 256) })) None
+pub header-drawn : (g : Geometry) (heads : Heads) (clips : Clips) (j : ℕ) (o : Option SegmentHead) → IsTrue (is_good g) → j < g.segments → head_in heads j ≡ o → MayStand g o → header_at g (drawn_image g heads clips) (segment_at g j) ≡ o
+header-drawn g heads clips j None good l is may = let gate = closed-header g heads clips j l is in λ i. cond (gate i) (Some (record { block = little_from (segment_at g j + 8) 8 (drawn_image g heads clips); frames = open_gates g.slots (drawn_image g heads clips) (segment_at g j + 256) })) None
 header-drawn g heads clips j (Some h) good l is may =
     let d = segment-drawn g heads clips j h good l is may in
     λ i. cond (d.gate i) (Some (record { block = d.block i; frames = d.whole i })) None
@@ -243,9 +243,9 @@ all-there {X} xs = from 0 [] xs refl
         let rest_is : map (λ j. get_or (xs ++ y ∷ ys) j None) (range_with_len (n + 1) (length ys)) ≡ ys = ap (λ (zs : List (Option X)). map (λ j. get_or zs j None) (range_with_len (n + 1) (length ys))) (sym grouped) ∙ rest in
         λ i. here i ∷ rest_is i
 
-pub heads-drawn : (g : Geometry) (heads : Heads) (clips : Clips) → IsTrue (is_good g) → length heads ≡ g.segments → AllStand g heads → heads_of g (drawn g heads clips) ≡ heads
+pub heads-drawn : (g : Geometry) (heads : Heads) (clips : Clips) → IsTrue (is_good g) → length heads ≡ g.segments → AllStand g heads → heads_of g (drawn_image g heads clips) ≡ heads
 heads-drawn g heads clips good count all =
-    map_range (λ j. header_at g (drawn g heads clips) (segment_at g j)) (head_in heads) 0 g.segments (λ j low high. header-drawn g heads clips j (head_in heads j) good (omega (arith, high)) refl (all j (omega (arith, high))))
+    map_range (λ j. header_at g (drawn_image g heads clips) (segment_at g j)) (head_in heads) 0 g.segments (λ j low high. header-drawn g heads clips j (head_in heads j) good (omega (arith, high)) refl (all j (omega (arith, high))))
     ∙ ap (λ (n : ℕ). map (head_in heads) (range_with_len 0 n)) (sym count) ∙ all-there heads
 
 -- no segment has a bad slot
@@ -253,28 +253,28 @@ abbrev IsRight : Geometry → Option Segment → Type 0
 IsRight g None = Unit {0}
 IsRight g (Some s) = is_bad_slot g s ≡ false
 
-right-opened : (g : Geometry) (image : List ℕ) (lo n : ℕ) → ((j : ℕ) → lo ≤ j → j < lo + n → IsRight g (segment_in g image j)) → list_any (is_bad_slot g) (opened (map (segment_in g image) (range_with_len lo n))) ≡ false
+right-opened : (g : Geometry) (image : List ℕ) (lo n : ℕ) → ((j : ℕ) → lo ≤ j → j < lo + n → IsRight g (segment_in g image j)) → list_any (is_bad_slot g) (open_segments (map (segment_in g image) (range_with_len lo n))) ≡ false
 right-opened g image lo zero all = refl
 right-opened g image lo (suc n) all = go (segment_in g image lo) (all lo (omega arith) (omega arith)) (right-opened g image (lo + 1) n (λ j low high. all j (omega (arith, low)) (omega (arith, high))))
   where
-    go : (o : Option Segment) → IsRight g o → list_any (is_bad_slot g) (opened (map (segment_in g image) (range_with_len (lo + 1) n))) ≡ false → list_any (is_bad_slot g) (opened (o ∷ map (segment_in g image) (range_with_len (lo + 1) n))) ≡ false
+    go : (o : Option Segment) → IsRight g o → list_any (is_bad_slot g) (open_segments (map (segment_in g image) (range_with_len (lo + 1) n))) ≡ false → list_any (is_bad_slot g) (open_segments (o ∷ map (segment_in g image) (range_with_len (lo + 1) n))) ≡ false
     go None right rest = rest
     go (Some s) right rest = λ i. right i || rest i
 
 -- the slots of a segment from one on hold the frames of its block
 pub slots-drawn : (g : Geometry) (heads : Heads) (clips : Clips) (j first count : ℕ) (h : SegmentHead) → IsTrue (is_good g) → j < g.segments → head_in heads j ≡ Some h → MayStand g (Some h) → first + count ≤ g.slots
-    → hold_from (frame_bytes g) (h.block * g.slots + first) (slots_from g (drawn g heads clips) j first count) ≡ true
+    → hold_from (frame_bytes g) (h.block * g.slots + first) (slots_from g (drawn_image g heads clips) j first count) ≡ true
 slots-drawn g heads clips j first count h good l is may room =
     let m = limits g good in
-    hold-range (frame_bytes g) (h.block * g.slots + first) first count (slot_of g (drawn g heads clips) j) (λ i u.
+    hold-range (frame_bytes g) (h.block * g.slots + first) first count (slot_of g (drawn_image g heads clips) j) (λ i u.
     let at : h.block * g.slots + first + i ≡ h.block * g.slots + (first + i) = omega arith in
-    ap (λ (n : ℕ). is_slot_of (frame_bytes g) n (slot_of g (drawn g heads clips) j (first + i))) at
+    ap (λ (n : ℕ). is_slot_of (frame_bytes g) n (slot_of g (drawn_image g heads clips) j (first + i))) at
     ∙ slot-right g heads clips j (first + i) h l is (omega (arith, room, u)) (omega (arith, m.bytes.1)) (omega (arith, may.1, add-mul h.block 1 g.slots, room, u)))
 
-right-drawn : (g : Geometry) (heads : Heads) (clips : Clips) (j : ℕ) (o : Option SegmentHead) → IsTrue (is_good g) → j < g.segments → head_in heads j ≡ o → MayStand g o → IsRight g (segment_in g (drawn g heads clips) j)
-right-drawn g heads clips j None good l is may = subst (IsRight g) (sym (closed_none g (drawn g heads clips) j (closed-header g heads clips j l is))) tt
+right-drawn : (g : Geometry) (heads : Heads) (clips : Clips) (j : ℕ) (o : Option SegmentHead) → IsTrue (is_good g) → j < g.segments → head_in heads j ≡ o → MayStand g o → IsRight g (segment_in g (drawn_image g heads clips) j)
+right-drawn g heads clips j None good l is may = subst (IsRight g) (sym (closed_none g (drawn_image g heads clips) j (closed-header g heads clips j l is))) tt
 right-drawn g heads clips j (Some h) good l is may =
-    let image = drawn g heads clips in
+    let image = drawn_image g heads clips in
     let d = segment-drawn g heads clips j h good l is may in
     let hold = slots-drawn g heads clips j 0 h.frames h good l is may (omega (arith, may.0)) in
     let first : h.block * g.slots + 0 ≡ h.block * g.slots = omega arith in
@@ -282,14 +282,14 @@ right-drawn g heads clips j (Some h) good l is may =
     let there : segment_in g image j ≡ Some (record { block = h.block; slots = slots_from g image j 0 h.frames }) = λ i. cond (d.gate i) (Some (record { block = d.block i; slots = slots_from g image j 0 (d.whole i) })) None in
     subst (IsRight g) (sym there) (ap not all)
 
-pub none-bad : (g : Geometry) (heads : Heads) (clips : Clips) → IsTrue (is_good g) → AllStand g heads → list_any (is_bad_slot g) (by_block (opened (parts_of g (drawn g heads clips)).segments)) ≡ false
+pub none-bad : (g : Geometry) (heads : Heads) (clips : Clips) → IsTrue (is_good g) → AllStand g heads → list_any (is_bad_slot g) (by_block (open_segments (parts_of g (drawn_image g heads clips)).segments)) ≡ false
 none-bad g heads clips good all =
-    any-by_block (is_bad_slot g) (opened (parts_of g (drawn g heads clips)).segments)
-    ∙ right-opened g (drawn g heads clips) 0 g.segments (λ j low high. right-drawn g heads clips j (head_in heads j) good (omega (arith, high)) refl (all j (omega (arith, high))))
+    any-by_block (is_bad_slot g) (open_segments (parts_of g (drawn_image g heads clips)).segments)
+    ∙ right-opened g (drawn_image g heads clips) 0 g.segments (λ j low high. right-drawn g heads clips j (head_in heads j) good (omega (arith, high)) refl (all j (omega (arith, high))))
 
 -- ---- its clips
 
-pub byte-clip : (g : Geometry) (heads : Heads) (clips : Clips) (id o : ℕ) → id < 64 → o < 32 → get_or (drawn g heads clips) (clip_at id + o) 0 ≡ entry_byte (get_or clips id None) o
+pub byte-clip : (g : Geometry) (heads : Heads) (clips : Clips) (id o : ℕ) → id < 64 → o < 32 → get_or (drawn_image g heads clips) (clip_at id + o) 0 ≡ entry_byte (get_or clips id None) o
 byte-clip g heads clips id o l u =
     let k = clip_at id + o in
     let place : k - 512 ≡ id * 32 + o = omega arith in
@@ -299,21 +299,21 @@ byte-clip g heads clips id o l u =
     ∙ picked (ltb k 2560) _ _ (below_test k 2560 (omega (arith, l, u)))
     ∙ (λ i. entry_byte (get_or clips (which i) None) (where_in i))
 
-pub closed-entry : (g : Geometry) (heads : Heads) (clips : Clips) (id : ℕ) → id < 64 → get_or clips id None ≡ None → is_open (drawn g heads clips) (clip_at id) ≡ false
+pub closed-entry : (g : Geometry) (heads : Heads) (clips : Clips) (id : ℕ) → id < 64 → get_or clips id None ≡ None → is_open (drawn_image g heads clips) (clip_at id) ≡ false
 closed-entry g heads clips id l none =
     let at : clip_at id ≡ clip_at id + 0 = omega arith in
-    ap (λ (k : ℕ). is_open (drawn g heads clips) k) at ∙ ap (λ (b : ℕ). eqb b 0xA5) (byte-clip g heads clips id 0 l (omega arith) ∙ ap (λ (o : Option Span). entry_byte o 0) none)
+    ap (λ (k : ℕ). is_open (drawn_image g heads clips) k) at ∙ ap (λ (b : ℕ). eqb b 0xA5) (byte-clip g heads clips id 0 l (omega arith) ∙ ap (λ (o : Option Span). entry_byte o 0) none)
 
 -- a clip whose numbers an entry takes
 abbrev pub FitsEntry : Option Span → Type 0
 FitsEntry None = Unit {0}
 FitsEntry (Some s) = (s.from < 2 ^ 64) × (s.to < 2 ^ 64)
 
-pub clip-drawn : (g : Geometry) (heads : Heads) (clips : Clips) (id : ℕ) (c : Option Span) → id < 64 → get_or clips id None ≡ c → FitsEntry c → clip_in (drawn g heads clips) id ≡ c
+pub clip-drawn : (g : Geometry) (heads : Heads) (clips : Clips) (id : ℕ) (c : Option Span) → id < 64 → get_or clips id None ≡ c → FitsEntry c → clip_in (drawn_image g heads clips) id ≡ c
 clip-drawn g heads clips id c l is fits = go c refl fits
   where
     image : List ℕ
-    image = drawn g heads clips
+    image = drawn_image g heads clips
 
     at : clip_at id ≡ clip_at id + 0
     at = omega arith

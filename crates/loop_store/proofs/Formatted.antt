@@ -6,7 +6,7 @@ use Rattle.std.proofs.lemmas.Result.{on_ok_weaker}
 use Rattle.std.specs.Prelude.{IsTrue, ◌&&◌}
 use Rattle.loop_disk.specs.declared.fault.DiskFault.{DiskFault}
 use Rattle.loop_disk.specs.Calls.{Stays}
-use Rattle.loop_disk.specs.Medium.{Medium, IsSound, IsSettled, LeavesOnly, SameOutside, written}
+use Rattle.loop_disk.specs.Medium.{Medium, IsSound, IsSettled, LeavesOnly, SameOutside, with_bytes_at}
 use Rattle.loop_disk.specs.Steps.{Stores}
 use Rattle.loop_disk.proofs.Images.{get_or-written_there, written_outside}
 use Rattle.loop_disk.proofs.Moments.{started, goes_on, joined, stored, weaker}
@@ -79,8 +79,8 @@ opening-moments g old new r good settled laid stores = stored 0 (165 ∷ []) old
 pub opening-fresh : {T : Type 0} (g : Geometry) (old new : Medium) (r : Result T DiskFault) → IsLaid g g.segments old.bytes → Stores 0 (165 ∷ []) old new r → OnOk r (IsFreshImage g new.bytes)
 opening-fresh g old new r laid stores =
     let fits : 0 + 1 ≤ length old.bytes = omega (arith, laid.size) in
-    let gate : get_or (written 0 (165 ∷ []) old.bytes) 0 0 ≡ 165 = get_or-written_there 0 (165 ∷ []) old.bytes 0 (omega arith) (omega arith) in
-    on_ok_weaker r (λ (done : new.bytes ≡ written 0 (165 ∷ []) old.bytes). subst (λ (image : List ℕ). IsFreshImage g image) (sym done) (opened-fresh g old.bytes (written 0 (165 ∷ []) old.bytes) laid (written_outside 0 (165 ∷ []) old.bytes fits) (ap (λ (b : ℕ). eqb b 165) gate))) stores.done
+    let gate : get_or (with_bytes_at 0 (165 ∷ []) old.bytes) 0 0 ≡ 165 = get_or-written_there 0 (165 ∷ []) old.bytes 0 (omega arith) (omega arith) in
+    on_ok_weaker r (λ (done : new.bytes ≡ with_bytes_at 0 (165 ∷ []) old.bytes). subst (λ (image : List ℕ). IsFreshImage g image) (sym done) (opened-fresh g old.bytes (with_bytes_at 0 (165 ∷ []) old.bytes) laid (written_outside 0 (165 ∷ []) old.bytes fits) (ap (λ (b : ℕ). eqb b 165) gate))) stores.done
 
 -- ---- the whole
 

@@ -5,7 +5,7 @@ use Rattle.std.proofs.lemmas.List.{ext_get_or, get_or-take, get_or-drop, get_or-
 use Rattle.std.proofs.lemmas.Result.{on_ok_weaker}
 use Rattle.loop_disk.specs.declared.fault.DiskFault.{DiskFault}
 use Rattle.loop_disk.specs.Calls.{Called, Stays, Writes, failed_call}
-use Rattle.loop_disk.specs.Medium.{Medium, IsSound, IsSettled, LeavesOnly, SameOutside, TornAt, written, piece}
+use Rattle.loop_disk.specs.Medium.{Medium, IsSound, IsSettled, LeavesOnly, SameOutside, TornAt, with_bytes_at, piece}
 use Rattle.loop_disk.specs.Steps.{Stores}
 use Rattle.loop_disk.proofs.Images.{get_or-written_before, get_or-written_there, length-written, get_or-piece}
 use Rattle.loop_disk.proofs.Moments.{each_now, started, goes_on, joined, stored}
@@ -47,7 +47,7 @@ closing old mid new r sound settled stays opened stores =
 
 -- at Ok it is closed in each image that a crash may leave
 pub closing-done : {T : Type 0} (mid new : Medium) (r : Result T DiskFault) → Stores 0 (0 ∷ []) mid new r → OnOk r (LeavesClosed new)
-closing-done mid new r stores = both_ok r (λ (done : new.bytes ≡ written 0 (0 ∷ []) mid.bytes) (settled : IsSettled new) c left. ap (λ (image : List ℕ). is_open image 0) (settled c left ∙ done)) stores.done stores.settled
+closing-done mid new r stores = both_ok r (λ (done : new.bytes ≡ with_bytes_at 0 (0 ∷ []) mid.bytes) (settled : IsSettled new) c left. ap (λ (image : List ℕ). is_open image 0) (settled c left ∙ done)) stores.done stores.settled
 
 -- and so it is where it was read as closed
 pub closed-read : (old mid : Medium) (gate : List ℕ) → IsSettled old → Stays old mid → gate ≡ piece 0 1 old.bytes → get_or gate 0 0 ≢ 165 → LeavesClosed mid
@@ -69,7 +69,7 @@ writing-closed at bytes old new r behind sound closed writes =
 
 -- the superblock and the clip table
 pub laid-front : (g : Geometry) (bytes old : List ℕ) → length bytes ≡ 2559 → length old ≡ disk_size g → ((i : ℕ) → i < 511 → get_or bytes i 0 ≡ get_or (super_bytes g) (i + 1) 0) → ((i : ℕ) → 511 ≤ i → i < 2559 → get_or bytes i 0 ≡ 0)
-    → length (super_bytes g) ≡ 512 → IsLaid g 0 (written 1 bytes old)
+    → length (super_bytes g) ≡ 512 → IsLaid g 0 (with_bytes_at 1 bytes old)
 laid-front g bytes old long whole front rest super_size = record {
   size = length-written 1 bytes old (omega (arith, long, whole)) ∙ whole;
   superblock =
@@ -85,13 +85,13 @@ laid-front g bytes old long whole front rest super_size = record {
 }
   where
     new : List ℕ
-    new = written 1 bytes old
+    new = with_bytes_at 1 bytes old
 
     there : (i : ℕ) → i < 2559 → get_or new (1 + i) 0 ≡ get_or bytes i 0
     there i l = get_or-written_there 1 bytes old i (omega (arith, whole)) (omega (arith, long, l))
 
 -- one header more
-pub laid-header : (g : Geometry) (count : ℕ) (old : List ℕ) → count < g.segments → IsLaid g count old → IsLaid g (count + 1) (written (segment_at g count) (replicate 512 0) old)
+pub laid-header : (g : Geometry) (count : ℕ) (old : List ℕ) → count < g.segments → IsLaid g count old → IsLaid g (count + 1) (with_bytes_at (segment_at g count) (replicate 512 0) old)
 laid-header g count old below laid = record {
   size = length-written at zeros old fits ∙ laid.size;
   superblock =
@@ -109,7 +109,7 @@ laid-header g count old below laid = record {
     zeros = replicate 512 0
 
     new : List ℕ
-    new = written at zeros old
+    new = with_bytes_at at zeros old
 
     fits : at + length zeros ≤ length old
     fits = omega (arith, laid.size, apart g count g.segments below, length-replicate {A = ℕ} 512 0)
@@ -130,7 +130,7 @@ pub gate-read : (image gate : List ℕ) → gate ≡ piece 0 1 image → get_or 
 gate-read image gate is opened = ap (λ (b : ℕ). eqb b 165) (sym (get_or-piece 0 1 image 0 (omega arith)) ∙ sym (ap (λ (bytes : List ℕ). get_or bytes 0 0) is) ∙ opened)
 
 -- the superblock at the front of zeros, but for its gate
-pub laid-super : (g : Geometry) (front old : List ℕ) → front ≡ super_bytes g ++ drop 512 (replicate 2560 0) → length front ≡ 2560 → length old ≡ disk_size g → IsLaid g 0 (written 1 (drop 1 front) old)
+pub laid-super : (g : Geometry) (front old : List ℕ) → front ≡ super_bytes g ++ drop 512 (replicate 2560 0) → length front ≡ 2560 → length old ≡ disk_size g → IsLaid g 0 (with_bytes_at 1 (drop 1 front) old)
 laid-super g front old is long whole = laid-front g (drop 1 front) old (omega (arith, length-drop 1 front, long)) whole head rest super_size
   where
     zeros : List ℕ
@@ -154,13 +154,13 @@ laid-super g front old is long whole = laid-front g (drop 1 front) old (omega (a
 pub front-laid : {T : Type 0} (g : Geometry) (front bytes : List ℕ) (old new : Medium) (r : Result T DiskFault) → front ≡ super_bytes g ++ drop 512 (replicate 2560 0) → length front ≡ 2560 → bytes ≡ drop 1 front → IsSound old → old.size ≡ disk_size g
     → Writes 1 bytes old new r → OnOk r (IsLaid g 0 new.bytes)
 front-laid g front bytes old new r is long behind sound whole writes =
-    on_ok_weaker r (λ (done : new.bytes ≡ written 1 bytes old.bytes).
-    subst (λ (image : List ℕ). IsLaid g 0 image) (sym (done ∙ (λ i. written 1 (behind i) old.bytes))) (laid-super g front old.bytes is long (sound.length_is ∙ whole))) writes.done
+    on_ok_weaker r (λ (done : new.bytes ≡ with_bytes_at 1 bytes old.bytes).
+    subst (λ (image : List ℕ). IsLaid g 0 image) (sym (done ∙ (λ i. with_bytes_at 1 (behind i) old.bytes))) (laid-super g front old.bytes is long (sound.length_is ∙ whole))) writes.done
 
 pub header-laid : {T : Type 0} (g : Geometry) (at count : ℕ) (old new : Medium) (r : Result T DiskFault) → at ≡ segment_at g count → count < g.segments → IsLaid g count old.bytes → Writes at (replicate 512 0) old new r → OnOk r (IsLaid g (count + 1) new.bytes)
 header-laid g at count old new r is below laid writes =
-    on_ok_weaker r (λ (done : new.bytes ≡ written at (replicate 512 0) old.bytes).
-    subst (λ (image : List ℕ). IsLaid g (count + 1) image) (sym (done ∙ (λ i. written (is i) (replicate 512 0) old.bytes))) (laid-header g count old.bytes below laid)) writes.done
+    on_ok_weaker r (λ (done : new.bytes ≡ with_bytes_at at (replicate 512 0) old.bytes).
+    subst (λ (image : List ℕ). IsLaid g (count + 1) image) (sym (done ∙ (λ i. with_bytes_at (is i) (replicate 512 0) old.bytes))) (laid-header g count old.bytes below laid)) writes.done
 
 -- a write behind the closed gate brings the disk to this
 pub brings-laid : {T : Type 0} (g : Geometry) (count : ℕ) (old new : Medium) (r : Result T DiskFault) → (old.honest → IsSound new) → (old.honest → LeavesOnly old new IsClosed) → (old.honest → OnOk r (IsLaid g count new.bytes)) → Called old new (failed_call r)

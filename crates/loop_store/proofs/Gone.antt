@@ -12,7 +12,7 @@ use Rattle.loop_record.specs.Recording.{Recording, plain, ring_of}
 use Rattle.loop_record.proofs.Decided.{both}
 use Rattle.loop_record.proofs.Turned.{after-behind, each-behind, told-behind}
 use Rattle.loop_ring.proofs.SlotReads.{stays_on}
-use Rattle.loop_store.specs.Calls.{AreAnswered, Call, IsAnswered, StoreState, after, after_calls, begun, begun_in, failed_for, has_failed, is_look, made, made_in, was_refused}
+use Rattle.loop_store.specs.Calls.{AreAnswered, Call, IsAnswered, StoreState, after_store_call, after_calls, begun_by, begun_in, failed_for, has_failed, is_look, made_by, made_in, was_refused}
 use Rattle.loop_store.specs.Faults.{is_early}
 use Rattle.loop_store.specs.Goes.{CalledEach, Goes, Stands, TellsState, with_each}
 use Rattle.loop_store.specs.Opened.{TellsOne}
@@ -60,7 +60,7 @@ all-refused : (H : Type 0) (g : Geometry) (s : StoreState) (calls : List Call) �
 all-refused H g s [] must said = refl
 all-refused H g s (c ∷ calls) must said =
     let early = ap is_early (must-answer H g s c must said.0) in
-    let rest = all-refused H g (after g s c) calls (ap (λ (b : Bool). b || has_failed c) must) said.1 in
+    let rest = all-refused H g (after_store_call g s c) calls (ap (λ (b : Bool). b || has_failed c) must) said.1 in
     λ i. early i && rest i
 
 -- the store stands for a state, and its disk is honest
@@ -106,10 +106,10 @@ goes-none medium store one sound = record {
 pub record GoesOnce {D : Type 0} (medium : D → Medium) (old new : Seen D) (c : Call) : Type 0 where
   pub one : TellsOne old
   pub answers : (s : StoreState) → TellsState old s → IsAnswered ((medium old.disk).honest × Stands medium old s) old.geometry s c
-  pub tells : (s : StoreState) → TellsState old s → TellsState new (after old.geometry s c)
-  pub stands : (s : StoreState) → Stands medium old s → Stands medium new (after old.geometry s c)
+  pub tells : (s : StoreState) → TellsState old s → TellsState new (after_store_call old.geometry s c)
+  pub stands : (s : StoreState) → Stands medium old s → Stands medium new (after_store_call old.geometry s c)
   pub leaves : (s : StoreState) → Stands medium old s → (medium old.disk).honest → s.must_reopen ≡ false
-      → LeavesSteps old.geometry s.recording (made old.geometry s c) (begun old.geometry s c) (medium old.disk) (medium new.disk)
+      → LeavesSteps old.geometry s.recording (made_by old.geometry s c) (begun_by old.geometry s c) (medium old.disk) (medium new.disk)
   pub looks : is_look c ≡ true → (medium old.disk).honest → Stays (medium old.disk) (medium new.disk)
   pub unmoved : was_refused c ≡ true → new ≡ old
   pub geometry : new.geometry ≡ old.geometry
@@ -123,7 +123,7 @@ goes-once medium old new c one = record {
   stands = one.stands;
   leaves = λ s stands now fine.
       let g = old.geometry in
-      leaves-same g s.recording (made g s c) (made g s c ++ []) (begun g s c) (begun g s c ++ []) (medium old.disk) (medium new.disk) (sym (append-nil (made g s c))) (sym (append-nil (begun g s c))) (one.leaves s stands now fine);
+      leaves-same g s.recording (made_by g s c) (made_by g s c ++ []) (begun_by g s c) (begun_by g s c ++ []) (medium old.disk) (medium new.disk) (sym (append-nil (made_by g s c))) (sym (append-nil (begun_by g s c))) (one.leaves s stands now fine);
   looks = λ all now. one.looks (both (is_look c) true all).0 now;
   unmoved = λ all. one.unmoved (both (was_refused c) true all).0;
   geometry = one.geometry;
@@ -134,16 +134,16 @@ goes-once medium old new c one = record {
 pub goes-joined : {D : Type 0} (medium : D → Medium) (old mid new : Seen D) (xs ys : List Call) → Goes medium old mid xs → Goes medium mid new ys → Goes medium old new (xs ++ ys)
 goes-joined {D} medium old mid new xs ys first second = record {
   one = first.one;
-  answers = λ s told. each-behind (after g) (IsAnswered (Held medium old s) g) s xs ys (first.answers s told) (later s told);
+  answers = λ s told. each-behind (after_store_call g) (IsAnswered (Held medium old s) g) s xs ys (first.answers s told) (later s told);
   tells = λ s told.
-      subst (λ (t : StoreState). TellsState new t) (sym (after-behind (after g) s xs ys))
+      subst (λ (t : StoreState). TellsState new t) (sym (after-behind (after_store_call g) s xs ys))
       (subst (λ (h : Geometry). TellsState new (after_calls h (mid_state s) ys)) first.geometry (second.tells (mid_state s) (first.tells s told)));
   stands = λ s stands.
-      subst (λ (t : StoreState). Stands medium new t) (sym (after-behind (after g) s xs ys))
+      subst (λ (t : StoreState). Stands medium new t) (sym (after-behind (after_store_call g) s xs ys))
       (subst (λ (h : Geometry). Stands medium new (after_calls h (mid_state s) ys)) first.geometry (second.stands (mid_state s) (first.stands s stands)));
   leaves = λ s stands now fine.
       leaves-same g s.recording (made_in g s xs ++ made_in g (mid_state s) ys) (made_in g s (xs ++ ys)) (begun_in g s xs ++ begun_in g (mid_state s) ys) (begun_in g s (xs ++ ys)) (medium old.disk) (medium new.disk)
-      (sym (told-behind (after g) (made g) s xs ys)) (sym (told-behind (after g) (begun g) s xs ys)) (go s stands now fine (mid_state s).must_reopen refl);
+      (sym (told-behind (after_store_call g) (made_by g) s xs ys)) (sym (told-behind (after_store_call g) (begun_by g) s xs ys)) (go s stands now fine (mid_state s).must_reopen refl);
   looks = λ all now. let k = all-both is_look xs ys all in stays_on (medium old.disk) (medium mid.disk) (medium new.disk) (first.looks k.0 now) (second.looks k.1 (first.called.honest.0 now));
   unmoved = λ all. let k = all-both was_refused xs ys all in second.unmoved k.1 ∙ first.unmoved k.0;
   geometry = second.geometry ∙ first.geometry;

@@ -10,7 +10,7 @@ use Rattle.loop_record.specs.Change.{ShowsSegment}
 use Rattle.loop_record.specs.Geometry.{frame_bytes}
 use Rattle.loop_record.specs.Recording.{Picture, Recording, Step, store, plain, ring_of}
 use Rattle.loop_record.specs.Layout.{Segment, segment_in}
-use Rattle.loop_record.specs.Reading.{Holds, hold_from, begun}
+use Rattle.loop_record.specs.Reading.{Holds, hold_from, empty_segment}
 use Rattle.loop_record.proofs.Steps.{plain-append}
 use Rattle.loop_record.proofs.Readings.{reading-commit, reading-begin, reading-same, whole-length}
 use Rattle.loop_ring.specs.Writes.{HasNoStray, ShowsOrNot, ShowsFrames, ShowsBeginning, slots_of, with_more}
@@ -60,21 +60,21 @@ beginning-held g r j next ps old c held is l newest some = record {
 
 -- ---- a block that was begun
 
-pub begun-newest : (g : Geometry) (next j : ℕ) (c : List ℕ) → next % g.slots ≡ 0 → segment_in g c j ≡ Some (begun (next / g.slots)) → HasNoStray g j c → IsNewestSegment g next j c
+pub begun-newest : (g : Geometry) (next j : ℕ) (c : List ℕ) → next % g.slots ≡ 0 → segment_in g c j ≡ Some (empty_segment (next / g.slots)) → HasNoStray g j c → IsNewestSegment g next j c
 begun-newest g next j c first there stray = record {
-  segment = begun (next / g.slots);
+  segment = empty_segment (next / g.slots);
   there = there;
   of_next = refl;
-  whole = whole-length g c j (begun (next / g.slots)) there ∙ sym first;
+  whole = whole-length g c j (empty_segment (next / g.slots)) there ∙ sym first;
   stray = stray;
 }
 
-pub begun-held : (g : Geometry) (r : Recording) (next j : ℕ) (old c : List ℕ) → Holds g r old → r.next ≡ next → j < g.segments → next % g.slots ≡ 0 → IsFreeFor g next j old → ShowsSegment g j (Some (begun (next / g.slots))) old c → Holds g r c
+pub begun-held : (g : Geometry) (r : Recording) (next j : ℕ) (old c : List ℕ) → Holds g r old → r.next ≡ next → j < g.segments → next % g.slots ≡ 0 → IsFreeFor g next j old → ShowsSegment g j (Some (empty_segment (next / g.slots))) old c → Holds g r c
 begun-held g r next j old c held is l first free shows =
     let at : r.next ≡ next / g.slots * g.slots = omega (arith, is, first, div-add-mod' next g.slots) in
     reading-begin g r old c j (next / g.slots) held l free.closed free.apart at free.low_enough shows
 
-pub begun-held_or : (g : Geometry) (r : Recording) (next j : ℕ) (old c : List ℕ) → Holds g r old → r.next ≡ next → j < g.segments → next % g.slots ≡ 0 → IsFreeFor g next j old → ShowsOrNot g j (Some (begun (next / g.slots))) old c → Holds g r c
+pub begun-held_or : (g : Geometry) (r : Recording) (next j : ℕ) (old c : List ℕ) → Holds g r old → r.next ≡ next → j < g.segments → next % g.slots ≡ 0 → IsFreeFor g next j old → ShowsOrNot g j (Some (empty_segment (next / g.slots))) old c → Holds g r c
 begun-held_or g r next j old c held is l first free (inl same) = reading-same g r old c j held l same
 begun-held_or g r next j old c held is l first free (inr shows) = begun-held g r next j old c held is l first free shows
 

@@ -6,7 +6,7 @@ use Rattle.std.specs.List.{range_with_len}
 use Rattle.loop_record.specs.declared.geometry.Geometry.{Geometry}
 use Rattle.loop_record.specs.declared.segment.SegmentHead.{SegmentHead}
 use Rattle.loop_record.specs.Layout.{Segment}
-use Rattle.loop_record.specs.Reading.{Holds, all_frames, by_block, frames_of, in_place, opened, parts_of}
+use Rattle.loop_record.specs.Reading.{Holds, all_frames, by_block, frames_of, in_place, open_segments, parts_of}
 use Rattle.loop_record.specs.Recording.{Picture, Recording}
 use Rattle.loop_record.proofs.Readings.{length-range}
 use Rattle.loop_ring.specs.Heads.{heads_of}
@@ -19,7 +19,7 @@ abbrev total : List Segment → ℕ
 total [] = 0
 total (s ∷ ss) = length s.slots + total ss
 
-heads-total : (slots : ℕ) (ps : List (Option Segment)) → length (numbers_under slots (map head_of ps)) ≡ total (opened ps)
+heads-total : (slots : ℕ) (ps : List (Option Segment)) → length (numbers_under slots (map head_of ps)) ≡ total (open_segments ps)
 heads-total slots [] = refl
 heads-total slots (None ∷ ps) = heads-total slots ps
 heads-total slots (Some s ∷ ps) =
@@ -54,7 +54,7 @@ count-held g r image e =
     let ps = (parts_of g image).segments in
     let s = sorted g r image e in
     ap (λ (hs : List (Option SegmentHead)). length (numbers_under g.slots hs)) (heads-are g image)
-    ∙ heads-total g.slots ps ∙ sym (total-by_block (opened ps)) ∙ sym (frames-total g (by_block (opened ps)))
+    ∙ heads-total g.slots ps ∙ sym (total-by_block (open_segments ps)) ∙ sym (frames-total g (by_block (open_segments ps)))
     ∙ ap (λ (fs : List (ℕ × Picture)). length fs) s.frames
 
 -- ---- one header after another

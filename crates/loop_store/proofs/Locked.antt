@@ -17,8 +17,8 @@ use Rattle.loop_record.specs.declared.segment.SegmentHead.{SegmentHead}
 use Rattle.loop_record.specs.Change.{ShowsClip}
 use Rattle.loop_record.specs.Geometry.{clip_at, disk_size, gate_at, segment_at, segment_size}
 use Rattle.loop_record.specs.Layout.{clip_in}
-use Rattle.loop_record.specs.Reading.{Holds, Parts, parts_of, shown}
-use Rattle.loop_record.specs.Recording.{IsWellFormed, Recording, Step, after, holds_all, clip_of, first_free, free_id, holds, last_number, lock, plain, ring_of, unlock}
+use Rattle.loop_record.specs.Reading.{Holds, Parts, parts_of, shown_by}
+use Rattle.loop_record.specs.Recording.{IsWellFormed, Recording, Step, after_step, holds_all, clip_of, first_free, free_id, holds, last_number, lock, plain, ring_of, unlock}
 use Rattle.loop_record.proofs.Clips.{clip_of-entry, clips-are, parts-clip, reading-clip, reading-lock, reading-unlock}
 use Rattle.loop_record.proofs.Bounds.{limits}
 use Rattle.loop_record.proofs.Form.{reading-well_formed}
@@ -34,11 +34,11 @@ use Rattle.loop_ring.proofs.Heads.{head_of, heads-are, heads-length}
 use Rattle.loop_store.specs.declared.index.Index.{Index}
 use Rattle.loop_store.specs.declared.fault.StoreFault.{StoreFault}
 use Rattle.loop_store.specs.declared.fault.StoreFault.TheVariants.{NoSuchClip}
-use Rattle.loop_store.specs.Calls.{Call, IsAnswered, AnswersOtherwise, StoreState, begun, checks, failed_for, first_of, has_failed, is_look, locked, made, span_checks, unlocked, was_refused}
+use Rattle.loop_store.specs.Calls.{Call, IsAnswered, AnswersOtherwise, StoreState, begun_by, checks, failed_for, first_of, has_failed, is_look, locked, made_by, span_checks, unlocked, was_refused}
 use Rattle.loop_store.specs.Faults.{failed_by, is_disk, is_early}
 use Rattle.loop_store.specs.Goes.{Goes, Stands}
 use Rattle.loop_store.specs.Opened.{TellsOne}
-use Rattle.loop_store.specs.Drawn.{drawn}
+use Rattle.loop_store.specs.Drawn.{drawn_image}
 use Rattle.loop_store.specs.Held.{HasNoneStray, HoldsSome, Makes}
 use Rattle.loop_store.specs.Locks.{CanRefuseSpan, CanTake, EndsRun, KeepsSegments}
 use Rattle.loop_store.specs.Recovered.{IsClipNoted, IsHeadIn, IsIndex, IsIndexOf, IsRecovered}
@@ -77,19 +77,19 @@ same-held g r id old c held l shows =
     let at : 0 + id ≡ id = omega arith in
     let there : clip_in old id ≡ get_or clips id None = ap (clip_in old) (sym at) ∙ sym (get_or-map_range (clip_in old) 0 64 id None l) in
     let same : set clips id (clip_in old id) ≡ clips = ap (λ (x : Option Span). set clips id x) there ∙ set-get_or clips id None in
-    reading-clip g r r id (clip_in old id) old c held l shows (ap (λ (cs : List (Option Span)). shown g (record { segments = (parts_of g old).segments; clips = cs })) same ∙ (reading-stages g r old held).recording)
+    reading-clip g r r id (clip_in old id) old c held l shows (ap (λ (cs : List (Option Span)). shown_by g (record { segments = (parts_of g old).segments; clips = cs })) same ∙ (reading-stages g r old held).recording)
 
-one-step : (g : Geometry) (r : Recording) (step : Step) (c : List ℕ) → Holds g (after (ring_of g) r step) c → HoldsSome g r (step ∷ []) c
+one-step : (g : Geometry) (r : Recording) (step : Step) (c : List ℕ) → Holds g (after_step (ring_of g) r step) c → HoldsSome g r (step ∷ []) c
 one-step g r step c held = record { count = 1; enough = omega arith; few = omega arith; held = held }
 
-pub lock-held : (g : Geometry) (r : Recording) (span : Span) (id : ℕ) (old c : List ℕ) → Holds g r old → CanTake g span id r → ShowsClip id (Some span) old c → Holds g (after (ring_of g) r (lock span)) c
+pub lock-held : (g : Geometry) (r : Recording) (span : Span) (id : ℕ) (old c : List ℕ) → Holds g r old → CanTake g span id r → ShowsClip id (Some span) old c → Holds g (after_step (ring_of g) r (lock span)) c
 lock-held g r span id old c held takes shows = reading-lock g r span old c held takes.legal (subst (λ (k : ℕ). ShowsClip k (Some span) old c) takes.id_is shows)
 
 pub lock-some : (g : Geometry) (r : Recording) (span : Span) (id : ℕ) (old c : List ℕ) → Holds g r old → id < 64 → CanTake g span id r → ShowsClipOrNot id (Some span) old c → HoldsSome g r (lock span ∷ []) c
 lock-some g r span id old c held l takes (inl same) = held-some g r (lock span ∷ []) c (same-held g r id old c held l same)
 lock-some g r span id old c held l takes (inr shows) = one-step g r (lock span) c (lock-held g r span id old c held takes shows)
 
-pub unlock-held : (g : Geometry) (r : Recording) (id : ℕ) (old c : List ℕ) → Holds g r old → id < 64 → ShowsClip id None old c → Holds g (after (ring_of g) r (unlock id)) c
+pub unlock-held : (g : Geometry) (r : Recording) (id : ℕ) (old c : List ℕ) → Holds g r old → id < 64 → ShowsClip id None old c → Holds g (after_step (ring_of g) r (unlock id)) c
 unlock-held g r id old c held l shows = reading-unlock g r id old c held l shows
 
 pub unlock-some : (g : Geometry) (r : Recording) (id : ℕ) (old c : List ℕ) → Holds g r old → id < 64 → ShowsClipOrNot id None old c → HoldsSome g r (unlock id ∷ []) c
@@ -151,9 +151,9 @@ entry-open index m id present l some none = some (sym (entry-is index m id prese
 pub record IsRedrawn (g : Geometry) (id : ℕ) (clip : Option Span) (IsOne : Recording → Type 0) (step : Step) : Type 0 where
   pub low : id < 64
   pub fits : (r : Recording) → IsOne r → IsWellFormed r → r.next ≤ 2 ^ 62 → FitsEntry clip
-  pub shown : (r : Recording) (old new : List ℕ) → IsOne r → Holds g r old → ShowsClip id clip old new → Holds g (after (ring_of g) r step) new
+  pub shown : (r : Recording) (old new : List ℕ) → IsOne r → Holds g r old → ShowsClip id clip old new → Holds g (after_step (ring_of g) r step) new
   pub alike : (r t : Recording) → IsSame r t → IsOne r → IsOne t
-  pub stepped : (r t : Recording) → IsSame r t → IsSame (after (ring_of g) r step) (after (ring_of g) t step)
+  pub stepped : (r t : Recording) → IsSame r t → IsSame (after_step (ring_of g) r step) (after_step (ring_of g) t step)
 
 -- what is known where a clip was noted
 pub record Noted {D A : Type 0} (medium : D → Medium) (old new : D) (was now : Index A) (id : ℕ) (clip : Option Span) (IsOne : Recording → Type 0) (step : Step) : Type 0 where
@@ -161,20 +161,20 @@ pub record Noted {D A : Type 0} (medium : D → Medium) (old new : D) (was now :
   pub called : Called (medium old) (medium new) None
   pub segments : (medium old).honest → KeepsSegments was.ring.geometry (medium old).bytes (medium new).bytes
   pub settled : (medium old).honest → IsSettled (medium new)
-  pub held : (r : Recording) → IsOne r → (medium old).honest → Holds was.ring.geometry r (medium old).bytes → Holds was.ring.geometry (after (ring_of was.ring.geometry) r step) (medium new).bytes
-  pub next : (r : Recording) → (after (ring_of was.ring.geometry) r step).next ≡ r.next
-  pub clips : (r : Recording) → IsOne r → (after (ring_of was.ring.geometry) r step).clips ≡ set r.clips id clip
+  pub held : (r : Recording) → IsOne r → (medium old).honest → Holds was.ring.geometry r (medium old).bytes → Holds was.ring.geometry (after_step (ring_of was.ring.geometry) r step) (medium new).bytes
+  pub next : (r : Recording) → (after_step (ring_of was.ring.geometry) r step).next ≡ r.next
+  pub clips : (r : Recording) → IsOne r → (after_step (ring_of was.ring.geometry) r step).clips ≡ set r.clips id clip
   pub redrawn : IsRedrawn was.ring.geometry id clip IsOne step
 
 geometry-same : {A : Type 0} (was now : Index A) (id : ℕ) (clip : Option Span) → IsClipNoted was now id clip → now.ring.geometry ≡ was.ring.geometry
 geometry-same was now id clip noted = ap (λ (x : LoopRing). x.geometry) noted.ring
 
 known-noted : {D A : Type 0} (medium : D → Medium) (old new : D) (was now : Index A) (id : ℕ) (clip : Option Span) (IsOne : Recording → Type 0) (step : Step) (r : Recording) → Noted medium old new was now id clip IsOne step → IsOne r → (medium old).honest
-    → IsIndexOf was r (medium old).bytes → IsIndexOf now (after (ring_of was.ring.geometry) r step) (medium new).bytes
+    → IsIndexOf was r (medium old).bytes → IsIndexOf now (after_step (ring_of was.ring.geometry) r step) (medium new).bytes
 known-noted medium old new was now id clip IsOne step r n one honest known =
     let g = was.ring.geometry in
     let same = geometry-same was now id clip n.noted in record {
-      held = subst (λ (h : Geometry). Holds h (after (ring_of g) r step) (medium new).bytes) (sym same) (n.held r one honest known.held);
+      held = subst (λ (h : Geometry). Holds h (after_step (ring_of g) r step) (medium new).bytes) (sym same) (n.held r one honest known.held);
       next_is = n.noted.next ∙ known.next_is ∙ sym (n.next r);
       heads_are = n.noted.heads ∙ known.heads_are ∙ sym (n.segments honest).heads ∙ ap (λ (h : Geometry). heads_of h (medium new).bytes) (sym same);
       clips_are = n.noted.clips ∙ ap (λ (cs : List (Option Span)). set cs id clip) known.clips_are ∙ sym (n.clips r one);
@@ -190,19 +190,19 @@ index-noted was now id clip noted whole =
     }
 
 -- with frames that are made up, the index says the recording with the step
-pub drawn-noted : {A : Type 0} (was now : Index A) (id : ℕ) (clip : Option Span) (IsOne : Recording → Type 0) (step : Step) → (known : IsRecovered was (drawn was.ring.geometry was.table.heads was.clips)) → IsIndex was → IsOne known.recording → IsClipNoted was now id clip
-    → IsRedrawn was.ring.geometry id clip IsOne step → (after (ring_of was.ring.geometry) known.recording step).next ≡ known.recording.next → (after (ring_of was.ring.geometry) known.recording step).clips ≡ set known.recording.clips id clip
-    → IsIndexOf now (after (ring_of was.ring.geometry) known.recording step) (drawn now.ring.geometry now.table.heads now.clips)
+pub drawn-noted : {A : Type 0} (was now : Index A) (id : ℕ) (clip : Option Span) (IsOne : Recording → Type 0) (step : Step) → (known : IsRecovered was (drawn_image was.ring.geometry was.table.heads was.clips)) → IsIndex was → IsOne known.recording → IsClipNoted was now id clip
+    → IsRedrawn was.ring.geometry id clip IsOne step → (after_step (ring_of was.ring.geometry) known.recording step).next ≡ known.recording.next → (after_step (ring_of was.ring.geometry) known.recording step).clips ≡ set known.recording.clips id clip
+    → IsIndexOf now (after_step (ring_of was.ring.geometry) known.recording step) (drawn_image now.ring.geometry now.table.heads now.clips)
 drawn-noted was now id clip IsOne step known whole one noted re next clips =
     let g = was.ring.geometry in
     let r = known.recording in
     let heads = was.table.heads in
-    let image = drawn g heads was.clips in
+    let image = drawn_image g heads was.clips in
     let low : r.next ≤ 2 ^ 62 = omega (arith, known.known.next_is, whole.few, mul-div-le (2 ^ 62) g.slots) in
     let formed = reading-well_formed g r image known.known.held in
     let size : length was.clips ≡ 64 = ap length known.known.clips_are ∙ formed.ids in
     let shows = drawn-clip g heads was.clips id clip re.low (omega (arith, re.low, size)) (re.fits r one formed low) in
-    known-drawn now g heads (set was.clips id clip) (after (ring_of g) r step) was.ring.good whole.count whole.within (re.shown r image (drawn g heads (set was.clips id clip)) one known.known.held shows)
+    known-drawn now g heads (set was.clips id clip) (after_step (ring_of g) r step) was.ring.good whole.count whole.within (re.shown r image (drawn_image g heads (set was.clips id clip)) one known.known.held shows)
     (geometry-same was now id clip noted) noted.heads noted.clips (noted.next ∙ known.known.next_is ∙ sym next) (ap (λ (cs : List (Option Span)). set cs id clip) known.known.clips_are ∙ sym clips)
 
 pub kept-noted : {D A : Type 0} (medium : D → Medium) (old new : D) (was now : Index A) (id : ℕ) (clip : Option Span) (IsOne : Recording → Type 0) (step : Step) (must : Bool) → IsKept medium old was must → must ≡ false
@@ -210,12 +210,12 @@ pub kept-noted : {D A : Type 0} (medium : D → Medium) (old new : D) (was now :
 kept-noted {A = A} medium old new was now id clip IsOne step must kept fine one n =
     let same = geometry-same was now id clip n.noted in
     let r0 = kept.known.recording in
-    let one0 = one r0 (drawn was.ring.geometry was.table.heads was.clips) kept.known.known in record {
+    let one0 = one r0 (drawn_image was.ring.geometry was.table.heads was.clips) kept.known.known in record {
       fits = record {
         size_is = n.called.size ∙ kept.fits.size_is ∙ ap disk_size (sym same);
         whole = index-noted was now id clip n.noted kept.fits.whole;
       };
-      known = record { recording = after (ring_of was.ring.geometry) r0 step; known = drawn-noted was now id clip IsOne step kept.known kept.fits.whole one0 n.noted n.redrawn (n.next r0) (n.clips r0 one0) };
+      known = record { recording = after_step (ring_of was.ring.geometry) r0 step; known = drawn-noted was now id clip IsOne step kept.known kept.fits.whole one0 n.noted n.redrawn (n.next r0) (n.clips r0 one0) };
       present = λ f honest.
           let back = n.called.honest.1 honest in record {
             recorded = recorded honest;
@@ -228,7 +228,7 @@ kept-noted {A = A} medium old new was now id clip IsOne step must kept fine one 
     recorded honest =
         let back = n.called.honest.1 honest in
         let there = (kept.present fine back).recorded in record {
-          recording = after (ring_of was.ring.geometry) there.recording step;
+          recording = after_step (ring_of was.ring.geometry) there.recording step;
           known = known-noted medium old new was now id clip IsOne step there.recording n (one there.recording (medium old).bytes there.known) back there.known;
         }
 
@@ -238,12 +238,12 @@ pub told-noted : {D A : Type 0} (medium : D → Medium) (old new : D) (was now :
 told-noted medium old new was now id clip IsOne step must r kept told one n =
     let g = was.ring.geometry in
     let r0 = kept.known.recording in
-    let one0 = one r0 (drawn g was.table.heads was.clips) kept.known.known in
+    let one0 = one r0 (drawn_image g was.table.heads was.clips) kept.known.known in
     let some = (limits g was.ring.good).slots.0 in
     let slots : 1 ≤ now.ring.geometry.slots = subst (λ (h : Geometry). 1 ≤ h.slots) (sym (geometry-same was now id clip n.noted)) some in
     let drawn_on = drawn-noted was now id clip IsOne step kept.known kept.fits.whole one0 n.noted n.redrawn (n.next r0) (n.clips r0 one0) in
-    let told0 = told-by new now must (after (ring_of g) r0 step) (drawn now.ring.geometry now.table.heads now.clips) slots (index-noted was now id clip n.noted kept.fits.whole).within drawn_on in
-    same-tells (seen_with new now must) (after (ring_of g) r0 step) (after (ring_of g) r step) told0 (n.redrawn.stepped r0 r (alike-by medium old was must r kept told))
+    let told0 = told-by new now must (after_step (ring_of g) r0 step) (drawn_image now.ring.geometry now.table.heads now.clips) slots (index-noted was now id clip n.noted kept.fits.whole).within drawn_on in
+    same-tells (seen_with new now must) (after_step (ring_of g) r0 step) (after_step (ring_of g) r step) told0 (n.redrawn.stepped r0 r (alike-by medium old was must r kept told))
 
 pub stands-noted : {D A : Type 0} (medium : D → Medium) (old new : D) (was now : Index A) (id : ℕ) (clip : Option Span) (IsOne : Recording → Type 0) (step : Step) (must : Bool) (r : Recording) → (kept : IsKept medium old was must) → must ≡ false → StandsFor medium (seen_with old was must) r
     → ((r : Recording) (image : List ℕ) → IsIndexOf was r image → IsOne r) → Noted medium old new was now id clip IsOne step → StandsFor medium (seen_with new now must) (plain (ring_of was.ring.geometry) r (step ∷ []))
@@ -330,7 +330,7 @@ pub record IsClipCall (H : Type 0) (g : Geometry) (c : Call) (IsOne : Recording 
 
 pub goes-noted : {D A : Type 0} (medium : D → Medium) (old new : D) (was now : Index A) (must : Bool) (id : ℕ) (clip : Option Span) (IsOne : Recording → Type 0) (step : Step) (c : Call) → IsKept medium old was must → must ≡ false
     → Noted medium old new was now id clip IsOne step → ((r : Recording) → IsOne r → (medium old).honest → Holds was.ring.geometry r (medium old).bytes → LeavesOnly (medium old) (medium new) (HoldsSome was.ring.geometry r (step ∷ [])))
-    → ((r : Recording) (image : List ℕ) → IsIndexOf was r image → IsOne r) → ((H : Type 0) → IsClipCall H was.ring.geometry c IsOne) → has_failed c ≡ false → failed_for c ≡ None → ((s : StoreState) → made was.ring.geometry s c ≡ step ∷ []) → ((s : StoreState) → begun was.ring.geometry s c ≡ [])
+    → ((r : Recording) (image : List ℕ) → IsIndexOf was r image → IsOne r) → ((H : Type 0) → IsClipCall H was.ring.geometry c IsOne) → has_failed c ≡ false → failed_for c ≡ None → ((s : StoreState) → made_by was.ring.geometry s c ≡ step ∷ []) → ((s : StoreState) → begun_by was.ring.geometry s c ≡ [])
     → Goes medium (seen_with old was must) (seen_with new now must) (c ∷ [])
 goes-noted medium old new was now must id clip IsOne step c kept fine n moments one call unfailed none made_all begun_none =
     goes-done medium (seen_with old was must) (seen_with new now must) c (λ r. step ∷ []) (record {
@@ -347,7 +347,7 @@ goes-noted medium old new was now must id clip IsOne step c kept fine n moments 
       begun_none = begun_none;
       answers = λ s told.
           (call ((medium old).honest × Stands medium (seen_with old was must) s)).answers s (sym told.must_reopen ∙ fine)
-          (n.redrawn.alike kept.known.recording s.recording (alike-by medium old was must s.recording kept told.recording) (one kept.known.recording (drawn was.ring.geometry was.table.heads was.clips) kept.known.known));
+          (n.redrawn.alike kept.known.recording s.recording (alike-by medium old was must s.recording kept told.recording) (one kept.known.recording (drawn_image was.ring.geometry was.table.heads was.clips) kept.known.known));
       moments = λ r stands honest. let known = known-by medium old was must r kept stands fine honest in moments r (one r (medium old).bytes known) honest known.held;
       tells = λ r told. told-noted medium old new was now id clip IsOne step must r kept told one n;
       stands = λ r stands. stands-noted medium old new was now id clip IsOne step must r kept fine stands one n;
@@ -355,7 +355,7 @@ goes-noted medium old new was now must id clip IsOne step c kept fine n moments 
 
 pub goes-unnoted : {D A : Type 0} (medium : D → Medium) (old new : D) (was now : Index A) (must : Bool) (IsOne : Recording → Type 0) (step : Step) (c : Call) (fault : DiskFault) → IsKept medium old was must → must ≡ false → now ≡ was → ((r t : Recording) → IsSame r t → IsOne r → IsOne t)
     → ((medium new).honest → IsSound (medium new)) → Called (medium old) (medium new) (Some fault) → ((r : Recording) → IsOne r → (medium old).honest → Holds was.ring.geometry r (medium old).bytes → LeavesOnly (medium old) (medium new) (HoldsSome was.ring.geometry r (step ∷ [])))
-    → ((r : Recording) (image : List ℕ) → IsIndexOf was r image → IsOne r) → ((H : Type 0) → IsClipCall H was.ring.geometry c IsOne) → has_failed c ≡ true → failed_for c ≡ Some fault → ((s : StoreState) → made was.ring.geometry s c ≡ []) → ((s : StoreState) → begun was.ring.geometry s c ≡ step ∷ [])
+    → ((r : Recording) (image : List ℕ) → IsIndexOf was r image → IsOne r) → ((H : Type 0) → IsClipCall H was.ring.geometry c IsOne) → has_failed c ≡ true → failed_for c ≡ Some fault → ((s : StoreState) → made_by was.ring.geometry s c ≡ []) → ((s : StoreState) → begun_by was.ring.geometry s c ≡ step ∷ [])
     → Goes medium (seen_with old was must) (seen_with new now true) (c ∷ [])
 goes-unnoted medium old new was now must IsOne step c fault kept fine same alike sound called moments one call has some made_none begun_all =
     goes-failed medium (seen_with old was must) (seen_with new now true) c (λ r. step ∷ []) fault (record {
@@ -372,7 +372,7 @@ goes-unnoted medium old new was now must IsOne step c fault kept fine same alike
       begun_all = begun_all;
       answers = λ s told.
           (call ((medium old).honest × Stands medium (seen_with old was must) s)).answers s (sym told.must_reopen ∙ fine)
-          (alike kept.known.recording s.recording (alike-by medium old was must s.recording kept told.recording) (one kept.known.recording (drawn was.ring.geometry was.table.heads was.clips) kept.known.known));
+          (alike kept.known.recording s.recording (alike-by medium old was must s.recording kept told.recording) (one kept.known.recording (drawn_image was.ring.geometry was.table.heads was.clips) kept.known.known));
       moments = λ r stands honest. let known = known-by medium old was must r kept stands fine honest in moments r (one r (medium old).bytes known) honest known.held;
     })
 

@@ -13,7 +13,7 @@ use Rattle.loop_record.proofs.Form.{reading-well_formed}
 use Rattle.loop_ring.specs.Heads.{has_number, heads_of}
 use Rattle.loop_ring.proofs.Held.{held-number}
 pub use Rattle.loop_ring.proofs.SlotReads.{stays_on}
-use Rattle.loop_store.specs.Drawn.{drawn}
+use Rattle.loop_store.specs.Drawn.{drawn_image}
 use Rattle.loop_store.specs.Held.{HasNoneStray}
 use Rattle.loop_store.specs.declared.index.Index.{Index}
 use Rattle.loop_store.specs.Recovered.{IsFitting, IsHeadIn, IsIndexOf, IsRecovered}
@@ -74,7 +74,7 @@ told-by disk index must_reopen r image some within known = record {
 -- what the store tells of the frames that are made up
 pub told-drawn : {D A : Type 0} (medium : D → Medium) (disk : D) (index : Index A) (must_reopen : Bool) → (kept : IsKept medium disk index must_reopen) → Tells (seen_with disk index must_reopen) kept.known.recording
 told-drawn medium disk index must_reopen kept =
-    told-by disk index must_reopen kept.known.recording (drawn index.ring.geometry index.table.heads index.clips) (limits index.ring.geometry index.ring.good).slots.0 kept.fits.whole.within kept.known.known
+    told-by disk index must_reopen kept.known.recording (drawn_image index.ring.geometry index.table.heads index.clips) (limits index.ring.geometry index.ring.good).slots.0 kept.fits.whole.within kept.known.known
 
 pub one-kept : {D A : Type 0} (medium : D → Medium) (disk : D) (index : Index A) (must_reopen : Bool) → IsKept medium disk index must_reopen → TellsOne (seen_with disk index must_reopen)
 one-kept medium disk index must_reopen kept = (kept.known.recording, told-drawn medium disk index must_reopen kept)
@@ -103,7 +103,7 @@ pub there-alike : {D A : Type 0} (medium : D → Medium) (disk : D) (index : Ind
     → has_number index.ring.geometry.slots n (get_or index.table.heads j None) ≡ true → holds r n ≡ true
 there-alike medium disk index must_reopen r n j kept told l has =
     sym (holds-same kept.known.recording r n (alike-by medium disk index must_reopen r kept told))
-    ∙ there-held index.ring.geometry kept.known.recording (drawn index.ring.geometry index.table.heads index.clips) index.table.heads j n kept.known.known.held kept.known.known.heads_are l has
+    ∙ there-held index.ring.geometry kept.known.recording (drawn_image index.ring.geometry index.table.heads index.clips) index.table.heads j n kept.known.known.held kept.known.known.heads_are l has
 
 -- where the store needn't be reopened, its index says all of the recording that it stands for
 pub known-by : {D A : Type 0} (medium : D → Medium) (disk : D) (index : Index A) (must_reopen : Bool) (r : Recording) → IsKept medium disk index must_reopen → StandsFor medium (seen_with disk index must_reopen) r → must_reopen ≡ false → (medium disk).honest
@@ -117,6 +117,6 @@ known-by medium disk index must_reopen r kept stands fine now =
 pub failed-kept : {D A : Type 0} (medium : D → Medium) (old new : D) (was now : Index A) (must : Bool) → IsKept medium old was must → now ≡ was → (medium new).size ≡ (medium old).size → ((medium new).honest → (medium old).honest) → IsKept medium new now true
 failed-kept medium old new was now must kept same size back = record {
   fits = subst (λ (i : Index _). IsFitting i (medium new).size) (sym same) (subst (IsFitting was) (sym size) kept.fits);
-  known = subst (λ (i : Index _). IsRecovered i (drawn i.ring.geometry i.table.heads i.clips)) (sym same) kept.known;
+  known = subst (λ (i : Index _). IsRecovered i (drawn_image i.ring.geometry i.table.heads i.clips)) (sym same) kept.known;
   present = λ fine honest. absurd (clash true refl fine);
 }

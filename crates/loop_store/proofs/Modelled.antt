@@ -7,14 +7,14 @@ use Rattle.loop_record.proofs.Decided.{neither}
 use Rattle.loop_record.proofs.Steps.{plain-append}
 use Rattle.loop_store.specs.declared.fault.StoreFault.{StoreFault}
 use Rattle.loop_store.specs.Faults.{answers_disk}
-use Rattle.loop_store.specs.Calls.{AreAnswered, Call, IsAnswered, StoreState, appended, locked, unlocked, was_read, after, after_calls, asked, begun, begun_in, has_failed, made, made_in, steps_of, was_read_part}
+use Rattle.loop_store.specs.Calls.{AreAnswered, Call, IsAnswered, StoreState, appended, locked, unlocked, was_read, after_store_call, after_calls, steps_asked, begun_by, begun_in, has_failed, made_by, made_in, steps_of, was_read_part}
 use Rattle.loop_store.specs.Steps.{if_answered, if_failed}
 use Rattle.loop_store.proofs.Checked.{must-answer}
 
 -- the recording after calls is the one after their steps
 pub recording-after : (g : Geometry) (s : StoreState) (calls : List Call) → (after_calls g s calls).recording ≡ plain (ring_of g) s.recording (made_in g s calls)
 recording-after g s [] = refl
-recording-after g s (c ∷ calls) = recording-after g (after g s c) calls ∙ sym (plain-append (ring_of g) s.recording (made g s c) (made_in g (after g s c) calls))
+recording-after g s (c ∷ calls) = recording-after g (after_store_call g s c) calls ∙ sym (plain-append (ring_of g) s.recording (made_by g s c) (made_in g (after_store_call g s c) calls))
 
 -- ---- what hasn't failed has begun nothing that it didn't make
 
@@ -25,12 +25,12 @@ pub none-either : (b : Bool) → (if b then no_steps else no_steps) ≡ no_steps
 none-either true = refl
 none-either false = refl
 
-begun-none : (g : Geometry) (s : StoreState) (c : Call) → has_failed c ≡ false → begun g s c ≡ []
+begun-none : (g : Geometry) (s : StoreState) (c : Call) → has_failed c ≡ false → begun_by g s c ≡ []
 begun-none g s (was_read number result) fine = none-either (answers_disk result)
 begun-none g s (locked span result) fine = ap (λ (b : Bool). if b then lock span ∷ [] else []) fine
 begun-none g s (unlocked id result) fine = ap (λ (b : Bool). if b then unlock id ∷ [] else []) fine
 begun-none g s (was_read_part number at result) fine = none-either (answers_disk result)
-begun-none g s (appended group result) fine = ap (λ (b : Bool). if b then asked g s.recording group else []) fine
+begun-none g s (appended group result) fine = ap (λ (b : Bool). if b then steps_asked g s.recording group else []) fine
 
 -- nothing has failed before
 pub record IsFine (g : Geometry) (s : StoreState) (calls : List Call) : Type 0 where
@@ -40,7 +40,7 @@ pub record IsFine (g : Geometry) (s : StoreState) (calls : List Call) : Type 0 w
 pub fine-all : (g : Geometry) (s : StoreState) (calls : List Call) → (after_calls g s calls).must_reopen ≡ false → IsFine g s calls
 fine-all g s [] fine = record { before = fine; none = refl }
 fine-all g s (c ∷ calls) fine =
-    let rest = fine-all g (after g s c) calls fine in
+    let rest = fine-all g (after_store_call g s c) calls fine in
     let both = neither s.must_reopen (has_failed c) rest.before in
     let none = begun-none g s c both.1 in
     let later = rest.none in
@@ -52,7 +52,7 @@ pub record IsIdle (a b : List Step) : Type 0 where
   pub made : a ≡ []
   pub begun : b ≡ []
 
-idle-one : (H : Type 0) (g : Geometry) (s : StoreState) (c : Call) → s.must_reopen ≡ true → IsAnswered H g s c → IsIdle (made g s c) (begun g s c)
+idle-one : (H : Type 0) (g : Geometry) (s : StoreState) (c : Call) → s.must_reopen ≡ true → IsAnswered H g s c → IsIdle (made_by g s c) (begun_by g s c)
 idle-one H g s c must said =
     let is = must-answer H g s c must said in
     record { made = ap (λ (o : Option StoreFault). if_answered o (steps_of g s c)) is; begun = ap (λ (o : Option StoreFault). if_failed o (steps_of g s c)) is }
@@ -61,7 +61,7 @@ pub idle-all : (H : Type 0) (g : Geometry) (s : StoreState) (calls : List Call) 
 idle-all H g s [] must said = record { made = refl; begun = refl }
 idle-all H g s (c ∷ calls) must said =
     let one = idle-one H g s c must said.0 in
-    let rest = idle-all H g (after g s c) calls (ap (λ (b : Bool). b || has_failed c) must) said.1 in
+    let rest = idle-all H g (after_store_call g s c) calls (ap (λ (b : Bool). b || has_failed c) must) said.1 in
     let a = one.made in
     let b = rest.made in
     let d = one.begun in

@@ -17,7 +17,7 @@ use Rattle.loop_ring.proofs.Bytes.{closed_none}
 use Rattle.loop_ring.proofs.Counted.{counts-closed}
 use Rattle.loop_store.specs.declared.index.Index.{Index}
 use Rattle.loop_record.specs.declared.segment.SegmentHead.{SegmentHead}
-use Rattle.loop_store.specs.Drawn.{drawn}
+use Rattle.loop_store.specs.Drawn.{drawn_image}
 use Rattle.loop_store.proofs.Drawn.{closed-entry, closed-header, drawn-length, super-length}
 use Rattle.loop_store.proofs.Regrown.{known-drawn}
 use Rattle.loop_store.specs.Held.{HasNoneStray}
@@ -53,7 +53,7 @@ fresh-known index g image new good fresh = record {
 }
 
 -- what it draws is the empty recording
-drawn-fresh : (g : Geometry) → IsTrue (is_good g) → IsFreshImage g (drawn g (replicate g.segments None) (replicate 64 None))
+drawn-fresh : (g : Geometry) → IsTrue (is_good g) → IsFreshImage g (drawn_image g (replicate g.segments None) (replicate 64 None))
 drawn-fresh g good = record {
   size = drawn-length g (replicate g.segments None) (replicate 64 None);
   superblock = take_at (super_bytes g) _ 512 (super-length g);
@@ -61,7 +61,7 @@ drawn-fresh g good = record {
   segments = λ j l. closed-header g (replicate g.segments None) (replicate 64 None) j l (get_or-replicate g.segments j None None l);
 }
 
-drawn-new : {A : Type 0} (index : Index A) (g : Geometry) → IsNew index g → IsTrue (is_good g) → IsIndexOf index empty (drawn index.ring.geometry index.table.heads index.clips)
+drawn-new : {A : Type 0} (index : Index A) (g : Geometry) → IsNew index g → IsTrue (is_good g) → IsIndexOf index empty (drawn_image index.ring.geometry index.table.heads index.clips)
 drawn-new index g new good =
     known-drawn index g (replicate g.segments None) (replicate 64 None) empty good (let none : Option SegmentHead = None in length-replicate g.segments none) (All-replicate (IsHeadIn g) g.segments None tt) (reading-fresh g _ good (drawn-fresh g good))
     new.geometry new.closed new.none new.next refl

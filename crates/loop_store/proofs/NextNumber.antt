@@ -3,9 +3,9 @@ use Rattle.std.proofs.Common.{◌≡◌, ◌≢◌, ℕ, ◌+◌, Bool, true, fa
 use Rattle.std.specs.Prelude.{◌==◌}
 use Rattle.loop_disk.specs.Medium.{Medium}
 use Rattle.loop_record.specs.declared.geometry.Geometry.{Geometry}
-use Rattle.loop_record.specs.Recording.{Picture, Recording, Ring, after as stepped, last_number, needs_recycling, plain, recycle, recycling_first, ring_of, steps, store, stores_after, victim}
+use Rattle.loop_record.specs.Recording.{Picture, Recording, Ring, after_step as stepped, last_number, needs_recycling, plain, recycle, recycling_first, ring_of, steps, store, stores_after, victim}
 use Rattle.loop_record.proofs.Steps.{plain-stores}
-use Rattle.loop_store.specs.Calls.{Call, IsAnswered, StoreState, after, appended, locked, unlocked, was_read, was_read_part}
+use Rattle.loop_store.specs.Calls.{Call, IsAnswered, StoreState, after_store_call, appended, locked, unlocked, was_read, was_read_part}
 use Rattle.loop_store.specs.Goes.{Goes}
 use Rattle.loop_store.specs.Seen.{Seen}
 use Rattle.loop_store.specs.Steps.{steps_or_none}
@@ -33,7 +33,7 @@ appended-raises ring r group some = go (r.next == last_number ring) (needs_recyc
     go false true None some = absurd (some refl)
     go false true (Some b) some = raised ring (stepped ring r (recycle b)) group
 
-after-next : (H : Type 0) (g : Geometry) (s : StoreState) (c : Call) → IsAnswered H g s c → (after g s c).recording.next ≡ s.recording.next + count_stored c
+after-next : (H : Type 0) (g : Geometry) (s : StoreState) (c : Call) → IsAnswered H g s c → (after_store_call g s c).recording.next ≡ s.recording.next + count_stored c
 after-next H g s (appended group (Ok number)) said = appended-raises (ring_of g) s.recording group (answered-some H g s group number said)
 after-next H g s (appended group (Err fault)) said = none-more s.recording.next
 after-next H g s (locked span (Ok id)) said = none-more s.recording.next

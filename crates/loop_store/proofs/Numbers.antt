@@ -13,7 +13,7 @@ use Rattle.loop_record.specs.declared.segment.SegmentHead.{SegmentHead}
 use Rattle.loop_record.specs.Geometry.{frame_bytes, slot_at}
 use Rattle.loop_record.specs.Layout.{Segment, slot_in}
 use Rattle.loop_record.specs.Plain.{AreIn, IsIn, segment_of, segments_of}
-use Rattle.loop_record.specs.Reading.{Holds, all_frames, by_block, frames_of, opened, parts_of}
+use Rattle.loop_record.specs.Reading.{Holds, all_frames, by_block, frames_of, open_segments, parts_of}
 use Rattle.loop_record.specs.Recording.{Picture, Recording}
 use Rattle.loop_record.proofs.Decided.{at_most, at_most_test, both, equal, equal_test}
 use Rattle.loop_record.proofs.Gates.{range_append}
@@ -38,7 +38,7 @@ numbers-are g image [] = refl
 numbers-are g image (f ∷ fs) = map-append (λ f. f.0) (frames_of g (segment_of g image f)) (all_frames g (segments_of g image fs)) ∙ (λ i. segment-numbers g image f i ++ numbers-are g image fs i)
 
 -- the numbers of the open segments, in the order of their blocks, are those of the recording
-pub held-numbers : (g : Geometry) (r : Recording) (image : List ℕ) (fs : List Found) → Holds g r image → segments_of g image fs ≡ by_block (opened (parts_of g image).segments) → numbers_in g fs ≡ map (λ f. f.0) r.frames
+pub held-numbers : (g : Geometry) (r : Recording) (image : List ℕ) (fs : List Found) → Holds g r image → segments_of g image fs ≡ by_block (open_segments (parts_of g image).segments) → numbers_in g fs ≡ map (λ f. f.0) r.frames
 held-numbers g r image fs held are =
     sym (numbers-are g image fs) ∙ ap (λ (ss : List Segment). map (λ f. f.0) (all_frames g ss)) are ∙ ap (λ (ps : List (ℕ × Picture)). map (λ f. f.0) ps) (sorted g r image held).frames
 

@@ -10,7 +10,7 @@ use Rattle.loop_record.specs.declared.geometry.Geometry.{Geometry}
 use Rattle.loop_record.specs.Reading.{Holds}
 use Rattle.loop_record.specs.Recording.{Recording, Step, plain, ring_of}
 use Rattle.loop_record.proofs.Decided.{clash}
-use Rattle.loop_store.specs.Calls.{AnswersOtherwise, Call, IsAnswered, StoreState, begun, checks, failed_for, fault_answered, first_of, has_failed, is_look, made, was_refused}
+use Rattle.loop_store.specs.Calls.{AnswersOtherwise, Call, IsAnswered, StoreState, begun_by, checks, failed_for, fault_answered, first_of, has_failed, is_look, made_by, was_refused}
 use Rattle.loop_store.specs.Goes.{Goes, Stands, TellsState}
 use Rattle.loop_store.specs.Held.{HoldsFrom, HoldsSome}
 use Rattle.loop_store.specs.Opened.{TellsOne}
@@ -43,8 +43,8 @@ pub record IsQuiet (c : Call) : Type 0 where
   pub early : was_refused c ≡ true
   pub unfailed : has_failed c ≡ false
   pub none : failed_for c ≡ None
-  pub made_none : (g : Geometry) (s : StoreState) → made g s c ≡ []
-  pub begun_none : (g : Geometry) (s : StoreState) → begun g s c ≡ []
+  pub made_none : (g : Geometry) (s : StoreState) → made_by g s c ≡ []
+  pub begun_none : (g : Geometry) (s : StoreState) → begun_by g s c ≡ []
 
 pub goes-refused : {D : Type 0} (medium : D → Medium) (s : Seen D) (c : Call) → TellsOne s → ((medium s.disk).honest → IsSound (medium s.disk)) → IsQuiet c
     → ((H : Type 0) (t : StoreState) → TellsState s t → IsAnswered H s.geometry t c) → Goes medium s s (c ∷ [])
@@ -61,7 +61,7 @@ goes-refused {D} medium s c one sound quiet answers = goes-once medium s s c (re
   };
   leaves = λ t stands now fine.
       let still : s.must_reopen ≡ false = stands.must_reopen ∙ fine in
-      leaves-same s.geometry t.recording [] (made s.geometry t c) [] (begun s.geometry t c) (medium s.disk) (medium s.disk) (sym (quiet.made_none s.geometry t)) (sym (quiet.begun_none s.geometry t))
+      leaves-same s.geometry t.recording [] (made_by s.geometry t c) [] (begun_by s.geometry t c) (medium s.disk) (medium s.disk) (sym (quiet.made_none s.geometry t)) (sym (quiet.begun_none s.geometry t))
       (leaves-none s.geometry t.recording (medium s.disk) (sound now) (stands.recording.settled still now) (stands.recording.held still now));
   looks = λ look now. stays-still (medium s.disk);
   unmoved = λ early. refl;
@@ -92,8 +92,8 @@ pub record Done {D : Type 0} (medium : D → Medium) (old new : Seen D) (c : Cal
   pub called : Called (medium old.disk) (medium new.disk) None
   pub unfailed : has_failed c ≡ false
   pub none : failed_for c ≡ None
-  pub made_all : (s : StoreState) → made old.geometry s c ≡ steps s.recording
-  pub begun_none : (s : StoreState) → begun old.geometry s c ≡ []
+  pub made_all : (s : StoreState) → made_by old.geometry s c ≡ steps s.recording
+  pub begun_none : (s : StoreState) → begun_by old.geometry s c ≡ []
   pub one : TellsOne old
   pub answers : (s : StoreState) → TellsState old s → IsAnswered ((medium old.disk).honest × Stands medium old s) old.geometry s c
   pub moments : (r : Recording) → StandsFor medium old r → (medium old.disk).honest → LeavesOnly (medium old.disk) (medium new.disk) (HoldsSome old.geometry r (steps r))
@@ -116,7 +116,7 @@ goes-done {D} medium old new c steps done = goes-once medium old new c (record {
       let r = s.recording in
       let later = done.stands r stands.recording in
       let there = done.called.honest.0 now in
-      leaves-same old.geometry r (steps r) (made old.geometry s c) [] (begun old.geometry s c) (medium old.disk) (medium new.disk) (sym (done.made_all s)) (sym (done.begun_none s))
+      leaves-same old.geometry r (steps r) (made_by old.geometry s c) [] (begun_by old.geometry s c) (medium old.disk) (medium new.disk) (sym (done.made_all s)) (sym (done.begun_none s))
       (done-leaves old.geometry r (steps r) (medium old.disk) (medium new.disk) (done.moments r stands.recording now) (later.settled done.still there)
       (subst (λ (g : Geometry). Holds g (plain (ring_of old.geometry) r (steps r)) (medium new.disk).bytes) done.geometry (later.held done.still there)));
   looks = λ look now. absurd (clash (is_look c) look done.writes);
@@ -137,8 +137,8 @@ pub record Failed {D : Type 0} (medium : D → Medium) (old new : Seen D) (c : C
   pub sound : (medium new.disk).honest → IsSound (medium new.disk)
   pub has : has_failed c ≡ true
   pub some : failed_for c ≡ Some fault
-  pub made_none : (s : StoreState) → made old.geometry s c ≡ []
-  pub begun_all : (s : StoreState) → begun old.geometry s c ≡ steps s.recording
+  pub made_none : (s : StoreState) → made_by old.geometry s c ≡ []
+  pub begun_all : (s : StoreState) → begun_by old.geometry s c ≡ steps s.recording
   pub one : TellsOne old
   pub answers : (s : StoreState) → TellsState old s → IsAnswered ((medium old.disk).honest × Stands medium old s) old.geometry s c
   pub moments : (r : Recording) → StandsFor medium old r → (medium old.disk).honest → LeavesOnly (medium old.disk) (medium new.disk) (HoldsSome old.geometry r (steps r))
@@ -159,7 +159,7 @@ goes-failed {D} medium old new c steps fault failed = goes-once medium old new c
   };
   leaves = λ s stands now fine.
       let run = failed.moments s.recording stands.recording now in
-      leaves-same old.geometry s.recording [] (made old.geometry s c) (steps s.recording) (begun old.geometry s c) (medium old.disk) (medium new.disk) (sym (failed.made_none s)) (sym (failed.begun_all s)) (record {
+      leaves-same old.geometry s.recording [] (made_by old.geometry s c) (steps s.recording) (begun_by old.geometry s c) (medium old.disk) (medium new.disk) (sym (failed.made_none s)) (sym (failed.begun_all s)) (record {
         moments = run;
         now = each_now (medium old.disk) (medium new.disk) (HoldsSome old.geometry s.recording (steps s.recording)) (failed.sound (failed.called.honest.0 now)) run;
       });

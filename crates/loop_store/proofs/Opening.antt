@@ -9,7 +9,7 @@ use Rattle.loop_record.specs.declared.image.Found.{Found}
 use Rattle.loop_record.specs.Geometry.{is_good}
 use Rattle.loop_record.specs.Layout.{clip_in}
 use Rattle.loop_record.specs.Plain.{AreIn, found_number, lacks_number, segments_of}
-use Rattle.loop_record.specs.Reading.{by_block, is_bad_slot, lacks_frame, next_after, opened, parts_of, repeats}
+use Rattle.loop_record.specs.Reading.{by_block, is_bad_slot, lacks_frame, next_after, open_segments, parts_of, repeats}
 use Rattle.loop_record.proofs.Bounds.{limits}
 use Rattle.loop_record.proofs.Decided.{at_most, both, equal, neither, not_below, not_false}
 use Rattle.loop_record.proofs.FoundSegments.{AreFull, IsFoundIn, found-read}
@@ -18,7 +18,7 @@ use Rattle.loop_record.proofs.HeldNumbers.{bad-lacks, clips-table}
 use Rattle.loop_record.proofs.Rising.{all_range-each}
 use Rattle.loop_ring.specs.Heads.{heads_of}
 use Rattle.loop_store.specs.declared.index.Index.{Index}
-use Rattle.loop_store.specs.Drawn.{drawn}
+use Rattle.loop_store.specs.Drawn.{drawn_image}
 use Rattle.loop_store.specs.Recovered.{IsHeadIn, IsOf, IsRecovered, SaysRecording, clips_of, some_bad_clip}
 use Rattle.loop_store.proofs.Drawn.{Clips, FitsEntry, Heads, all-there, clip-drawn, drawn-geometry, drawn-length, heads-drawn, none-bad}
 use Rattle.loop_store.proofs.RecoveredWhole.{recovered}
@@ -56,9 +56,9 @@ fits-all g fs [] id some within e = tt
 fits-all g fs (c ∷ clips) zero some within e = fits-held g fs c some within (neither (lacks_number g fs c) (list_any (lacks_number g fs) clips) e).0
 fits-all g fs (c ∷ clips) (suc id) some within e = fits-all g fs clips id some within (neither (lacks_number g fs c) (list_any (lacks_number g fs) clips) e).1
 
-clips-drawn : (g : Geometry) (heads : Heads) (clips : Clips) → length clips ≡ 64 → ((id : ℕ) → FitsEntry (get_or clips id None)) → clips_of (drawn g heads clips) ≡ clips
+clips-drawn : (g : Geometry) (heads : Heads) (clips : Clips) → length clips ≡ 64 → ((id : ℕ) → FitsEntry (get_or clips id None)) → clips_of (drawn_image g heads clips) ≡ clips
 clips-drawn g heads clips count fits =
-    map_range (clip_in (drawn g heads clips)) (λ id. get_or clips id None) 0 64 (λ id low high. clip-drawn g heads clips id (get_or clips id None) (omega (arith, high)) refl (fits id))
+    map_range (clip_in (drawn_image g heads clips)) (λ id. get_or clips id None) 0 64 (λ id low high. clip-drawn g heads clips id (get_or clips id None) (omega (arith, high)) refl (fits id))
     ∙ ap (λ (n : ℕ). map (λ id. get_or clips id None) (range_with_len 0 n)) (sym count) ∙ all-there clips
 
 -- ---- what was read
@@ -68,7 +68,7 @@ pub record IsChecked (g : Geometry) (heads : Heads) (clips : Clips) (fs xs : Lis
   pub good : IsTrue (is_good g)
   pub count : length heads ≡ g.segments
   pub stand : All (IsHeadIn g) heads
-  pub order : (image : List ℕ) → heads ≡ heads_of g image → segments_of g image fs ≡ by_block (opened (parts_of g image).segments)
+  pub order : (image : List ℕ) → heads ≡ heads_of g image → segments_of g image fs ≡ by_block (open_segments (parts_of g image).segments)
   pub within : AreIn g fs
   pub same : xs ≡ fs
   pub single : (image : List ℕ) → repeats (segments_of g image xs) ≡ false
@@ -79,11 +79,11 @@ pub record IsChecked (g : Geometry) (heads : Heads) (clips : Clips) (fs xs : Lis
 
 pub says-recording : {A : Type 0} (index : Index A) (g : Geometry) (heads : Heads) (clips : Clips) (fs xs : List Found) (next : ℕ) → IsOf index g heads clips next → IsChecked g heads clips fs xs next → SaysRecording index
 says-recording index g heads clips fs xs next is c =
-    subst (λ (x : List ℕ). IsRecovered index x) (λ i. drawn (sym is.geometry i) (sym is.heads_are i) (sym is.clips_are i))
+    subst (λ (x : List ℕ). IsRecovered index x) (λ i. drawn_image (sym is.geometry i) (sym is.heads_are i) (sym is.clips_are i))
     (recovered index g image image image fs xs heads clips next is all refl right refl (sym clips_are, bad) (c.next_is image) (sym heads_are))
   where
     image : List ℕ
-    image = drawn g heads clips
+    image = drawn_image g heads clips
 
     some : 1 ≤ g.slots
     some = (limits g c.good).slots.0

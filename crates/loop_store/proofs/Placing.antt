@@ -9,7 +9,7 @@ use Rattle.std.specs.List.{count_by, list_any, position}
 use Rattle.loop_record.specs.declared.geometry.Geometry.{Geometry}
 use Rattle.loop_record.specs.declared.segment.SegmentHead.{SegmentHead}
 use Rattle.loop_record.specs.Layout.{Segment, is_too_high, segment_in}
-use Rattle.loop_record.specs.Reading.{Holds, by_block, is_high, next_after, opened, parts_of}
+use Rattle.loop_record.specs.Reading.{Holds, by_block, is_high, next_after, open_segments, parts_of}
 use Rattle.loop_record.specs.Recording.{Recording, held_blocks, last_number, needs_recycling, recycling_first, ring_of, victim}
 use Rattle.loop_record.proofs.Bounds.{limits}
 use Rattle.loop_record.proofs.Changes.{shown_of, is_overfull}
@@ -34,7 +34,7 @@ next_after-most g (s ∷ t ∷ ss) low fits = next_after-most g (t ∷ ss) (neit
 
 next-most : (g : Geometry) (r : Recording) (image : List ℕ) → Holds g r image → r.next ≤ 2 ^ 62
 next-most g r image e =
-    let ss = by_block (opened (parts_of g image).segments) in
+    let ss = by_block (open_segments (parts_of g image).segments) in
     let shown = shown_of g ss (parts_of g image).clips r (reading-stages g r image e).recording in
     let next : next_after g ss ≡ r.next = ap (λ (q : Recording). q.next) shown.is in
     omega (arith, next, next_after-most g ss shown.low_enough (overfull_none g image))
@@ -113,7 +113,7 @@ newest-place g r image j e found = (record { segment = n.segment; there = n.is; 
         let less : count_by has_frame (heads_of g image) < length (heads_of g image) = count-below has_frame (heads_of g image) j None (omega (arith, n.within, heads-length g image)) none in
         needs-not g r (λ all. absurd (omega (arith, all, less, held-count g r image e, heads-length g image)))
 
-apart-next : (g : Geometry) (r : Recording) (image : List ℕ) → Holds g r image → position (is_of (r.next / g.slots)) (heads_of g image) ≡ None → list_any (λ (s : Segment). eqb s.block (r.next / g.slots)) (opened (parts_of g image).segments) ≡ false
+apart-next : (g : Geometry) (r : Recording) (image : List ℕ) → Holds g r image → position (is_of (r.next / g.slots)) (heads_of g image) ≡ None → list_any (λ (s : Segment). eqb s.block (r.next / g.slots)) (open_segments (parts_of g image).segments) ≡ false
 apart-next g r image e missing = (newest-missing g r image e missing).0
 
 pub closed-place : (g : Geometry) (r : Recording) (image : List ℕ) (j count : ℕ) → Holds g r image → r.next ≢ last_number (ring_of g) → position (is_of (r.next / g.slots)) (heads_of g image) ≡ None → position (λ h. not (is_some h)) (heads_of g image) ≡ Some j

@@ -8,7 +8,7 @@ use Rattle.loop_record.specs.Recording.{Picture, Recording, last_number, needs_r
 use Rattle.loop_record.proofs.Decided.{differ, differ_test, equal_test}
 use Rattle.loop_store.specs.declared.fault.StoreFault.{StoreFault}
 use Rattle.loop_store.specs.declared.fault.StoreFault.TheVariants.{AllLocked, Disk, MustReopen, NumbersSpent}
-use Rattle.loop_store.specs.Calls.{AnswersDue, Call, IsAnswered, AnswersOtherwise, StoreState, appended, asked, checks, checks_on, due, first_of, lacks_victim, was_refused}
+use Rattle.loop_store.specs.Calls.{AnswersDue, Call, IsAnswered, AnswersOtherwise, StoreState, appended, steps_asked, checks, checks_on, due, first_of, lacks_victim, was_refused}
 use Rattle.loop_store.specs.Faults.{failed_by, is_disk, is_early, is_write_fault}
 use Rattle.loop_store.specs.Goes.{Goes, Stands, TellsState}
 use Rattle.loop_store.specs.Held.{HoldsSome}
@@ -95,7 +95,7 @@ place-refused {D} medium s ps fault one sound fine either known = goes-refused m
   unfailed = quiet either;
   none = none either;
   made_none = λ g t. refl;
-  begun_none = λ g t. ap (λ (b : Bool). if b then asked g t.recording ps else []) (quiet either);
+  begun_none = λ g t. ap (λ (b : Bool). if b then steps_asked g t.recording ps else []) (quiet either);
 }) answers
   where
     call : Call
@@ -138,12 +138,12 @@ pub record Stored {D : Type 0} (medium : D → Medium) (old new : Seen D) (ps : 
   pub geometry : new.geometry ≡ old.geometry
   pub called : Called (medium old.disk) (medium new.disk) None
   pub place : (r : Recording) → Tells old r → HasPlace old.geometry r
-  pub tells : (r : Recording) → Tells old r → Tells new (plain (ring_of old.geometry) r (asked old.geometry r ps))
-  pub moments : (r : Recording) → StandsFor medium old r → (medium old.disk).honest → LeavesOnly (medium old.disk) (medium new.disk) (HoldsSome old.geometry r (asked old.geometry r ps))
-  pub stands : (r : Recording) → StandsFor medium old r → StandsFor medium new (plain (ring_of old.geometry) r (asked old.geometry r ps))
+  pub tells : (r : Recording) → Tells old r → Tells new (plain (ring_of old.geometry) r (steps_asked old.geometry r ps))
+  pub moments : (r : Recording) → StandsFor medium old r → (medium old.disk).honest → LeavesOnly (medium old.disk) (medium new.disk) (HoldsSome old.geometry r (steps_asked old.geometry r ps))
+  pub stands : (r : Recording) → StandsFor medium old r → StandsFor medium new (plain (ring_of old.geometry) r (steps_asked old.geometry r ps))
 
 pub put-stored : {D : Type 0} (medium : D → Medium) (old new : Seen D) (ps : List Picture) → Stored medium old new ps → Goes medium old new (appended ps (Ok old.next) ∷ [])
-put-stored medium old new ps stored = goes-done medium old new (appended ps (Ok old.next)) (λ r. asked old.geometry r ps) (record {
+put-stored medium old new ps stored = goes-done medium old new (appended ps (Ok old.next)) (λ r. steps_asked old.geometry r ps) (record {
   writes = refl;
   late = refl;
   fine = stored.fine;
@@ -172,10 +172,10 @@ pub record Failed {D : Type 0} (medium : D → Medium) (old new : Seen D) (ps : 
   pub called : Called (medium old.disk) (medium new.disk) (Some fault)
   pub sound : (medium new.disk).honest → IsSound (medium new.disk)
   pub place : (r : Recording) → Tells old r → HasPlace old.geometry r
-  pub moments : (r : Recording) → StandsFor medium old r → (medium old.disk).honest → LeavesOnly (medium old.disk) (medium new.disk) (HoldsSome old.geometry r (asked old.geometry r ps))
+  pub moments : (r : Recording) → StandsFor medium old r → (medium old.disk).honest → LeavesOnly (medium old.disk) (medium new.disk) (HoldsSome old.geometry r (steps_asked old.geometry r ps))
 
 pub put-failed : {D : Type 0} (medium : D → Medium) (old new : Seen D) (ps : List Picture) (fault : DiskFault) → Failed medium old new ps fault → Goes medium old new (appended ps (Err (Disk fault)) ∷ [])
-put-failed medium old new ps fault failed = goes-failed medium old new (appended ps (Err (Disk fault))) (λ r. asked old.geometry r ps) fault (record {
+put-failed medium old new ps fault failed = goes-failed medium old new (appended ps (Err (Disk fault))) (λ r. steps_asked old.geometry r ps) fault (record {
   writes = refl;
   late = refl;
   fine = failed.fine;

@@ -11,7 +11,7 @@ use Rattle.loop_record.specs.Recording.{Step, holds, plain, ring_of}
 use Rattle.loop_record.proofs.Decided.{clash}
 use Rattle.loop_store.specs.declared.fault.StoreFault.{StoreFault}
 use Rattle.loop_store.specs.declared.fault.StoreFault.TheVariants.{Damaged, MustReopen, NoMemory, NotHeld}
-use Rattle.loop_store.specs.Calls.{AnswersDue, Call, ReadFails, IsAnswered, StoreState, begun, checks_on, due, failed_for, first_of, has_failed, made, part_with, read_with, was_read, was_read_part, was_refused}
+use Rattle.loop_store.specs.Calls.{AnswersDue, Call, ReadFails, IsAnswered, StoreState, begun_by, checks_on, due, failed_for, first_of, has_failed, made_by, part_with, read_with, was_read, was_read_part, was_refused}
 use Rattle.loop_store.specs.Faults.{answers_disk, failed_in, fault_in, is_damage, is_disk, is_early}
 use Rattle.loop_store.specs.Goes.{Goes, Stands, TellsState}
 use Rattle.loop_store.specs.Opened.{TellsOne}
@@ -34,8 +34,8 @@ made-either (Some fault) = refl
 
 -- a call that makes no step, begins none and fails none
 pub record IsLook (c : Call) : Type 0 where
-  pub steps : (g : Geometry) (s : StoreState) → made g s c ≡ []
-  pub begins : (g : Geometry) (s : StoreState) → begun g s c ≡ []
+  pub steps : (g : Geometry) (s : StoreState) → made_by g s c ≡ []
+  pub begins : (g : Geometry) (s : StoreState) → begun_by g s c ≡ []
   pub fine : has_failed c ≡ false
 
 pub look-read : (number : ℕ) (result : Result (FrameHead × List ℕ) StoreFault) → IsLook (was_read number result)
@@ -67,7 +67,7 @@ goes-looked {D} medium old disk c look sound looked = goes-once medium old (reco
   };
   leaves = λ s stands now fine.
       let still : old.must_reopen ≡ false = stands.must_reopen ∙ fine in
-      leaves-same old.geometry s.recording [] (made old.geometry s c) [] (begun old.geometry s c) (medium old.disk) (medium disk) (sym (look.steps old.geometry s)) (sym (look.begins old.geometry s))
+      leaves-same old.geometry s.recording [] (made_by old.geometry s c) [] (begun_by old.geometry s c) (medium old.disk) (medium disk) (sym (look.steps old.geometry s)) (sym (look.begins old.geometry s))
       (leaves-looked old.geometry s.recording (medium old.disk) (medium disk) (sound now) (stands.recording.settled still now) (stands.recording.held still now) (looked.stays now));
   looks = λ look now. looked.stays now;
   unmoved = λ early. ap (λ (d : D). record old { disk = d }) (looked.unmoved early);

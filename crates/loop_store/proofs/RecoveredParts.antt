@@ -14,7 +14,7 @@ use Rattle.loop_record.specs.declared.segment.SegmentHead.{SegmentHead}
 use Rattle.loop_record.specs.Geometry.{frame_bytes, is_good, segment_at, slot_at}
 use Rattle.loop_record.specs.Layout.{entry_at, Segment, Slot, open_gates, checked_header, geometry_in, header_at, is_open, is_slot_of, is_too_high, segment_in, slot_head, slot_in, whole_frames}
 use Rattle.loop_record.specs.Plain.{AreIn, IsSomeHigh, found_of, lacks_number, segment_of, segments_of, table_clips, with_segment}
-use Rattle.loop_record.specs.Reading.{by_block, hold_from, is_bad_slot, is_high, opened, parts_of, reading}
+use Rattle.loop_record.specs.Reading.{by_block, hold_from, is_bad_slot, is_high, open_segments, parts_of, reading}
 use Rattle.std.proofs.lemmas.List.{length-map, map-append}
 use Rattle.loop_record.proofs.Gates.{range_append}
 use Rattle.loop_record.proofs.Bounds.{limits}
@@ -196,14 +196,14 @@ slot-right n number s h e = go (is_slot_of n number s) refl e
 -- ---- loops
 
 -- a header that was refused, in an image that is as it was
-pub heads-wrong : (g : Geometry) (image mid : List ℕ) (j : ℕ) → j < g.segments → mid ≡ image → IsSomeHigh g (segment_in g mid j) → list_any (is_high g) (by_block (opened (parts_of g image).segments)) ≡ true
+pub heads-wrong : (g : Geometry) (image mid : List ℕ) (j : ℕ) → j < g.segments → mid ≡ image → IsSomeHigh g (segment_in g mid j) → list_any (is_high g) (by_block (open_segments (parts_of g image).segments)) ≡ true
 heads-wrong g image mid j l same high = some-high g image j l (subst (λ (c : List ℕ). IsSomeHigh g (segment_in g c j)) same high)
 
 -- one more segment in its place
 pub order-more : (g : Geometry) (image : List ℕ) (heads : List (Option SegmentHead)) (done : ℕ) (head d : Option SegmentHead) (old new : List Found) → heads ≡ heads_of g image → done < g.segments → head ≡ get_or heads (g.segments - 1 - done) d
     → segments_of g image new ≡ with_segment (segment_said g image (g.segments - 1 - done) head) (segments_of g image old)
-    → segments_of g image old ≡ by_block (opened (map (segment_in g image) (range_with_len (g.segments - done) done)))
-    → segments_of g image new ≡ by_block (opened (map (segment_in g image) (range_with_len (g.segments - (done + 1)) (done + 1))))
+    → segments_of g image old ≡ by_block (open_segments (map (segment_in g image) (range_with_len (g.segments - done) done)))
+    → segments_of g image new ≡ by_block (open_segments (map (segment_in g image) (range_with_len (g.segments - (done + 1)) (done + 1))))
 order-more g image heads done head d old new are l is placed so_far =
     let j = g.segments - 1 - done in
     let at : 0 + j ≡ j = omega arith in

@@ -10,7 +10,7 @@ use Rattle.loop_record.specs.declared.segment.SegmentHead.{SegmentHead}
 use Rattle.loop_record.specs.Geometry.{disk_size}
 use Rattle.loop_record.specs.Layout.{geometry_in}
 use Rattle.loop_record.specs.Plain.{AreIn, segments_of}
-use Rattle.loop_record.specs.Reading.{Holds, all_frames, by_block, is_bad_slot, is_high, lacks_frame, next_after, opened, parts_of, reading, repeats}
+use Rattle.loop_record.specs.Reading.{Holds, all_frames, by_block, is_bad_slot, is_high, lacks_frame, next_after, open_segments, parts_of, reading, repeats}
 use Rattle.loop_record.specs.Recording.{Recording, last_number, ring_of}
 use Rattle.loop_record.proofs.FoundSegments.{AreFull, IsFoundIn, fault-of, found-low, found-read, read-all, read-bad_clip, reading-bad_slot, reading-high}
 use Rattle.loop_ring.specs.Heads.{clip_counts, heads_of}
@@ -18,7 +18,7 @@ use Rattle.loop_store.specs.declared.index.Index.{Index}
 use Rattle.loop_store.specs.Recovered.{IsFitting, IsHeadIn, IsOf, IsRecovered, clips_of, some_bad_clip}
 
 -- the segments that were found, in the order of their blocks
-pub found-by : (g : Geometry) (image : List ℕ) (fs xs : List Found) (heads : List (Option SegmentHead)) → geometry_in image ≡ Ok g → length image ≡ disk_size g → ((c : List ℕ) → heads ≡ heads_of g c → segments_of g c fs ≡ by_block (opened (parts_of g c).segments))
+pub found-by : (g : Geometry) (image : List ℕ) (fs xs : List Found) (heads : List (Option SegmentHead)) → geometry_in image ≡ Ok g → length image ≡ disk_size g → ((c : List ℕ) → heads ≡ heads_of g c → segments_of g c fs ≡ by_block (open_segments (parts_of g c).segments))
     → heads ≡ heads_of g image → AreIn g fs → xs ≡ fs → IsFoundIn g image fs xs
 found-by g image fs xs heads geometry size order are within same = record { geometry = geometry; size = size; are = order image are; within = within; same = same }
 
@@ -27,7 +27,7 @@ pub full : (g : Geometry) (image : List ℕ) (fs xs : List Found) (twice lacks :
 full g image fs xs twice lacks found is single is' whole = record { found = found; single = sym is ∙ single; full = sym is' ∙ whole }
 
 -- a header's refusal
-pub refused-head : (g : Geometry) (image : List ℕ) (fault : LayoutFault) → geometry_in image ≡ Ok g → length image ≡ disk_size g → (fault ≡ LayoutFault.Damaged Damage.BlockTooHigh) × (list_any (is_high g) (by_block (opened (parts_of g image).segments)) ≡ true) → reading image ≡ Err fault
+pub refused-head : (g : Geometry) (image : List ℕ) (fault : LayoutFault) → geometry_in image ≡ Ok g → length image ≡ disk_size g → (fault ≡ LayoutFault.Damaged Damage.BlockTooHigh) × (list_any (is_high g) (by_block (open_segments (parts_of g image).segments)) ≡ true) → reading image ≡ Err fault
 refused-head g image fault geometry size q = reading-high g image geometry size q.1 ∙ fault-of (sym q.0)
 
 -- a slot's refusal, in an image that is as it was

@@ -17,7 +17,7 @@ use Rattle.loop_record.specs.Change.{ShowsSegment}
 use Rattle.loop_record.specs.Geometry.{frame_bytes, slot_at}
 use Rattle.loop_record.specs.Layout.{Segment, segment_in, slot_in, whole_frames}
 use Rattle.loop_record.specs.Plain.{AreIn, IsIn, segments_of}
-use Rattle.loop_record.specs.Reading.{Holds, by_block, checked, lacks_frame, next_after, opened, parts_of, reading}
+use Rattle.loop_record.specs.Reading.{Holds, by_block, recording_or_damage, lacks_frame, next_after, open_segments, parts_of, reading}
 use Rattle.loop_record.specs.Recording.{Recording, last_number, ring_of}
 use Rattle.loop_record.proofs.Bounds.{limits}
 use Rattle.loop_record.proofs.Changes.{shown_of, is_overfull, next_after-behind}
@@ -74,7 +74,7 @@ full-last g u next is most apart = go (cases_lt (length u.slots) g.slots)
     go (inl l) = absurd (apart (sym (div-eq_of_lt-le g.slots (omega (arith, is)) (omega (arith, is, split, l)))))
     go (inr l) = omega (arith, l, most)
 
-full_of : (g : Geometry) (clips : List (Option Span)) (r : Recording) (u : Segment) (lower higher : List Segment) → checked g (lower ++ u ∷ higher) clips ≡ Ok r → list_any (is_overfull g) (lower ++ u ∷ higher) ≡ false → u.block ≢ r.next / g.slots
+full_of : (g : Geometry) (clips : List (Option Span)) (r : Recording) (u : Segment) (lower higher : List Segment) → recording_or_damage g (lower ++ u ∷ higher) clips ≡ Ok r → list_any (is_overfull g) (lower ++ u ∷ higher) ≡ false → u.block ≢ r.next / g.slots
     → length u.slots ≡ g.slots
 full_of g clips r u lower (h ∷ hs) e fits apart = full-before g lower hs u h (shown_of g (lower ++ u ∷ h ∷ hs) clips r e).full
 full_of g clips r u lower [] e fits apart =
@@ -92,11 +92,11 @@ full-other g r image j u e l there apart =
     let clips = (parts_of g image).clips in
     let was = reading-stages g r image e in
     let is : get_or ps j None ≡ Some u = segment_there g image j l ∙ there in
-    let single = (shown_of g (by_block (opened ps)) clips r was.recording).single in
+    let single = (shown_of g (by_block (open_segments ps)) clips r was.recording).single in
     let p = placed_there u j ps (omega (arith, l, segments_length g image)) is single in
     let whole : set ps j (Some u) ≡ ps = sym (ap (λ (q : Option Segment). set ps j q) is) ∙ set-get_or ps j None in
-    let sorted : by_block (opened ps) ≡ p.lower ++ u ∷ p.higher = sym (ap (λ qs. by_block (opened qs)) whole) ∙ p.with_it u refl in
-    let before : checked g (p.lower ++ u ∷ p.higher) clips ≡ Ok r = sym (ap (λ ss. checked g ss clips) sorted) ∙ was.recording in
+    let sorted : by_block (open_segments ps) ≡ p.lower ++ u ∷ p.higher = sym (ap (λ qs. by_block (open_segments qs)) whole) ∙ p.with_it u refl in
+    let before : recording_or_damage g (p.lower ++ u ∷ p.higher) clips ≡ Ok r = sym (ap (λ ss. recording_or_damage g ss clips) sorted) ∙ was.recording in
     let fits : list_any (is_overfull g) (p.lower ++ u ∷ p.higher) ≡ false = sym (ap (list_any (is_overfull g)) sorted) ∙ overfull_none g image in
     whole-length g image j u there ∙ full_of g clips r u p.lower p.higher before fits apart
 

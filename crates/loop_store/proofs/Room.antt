@@ -10,8 +10,8 @@ use Rattle.loop_record.specs.declared.segment.SegmentHead.{SegmentHead}
 use Rattle.loop_record.specs.Change.{ShowsSegment}
 use Rattle.loop_record.specs.Geometry.{gate_at, segment_at, segment_size}
 use Rattle.loop_record.specs.Layout.{Segment, segment_in}
-use Rattle.loop_record.specs.Reading.{Contents, Holds, begun, opened, parts_of}
-use Rattle.loop_record.specs.Recording.{Picture, Recording, after, needs_recycling, plain, recycle, recycling_first, ring_of, victim}
+use Rattle.loop_record.specs.Reading.{Contents, Holds, empty_segment, open_segments, parts_of}
+use Rattle.loop_record.specs.Recording.{Picture, Recording, after_step, needs_recycling, plain, recycle, recycling_first, ring_of, victim}
 use Rattle.loop_record.proofs.Decided.{neither}
 use Rattle.loop_record.proofs.Framing.{SameWithin, same_open, same_segment, same_whole_frames}
 use Rattle.loop_record.proofs.Parts.{apart, parts-shows, these, within_before, within_behind}
@@ -69,12 +69,12 @@ stray-others g i old new few same none = λ k low below.
 
 -- so where the changed one has no stray gate, none has
 pub unstray-shown : (g : Geometry) (j : ℕ) (part : Option Segment) (old new : List ℕ) → g.slots ≤ 256 → ShowsSegment g j part old new → HasNoneStray g old → (part ≢ None → HasNoStray g j new) → HasNoneStray g new
-unstray-shown g j part old new few shows none here i within opened = go (cases_lt i j)
+unstray-shown g j part old new few shows none here i within open_segments = go (cases_lt i j)
   where
     other : (i ≡ j → ⊥) → HasNoStray g i new
     other differ =
         let same = others g i j part old new differ shows in
-        stray-others g i old new few same (none i within (λ e. opened (same_segment g new old i few same ∙ e)))
+        stray-others g i old new few same (none i within (λ e. open_segments (same_segment g new old i few same ∙ e)))
 
     go : (i < j) ⊎ (j ≤ i) → HasNoStray g i new
     go (inl l) = other (λ e. absurd (omega (arith, l, e)))
@@ -84,28 +84,28 @@ unstray-shown g j part old new few shows none here i within opened = go (cases_l
         rest (inl m) = other (λ e. absurd (omega (arith, m, e)))
         rest (inr m) =
             let same : i ≡ j = omega (arith, l, m) in
-            subst (λ (k : ℕ). HasNoStray g k new) (sym same) (here (λ (e : part ≡ None). opened (ap (segment_in g new) same ∙ shows.holds ∙ e)))
+            subst (λ (k : ℕ). HasNoStray g k new) (sym same) (here (λ (e : part ≡ None). open_segments (ap (segment_in g new) same ∙ shows.holds ∙ e)))
 
 -- ---- a block that begins
 
-pub begun-heads : (g : Geometry) (next j : ℕ) (old new : List ℕ) → g.slots ≤ 256 → j < g.segments → next % g.slots ≡ 0 → ShowsSegment g j (Some (begun (next / g.slots))) old new → heads_of g new ≡ set (heads_of g old) j (Some (head_at g next))
-begun-heads g next j old new few l first shows = heads-shown g j (Some (begun (next / g.slots))) old new few l shows ∙ (λ i. set (heads_of g old) j (Some (record { block = next / g.slots; frames = sym first i })))
+pub begun-heads : (g : Geometry) (next j : ℕ) (old new : List ℕ) → g.slots ≤ 256 → j < g.segments → next % g.slots ≡ 0 → ShowsSegment g j (Some (empty_segment (next / g.slots))) old new → heads_of g new ≡ set (heads_of g old) j (Some (head_at g next))
+begun-heads g next j old new few l first shows = heads-shown g j (Some (empty_segment (next / g.slots))) old new few l shows ∙ (λ i. set (heads_of g old) j (Some (record { block = next / g.slots; frames = sym first i })))
 
-pub closed-begun : (g : Geometry) (next j : ℕ) (old new : List ℕ) → g.slots ≤ 256 → j < g.segments → next % g.slots ≡ 0 → HasNoneStray g old → ShowsSegment g j (Some (begun (next / g.slots))) old new → HasNoStray g j new → IsBegunAt g next j old new
+pub closed-begun : (g : Geometry) (next j : ℕ) (old new : List ℕ) → g.slots ≤ 256 → j < g.segments → next % g.slots ≡ 0 → HasNoneStray g old → ShowsSegment g j (Some (empty_segment (next / g.slots))) old new → HasNoStray g j new → IsBegunAt g next j old new
 closed-begun g next j old new few l first unstray shows stray = record {
   heads = begun-heads g next j old new few l first shows;
-  unstray = unstray-shown g j (Some (begun (next / g.slots))) old new few shows unstray (λ some. stray);
+  unstray = unstray-shown g j (Some (empty_segment (next / g.slots))) old new few shows unstray (λ some. stray);
 }
 
 -- ---- a block that is recycled
 
-any_without : (p : Segment → Bool) (ps : List (Option Segment)) (j : ℕ) → list_any p (opened ps) ≡ false → list_any p (opened (set ps j None)) ≡ false
+any_without : (p : Segment → Bool) (ps : List (Option Segment)) (j : ℕ) → list_any p (open_segments ps) ≡ false → list_any p (open_segments (set ps j None)) ≡ false
 any_without p [] j e = e
 any_without p (None ∷ ps) zero e = e
-any_without p (Some s ∷ ps) zero e = (neither (p s) (list_any p (opened ps)) e).1
+any_without p (Some s ∷ ps) zero e = (neither (p s) (list_any p (open_segments ps)) e).1
 any_without p (None ∷ ps) (suc j) e = any_without p ps j e
 any_without p (Some s ∷ ps) (suc j) e =
-    let k = neither (p s) (list_any p (opened ps)) e in
+    let k = neither (p s) (list_any p (open_segments ps)) e in
     let rest = any_without p ps j k.1 in
     λ i. k.0 i || rest i
 
@@ -115,14 +115,14 @@ retired-free g next b j old c few l is shows =
     let test = λ (s : Segment). eqb s.block (next / g.slots) in
     record {
       closed = shows.holds;
-      apart = ap (λ ps. list_any test (opened ps.segments)) parts ∙ any_without test (parts_of g old).segments j is.apart;
+      apart = ap (λ ps. list_any test (open_segments ps.segments)) parts ∙ any_without test (parts_of g old).segments j is.apart;
       low_enough = is.low_enough;
     }
 
-pub retired-held : (g : Geometry) (r : Recording) (b j : ℕ) (old c : List ℕ) → Holds g r old → j < g.segments → victim (ring_of g) r ≡ Some b → IsOldFor g r.next b j old → ShowsSegment g j None old c → Holds g (after (ring_of g) r (recycle b)) c
+pub retired-held : (g : Geometry) (r : Recording) (b j : ℕ) (old c : List ℕ) → Holds g r old → j < g.segments → victim (ring_of g) r ≡ Some b → IsOldFor g r.next b j old → ShowsSegment g j None old c → Holds g (after_step (ring_of g) r (recycle b)) c
 retired-held g r b j old c held l chosen is shows =
     let e = sym is.block_is in
-    subst (λ (n : ℕ). Holds g (after (ring_of g) r (recycle n)) c) is.block_is
+    subst (λ (n : ℕ). Holds g (after_step (ring_of g) r (recycle n)) c) is.block_is
     (reading-retire g r old c j is.segment held l is.there (chosen ∙ (λ i. Some (e i))) shows)
 
 pub retired-held_or : (g : Geometry) (r : Recording) (b j : ℕ) (old c : List ℕ) → Holds g r old → j < g.segments → victim (ring_of g) r ≡ Some b → IsOldFor g r.next b j old → ShowsOrNot g j None old c → HoldsSome g r (recycle b ∷ []) c
@@ -134,12 +134,12 @@ set_again [] j x y = refl
 set_again (z ∷ xs) zero x y = refl
 set_again (z ∷ xs) (suc j) x y = ap (λ ys. z ∷ ys) (set_again xs j x y)
 
-pub replaced-begun : (g : Geometry) (next j : ℕ) (old mid new : List ℕ) → g.slots ≤ 256 → j < g.segments → next % g.slots ≡ 0 → HasNoneStray g old → ShowsSegment g j None old mid → ShowsSegment g j (Some (begun (next / g.slots))) mid new → HasNoStray g j new → IsBegunAt g next j old new
+pub replaced-begun : (g : Geometry) (next j : ℕ) (old mid new : List ℕ) → g.slots ≤ 256 → j < g.segments → next % g.slots ≡ 0 → HasNoneStray g old → ShowsSegment g j None old mid → ShowsSegment g j (Some (empty_segment (next / g.slots))) mid new → HasNoStray g j new → IsBegunAt g next j old new
 replaced-begun g next j old mid new few l first unstray gone shows stray = record {
   heads =
       begun-heads g next j mid new few l first shows ∙ ap (λ hs. set hs j (Some (head_at g next))) (heads-shown g j None old mid few l gone)
       ∙ set_again (heads_of g old) j None (Some (head_at g next));
-  unstray = unstray-shown g j (Some (begun (next / g.slots))) mid new few shows (unstray-shown g j None old mid few gone unstray (λ some. absurd (some refl))) (λ some. stray);
+  unstray = unstray-shown g j (Some (empty_segment (next / g.slots))) mid new few shows (unstray-shown g j None old mid few gone unstray (λ some. absurd (some refl))) (λ some. stray);
 }
 
 -- ---- what is known of a place
@@ -204,7 +204,7 @@ known-newest g r next j p image is l known held same =
 pub known-closed : (g : Geometry) (r : Recording) (next j : ℕ) (p : Place) (image : List ℕ) → p ≡ Closed j → IsKnown g next p image → Holds g r image → r.next ≡ next → IsClosedFor g r next j image
 known-closed g r next j p image is known held same = closed-for g r next j image (subst (λ (q : Place). IsKnown g next q image) is known) held same
 
-pub closed-at : (g : Geometry) (next j : ℕ) (p : Place) (old new : List ℕ) → g.slots ≤ 256 → p ≡ Closed j → place_segment p < g.segments → IsKnown g next p old → ShowsSegment g j (Some (begun (next / g.slots))) old new → HasNoStray g j new → IsBegunAt g next (place_segment p) old new
+pub closed-at : (g : Geometry) (next j : ℕ) (p : Place) (old new : List ℕ) → g.slots ≤ 256 → p ≡ Closed j → place_segment p < g.segments → IsKnown g next p old → ShowsSegment g j (Some (empty_segment (next / g.slots))) old new → HasNoStray g j new → IsBegunAt g next (place_segment p) old new
 closed-at g next j p old new few is l known shows stray =
     let e : place_segment p ≡ j = ap place_segment is in
     let c = known-closed g known.recording next j p old is known known.held known.next_is in
@@ -213,16 +213,16 @@ closed-at g next j p old new few is l known shows stray =
 -- ---- frames that are stored there
 
 pub grown-at : (g : Geometry) (next j : ℕ) (ps : List Picture) (old mid new : List ℕ) → g.slots ≤ 256 → j < g.segments → IsBegunAt g next j old mid → ShowsFrames g j next ps mid new → HasNoStray g j new → IsGrownAt g next (length ps) j old new
-grown-at g next j ps old mid new few l begun shows stray = record {
+grown-at g next j ps old mid new few l empty_segment shows stray = record {
   heads =
       heads-committed g j next (head_at g next) ps mid new few l head shows
-      ∙ ap (λ hs. set hs j (Some (record { block = next / g.slots; frames = next % g.slots + length ps }))) begun.heads
+      ∙ ap (λ hs. set hs j (Some (record { block = next / g.slots; frames = next % g.slots + length ps }))) empty_segment.heads
       ∙ set_again (heads_of g old) j (Some (head_at g next)) (Some (record { block = next / g.slots; frames = next % g.slots + length ps }));
-  unstray = unstray-shown g j _ mid new few shows begun.unstray (λ some. stray);
+  unstray = unstray-shown g j _ mid new few shows empty_segment.unstray (λ some. stray);
 }
   where
     head : get_or (heads_of g mid) j None ≡ Some (head_at g next)
-    head = ap (λ hs. get_or hs j None) begun.heads ∙ get_or-set_same (heads_of g old) j (Some (head_at g next)) None (omega (arith, l, heads-length g old))
+    head = ap (λ hs. get_or hs j None) empty_segment.heads ∙ get_or-set_same (heads_of g old) j (Some (head_at g next)) None (omega (arith, l, heads-length g old))
 
 -- a recycling leaves the next number
 pub before-next : (g : Geometry) (r : Recording) → (plain (ring_of g) r (steps_before g r)).next ≡ r.next
@@ -235,6 +235,6 @@ before-next g r = go (needs_recycling (ring_of g) r) (victim (ring_of g) r)
 
 pub grown-place : (g : Geometry) (next count k : ℕ) (p : Place) (ps : List Picture) (old mid new : List ℕ) → g.slots ≤ 256 → k ≡ place_segment p → place_segment p < g.segments → length ps ≡ count → IsBegunAt g next (place_segment p) old mid → ShowsFrames g k next ps mid new → HasNoStray g k new
     → IsGrownAt g next count (place_segment p) old new
-grown-place g next count k p ps old mid new few at l many begun shows stray =
+grown-place g next count k p ps old mid new few at l many empty_segment shows stray =
     subst (λ (n : ℕ). IsGrownAt g next n (place_segment p) old new) many
-    (grown-at g next (place_segment p) ps old mid new few l begun (subst (λ (j : ℕ). ShowsFrames g j next ps mid new) at shows) (subst (λ (j : ℕ). HasNoStray g j new) at stray))
+    (grown-at g next (place_segment p) ps old mid new few l empty_segment (subst (λ (j : ℕ). ShowsFrames g j next ps mid new) at shows) (subst (λ (j : ℕ). HasNoStray g j new) at stray))

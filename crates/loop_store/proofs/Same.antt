@@ -4,7 +4,7 @@ use Rattle.std.proofs.lemmas.List.{map-append, length-map}
 use Rattle.std.specs.Prelude.{Contains}
 use Rattle.std.specs.List.{enumerate_from, filter, find, range_with_len}
 use Rattle.loop_record.specs.declared.clip.Span.{Span}
-use Rattle.loop_record.specs.Recording.{IsWellFormed, Picture, Recording, RiseBetween, Ring, after, block, blocks_of, frame_under, held_blocks, holds, is_locked, needs_recycling, plain, recycle, store, victim, with_block}
+use Rattle.loop_record.specs.Recording.{IsWellFormed, Picture, Recording, RiseBetween, Ring, after_step, block, blocks_of, frame_under, held_blocks, holds, is_locked, needs_recycling, plain, recycle, store, victim, with_block}
 use Rattle.loop_record.proofs.Rising.{Among, among-held, among-range, held-among, numbers_of}
 use Rattle.loop_record.proofs.Steps.{plain-stores}
 
@@ -155,7 +155,7 @@ numbers-kept p (f ∷ fs) = go (p f.0) (numbers-kept p fs)
     go true h = ap (λ (ns : List ℕ). f.0 ∷ ns) h
     go false h = h
 
-pub recycled-same : (ring : Ring) (r t : Recording) (b : ℕ) → IsSame r t → IsSame (after ring r (recycle b)) (after ring t (recycle b))
+pub recycled-same : (ring : Ring) (r t : Recording) (b : ℕ) → IsSame r t → IsSame (after_step ring r (recycle b)) (after_step ring t (recycle b))
 recycled-same ring r t b same =
     let p = λ (n : ℕ). not (eqb (block ring n) b) in record {
       numbers = numbers-kept p r.frames ∙ ap (filter p) same.numbers ∙ sym (numbers-kept p t.frames);

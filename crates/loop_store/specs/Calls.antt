@@ -56,23 +56,23 @@ is_look (was_read_part number at result) = true
 is_look _ = false
 
 -- the steps that an append is asked for
-abbrev pub asked : Geometry → Recording → List Picture → List Step
-asked g r group = steps_or_none (steps (ring_of g) r group)
+abbrev pub steps_asked : Geometry → Recording → List Picture → List Step
+steps_asked g r group = steps_or_none (steps (ring_of g) r group)
 
 -- the steps that a call is asked for
 abbrev pub steps_of : Geometry → StoreState → Call → List Step
-steps_of g s (appended group result) = asked g s.recording group
+steps_of g s (appended group result) = steps_asked g s.recording group
 steps_of g s (locked span result) = lock span ∷ []
 steps_of g s (unlocked id result) = unlock id ∷ []
 steps_of g s _ = []
 
 -- the steps that a call made, as it answered
-abbrev pub made : Geometry → StoreState → Call → List Step
-made g s call = if_answered (fault_answered call) (steps_of g s call)
+abbrev pub made_by : Geometry → StoreState → Call → List Step
+made_by g s call = if_answered (fault_answered call) (steps_of g s call)
 
 -- the steps that it began, and of which a beginning may stand
-abbrev pub begun : Geometry → StoreState → Call → List Step
-begun g s call = if_failed (fault_answered call) (steps_of g s call)
+abbrev pub begun_by : Geometry → StoreState → Call → List Step
+begun_by g s call = if_failed (fault_answered call) (steps_of g s call)
 
 -- the call of the disk that failed, if the answer says that one did
 abbrev pub failed_for : Call → Option DiskFault
@@ -86,9 +86,9 @@ has_failed call = not (is_look call) && disk_failed (fault_answered call)
 abbrev pub was_refused : Call → Bool
 was_refused call = is_early (fault_answered call)
 
-abbrev pub after : Geometry → StoreState → Call → StoreState
-after g s call = record {
-  recording = plain (ring_of g) s.recording (made g s call);
+abbrev pub after_store_call : Geometry → StoreState → Call → StoreState
+after_store_call g s call = record {
+  recording = plain (ring_of g) s.recording (made_by g s call);
   must_reopen = s.must_reopen || has_failed call;
 }
 
@@ -181,16 +181,16 @@ IsAnswered Honest g s call = AnswersDue (first_of (checks g s call)) call (Answe
 
 -- the state after calls
 abbrev pub after_calls : Geometry → StoreState → List Call → StoreState
-after_calls g s calls = after_all (after g) s calls
+after_calls g s calls = after_all (after_store_call g) s calls
 
 -- each was answered so at its point
 abbrev pub AreAnswered : Type 0 → Geometry → StoreState → List Call → Type 0
-AreAnswered Honest g s calls = EachIn (after g) (IsAnswered Honest g) s calls
+AreAnswered Honest g s calls = EachIn (after_store_call g) (IsAnswered Honest g) s calls
 
 -- the steps that were made, in order
 abbrev pub made_in : Geometry → StoreState → List Call → List Step
-made_in g s calls = told_in (after g) (made g) s calls
+made_in g s calls = told_in (after_store_call g) (made_by g) s calls
 
 -- the steps that were begun behind them
 abbrev pub begun_in : Geometry → StoreState → List Call → List Step
-begun_in g s calls = told_in (after g) (begun g) s calls
+begun_in g s calls = told_in (after_store_call g) (begun_by g) s calls

@@ -36,5 +36,5 @@ drawn_byte g heads clips k =
     segment_byte g (slice_index_or heads ((k - 2560) / segment_size g) None) ((k - 2560) % segment_size g)
 
 -- the image of these headers and clips
-abbrev pub drawn : Geometry → List (Option SegmentHead) → List (Option Span) → List ℕ
-drawn g heads clips = super_bytes g ++ map (drawn_byte g heads clips) (range_with_len 512 (disk_size g - 512))
+abbrev pub drawn_image : Geometry → List (Option SegmentHead) → List (Option Span) → List ℕ
+drawn_image g heads clips = super_bytes g ++ map (drawn_byte g heads clips) (range_with_len 512 (disk_size g - 512))

@@ -7,7 +7,7 @@ use Rattle.loop_disk.specs.Medium.{IsSettled, LeavesOnly, Medium}
 use Rattle.loop_record.specs.declared.geometry.Geometry.{Geometry}
 use Rattle.loop_record.specs.Recording.{Recording, Step, ring_of, plain}
 use Rattle.loop_record.specs.Layout.{Segment, is_too_high, segment_in, whole_frames}
-use Rattle.loop_record.specs.Reading.{Holds, opened, parts_of}
+use Rattle.loop_record.specs.Reading.{Holds, open_segments, parts_of}
 use Rattle.loop_ring.specs.Writes.{HasNoStray}
 
 -- the image reads as the recording after the first steps, none skipped, and those are at least so many
@@ -32,7 +32,7 @@ pub record IsNewestSegment (g : Geometry) (next j : ℕ) (image : List ℕ) : Ty
 -- segment j is closed, no segment has the block of the next number, and that block isn't too high
 pub record IsFreeFor (g : Geometry) (next j : ℕ) (image : List ℕ) : Type 0 where
   pub closed : segment_in g image j ≡ None
-  pub apart : list_any (λ s. s.block == (next / g.slots)) (opened (parts_of g image).segments) ≡ false
+  pub apart : list_any (λ s. s.block == (next / g.slots)) (open_segments (parts_of g image).segments) ≡ false
   pub low_enough : is_too_high g (next / g.slots) ≡ false
 
 -- so is each image that a crash now may leave

@@ -4,7 +4,7 @@ use Rattle.std.specs.List.{list_any}
 use Rattle.loop_record.specs.declared.geometry.Geometry.{Geometry}
 use Rattle.loop_record.specs.declared.segment.SegmentHead.{SegmentHead}
 use Rattle.loop_record.specs.Layout.{Segment, is_too_high, segment_in, whole_frames}
-use Rattle.loop_record.specs.Reading.{Holds, opened, parts_of}
+use Rattle.loop_record.specs.Reading.{Holds, open_segments, parts_of}
 use Rattle.loop_record.specs.Recording.{Recording, Step, last_number, needs_recycling, recycling_first, ring_of, victim}
 use Rattle.loop_ring.specs.Heads.{heads_of}
 use Rattle.loop_store.specs.declared.fault.StoreFault.{StoreFault}
@@ -35,7 +35,7 @@ pub record IsOldFor (g : Geometry) (next b j : ℕ) (image : List ℕ) : Type 0 
   pub segment : Segment
   pub there : segment_in g image j ≡ Some segment
   pub block_is : segment.block ≡ b
-  pub apart : list_any (λ s. s.block == (next / g.slots)) (opened (parts_of g image).segments) ≡ false
+  pub apart : list_any (λ s. s.block == (next / g.slots)) (open_segments (parts_of g image).segments) ≡ false
   pub low_enough : is_too_high g (next / g.slots) ≡ false
 
 -- what a place says of the image, and of the steps that come before the stores

@@ -16,7 +16,7 @@ use Rattle.loop_record.specs.Recording.{Recording, empty, last_number, ring_of}
 use Rattle.loop_ring.specs.Heads.{clip_counts, heads_of}
 use Rattle.loop_store.specs.declared.fault.StoreFault.{StoreFault}
 use Rattle.loop_store.specs.declared.index.Index.{Index}
-use Rattle.loop_store.specs.Drawn.{drawn}
+use Rattle.loop_store.specs.Drawn.{drawn_image}
 use Rattle.loop_store.specs.Faults.{failed_in}
 
 -- the refusal that stands for the layout's
@@ -89,7 +89,7 @@ pub record IsRecovered {A : Type 0} (index : Index A) (image : List ℕ) : Type 
 
 -- with frames that are made up, the index says a whole recording
 abbrev pub SaysRecording : {A : Type 0} → Index A → Type 0
-SaysRecording index = IsRecovered index (drawn index.ring.geometry index.table.heads index.clips)
+SaysRecording index = IsRecovered index (drawn_image index.ring.geometry index.table.heads index.clips)
 
 -- whatever a disk holds: there is a header for each segment, each may stand there, no block of the numbers
 -- below the next one is too high, and the clips that meet each segment's block are counted

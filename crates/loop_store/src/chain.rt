@@ -4,7 +4,7 @@ ghost use Rattle.std.specs.Prelude.{◌≡◌, ◌≤◌, All, IfOk, false, leng
 ghost use Rattle.loop_record.specs.Geometry.{frame_bytes};
 ghost use Rattle.loop_record.specs.Plain.{pictures};
 ghost use Rattle.loop_record.specs.Recording.{empty, holds, plain, ring_of};
-ghost use Rattle.loop_store.specs.Calls.{StoreState, asked};
+ghost use Rattle.loop_store.specs.Calls.{StoreState, steps_asked};
 ghost use Rattle.loop_store.specs.Goes.{Stands};
 ghost use Rattle.loop_store.specs.Reads.{ReadsFrame};
 
@@ -25,7 +25,7 @@ pub fn format_and_append<D: Disk + Drop, A: Allocator + Copy>(
     requires room { length frames.now ≤ geometry.slots }
     requires sizes { All (λ frame. length frame.bytes.items ≡ frame_bytes geometry) frames.now }
     ensures { IfOk result (λ store. Stands D.medium store (record {
-      recording = plain (ring_of geometry) empty (asked geometry empty (pictures frames.now));
+      recording = plain (ring_of geometry) empty (steps_asked geometry empty (pictures frames.now));
       must_reopen = false;
     })) }
 {

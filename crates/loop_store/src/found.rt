@@ -11,7 +11,7 @@ ghost use Rattle.loop_record.specs.declared.geometry.Geometry.{Geometry};
 ghost use Rattle.loop_record.specs.Geometry.{frame_bytes, segment_at, slot_at};
 ghost use Rattle.loop_record.specs.Layout.{geometry_in, header_at, is_slot_of, is_too_high, segment_in, slot_in};
 ghost use Rattle.loop_record.specs.Plain.{AreIn, IsSomeHigh, lacks_number, segment_of, segments_of, with_segment};
-ghost use Rattle.loop_record.specs.Reading.{by_block, is_bad_slot, is_high, opened, parts_of, reading};
+ghost use Rattle.loop_record.specs.Reading.{by_block, is_bad_slot, is_high, open_segments, parts_of, reading};
 ghost use Rattle.loop_ring.specs.Heads.{heads_of};
 ghost use Rattle.loop_store.specs.Formatted.{FitsDisk};
 ghost use Rattle.loop_store.specs.Recovered.{Finds, IsHeadIn, clips_of, refusal, segment_said, some_bad_clip};
@@ -87,7 +87,7 @@ pub(crate) fn read_heads<D: Disk, A: Allocator>(
     ensures finds { let g = geometry.now in let old = D.medium disk.old in
         Finds (λ heads. heads.items ≡ heads_of g old.bytes)
         (λ fault. (fault ≡ LayoutFault.Damaged Damage.BlockTooHigh)
-        × (list_any (is_high g) (by_block (opened (parts_of g old.bytes).segments)) ≡ true))
+        × (list_any (is_high g) (by_block (open_segments (parts_of g old.bytes).segments)) ≡ true))
         old (D.medium disk.new) result }
 {
     let mut heads = Vec::with_capacity(alloc, geometry.segments as usize)?;
@@ -135,7 +135,7 @@ pub(crate) fn in_order<A: Allocator>(
     ensures within { IfOk result (λ found. AreIn geometry.now found.items) }
     ensures order { (image : List ℕ) → heads.now ≡ heads_of geometry.now image
         → IfOk result (λ found.
-        segments_of geometry.now image found.items ≡ by_block (opened (parts_of geometry.now image).segments)) }
+        segments_of geometry.now image found.items ≡ by_block (open_segments (parts_of geometry.now image).segments)) }
 {
     let mut open = Vec::with_capacity(alloc, geometry.segments as usize)?;
     for done in 0..geometry.segments {

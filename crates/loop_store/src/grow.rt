@@ -5,7 +5,7 @@ ghost use Rattle.std.specs.Prelude.{◌≡◌, ◌+◌, ◌<◌, ◌≤◌, ◌/
 ghost use Rattle.loop_disk.specs.Medium.{IsSettled};
 ghost use Rattle.loop_record.specs.Geometry.{disk_size, frame_bytes};
 ghost use Rattle.loop_record.specs.Change.{ShowsSegment};
-ghost use Rattle.loop_record.specs.Reading.{begun};
+ghost use Rattle.loop_record.specs.Reading.{empty_segment};
 ghost use Rattle.loop_record.specs.Recording.{store};
 ghost use Rattle.loop_ring.specs.Writes.{HasNoStray, ShowsFrames};
 ghost use Rattle.loop_store.specs.declared.place.Place.TheVariants.{Victim};
@@ -26,7 +26,7 @@ fn begin<D: Disk>(disk: &mut D, ring: &Ring, segment: u32, next: u64) -> Result<
     requires free { (D.medium disk.old).honest → IsFreeFor ring.now.geometry next segment (D.medium disk.old).bytes }
     ensures { let g = ring.now.geometry in let old = D.medium disk.old in
         Makes g (HasNext next) (λ r. []) (λ image. IsNewestSegment g next segment image
-        × ShowsSegment g segment (Some (begun (next / g.slots))) old.bytes image) old (D.medium disk.new) result }
+        × ShowsSegment g segment (Some (empty_segment (next / g.slots))) old.bytes image) old (D.medium disk.new) result }
 {
     ring.begin_block(disk, segment, next / u64::from(ring.geometry.slots))
 }

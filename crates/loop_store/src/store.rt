@@ -1,7 +1,7 @@
 //! A store: a disk that holds a recording, and what is known of it in memory.
 
 ghost use Rattle.std.specs.Prelude.{◌≡◌, ◌≢◌, ◌+◌, ◌-◌, ◌%◌, ◌≤◌, ◌↔◌, ◌⊎◌, ◌∷◌, [], All, Err, IfErr, IfOk, IsTrue, false, length, map, ◌<◌, IfSome};
-ghost use Rattle.loop_clips.specs.Table.{listed};
+ghost use Rattle.loop_clips.specs.Table.{clip_list};
 ghost use Rattle.loop_disk.specs.Calls.{Stays};
 ghost use Rattle.loop_record.specs.Geometry.{frame_bytes, is_good};
 ghost use Rattle.loop_record.specs.Plain.{pictures};
@@ -280,7 +280,7 @@ impl<D: Disk + Drop, A: Allocator> Store<D, A> {
     /// The clips that stand, by rising id. `MustReopen` where a call that writes has failed; otherwise `NoMemory`.
     pub fn clips<B: Allocator>(&self, alloc: B) -> Result<Vec<Clip, B>, StoreFault>
         ensures must_reopen { (result ≡ Err StoreFault.MustReopen) ↔ IsTrue self.now.must_reopen }
-        ensures clips { IfOk result (λ clips. clips.items ≡ listed 0 self.now.clips) }
+        ensures clips { IfOk result (λ clips. clips.items ≡ clip_list 0 self.now.clips) }
         ensures refusals { IfErr result (λ fault. (fault ≡ StoreFault.MustReopen) ⊎ (fault ≡ StoreFault.NoMemory)) }
     {
         if self.must_reopen {

@@ -4,7 +4,7 @@ use Rattle.std.specs.Prelude.{is_some, replicate}
 use Rattle.std.specs.List.{list_all}
 use Rattle.std.proofs.lemmas.List.{length-take, length-drop, take_all}
 use Rattle.std.proofs.lemmas.Bool.Decides.{nat_tests}
-use Rattle.loop_plane.specs.Plane.{Plane, filled}
+use Rattle.loop_plane.specs.Plane.{Plane, with_bytes}
 use Rattle.loop_plane.specs.declared.memory.Memory.{Memory}
 use Rattle.loop_plane.specs.declared.memory.Memory.TheVariants.{Mmap, UserPtr, DmaBuf}
 use Rattle.loop_vb2.specs.declared.buffer.Buffer.{Buffer}
@@ -13,9 +13,9 @@ use Rattle.loop_vb2.specs.declared.planes.PlaneSet.{PlaneSet}
 use Rattle.loop_vb2.specs.declared.planes.Shape.{Shape}
 use Rattle.loop_vb2.specs.declared.state.BufferState.TheVariants.{Done}
 use Rattle.loop_vb2.specs.Planes.{number_at, same_memory, is_kind, is_long, are_kind, has_count, has_room, has_used_bytes, misfits, frame_size, slot_filled, slot_cut, set_by, set_filled}
-use Rattle.loop_vb2.specs.Buffers.{changed, unused, prepared_with, queued_with, completed_by, completed_with, dequeued_from, failed_with, mapped_as, emptied, stopped, woken, kept}
-use Rattle.loop_vb2.specs.Checks.{queue_checks, queue_refusal, prepare_checks, prepare_refusal, request_checks, request_refusal, serves, is_supply, granted}
-use Rattle.loop_vb2.specs.Effects.{awake, device_runs, settled, with_buffer, body_queued, body_streaming, body_stopped}
+use Rattle.loop_vb2.specs.Buffers.{change_at, no_bytes_used, prepared_with, queued_with, completed_by, completed_with, dequeued_from, failed_with, mapped_as, without_planes, stop_buffer, wake_buffer, kept}
+use Rattle.loop_vb2.specs.Checks.{queue_checks, queue_refusal, prepare_checks, prepare_refusal, request_checks, request_refusal, serves, is_supply, grant_count}
+use Rattle.loop_vb2.specs.Effects.{awake, device_runs, settle_device, with_buffer, body_queued, body_streaming, body_stopped}
 use Rattle.loop_vb2.specs.Requests.{new_buffer, new_buffers, grants_or_none, body_requested}
 use Rattle.loop_vb2.specs.State.{Body, FitsShape, BufferFits, EachFits, AllFit}
 use Rattle.loop_vb2.proofs.Passing.{Passed, all_passed, true_of}
@@ -69,7 +69,7 @@ no_bytes (Some p) = at_most 0 (length p.bytes) (omega arith)
 -- what a plane has room for is all of its part
 cut_filled : (size : ℕ) (o : Option Plane) (part : List ℕ) → is_long size o ≡ true → length part ≤ size → slot_cut o part ≡ slot_filled o part
 cut_filled size None part long h = refl
-cut_filled size (Some p) part long h = ap (λ bs. Some (filled p bs)) (take_all p.length part (let e = is_at_most size p.length long in omega (arith, e, h)))
+cut_filled size (Some p) part long h = ap (λ bs. Some (with_bytes p bs)) (take_all p.length part (let e = is_at_most size p.length long in omega (arith, e, h)))
 
 -- ---- the parts of a frame
 
@@ -84,7 +84,7 @@ enough_behind m n bytes h = let e = length-drop m bytes in enough_taken n (drop 
 
 -- ---- a set
 
-unused_fits : (shape : Shape) (kind : Memory) (set : PlaneSet Plane) → are_kind kind set ≡ true → has_count shape.count set ≡ true → has_room shape set ≡ true → FitsShape shape kind unused set
+unused_fits : (shape : Shape) (kind : Memory) (set : PlaneSet Plane) → are_kind kind set ≡ true → has_count shape.count set ≡ true → has_room shape set ≡ true → FitsShape shape kind no_bytes_used set
 unused_fits shape kind set of_kind counted roomy = record {
   of_kind = of_kind;
   counted = counted;
@@ -141,9 +141,9 @@ nothing_given x e = cc
 
 -- a set that is given fits, before any byte of it is used
 abbrev GivenFits : Shape → Memory → Option (PlaneSet Plane) → Type 0
-GivenFits shape kind given = (set : PlaneSet Plane) → given ≡ Some set → FitsShape shape kind unused set
+GivenFits shape kind given = (set : PlaneSet Plane) → given ≡ Some set → FitsShape shape kind no_bytes_used set
 
-not_used : (shape : Shape) (kind : Memory) (used : List ℕ) (set : PlaneSet Plane) → FitsShape shape kind used set → FitsShape shape kind unused set
+not_used : (shape : Shape) (kind : Memory) (used : List ℕ) (set : PlaneSet Plane) → FitsShape shape kind used set → FitsShape shape kind no_bytes_used set
 not_used shape kind used set f = unused_fits shape kind set f.of_kind f.counted f.roomy
 
 queued_fits : (shape : Shape) (kind : Memory) (given : Option (PlaneSet Plane)) → GivenFits shape kind given → (b : Buffer Plane) → BufferFits shape kind b → BufferFits shape kind (queued_with given b)
@@ -157,7 +157,7 @@ prepared_fits shape kind (Some new) g b h = λ set e. g set e
 failed_fits : (shape : Shape) (kind : Memory) (stamp : Stamp) (b : Buffer Plane) → BufferFits shape kind b → BufferFits shape kind (failed_with stamp b)
 failed_fits shape kind stamp b h = λ set e. not_used shape kind b.used set (h set e)
 
-emptied_fits : (shape : Shape) (kind : Memory) (b : Buffer Plane) → BufferFits shape kind b → BufferFits shape kind (emptied b)
+emptied_fits : (shape : Shape) (kind : Memory) (b : Buffer Plane) → BufferFits shape kind b → BufferFits shape kind (without_planes b)
 emptied_fits shape kind b h = λ set e. absurd (nothing_given set e)
 
 kept_fits : (shape : Shape) (kind own : Memory) (used : List ℕ) (planes : Option (PlaneSet Plane)) → ((set : PlaneSet Plane) → planes ≡ Some set → FitsShape shape kind used set) → (set : PlaneSet Plane) → kept own planes ≡ Some set → FitsShape shape kind used set
@@ -187,7 +187,7 @@ cut_buffer shape kind stamp bytes b h = ap (λ o. record b { state = Done; stamp
 
 -- ---- all buffers
 
-each_changed : (shape : Shape) (kind : Memory) (f : Buffer Plane → Buffer Plane) → ((b : Buffer Plane) → BufferFits shape kind b → BufferFits shape kind (f b)) → (i : ℕ) (bs : List (Buffer Plane)) → EachFits shape kind bs → EachFits shape kind (changed f i bs)
+each_changed : (shape : Shape) (kind : Memory) (f : Buffer Plane → Buffer Plane) → ((b : Buffer Plane) → BufferFits shape kind b → BufferFits shape kind (f b)) → (i : ℕ) (bs : List (Buffer Plane)) → EachFits shape kind bs → EachFits shape kind (change_at f i bs)
 each_changed shape kind f keeps i [] h = tt
 each_changed shape kind f keeps zero (b ∷ bs) h = (keeps b h.0, h.1)
 each_changed shape kind f keeps (suc i) (b ∷ bs) h = (h.0, each_changed shape kind f keeps i bs h.1)
@@ -197,7 +197,7 @@ each_map shape kind f keeps [] h = tt
 each_map shape kind f keeps (b ∷ bs) h = (keeps b h.0, each_map shape kind f keeps bs h.1)
 
 -- where all sets fit, nothing of a frame is cut
-pub none_cut : (shape : Shape) (kind : Memory) (stamp : Stamp) (bytes : List ℕ) (i : ℕ) (bs : List (Buffer Plane)) → EachFits shape kind bs → changed (completed_by slot_cut shape stamp bytes) i bs ≡ changed (completed_with shape stamp bytes) i bs
+pub none_cut : (shape : Shape) (kind : Memory) (stamp : Stamp) (bytes : List ℕ) (i : ℕ) (bs : List (Buffer Plane)) → EachFits shape kind bs → change_at (completed_by slot_cut shape stamp bytes) i bs ≡ change_at (completed_with shape stamp bytes) i bs
 none_cut shape kind stamp bytes i [] h = refl
 none_cut shape kind stamp bytes zero (b ∷ bs) h = ap (λ x. x ∷ bs) (cut_buffer shape kind stamp bytes b h.0)
 none_cut shape kind stamp bytes (suc i) (b ∷ bs) h = ap (λ xs. b ∷ xs) (none_cut shape kind stamp bytes i bs h.1)
@@ -205,14 +205,14 @@ none_cut shape kind stamp bytes (suc i) (b ∷ bs) h = ap (λ xs. b ∷ xs) (non
 pub fit_changed : (f : Buffer Plane → Buffer Plane) (i : ℕ) (b : Body Plane) → ((x : Buffer Plane) → BufferFits b.shape b.kind x → BufferFits b.shape b.kind (f x)) → AllFit b → AllFit (with_buffer f i b)
 fit_changed f i b keeps h = each_changed b.shape b.kind f keeps i b.buffers h
 
-fit_settled : (b : Body Plane) → AllFit b → AllFit (settled b)
-fit_settled b h = elim (device_runs b) as (λ t. AllFit (cond t (awake b) b)) [ true ↦ each_map b.shape b.kind woken (λ x f. f) b.buffers h | false ↦ h ]
+fit_settled : (b : Body Plane) → AllFit b → AllFit (settle_device b)
+fit_settled b h = elim (device_runs b) as (λ t. AllFit (cond t (awake b) b)) [ true ↦ each_map b.shape b.kind wake_buffer (λ x f. f) b.buffers h | false ↦ h ]
 
 pub fit_streaming : (b : Body Plane) → AllFit b → AllFit (body_streaming b)
-fit_streaming b h = elim b.streaming as (λ t. AllFit (cond t b (settled (record b { streaming = true })))) [ true ↦ h | false ↦ fit_settled (record b { streaming = true }) h ]
+fit_streaming b h = elim b.streaming as (λ t. AllFit (cond t b (settle_device (record b { streaming = true })))) [ true ↦ h | false ↦ fit_settled (record b { streaming = true }) h ]
 
 pub fit_stopped : (b : Body Plane) → AllFit b → AllFit (body_stopped b)
-fit_stopped b h = each_map b.shape b.kind stopped (λ x f. f) b.buffers h
+fit_stopped b h = each_map b.shape b.kind stop_buffer (λ x f. f) b.buffers h
 
 -- ---- the sets that a call brings
 
@@ -247,8 +247,8 @@ fit_dequeued index b h = fit_changed (dequeued_from b.kind) index b (dequeued_fi
 pub fit_mapped : (mapped : Bool) (index : ℕ) (b : Body Plane) → AllFit b → AllFit (with_buffer (mapped_as mapped) index b)
 fit_mapped mapped index b h = fit_changed (mapped_as mapped) index b (λ x f. f) h
 
-pub fit_emptied : (index : ℕ) (b : Body Plane) → AllFit b → AllFit (with_buffer emptied index b)
-fit_emptied index b h = fit_changed emptied index b (emptied_fits b.shape b.kind) h
+pub fit_emptied : (index : ℕ) (b : Body Plane) → AllFit b → AllFit (with_buffer without_planes index b)
+fit_emptied index b h = fit_changed without_planes index b (emptied_fits b.shape b.kind) h
 
 -- ---- the buffers of a request
 
@@ -266,7 +266,7 @@ each_served shape [] e = tt
 each_served shape (set ∷ sets) e =
     let here : serves shape set ≡ true = and_left (serves shape set) (list_all (serves shape) sets) e in
     let counted_kind : (has_count shape.count set && are_kind Mmap set) ≡ true = and_left _ _ here in (
-      λ x is. subst (λ (y : PlaneSet Plane). FitsShape shape Mmap unused y) (given_set (Some set) set x refl is) (unused_fits shape Mmap set (and_right _ _ counted_kind) (and_left _ _ counted_kind) (and_right _ _ here)),
+      λ x is. subst (λ (y : PlaneSet Plane). FitsShape shape Mmap no_bytes_used y) (given_set (Some set) set x refl is) (unused_fits shape Mmap set (and_right _ _ counted_kind) (and_left _ _ counted_kind) (and_right _ _ here)),
       each_served shape sets (and_right (serves shape set) (list_all (serves shape) sets) e),
     )
 
@@ -282,7 +282,7 @@ served : (shape : Shape) (min_queued count : ℕ) (kind : Memory) (set : PlaneSe
 served shape min_queued count kind set sets e = by (nat_lt 0 count && same_memory kind Mmap) refl e
   where
     by : (t : Bool) → (nat_lt 0 count && same_memory kind Mmap) ≡ t
-        → cond t ((length (set ∷ sets) == granted min_queued count) && list_all (serves shape) (set ∷ sets)) (length (set ∷ sets) == 0) ≡ true → Serves shape kind (set ∷ sets)
+        → cond t ((length (set ∷ sets) == grant_count min_queued count) && list_all (serves shape) (set ∷ sets)) (length (set ∷ sets) == 0) ≡ true → Serves shape kind (set ∷ sets)
     by true is f = record { mmap = mmap_kind kind (and_right _ _ is); all = and_right _ _ f }
     by false is f = absurd (some_left set sets f)
 

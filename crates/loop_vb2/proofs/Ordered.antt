@@ -16,12 +16,12 @@ use Rattle.loop_vb2.specs.declared.reason.Reason.TheVariants.{Streaming}
 use Rattle.loop_vb2.specs.declared.state.BufferState.{BufferState}
 use Rattle.loop_vb2.specs.declared.state.BufferState.TheVariants.{Dequeued, Prepared, Done, Error}
 use Rattle.loop_vb2.specs.Owner.{waits, is_ended, is_active}
-use Rattle.loop_vb2.specs.Buffers.{state_at, stopped, queued_with, prepared_with, completed_with, failed_with, mapped_as, emptied}
+use Rattle.loop_vb2.specs.Buffers.{state_at, stop_buffer, queued_with, prepared_with, completed_with, failed_with, mapped_as, without_planes}
 use Rattle.loop_vb2.specs.Lines.{lists, without, InOrder}
 use Rattle.loop_vb2.specs.Checks.{queue_refusal, prepare_refusal, end_refusal, request_refusal}
-use Rattle.loop_vb2.specs.Effects.{awake, device_runs, settled, with_buffer, body_streaming, body_stopped, first_ended, ended, dequeued, touched}
-use Rattle.loop_vb2.specs.Requests.{grants_or_none, requested}
-use Rattle.loop_vb2.specs.State.{Body, QueueState, Lined, lined, in_step, InStep, Shows, StandsQueue}
+use Rattle.loop_vb2.specs.Effects.{awake, device_runs, settle_device, with_buffer, body_streaming, body_stopped, first_ended, end_buffer, after_dequeue, change_buffer}
+use Rattle.loop_vb2.specs.Requests.{grants_or_none, after_request}
+use Rattle.loop_vb2.specs.State.{Body, QueueState, Lined, with_lines, in_step, InStep, Shows, StandsQueue}
 use Rattle.loop_vb2.specs.Events.{Event, Grant, MayHappen, IsRefusal, after_event, dequeued_by, ended_by, stops, reqbufs, prepare_buf, qbuf, dqbuf, streamon, streamoff, querybuf, mmap, munmap, take_planes, copy_plane, complete, fail, fatal, take_fresh}
 use Rattle.loop_vb2.specs.Laws.{DequeuedInOrder, InTurn, IsStill, KeepsOrder, NewQueuesAreStill}
 use Rattle.loop_vb2.proofs.InStep.{step_stopped, idle_fits, none_are_active}
@@ -37,7 +37,7 @@ use Rattle.loop_vb2.proofs.Passing.{passed_here}
 -- a state with the buffers that were ended and not yet dequeued, in their order; while streaming is off there are none
 pub record Runs (s : QueueState) (line : List ℕ) : Type 0 where
   pub incoming : List ℕ
-  pub shows : Shows s (lined s.body incoming line)
+  pub shows : Shows s (with_lines s.body incoming line)
   pub still : s.body.streaming ≡ false → line ≡ []
 
 -- ---- what follows from an answer
@@ -57,14 +57,14 @@ runs_off s = record {
   incoming = [];
   shows = record {
     body = refl;
-    incoming = InOrder-none s.queue_number s.queue_count _ (λ i. ap waits (state_at-map stopped (λ t. Dequeued) s.body.buffers i (λ b. refl) refl));
-    done = InOrder-none s.end_number s.end_count _ (λ i. ap is_ended (state_at-map stopped (λ t. Dequeued) s.body.buffers i (λ b. refl) refl));
+    incoming = InOrder-none s.queue_number s.queue_count _ (λ i. ap waits (state_at-map stop_buffer (λ t. Dequeued) s.body.buffers i (λ b. refl) refl));
+    done = InOrder-none s.end_number s.end_count _ (λ i. ap is_ended (state_at-map stop_buffer (λ t. Dequeued) s.body.buffers i (λ b. refl) refl));
     in_step = step_stopped s.body;
   };
   still = λ e. refl;
 }
 
-runs_freed : (s : QueueState) (count : ℕ) (kind : Memory) (sets : List (PlaneSet Plane)) → (count == 0) ≡ true → Runs (requested count kind sets s) []
+runs_freed : (s : QueueState) (count : ℕ) (kind : Memory) (sets : List (PlaneSet Plane)) → (count == 0) ≡ true → Runs (after_request count kind sets s) []
 runs_freed s count kind sets none =
     let n : ℕ = grants_or_none s.body.min_queued count in
     let started : Bool = (cond (count == 0) (body_stopped s.body) s.body).started in
@@ -108,13 +108,13 @@ pub record Next (s : QueueState) (e : Event) (line : List ℕ) : Type 0 where
   pub runs : Runs (after_event s e) rest
   pub joined : line ++ ended_by e ≡ dequeued_by e ++ rest
 
-settled_streaming : (b : Body Plane) → (settled b).streaming ≡ b.streaming
+settled_streaming : (b : Body Plane) → (settle_device b).streaming ≡ b.streaming
 settled_streaming b = elim (device_runs b) as (λ t. (cond t (awake b) b).streaming ≡ b.streaming) [ true ↦ refl | false ↦ refl ]
 
 streams : (b : Body Plane) → (body_streaming b).streaming ≡ true
 streams b = by b.streaming refl
   where
-    by : (t : Bool) → b.streaming ≡ t → (cond t b (settled (record b { streaming = true }))).streaming ≡ true
+    by : (t : Bool) → b.streaming ≡ t → (cond t b (settle_device (record b { streaming = true }))).streaming ≡ true
     by true e = e
     by false e = settled_streaming (record b { streaming = true })
 
@@ -131,7 +131,7 @@ next_queued s index kind given line r passed = record {
   rest = line;
   runs = record {
     incoming = r.incoming ++ index ∷ [];
-    shows = shows_queued s (lined s.body r.incoming line) index given r.shows (queue_within index kind given s.body passed) (queue_idle index kind given s.body passed);
+    shows = shows_queued s (with_lines s.body r.incoming line) index given r.shows (queue_within index kind given s.body passed) (queue_idle index kind given s.body passed);
     still = λ e. r.still (sym (settled_streaming (with_buffer (queued_with given) index s.body)) ∙ e);
   };
   joined = append-nil line;
@@ -142,23 +142,23 @@ next_prepared s index kind given line r passed = record {
   rest = line;
   runs = record {
     incoming = r.incoming;
-    shows = shows_touched s (lined s.body r.incoming line) (prepared_with given) Prepared index (prepared_state given) refl refl r.shows (prepare_within index kind given s.body passed)
+    shows = shows_touched s (with_lines s.body r.incoming line) (prepared_with given) Prepared index (prepared_state given) refl refl r.shows (prepare_within index kind given s.body passed)
         (dequeued_idle (state_at s.body.buffers index) (prepare_dequeued index kind given s.body passed));
     still = r.still;
   };
   joined = append-nil line;
 }
 
-next_kept : (s : QueueState) (f : Buffer Plane → Buffer Plane) (index : ℕ) (line : List ℕ) → ((b : Buffer Plane) → (f b).state ≡ b.state) → Runs s line → Runs (touched f index s) line
-next_kept s f index line keeps r = record { incoming = r.incoming; shows = shows_kept s (lined s.body r.incoming line) f index keeps r.shows; still = r.still }
+next_kept : (s : QueueState) (f : Buffer Plane → Buffer Plane) (index : ℕ) (line : List ℕ) → ((b : Buffer Plane) → (f b).state ≡ b.state) → Runs s line → Runs (change_buffer f index s) line
+next_kept s f index line keeps r = record { incoming = r.incoming; shows = shows_kept s (with_lines s.body r.incoming line) f index keeps r.shows; still = r.still }
 
 next_ended : (s : QueueState) (f : Buffer Plane → Buffer Plane) (state : BufferState) (index : ℕ) (line : List ℕ) → ((b : Buffer Plane) → (f b).state ≡ state) → waits state ≡ false → is_ended state ≡ true
-    → Runs s line → end_refusal index s.body ≡ None → Runs (ended f index s) (line ++ index ∷ [])
+    → Runs s line → end_refusal index s.body ≡ None → Runs (end_buffer f index s) (line ++ index ∷ [])
 next_ended s f state index line makes waits_not over r passed =
     let active : is_active (state_at s.body.buffers index) ≡ true = end_active index s.body passed in
     record {
       incoming = without index r.incoming;
-      shows = shows_ended s (lined s.body r.incoming line) f state index makes waits_not over r.shows (end_within index s.body passed) active;
+      shows = shows_ended s (with_lines s.body r.incoming line) f state index makes waits_not over r.shows (end_within index s.body passed) active;
       still = λ e. absurd (not_both s.body.streaming (active_streams s.body index r.shows.in_step active) e);
     }
 
@@ -174,10 +174,10 @@ not_empty_line x rest e = cc
 next_dequeued : (s : QueueState) (d : Answer Plane) (line : List ℕ) → Runs s line → first_ended s ≡ Some d.index → Next s (dqbuf (Ok d)) line
 next_dequeued s d [] r first = absurd (none_given d.index (first_ended s) (empty_line s.end_number s.end_count (λ i. is_ended (state_at s.body.buffers i)) (length s.body.buffers) r.shows.done) first)
 next_dequeued s d (x ∷ rest) r first =
-    let code : Lined Plane = lined s.body r.incoming (x ∷ rest) in
+    let code : Lined Plane = with_lines s.body r.incoming (x ∷ rest) in
     let same : x ≡ d.index = same_given x d.index (first_ended s) (first_is_taken s code x rest r.shows refl) first in
-    let after_x : Runs (dequeued x s) rest = record { incoming = r.incoming; shows = shows_dequeued s code x rest r.shows refl; still = λ e. absurd (not_empty_line x rest (r.still e)) } in
-    record { rest = rest; runs = subst (λ (i : ℕ). Runs (dequeued i s) rest) same after_x; joined = append-nil (x ∷ rest) ∙ ap (λ i. i ∷ rest) same }
+    let after_x : Runs (after_dequeue x s) rest = record { incoming = r.incoming; shows = shows_dequeued s code x rest r.shows refl; still = λ e. absurd (not_empty_line x rest (r.still e)) } in
+    record { rest = rest; runs = subst (λ (i : ℕ). Runs (after_dequeue i s) rest) same after_x; joined = append-nil (x ∷ rest) ∙ ap (λ i. i ∷ rest) same }
 
 below : (count : ℕ) → (count == 0) ≡ false → nat_lt 0 count ≡ true
 below count e = grind (arith, nat_tests)
@@ -191,7 +191,7 @@ next_requested s count kind sets g line r some passed =
     let off : s.body.streaming ≡ false = off_where (nat_lt 0 count) s.body.streaming (below count some) (passed_here (nat_lt 0 count && s.body.streaming) Streaming _ passed) in
     record {
       rest = [];
-      runs = record { incoming = []; shows = shows_requested count kind sets s (lined s.body r.incoming line) r.shows; still = λ e. refl };
+      runs = record { incoming = []; shows = shows_requested count kind sets s (with_lines s.body r.incoming line) r.shows; still = λ e. refl };
       joined = append-nil line ∙ r.still off;
     }
 
@@ -206,7 +206,7 @@ next s (dqbuf (Ok d)) line r on a = next_dequeued s d line r a.1
 next s (dqbuf (Err x)) line r on a = record { rest = line; runs = r; joined = append-nil line }
 next s (streamon None) line r on a = record {
   rest = line;
-  runs = record { incoming = r.incoming; shows = shows_streaming s (lined s.body r.incoming line) r.shows; still = λ e. absurd (not_both (body_streaming s.body).streaming (streams s.body) e) };
+  runs = record { incoming = r.incoming; shows = shows_streaming s (with_lines s.body r.incoming line) r.shows; still = λ e. absurd (not_both (body_streaming s.body).streaming (streams s.body) e) };
   joined = append-nil line;
 }
 next s (streamon (Some x)) line r on a = record { rest = line; runs = r; joined = append-nil line }
@@ -216,7 +216,7 @@ next s (mmap index None) line r on a = record { rest = line; runs = next_kept s 
 next s (mmap index (Some x)) line r on a = record { rest = line; runs = r; joined = append-nil line }
 next s (munmap index None) line r on a = record { rest = line; runs = next_kept s (mapped_as false) index line (λ b. refl) r; joined = append-nil line }
 next s (munmap index (Some x)) line r on a = record { rest = line; runs = r; joined = append-nil line }
-next s (take_planes index (Ok set)) line r on a = record { rest = line; runs = next_kept s emptied index line (λ b. refl) r; joined = append-nil line }
+next s (take_planes index (Ok set)) line r on a = record { rest = line; runs = next_kept s without_planes index line (λ b. refl) r; joined = append-nil line }
 next s (take_planes index (Err x)) line r on a = record { rest = line; runs = r; joined = append-nil line }
 next s (copy_plane index plane at count answer) line r on a = record { rest = line; runs = r; joined = append-nil line }
 next s (complete index stamp bytes None) line r on a =
@@ -246,9 +246,9 @@ pub second_off : (a b : Bool) → (a || b) ≡ false → b ≡ false
 second_off true b e = absurd (cc)
 second_off false b e = e
 
-rejoined : (line ended taken next all_ended all_taken rest : List ℕ) → line ++ ended ≡ taken ++ next → next ++ all_ended ≡ all_taken ++ rest → line ++ (ended ++ all_ended) ≡ (taken ++ all_taken) ++ rest
-rejoined line ended taken next all_ended all_taken rest e f =
-    sym (append_assoc line ended all_ended)
+rejoined : (line end_buffer taken next all_ended all_taken rest : List ℕ) → line ++ end_buffer ≡ taken ++ next → next ++ all_ended ≡ all_taken ++ rest → line ++ (end_buffer ++ all_ended) ≡ (taken ++ all_taken) ++ rest
+rejoined line end_buffer taken next all_ended all_taken rest e f =
+    sym (append_assoc line end_buffer all_ended)
     ∙ (ap (λ l. l ++ all_ended) e ∙ (append_assoc taken next all_ended ∙ (ap (λ l. taken ++ l) f ∙ sym (append_assoc taken all_taken rest))))
 
 -- the line after events
@@ -265,8 +265,8 @@ along s (e ∷ es) line r on a =
     record { rest = more.rest; runs = more.runs; joined = rejoined line (ended_by e) (dequeued_by e) n.rest (flat_map ended_by es) (flat_map dequeued_by es) more.rest n.joined more.joined }
 
 pub dequeued_in_order : DequeuedInOrder
-dequeued_in_order = λ s stop events stopped on a.
-    let all : Along (after_event s stop) events [] = along (after_event s stop) events [] (runs_stopped s stop stopped) on a.1 in
+dequeued_in_order = λ s stop events stop_buffer on a.
+    let all : Along (after_event s stop) events [] = along (after_event s stop) events [] (runs_stopped s stop stop_buffer) on a.1 in
     (all.rest, all.joined)
 
 -- ---- two lines in the same order
@@ -349,11 +349,11 @@ dequeues_in_order m old new s events first answered last = record {
       let each : EachIn after_event MayHappen s (part ++ behind) = subst (λ (l : List Event). EachIn after_event MayHappen s l) is answered in
       in_turn m new s old.done part behind (along s part old.done (started m old s first idle) on (each_first s part behind each))
       (λ none. subst (λ (l : List Event). StandsQueue m new (after_all after_event s l)) (is ∙ ap (λ l. part ++ l) none ∙ append-nil part) last);
-  from_stop = λ (before part behind : List Event) (stop : Event) is stopped on.
+  from_stop = λ (before part behind : List Event) (stop : Event) is stop_buffer on.
       let each : EachIn after_event MayHappen s (before ++ stop ∷ (part ++ behind)) = subst (λ (l : List Event). EachIn after_event MayHappen s l) is answered in
       let t : QueueState = after_all after_event s before in
       let now : EachIn after_event MayHappen t (stop ∷ (part ++ behind)) = each_second s before (stop ∷ (part ++ behind)) each in
-      in_turn m new (after_event t stop) [] part behind (along (after_event t stop) part [] (runs_stopped t stop stopped) on (each_first (after_event t stop) part behind now.1))
+      in_turn m new (after_event t stop) [] part behind (along (after_event t stop) part [] (runs_stopped t stop stop_buffer) on (each_first (after_event t stop) part behind now.1))
       (λ none. subst (λ (x : QueueState). StandsQueue m new x) (ap (after_all after_event s) (is ∙ ap (λ l. before ++ stop ∷ (part ++ l)) none ∙ ap (λ l. before ++ stop ∷ l) (append-nil part)) ∙ after-behind after_event s before (stop ∷ part)) last);
   still = λ idle off.
       let t : QueueState = after_all after_event s events in

@@ -4,10 +4,10 @@ use Rattle.std.specs.Prelude.{count_by}
 use Rattle.loop_plane.specs.Plane.{Plane}
 use Rattle.loop_vb2.specs.declared.state.BufferState.{BufferState}
 use Rattle.loop_vb2.specs.declared.state.BufferState.TheVariants.{Dequeued, Prepared, Queued, Active, Done, Error}
-use Rattle.loop_vb2.specs.Owner.{Application, Device, owner, is_idle, is_dequeued, is_active, is_queued, is_ended, activated}
-use Rattle.loop_vb2.specs.Buffers.{state_at, used_at, prepared_with, queued_with, completed_with, failed_with, dequeued_from, mapped_as, emptied, woken, stopped}
+use Rattle.loop_vb2.specs.Owner.{Application, Device, owner, is_idle, is_dequeued, is_active, is_queued, is_ended, activate}
+use Rattle.loop_vb2.specs.Buffers.{state_at, used_at, prepared_with, queued_with, completed_with, failed_with, dequeued_from, mapped_as, without_planes, wake_buffer, stop_buffer}
 use Rattle.loop_vb2.specs.Checks.{queue_refusal, prepare_refusal, end_refusal, take_refusal, take_checks, copy_refusal, copy_checks}
-use Rattle.loop_vb2.specs.Effects.{device_runs, awake, settled, with_buffer, body_streaming, first_ended}
+use Rattle.loop_vb2.specs.Effects.{device_runs, awake, settle_device, with_buffer, body_streaming, first_ended}
 use Rattle.loop_vb2.specs.Requests.{grants_or_none}
 use Rattle.loop_vb2.specs.State.{Body, QueueState, InStep, in_step}
 use Rattle.loop_vb2.specs.Events.{Event, MayHappen, after_event, reqbufs, prepare_buf, qbuf, dqbuf, streamon, streamoff, querybuf, mmap, munmap, take_planes, copy_plane, complete, fail, fatal, take_fresh}
@@ -92,11 +92,11 @@ none_queued true Done e = refl
 none_queued true Error e = refl
 
 -- once it is settled whether the device runs
-settled_states : (b : Body Plane) → (b.started ≡ true → b.streaming ≡ true) → (i : ℕ) → state_at (settled b).buffers i ≡ run_on (settled b).started (state_at b.buffers i)
+settled_states : (b : Body Plane) → (b.started ≡ true → b.streaming ≡ true) → (i : ℕ) → state_at (settle_device b).buffers i ≡ run_on (settle_device b).started (state_at b.buffers i)
 settled_states b only i = by (device_runs b) refl
   where
     by : (t : Bool) → device_runs b ≡ t → state_at (cond t (awake b) b).buffers i ≡ run_on (cond t (awake b) b).started (state_at b.buffers i)
-    by true e = state_at-map woken activated b.buffers i (λ x. refl) refl
+    by true e = state_at-map wake_buffer activate b.buffers i (λ x. refl) refl
     by false e = left_off b.started (state_at b.buffers i) (not_yet b.streaming b.started (nat_le b.min_queued (count_by (λ x. is_queued x.state) b.buffers)) only e)
 
 streaming_states : (b : Body Plane) → InStep b → (i : ℕ) → state_at (body_streaming b).buffers i ≡ run_on (body_streaming b).started (state_at b.buffers i)
@@ -105,7 +105,7 @@ streaming_states b step i = by b.streaming refl
     on : Body Plane
     on = record b { streaming = true }
 
-    by : (t : Bool) → b.streaming ≡ t → state_at (cond t b (settled on)).buffers i ≡ run_on (cond t b (settled on)).started (state_at b.buffers i)
+    by : (t : Bool) → b.streaming ≡ t → state_at (cond t b (settle_device on)).buffers i ≡ run_on (cond t b (settle_device on)).started (state_at b.buffers i)
     by true e = none_queued b.started (state_at b.buffers i) (step.each i)
     by false e = settled_states on (λ h. refl) i
 
@@ -116,13 +116,13 @@ turned s (prepare_buf index kind given (Some e)) step a i = refl
 turned s (qbuf index kind given None) step a i =
     let b : Body Plane = with_buffer (queued_with given) index s.body in
     settled_states b step.only_streaming i
-    ∙ ap (run_on (settled b).started) (state_at-changed (queued_with given) Queued s.body.buffers index i (queued_state given) (queue_within index kind given s.body (not_refused (queue_refusal index kind given s.body) a)))
+    ∙ ap (run_on (settle_device b).started) (state_at-changed (queued_with given) Queued s.body.buffers index i (queued_state given) (queue_within index kind given s.body (not_refused (queue_refusal index kind given s.body) a)))
 turned s (qbuf index kind given (Some e)) step a i = refl
 turned s (dqbuf (Ok d)) step a i = state_at-changed (dequeued_from s.body.kind) Dequeued s.body.buffers d.index i (λ b. refl) (first_is_ended s d.index a.1).1
 turned s (dqbuf (Err e)) step a i = refl
 turned s (streamon None) step a i = streaming_states s.body step i
 turned s (streamon (Some e)) step a i = refl
-turned s streamoff step a i = state_at-map stopped (λ t. Dequeued) s.body.buffers i (λ b. refl) refl
+turned s streamoff step a i = state_at-map stop_buffer (λ t. Dequeued) s.body.buffers i (λ b. refl) refl
 turned s (reqbufs count kind sets (Ok g)) step a i = new_state (grants_or_none s.body.min_queued count) sets i
 turned s (reqbufs count kind sets (Err e)) step a i = refl
 turned s (complete index stamp bytes None) step a i = state_at-changed (completed_with s.body.shape stamp bytes) Done s.body.buffers index i (λ b. refl) (end_within index s.body (not_refused (end_refusal index s.body) a))
@@ -133,7 +133,7 @@ turned s (mmap index None) step a i = state_at-kept (mapped_as true) s.body.buff
 turned s (mmap index (Some e)) step a i = refl
 turned s (munmap index None) step a i = state_at-kept (mapped_as false) s.body.buffers index i (λ b. refl)
 turned s (munmap index (Some e)) step a i = refl
-turned s (take_planes index (Ok set)) step a i = state_at-kept emptied s.body.buffers index i (λ b. refl)
+turned s (take_planes index (Ok set)) step a i = state_at-kept without_planes s.body.buffers index i (λ b. refl)
 turned s (take_planes index (Err e)) step a i = refl
 turned s (querybuf index answer) step a i = refl
 turned s (copy_plane index plane at count answer) step a i = refl

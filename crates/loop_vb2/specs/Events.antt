@@ -14,11 +14,11 @@ use Rattle.loop_vb2.specs.declared.reason.Reason.TheVariants.{NoMemory}
 use Rattle.loop_vb2.specs.declared.reason.Refused.{Refused}
 use Rattle.loop_vb2.specs.declared.request.Granted.{Granted}
 use Rattle.loop_vb2.specs.Answers.{Passes, Fails, IsAnswer, IsInfo, read_answer}
-use Rattle.loop_vb2.specs.Buffers.{mapped_as, emptied, bytes_at}
+use Rattle.loop_vb2.specs.Buffers.{mapped_as, without_planes, bytes_at}
 use Rattle.loop_vb2.specs.Checks.{queue_refusal, prepare_refusal, dequeue_refusal, stream_on_refusal, query_refusal, map_refusal, unmap_refusal, take_refusal, copy_refusal, end_refusal, request_refusal}
-use Rattle.loop_vb2.specs.Effects.{queued, prepared, dequeued, first_ended, streaming, stopped_state, completed, failed, touched, fatal_state, seen_state}
+use Rattle.loop_vb2.specs.Effects.{after_queue, after_prepare, after_dequeue, first_ended, streaming, stopped_state, after_complete, after_fail, change_buffer, fatal_state, seen_state}
 use Rattle.loop_vb2.specs.Errnos.{errno}
-use Rattle.loop_vb2.specs.Requests.{grants_or_none, left_in, requested}
+use Rattle.loop_vb2.specs.Requests.{grants_or_none, left_in, after_request}
 use Rattle.loop_vb2.specs.State.{QueueState, Lined, StandsQueue}
 use Rattle.loop_vb2.specs.Planes.{read_set}
 
@@ -55,22 +55,22 @@ unless (Some e) s t = s
 
 -- the state after an event
 abbrev pub after_event : QueueState → Event → QueueState
-after_event s (reqbufs count kind sets (Ok g)) = requested count kind sets s
+after_event s (reqbufs count kind sets (Ok g)) = after_request count kind sets s
 after_event s (reqbufs count kind sets (Err e)) = s
-after_event s (prepare_buf index kind given refusal) = unless refusal s (prepared index given s)
-after_event s (qbuf index kind given refusal) = unless refusal s (queued index given s)
-after_event s (dqbuf (Ok d)) = dequeued d.index s
+after_event s (prepare_buf index kind given refusal) = unless refusal s (after_prepare index given s)
+after_event s (qbuf index kind given refusal) = unless refusal s (after_queue index given s)
+after_event s (dqbuf (Ok d)) = after_dequeue d.index s
 after_event s (dqbuf (Err e)) = s
 after_event s (streamon refusal) = unless refusal s (streaming s)
 after_event s streamoff = stopped_state s
 after_event s (querybuf index answer) = s
-after_event s (mmap index refusal) = unless refusal s (touched (mapped_as true) index s)
-after_event s (munmap index refusal) = unless refusal s (touched (mapped_as false) index s)
-after_event s (take_planes index (Ok set)) = touched emptied index s
+after_event s (mmap index refusal) = unless refusal s (change_buffer (mapped_as true) index s)
+after_event s (munmap index refusal) = unless refusal s (change_buffer (mapped_as false) index s)
+after_event s (take_planes index (Ok set)) = change_buffer without_planes index s
 after_event s (take_planes index (Err e)) = s
 after_event s (copy_plane index plane at count answer) = s
-after_event s (complete index stamp bytes refusal) = unless refusal s (completed index stamp bytes s)
-after_event s (fail index stamp refusal) = unless refusal s (failed index stamp s)
+after_event s (complete index stamp bytes refusal) = unless refusal s (after_complete index stamp bytes s)
+after_event s (fail index stamp refusal) = unless refusal s (after_fail index stamp s)
 after_event s fatal = fatal_state s
 after_event s (take_fresh fresh) = seen_state s
 

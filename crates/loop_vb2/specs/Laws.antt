@@ -9,10 +9,10 @@ use Rattle.loop_vb2.specs.declared.planes.PlaneSet.{PlaneSet}
 use Rattle.loop_vb2.specs.declared.planes.Shape.{Shape}
 use Rattle.loop_vb2.specs.declared.state.BufferState.{BufferState}
 use Rattle.loop_vb2.specs.declared.state.BufferState.TheVariants.{Dequeued, Prepared, Queued, Done, Error}
-use Rattle.loop_vb2.specs.Owner.{Application, Device, owner, activated}
+use Rattle.loop_vb2.specs.Owner.{Application, Device, owner, activate}
 use Rattle.loop_vb2.specs.Buffers.{state_at, holds_at}
 use Rattle.loop_vb2.specs.Planes.{same_memory, set_filled}
-use Rattle.loop_vb2.specs.Requests.{held}
+use Rattle.loop_vb2.specs.Requests.{held_sets}
 use Rattle.loop_vb2.specs.State.{Body, QueueState, InStep, Lined, StandsQueue}
 use Rattle.loop_vb2.specs.Events.{Event, MayHappen, after_event, dequeued_by, ended_by, stops, reqbufs, prepare_buf, qbuf, dqbuf, streamon, streamoff, take_planes, copy_plane, complete, fail}
 
@@ -32,7 +32,7 @@ ActsForOwner bs e = Unit {0}
 
 -- while the device runs each queued buffer is the device's
 abbrev pub run_on : Bool → BufferState → BufferState
-run_on started state = cond started (activated state) state
+run_on started state = cond started (activate state) state
 
 -- what an event makes of the state of the buffer of an index, where this says whether the device runs after it
 abbrev pub turned_to : Event → Bool → ℕ → BufferState → BufferState
@@ -71,7 +71,7 @@ handed_by e = []
 
 -- those that go with their buffers: REQBUFS drops the queue's own memory
 abbrev pub dropped_by : Body Plane → Event → List (PlaneSet Plane)
-dropped_by b (reqbufs count kind sets (Ok g)) = cond (same_memory b.kind Mmap) (held b.buffers) []
+dropped_by b (reqbufs count kind sets (Ok g)) = cond (same_memory b.kind Mmap) (held_sets b.buffers) []
 dropped_by b e = []
 
 -- a test of sets says the same of a set before and after the device fills it, where it does
@@ -92,9 +92,9 @@ LeavesNone bs e = Unit {0}
 abbrev pub SetsAreInOnePlace : Type 0
 SetsAreInOnePlace =
     (s : QueueState) (event : Event) (test : PlaneSet Plane → Bool) → MayHappen s event → IsBlindTo event test
-    → (count_by test (held (after_event s event).body.buffers)
+    → (count_by test (held_sets (after_event s event).body.buffers)
     + (count_by test (handed_by event) + count_by test (dropped_by s.body event))
-    ≡ count_by test (held s.body.buffers) + count_by test (brought_by event))
+    ≡ count_by test (held_sets s.body.buffers) + count_by test (brought_by event))
     × LeavesNone (after_event s event).body.buffers event
 
 -- Between two events that stop the stream, the buffers dequeued are a beginning of those completed or failed,

@@ -7,7 +7,7 @@ use Rattle.std.proofs.lemmas.Slice.Eq.{bytes_eq-Decides}
 use Rattle.loop_y4m.specs.declared.fault.Y4mFault.{Y4mFault}
 use Rattle.loop_y4m.specs.declared.fault.Y4mFault.TheVariants.{NotY4m, BadHeader, UnsupportedColour, UnsupportedInterlace, Truncated, Read}
 use Rattle.loop_y4m.specs.Steps.{LineIs, HeaderIs}
-use Rattle.loop_y4m.specs.Stream.{header_line, headed, line}
+use Rattle.loop_y4m.specs.Stream.{header_line, header_and_rest, line}
 use Rattle.loop_y4m.specs.Header.{and_then, header_of}
 use Rattle.loop_y4m.specs.declared.header.Header.{Header}
 use Rattle.loop_y4m.proofs.Lines.{line_at}
@@ -59,7 +59,7 @@ so false r turned e = absurd cc
 
 -- ---- the header
 
-header_by : (bytes rest : List ℕ) (left : Option (List ℕ)) (result : Result Header Y4mFault) → headed bytes ≡ and_then result (λ h. Ok (h, rest)) → left ≡ Some rest → HeaderIs bytes result left
+header_by : (bytes rest : List ℕ) (left : Option (List ℕ)) (result : Result Header Y4mFault) → header_and_rest bytes ≡ and_then result (λ h. Ok (h, rest)) → left ≡ Some rest → HeaderIs bytes result left
 header_by bytes rest left (Ok h) is there = (rest, is, there)
 header_by bytes rest left (Err NotY4m) is there = is
 header_by bytes rest left (Err BadHeader) is there = is

@@ -16,7 +16,7 @@ use Rattle.loop_y4m.specs.Header.{and_then, colour, complete, size_of_frame, hea
 use Rattle.loop_y4m.specs.declared.header.Parameters.{Parameters}
 use Rattle.loop_y4m.specs.declared.header.Header.{Header}
 use Rattle.loop_y4m.specs.Stream.{before, ends_after, frames_within_input, header_line, next_frame, parse}
-use Rattle.loop_y4m.specs.Text.{colour_name, described, frame, header, text}
+use Rattle.loop_y4m.specs.Text.{colour_name, header_for, frame, header, text}
 use Rattle.loop_y4m.proofs.Digits.{decimal_lacks, rate_decimals, side_decimal}
 use Rattle.loop_y4m.proofs.Places.{Lacks, behind, lacks_both}
 use Rattle.loop_y4m.proofs.Frames.{frames_step}
@@ -178,9 +178,9 @@ text_parts g frames = ap (λ h. h ++ flat_map frame frames) (header_parts g) ∙
 parse_of : (bytes first rest : List ℕ) (h : Header) → header_line bytes ≡ Ok (first, rest) → header_of (drop 10 first) ≡ Ok h → parse bytes ≡ Ok (h, frames_within_input (size_of_frame h) rest)
 parse_of bytes first rest h is head = rw is (rw head refl)
 
-pub text_read : (g : Geometry) (frames : List (List ℕ)) → IsTrue (is_good g) → All (λ f. length f ≡ frame_bytes g) frames → parse (text g frames) ≡ Ok (described g, ends_after frames None)
+pub text_read : (g : Geometry) (frames : List (List ℕ)) → IsTrue (is_good g) → All (λ f. length f ≡ frame_bytes g) frames → parse (text g frames) ≡ Ok (header_for g, ends_after frames None)
 text_read g frames good all =
-    parse_of (text g frames) (lined g) (flat_map frame frames) (described g)
+    parse_of (text g frames) (lined g) (flat_map frame frames) (header_for g)
     (ap header_line (text_parts g frames) ∙ lined_read g (flat_map frame frames) (small_of g good))
     (header_read g.width g.height g.rate_num g.rate_den g.format (small_of g good) ((limits g good).bytes.1))
-    ∙ ap (λ fs. Ok (described g, fs)) (frames_read (frame_bytes g) frames all)
+    ∙ ap (λ fs. Ok (header_for g, fs)) (frames_read (frame_bytes g) frames all)

@@ -10,7 +10,7 @@ use Rattle.loop_y4m.specs.declared.header.Header.{Header}
 use Rattle.loop_y4m.specs.declared.header.Parameters.{Parameters}
 use Rattle.loop_y4m.specs.Export.{Stopped, frames_between}
 use Rattle.loop_y4m.specs.Header.{size_of_frame}
-use Rattle.loop_y4m.specs.Stream.{headed, is_newline, next_frame}
+use Rattle.loop_y4m.specs.Stream.{header_and_rest, is_newline, next_frame}
 use Rattle.loop_y4m.specs.Text.{frame}
 
 -- each side that is given has its limit
@@ -50,8 +50,8 @@ FrameIs bytes (Ok true) out left =
 -- what was answered of the header is what it is
 abbrev pub HeaderIs : List ℕ → Result Header Y4mFault → Option (List ℕ) → Type 0
 HeaderIs bytes (Err Read) left = ⊤
-HeaderIs bytes (Err fault) left = headed bytes ≡ Err fault
-HeaderIs bytes (Ok header) left = (rest : List ℕ) × (headed bytes ≡ Ok (header, rest)) × (left ≡ Some rest)
+HeaderIs bytes (Err fault) left = header_and_rest bytes ≡ Err fault
+HeaderIs bytes (Ok header) left = (rest : List ℕ) × (header_and_rest bytes ≡ Ok (header, rest)) × (left ≡ Some rest)
 
 -- the writer was given all that stands before these bytes
 abbrev pub IsGiven : Option (List ℕ) → Option (List ℕ) → List ℕ → List ℕ → Type 0

@@ -24,8 +24,8 @@ abbrev pub header_line : List ℕ → Result (List ℕ × List ℕ) Y4mFault
 header_line bytes = if is_y4m bytes then line bytes else Err NotY4m
 
 -- the header, and what comes behind its line
-abbrev pub headed : List ℕ → Result (Header × List ℕ) Y4mFault
-headed bytes = and_then (header_line bytes) (λ l. and_then (header_of (drop 10 l.0)) (λ h. Ok (h, l.1)))
+abbrev pub header_and_rest : List ℕ → Result (Header × List ℕ) Y4mFault
+header_and_rest bytes = and_then (header_line bytes) (λ l. and_then (header_of (drop 10 l.0)) (λ h. Ok (h, l.1)))
 
 -- `FRAME`, alone or with a space and anything behind it
 abbrev pub is_frame_line : List ℕ → Bool
@@ -74,4 +74,4 @@ frames_within_input size bytes = frames_within (suc (length bytes)) size bytes
 
 -- a whole input: its header, and its frames with what ends them
 abbrev pub parse : List ℕ → Result (Header × Frames) Y4mFault
-parse bytes = and_then (headed bytes) (λ h. Ok (h.0, frames_within_input (size_of_frame h.0) h.1))
+parse bytes = and_then (header_and_rest bytes) (λ h. Ok (h.0, frames_within_input (size_of_frame h.0) h.1))

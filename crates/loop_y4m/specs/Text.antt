@@ -28,8 +28,8 @@ abbrev pub text : Geometry → List (List ℕ) → List ℕ
 text g frames = header g ++ flat_map frame frames
 
 -- the format, size and rate of a geometry
-abbrev pub described : Geometry → Header
-described g =
+abbrev pub header_for : Geometry → Header
+header_for g =
     record { format = g.format; width = g.width; height = g.height; rate_num = g.rate_num; rate_den = g.rate_den }
 
 -- the writer was given a beginning of these bytes

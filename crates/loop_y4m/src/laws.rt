@@ -8,7 +8,7 @@ ghost use Rattle.loop_y4m.specs.Export.{frames_between};
 ghost use Rattle.loop_y4m.specs.Reader.{Gives};
 ghost use Rattle.loop_y4m.specs.Stream.{Frames, ends, ends_after, frames_by, frames_within_input, next_frame, parse};
 ghost use Rattle.loop_y4m.specs.declared.fault.Y4mFault.{Y4mFault};
-ghost use Rattle.loop_y4m.specs.Text.{described, text};
+ghost use Rattle.loop_y4m.specs.Text.{header_for, text};
 
 use loop_record::Geometry;
 
@@ -17,7 +17,7 @@ pub fn written_text_is_read(geometry: &Geometry)
     ensures { (frames : List (List ℕ)) → IsTrue (is_good geometry.now)
         → All (λ frame. length frame ≡ frame_bytes geometry.now) frames
         → parse (text geometry.now frames)
-        ≡ Ok (described geometry.now, ends_after frames None) }
+        ≡ Ok (header_for geometry.now, ends_after frames None) }
 {}
 
 /// The text of the frames that are exported of a recording is read as the format, size and rate of the store,
@@ -26,7 +26,7 @@ pub fn exported_text_is_read(geometry: &Geometry)
     ensures { (r : Recording) (image : List ℕ) (from to : ℕ) → IsTrue (is_good geometry.now)
         → Holds geometry.now r image
         → parse (text geometry.now (frames_between from to r.frames))
-        ≡ Ok (described geometry.now, ends_after (frames_between from to r.frames) None) }
+        ≡ Ok (header_for geometry.now, ends_after (frames_between from to r.frames) None) }
 {}
 
 /// The frames of an input are the next one and those behind it, up to the end or a fault: the count that bounds

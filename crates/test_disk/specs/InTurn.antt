@@ -1,8 +1,8 @@
 -- What the tests' caller promises: three bytes, each on the disk before the next is written.
 use Rattle.std.specs.Prelude.{◌⊎◌, ℕ, ◌+◌, List, [], ◌∷◌}
-use Rattle.loop_disk.specs.Medium.{written, SameOutside}
+use Rattle.loop_disk.specs.Medium.{with_bytes_at, SameOutside}
 use Rattle.loop_disk.specs.Steps.{TornInTurn}
 
 -- one of the three places may hold anything; those before it hold what was written, and all else is as it was
 abbrev pub TornOfThree : ℕ → ℕ → ℕ → List ℕ → List ℕ → Type 0
-TornOfThree at x y old c = TornInTurn at (x ∷ []) (at + 1) 1 old c ⊎ SameOutside (at + 2) 1 (written (at + 1) (y ∷ []) (written at (x ∷ []) old)) c
+TornOfThree at x y old c = TornInTurn at (x ∷ []) (at + 1) 1 old c ⊎ SameOutside (at + 2) 1 (with_bytes_at (at + 1) (y ∷ []) (with_bytes_at at (x ∷ []) old)) c

@@ -1,6 +1,6 @@
 // The memory disk, and stores over it.
 ghost use Rattle.std.specs.Prelude.{◌≡◌, ◌+◌, ◌<◌, ◌≤◌, ◌^◌, [], ◌∷◌, length, OnOk};
-ghost use Rattle.loop_disk.specs.Medium.{IsSettled, LeavesOnly, written};
+ghost use Rattle.loop_disk.specs.Medium.{IsSettled, LeavesOnly, with_bytes_at};
 ghost use Rattle.loop_disk.specs.Calls.{Called, failed_call};
 ghost use Rattle.test_disk.specs.InTurn.{TornOfThree};
 
@@ -19,7 +19,7 @@ fn store_three<D: Disk>(disk: &mut D, at: u64, x: u8, y: u8, z: u8) -> Result<()
         → LeavesOnly (D.medium disk.old) (D.medium disk.new) (TornOfThree at x y (D.medium disk.old).bytes) }
     ensures stored { (D.medium disk.old).honest
         → OnOk result ((D.medium disk.new).bytes
-        ≡ written (at + 2) (z ∷ []) (written (at + 1) (y ∷ []) (written at (x ∷ []) (D.medium disk.old).bytes))) }
+        ≡ with_bytes_at (at + 2) (z ∷ []) (with_bytes_at (at + 1) (y ∷ []) (with_bytes_at at (x ∷ []) (D.medium disk.old).bytes))) }
     ensures settled { (D.medium disk.old).honest → OnOk result (IsSettled (D.medium disk.new)) }
     ensures called { Called (D.medium disk.old) (D.medium disk.new) (failed_call result) }
 {

@@ -2,7 +2,7 @@ use Rattle.std.proofs.Common.{◌≡◌, ◌≤◌, ◌-◌, ℕ, List, length, 
 use Rattle.std.specs.List.{range_with_len}
 use Rattle.loop_record.specs.Layout.{segment_in}
 use Rattle.loop_record.specs.Plain.{AreIn, segments_of}
-use Rattle.loop_record.specs.Reading.{by_block, opened}
+use Rattle.loop_record.specs.Reading.{by_block, open_segments}
 use Rattle.loop_ring.specs.Heads.{heads_of}
 use Rattle.loop_store.proofs.found.in_order.Given as goal
 
@@ -11,5 +11,5 @@ abbrev pub invariant-loop-done : goal.invariant-loop-done
 invariant-loop-done g l = record {
   count : length l.«open».items ≤ l.done;
   within : AreIn l.geometry l.«open».items;
-  order : (image : List ℕ) → l.heads ≡ heads_of l.geometry image → segments_of l.geometry image l.«open».items ≡ by_block (opened (map (segment_in l.geometry image) (range_with_len (l.geometry.segments - l.done) l.done)));
+  order : (image : List ℕ) → l.heads ≡ heads_of l.geometry image → segments_of l.geometry image l.«open».items ≡ by_block (open_segments (map (segment_in l.geometry image) (range_with_len (l.geometry.segments - l.done) l.done)));
 }

@@ -3,16 +3,16 @@ use Rattle.std.proofs.lemmas.Result.{on_ok_weaker}
 use Rattle.loop_disk.proofs.Moments.{weaker}
 use Rattle.loop_record.specs.declared.geometry.Geometry.{Geometry}
 use Rattle.loop_record.specs.Change.{ShowsSegment}
-use Rattle.loop_record.specs.Reading.{begun}
+use Rattle.loop_record.specs.Reading.{empty_segment}
 use Rattle.loop_ring.specs.Writes.{ShowsOrNot}
 use Rattle.loop_store.proofs.Grown.{begun-held, begun-held_or, begun-newest, held-some}
 use Rattle.loop_store.proofs.grow.begin.Goals as goal
 
-shows_slots : (g : Geometry) (j next slots : ℕ) (old new : List ℕ) → slots ≡ g.slots → ShowsSegment g j (Some (begun (next / slots))) old new → ShowsSegment g j (Some (begun (next / g.slots))) old new
-shows_slots g j next slots old new is shows = subst (λ (n : ℕ). ShowsSegment g j (Some (begun (next / n))) old new) is shows
+shows_slots : (g : Geometry) (j next slots : ℕ) (old new : List ℕ) → slots ≡ g.slots → ShowsSegment g j (Some (empty_segment (next / slots))) old new → ShowsSegment g j (Some (empty_segment (next / g.slots))) old new
+shows_slots g j next slots old new is shows = subst (λ (n : ℕ). ShowsSegment g j (Some (empty_segment (next / n))) old new) is shows
 
-either_slots : (g : Geometry) (j next slots : ℕ) (old new : List ℕ) → slots ≡ g.slots → ShowsOrNot g j (Some (begun (next / slots))) old new → ShowsOrNot g j (Some (begun (next / g.slots))) old new
-either_slots g j next slots old new is shows = subst (λ (n : ℕ). ShowsOrNot g j (Some (begun (next / n))) old new) is shows
+either_slots : (g : Geometry) (j next slots : ℕ) (old new : List ℕ) → slots ≡ g.slots → ShowsOrNot g j (Some (empty_segment (next / slots))) old new → ShowsOrNot g j (Some (empty_segment (next / g.slots))) old new
+either_slots g j next slots old new is shows = subst (λ (n : ℕ). ShowsOrNot g j (Some (empty_segment (next / n))) old new) is shows
 
 pub returns : goal.returns
 returns g c =

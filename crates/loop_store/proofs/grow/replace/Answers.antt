@@ -3,7 +3,7 @@ use Rattle.std.proofs.lemmas.Result.{on_ok_weaker, err_from_is_err_and}
 use Rattle.loop_disk.specs.Medium.{LeavesOnly}
 use Rattle.loop_disk.proofs.Moments.{called_on, weaker}
 use Rattle.loop_record.specs.Reading.{Holds}
-use Rattle.loop_record.specs.Recording.{Step, after, plain, recycle, ring_of}
+use Rattle.loop_record.specs.Recording.{Step, after_step, plain, recycle, ring_of}
 use Rattle.loop_record.proofs.Bounds.{limits}
 use Rattle.loop_store.specs.Held.{HoldsSome, IsFreeFor}
 use Rattle.loop_store.proofs.Grown.{steps-joined}
@@ -56,13 +56,13 @@ returns g c =
           subst (λ (steps : List Step). LeavesOnly old new (HoldsSome h r steps)) (sym gone.steps)
           (steps-joined h r (recycle gone.block ∷ []) [] old mid new
           (weaker _ _ _ _ (c.retire.ensures.moments honest) (λ image either. retired-held_or h r gone.block j old.bytes image held c.requires.segment gone.chosen gone.is either))
-          (c.begin.ensures.moments (after (ring_of h) r (recycle gone.block)) is now gap));
+          (c.begin.ensures.moments (after_step (ring_of h) r (recycle gone.block)) is now gap));
       held = λ r is honest held.
           let now = c.retire.ensures.called.honest.0 honest in
           let gone = goes h r c.args.next j old.bytes (c.requires.known honest) held in
           let gap = retired-held h r gone.block j old.bytes mid.bytes held c.requires.segment gone.chosen gone.is (c.in_ok-retire.ensures.such honest) in
           subst (λ (steps : List Step). OnOk c.begin.result (Holds h (plain (ring_of h) r steps) new.bytes)) (sym gone.steps)
-          (c.begin.ensures.held (after (ring_of h) r (recycle gone.block)) is now gap);
+          (c.begin.ensures.held (after_step (ring_of h) r (recycle gone.block)) is now gap);
       such = λ honest.
           let now = c.retire.ensures.called.honest.0 honest in
           let known = c.requires.known honest in

@@ -10,7 +10,7 @@ use Rattle.loop_store.specs.declared.index.Index.{Index}
 use Rattle.loop_store.specs.Seen.{seen_with}
 use Rattle.loop_store.proofs.Checked.{answer-given}
 use Rattle.loop_store.proofs.Locked.{goes-noted, goes-unnoted, kept-noted, lock-redrawn, lock-refused}
-use Rattle.loop_store.specs.Drawn.{drawn}
+use Rattle.loop_store.specs.Drawn.{drawn_image}
 use Rattle.loop_store.proofs.Alike.{span-same}
 use Rattle.loop_store.proofs.Looks.{alike-by, failed-kept, one-kept}
 use Rattle.loop_store.proofs.Once.{goes-must}
@@ -34,7 +34,7 @@ returns-in_err-id-clause-goes g c =
     rw (p.1, p.2) (lock-refused medium (seen_with c.args.disk.now i c.args.must_reopen.now) c.args.span c.in_err-id.field-0.0 (one-kept medium c.args.disk.now i c.args.must_reopen.now c.requires) (λ honest. g.met.D.Disk.sound c.args.disk.now honest) c.if-must_reopen.false c.in_err-id.ensures.refusals
     (λ r told.
     let known = c.requires.known in
-    sym (span-same known.recording r c.args.span (alike-by medium c.args.disk.now i c.args.must_reopen.now r c.requires told)) ∙ c.in_err-id.ensures.answers known.recording (drawn i.ring.geometry i.table.heads i.clips) known.known))
+    sym (span-same known.recording r c.args.span (alike-by medium c.args.disk.now i c.args.must_reopen.now r c.requires told)) ∙ c.in_err-id.ensures.answers known.recording (drawn_image i.ring.geometry i.table.heads i.clips) known.known))
 
 pub returns-in-Ok-clause-kept : goal.returns-in-Ok-clause-kept
 returns-in-Ok-clause-kept g c =

@@ -11,7 +11,7 @@ use Rattle.loop_store.specs.declared.place.Place.{Place}
 use Rattle.loop_store.specs.Held.{HoldsSome}
 use Rattle.loop_store.specs.Places.{IsKnown, place_segment}
 use Rattle.loop_store.specs.Seen.{seen_with}
-use Rattle.loop_store.specs.Drawn.{drawn}
+use Rattle.loop_store.specs.Drawn.{drawn_image}
 use Rattle.loop_store.proofs.Alike.{refuses-same}
 use Rattle.loop_store.proofs.Appended.{Grew, IsPlaced, kept-grown, noted-at, place-known, place-some, stands-grown, steps-are, told-grown}
 use Rattle.loop_store.proofs.Looks.{alike-by, failed-kept, known-by, one-kept}
@@ -36,7 +36,7 @@ returns-in_err-place-clause-goes g c =
     rw (p.1, p.2) (place-refused medium (seen_with c.args.disk.now i c.args.must_reopen.now) c.args.group.now.frames fault (one-kept medium c.args.disk.now i c.args.must_reopen.now c.requires.kept) (λ honest. g.met.D.Disk.sound c.args.disk.now honest) c.if-must_reopen.false c.in_err-place.ensures.refusals
     (λ r told.
     let known = c.requires.kept.known in
-    refuses-same i.ring.geometry known.recording r fault (alike-by medium c.args.disk.now i c.args.must_reopen.now r c.requires.kept told) (c.in_err-place.ensures.answers known.recording (drawn i.ring.geometry i.table.heads i.clips) known.known)))
+    refuses-same i.ring.geometry known.recording r fault (alike-by medium c.args.disk.now i c.args.must_reopen.now r c.requires.kept told) (c.in_err-place.ensures.answers known.recording (drawn_image i.ring.geometry i.table.heads i.clips) known.known)))
 
 pub append_group-requires-clause-settled : goal.append_group-requires-clause-settled
 append_group-requires-clause-settled g c = λ honest. (c.requires.kept.present c.if-must_reopen.false honest).settled
@@ -112,7 +112,7 @@ returns-in-Ok-clause-goes g c =
       tells = λ r told. told-grown medium c.args.disk.now c.append_group.new.disk i c.note.new.self c.in_ok-place.place n j ps must r c.requires.kept told refl placed noted grew.count;
       place = λ r told.
           let known = c.requires.kept.known in
-          let image = drawn h i.table.heads i.clips in
+          let image = drawn_image h i.table.heads i.clips in
           let at = c.in_ok-place.ensures.answers known.recording image known.known in
           place-alike h known.recording r (alike-by medium c.args.disk.now i must r c.requires.kept told) (record { unspent = at.0; some = place-some h known.recording image c.in_ok-place.place at.1 });
       moments = λ r stands honest.
@@ -144,7 +144,7 @@ returns-in-Err-clause-goes g c =
       sound = λ now. g.met.D.Disk.sound c.append_group.new.disk now;
       place = λ r told.
           let known = c.requires.kept.known in
-          let image = drawn h i.table.heads i.clips in
+          let image = drawn_image h i.table.heads i.clips in
           let at = c.in_ok-place.ensures.answers known.recording image known.known in
           place-alike h known.recording r (alike-by medium c.args.disk.now i must r c.requires.kept told) (record { unspent = at.0; some = place-some h known.recording image c.in_ok-place.place at.1 });
       moments = λ r stands honest.

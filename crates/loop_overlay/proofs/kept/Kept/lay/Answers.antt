@@ -1,5 +1,5 @@
 use Rattle.std.proofs.Common.{◌≡◌, ◌∙◌, ◌+◌, ◌-◌, ℕ, List, ap, subst, sym, inl, inr, take, drop, arith}
-use Rattle.loop_disk.specs.Medium.{written}
+use Rattle.loop_disk.specs.Medium.{with_bytes_at}
 use Rattle.loop_overlay.specs.Layers.{KeptWrite, laid_on}
 use Rattle.loop_overlay.specs.Parts.{IsBufferOf}
 use Rattle.loop_overlay.proofs.Laying.{part_laid, part_outside}
@@ -26,8 +26,8 @@ returns g c = λ image part.
     let count = c.min-count.result in
     let buf = c.args.buf.now in
     let many = inside.bytes.ok.0 in
-    let same : c.put.new.buf ≡ written to (take count (drop from w.bytes)) buf =
-    c.put.ensures ∙ ap (λ (l : List ℕ). written to (take (from + count - from) (drop from l)) buf) c.deref.ensures.value ∙ ap (λ (k : ℕ). written to (take k (drop from w.bytes)) buf) (omega arith) in
+    let same : c.put.new.buf ≡ with_bytes_at to (take count (drop from w.bytes)) buf =
+    c.put.ensures ∙ ap (λ (l : List ℕ). with_bytes_at to (take (from + count - from) (drop from l)) buf) c.deref.ensures.value ∙ ap (λ (k : ℕ). with_bytes_at to (take k (drop from w.bytes)) buf) (omega arith) in
     subst (λ (v : KeptWrite). IsBufferOf c.args.at (laid_on image v) c.put.new.buf) c.self.view_is
     (subst (λ (l : List ℕ). IsBufferOf c.args.at (laid_on image w) l) (sym same)
     (part_laid c.args.at to from count image buf w c.saturating_sub-to.ensures c.saturating_sub-from.ensures (omega (arith, c.min-count.ensures, c.len.ensures, c.len-2.ensures, many)) c.if-to-buf.false (omega (arith, c.if-from-len.false, c.len.ensures, many)) part))

@@ -1,6 +1,6 @@
 use Rattle.std.proofs.Common.{false}
 use Rattle.loop_record.proofs.Bounds.{limits}
-use Rattle.loop_store.specs.Drawn.{drawn}
+use Rattle.loop_store.specs.Drawn.{drawn_image}
 use Rattle.loop_store.proofs.Reopened.{present-opened}
 use Rattle.loop_store.proofs.Looks.{told-by}
 use Rattle.loop_store.proofs.store.Store.open.Goals as goal
@@ -9,7 +9,7 @@ pub returns-in-Ok-clause-tells : goal.returns-in-Ok-clause-tells
 returns-in-Ok-clause-tells g c =
     let index = c.in-Ok.index in
     let known = c.in-Ok.ensures.known.0.1 in
-    (known.recording, told-by c.reopen.new.disk index false known.recording (drawn index.ring.geometry index.table.heads index.clips) (limits index.ring.geometry index.ring.good).slots.0 c.in-Ok.ensures.known.0.0.whole.within known.known)
+    (known.recording, told-by c.reopen.new.disk index false known.recording (drawn_image index.ring.geometry index.table.heads index.clips) (limits index.ring.geometry index.ring.good).slots.0 c.in-Ok.ensures.known.0.0.whole.within known.known)
 
 pub invariant_of-result : goal.invariant_of-result
 invariant_of-result g c = (

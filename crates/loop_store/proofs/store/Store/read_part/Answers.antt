@@ -6,7 +6,7 @@ use Rattle.loop_store.specs.declared.fault.StoreFault.TheVariants.{MustReopen, N
 use Rattle.loop_store.specs.Calls.{part_with, was_read_part}
 use Rattle.loop_store.specs.Goes.{Goes, Stands}
 use Rattle.loop_store.specs.Seen.{Seen, seen_with}
-use Rattle.loop_store.specs.Drawn.{drawn}
+use Rattle.loop_store.specs.Drawn.{drawn_image}
 use Rattle.loop_store.proofs.Looks.{alike-by, known-by, looked-kept, one-kept, one-seen, there-alike}
 use Rattle.loop_store.proofs.Same.{holds-same}
 use Rattle.loop_store.proofs.Once.{goes-must}
@@ -51,4 +51,4 @@ returns-in-None-clause-goes g c =
     let known = c.self.invariant.0.known in
     let same = alike-by medium s.disk s.index s.must_reopen t.recording c.self.invariant.0 told.recording in
     part-missing H s.index.ring.geometry t c.args.number c.args.at (sym told.must_reopen ∙ c.if-self.false)
-    (sym (holds-same known.recording t.recording c.args.number same) ∙ c.in-None.ensures.missing known.recording (drawn s.index.ring.geometry s.index.table.heads s.index.clips) known.known)))
+    (sym (holds-same known.recording t.recording c.args.number same) ∙ c.in-None.ensures.missing known.recording (drawn_image s.index.ring.geometry s.index.table.heads s.index.clips) known.known)))

@@ -1,7 +1,7 @@
 use Rattle.std.proofs.Common.{◌≡◌, ap, ◌∙◌, subst}
 use Rattle.loop_record.specs.Recording.{Recording, ring_of, victim}
 use Rattle.loop_ring.specs.Heads.{clip_counts}
-use Rattle.loop_store.specs.Drawn.{drawn}
+use Rattle.loop_store.specs.Drawn.{drawn_image}
 use Rattle.loop_store.specs.Seen.{Seen, StandsFor}
 use Rattle.loop_store.proofs.Looks.{alike-by}
 use Rattle.loop_store.proofs.Same.{victim-same}
@@ -16,5 +16,5 @@ returns g c =
     (λ r stands.
     let at = c.self.invariant.0.known in
     let known = at.known in
-    c.victim.ensures.victim i.ring.geometry at.recording (drawn i.ring.geometry i.table.heads i.clips) known.held known.heads_are (c.self.invariant.0.fits.whole.counted ∙ ap (λ cs. clip_counts (ring_of i.ring.geometry) cs i.table.heads) known.clips_are)
+    c.victim.ensures.victim i.ring.geometry at.recording (drawn_image i.ring.geometry i.table.heads i.clips) known.held known.heads_are (c.self.invariant.0.fits.whole.counted ∙ ap (λ cs. clip_counts (ring_of i.ring.geometry) cs i.table.heads) known.clips_are)
     ∙ victim-same (ring_of i.ring.geometry) at.recording r (alike-by medium s.disk i s.must_reopen r c.self.invariant.0 stands.told))
