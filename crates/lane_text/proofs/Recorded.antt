@@ -16,16 +16,22 @@ contents_of other (Ok c) = c
 contents_of other (Err fault) = other
 
 -- one image reads as one recording
-pub one-reading : (g h : Geometry) (q r : Recording) (image : List ℕ) → Holds g q image → Holds h r image → ◌≡◌ {A = Contents} (record { geometry = g; recording = q }) (record { geometry = h; recording = r })
+pub one-reading : (g h : Geometry) (q r : Recording) (image : List ℕ) → Holds g q image → Holds h r image
+    → ◌≡◌ {A = Contents} (record { geometry = g; recording = q }) (record { geometry = h; recording = r })
 one-reading g h q r image first second = ap (contents_of (record { geometry = h; recording = r })) (sym first ∙ second)
 
 -- the text of what an image reads as
-pub exported : {D : Type 0} (medium : D → Medium) (kept : Seen D) (g : Geometry) (r : Recording) (opened : Seen D) (image : List ℕ) (from to count : ℕ) (before after : Option (List ℕ))
-    → StandsFor medium kept r → kept.must_reopen ≡ false → (medium kept.disk).honest → kept.geometry ≡ g → image ≡ (medium kept.disk).bytes → IsOpened medium image opened → (medium opened.disk).honest
-    → ((q : Recording) → StandsFor medium opened q → IsExport (medium opened.disk).honest opened.geometry opened.must_reopen (frames_between from to q.frames) before after (Ok count))
+pub exported : {D : Type 0} (medium : D → Medium) (kept : Seen D) (g : Geometry) (r : Recording) (opened : Seen D)
+    (image : List ℕ) (from to count : ℕ) (before after : Option (List ℕ))
+    → StandsFor medium kept r → kept.must_reopen ≡ false → (medium kept.disk).honest → kept.geometry ≡ g
+    → image ≡ (medium kept.disk).bytes → IsOpened medium image opened → (medium opened.disk).honest
+    → ((q : Recording) → StandsFor medium opened q
+    → IsExport (medium opened.disk).honest opened.geometry opened.must_reopen (frames_between from to q.frames)
+    before after (Ok count))
     → Appends before after (text g (frames_between from to r.frames))
 exported medium kept g r opened image from to count before after stands fine now same is found honest exports =
-    let there : Holds g r image = subst (λ (h : Geometry). Holds h r image) same (subst (λ (l : List ℕ). Holds kept.geometry r l) (sym is) (stands.held fine now)) in
+    let there : Holds g r image = subst (λ (h : Geometry). Holds h r image) same
+    (subst (λ (l : List ℕ). Holds kept.geometry r l) (sym is) (stands.held fine now)) in
     let one = one-reading opened.geometry g found.recording r image found.held there in
     let said = exports found.recording found.stands in
     subst (λ (c : Contents). Appends before after (text c.geometry (frames_between from to c.recording.frames))) one (said.1.1.0 honest)

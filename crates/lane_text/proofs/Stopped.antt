@@ -21,12 +21,14 @@ use Rattle.lane_text.specs.Reopened.{IsForWant, IsLeftBehind, Reopens}
 module _ {D E P A : Type 0} (meaning : P → Plane) (medium : D → Medium) (other : E → Medium) (old new : Lane D P A)
     (events : List (LaneEvent P A)) (replies : List (LaneReply P A)) (s : StoreState) (left : E) where
   -- what was left holds a beginning of the steps, each clip whole
-  left-whole : (keeps : LaneKeeps meaning medium old new events replies) → Stands medium old.desk.store s → s.must_reopen ≡ false
+  left-whole : (keeps : LaneKeeps meaning medium old new events replies) → Stands medium old.desk.store s
+      → s.must_reopen ≡ false
       → IsLeftBehind medium other old.desk new.desk left
       → HoldsWhole old.desk.store.geometry s.recording (steps_made old.desk s keeps.ran.calls ++ steps_begun old.desk s keeps.ran.calls) (other left).bytes
   left-whole keeps stands fine is = ((keeps.footage s stands is.honest).moments fine).each _ is.since
 
-  pub reopened : (keeps : LaneKeeps meaning medium old new events replies) (store : Seen E) → Stands medium old.desk.store s → s.must_reopen ≡ false
+  pub reopened : (keeps : LaneKeeps meaning medium old new events replies) (store : Seen E)
+      → Stands medium old.desk.store s → s.must_reopen ≡ false
       → IsLeftBehind medium other old.desk new.desk left → IsOpened other (other left).bytes store
       → Reopens meaning medium other old new events replies (other left).bytes s store
   reopened keeps store stands fine is found =
@@ -41,11 +43,13 @@ module _ {D E P A : Type 0} (meaning : P → Plane) (medium : D → Medium) (oth
         stands = subst (λ (r : Recording). StandsFor other store r) (ap (λ c. c.recording) one) found.stands;
       }
 
-  pub for-want : (keeps : LaneKeeps meaning medium old new events replies) (why : StoreFault) → Stands medium old.desk.store s → s.must_reopen ≡ false
+  pub for-want : (keeps : LaneKeeps meaning medium old new events replies) (why : StoreFault)
+      → Stands medium old.desk.store s → s.must_reopen ≡ false
       → IsLeftBehind medium other old.desk new.desk left → IsRefusedOpen (other left).bytes why → IsForWant (fault.Open why)
   for-want keeps why stands fine is refused = go why (left-whole keeps stands fine is).held refused
     where
-      go : (why : StoreFault) {r : Recording} → Holds old.desk.store.geometry r (other left).bytes → IsRefusedOpen (other left).bytes why → IsForWant (fault.Open why)
+      go : (why : StoreFault) {r : Recording} → Holds old.desk.store.geometry r (other left).bytes
+          → IsRefusedOpen (other left).bytes why → IsForWant (fault.Open why)
       go StoreFault.NoMemory held refused = tt
       go (StoreFault.Disk failed) held refused = tt
       go StoreFault.NotFormatted held refused = absurd cc

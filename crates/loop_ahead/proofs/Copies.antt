@@ -7,7 +7,8 @@ use Rattle.loop_disk.proofs.Images.{length-piece, get_or-piece}
 use Rattle.loop_ahead.specs.Windows.{IsCopy}
 
 -- a buffer whose beginning was known, and whose rest was read
-pub read_on : (at k n : ℕ) (image given rest : List ℕ) → k ≤ n → length given ≡ n → at + n ≤ length image → IsCopy at k image given
+pub read_on : (at k n : ℕ) (image given rest : List ℕ) → k ≤ n → length given ≡ n → at + n ≤ length image
+    → IsCopy at k image given
     → rest ≡ piece (at + k) (length (take (length given - k) (drop k given))) image
     → take k given ++ (rest ++ drop (length given - k) (drop k given)) ≡ piece at n image
 read_on at k n image given rest few long fits known read =
@@ -17,9 +18,31 @@ read_on at k n image given rest few long fits known read =
     let many : length rest ≡ n - k = omega (arith, ap (λ (l : List ℕ). length l) read, length-piece (at + k) m image, left, few, fits) in
     let whole : length (piece at n image) ≡ n = omega (arith, length-piece at n image, fits) in
     ext_get_or 0 (take k given ++ (rest ++ tail)) (piece at n image)
-    (omega (arith, whole, few, long, many, length-append (take k given) (rest ++ tail), length-append rest tail, length-take k given, length-drop (length given - k) (drop k given), length-drop k given))
+    (omega (
+      arith,
+      whole,
+      few,
+      long,
+      many,
+      length-append (take k given) (rest ++ tail),
+      length-append rest tail,
+      length-take k given,
+      length-drop (length given - k) (drop k given),
+      length-drop k given,
+    ))
     (λ i within.
-    let inside : i < n = omega (arith, within, few, long, many, length-append (take k given) (rest ++ tail), length-append rest tail, length-take k given, length-drop (length given - k) (drop k given), length-drop k given) in
+    let inside : i < n = omega (
+      arith,
+      within,
+      few,
+      long,
+      many,
+      length-append (take k given) (rest ++ tail),
+      length-append rest tail,
+      length-take k given,
+      length-drop (length given - k) (drop k given),
+      length-drop k given,
+    ) in
     ⊎_elim
     (λ (below : i < k).
     get_or_append_left (take k given) (rest ++ tail) 0 i (omega (arith, below, few, long, length-take k given))

@@ -80,13 +80,16 @@ module _ (Z : Al) (h : Handed Z) where
             move t (2 ∷ 0 ∷ []) $ join t $ join t $ use1 𝓛 (raw (Inner.pre at_self)) (id⊢ 𝓤 _) $ z)
 
         -- after `inner`: a `&` to the allocator below, for the lifetime of `&self`
-        pub lends_inner : K → Soaks G → (v : Val) → ((p : ℕ × ℕ) → v ≡ vptr p.0 p.1 → Seq K 𝓛 (‵ (seen Z h.κ p h.r.now) ∷ Tokens ∷ Γ) G)
+        pub lends_inner : K → Soaks G → (v : Val)
+            → ((p : ℕ × ℕ) → v ≡ vptr p.0 p.1 → Seq K 𝓛 (‵ (seen Z h.κ p h.r.now) ∷ Tokens ∷ Γ) G)
             → Seq K 𝓛 (raw (Inner.post at_self v) ∷ Γ) G
         lends_inner t soaks v next =
             use1 𝓛 (later (some (λ (p : Bor Z.row.Denot). (Tokens ⊛ ‵ (fsep (feq (List Val) (v ∷ []) (shr_vals p)) (seen Z h.κ p.ref_ptr p.now)))
             ⊛ some (λ (_ : Unit {0} × Unit {0}). ‵ (fsep ftrue ftrue) ⊛ raw (fact 𝓤 (p.now ≡ h.r.now)))))) (id⊢ 𝓤 _) $ await t soaks $ pick t (λ p.
             split t $ split t $ move t (2 ∷ []) $ pick t (λ _. split t $ drop t $ heard t (p.now ≡ h.r.now) (λ same.
-            move t (1 ∷ []) $ fsplit t $ feq_l t (λ is. rewrite t 0 (λ (a : Z.row.Denot). ‵ (seen Z h.κ p.ref_ptr a)) same refl $ next p.ref_ptr (ap only is)))))
+            move t (1 ∷ []) $ fsplit t $ feq_l t
+            (λ is. rewrite t 0 (λ (a : Z.row.Denot). ‵ (seen Z h.κ p.ref_ptr a)) same refl $ next p.ref_ptr
+            (ap only is)))))
 
         -- after `takes_block`: some `bool`, of which its contract says nothing
         pub answers_bool : K → Soaks G → (v : Val) → ((b : Bool) → v ≡ vbool b → Seq K 𝓛 (Tokens ∷ Γ) G)

@@ -17,10 +17,13 @@ none_past n i h = grind (arith, nat_tests)
 
 pub may_end : (s : QueueState) (i : ℕ) → longest_active s ≡ Some i → end_refusal i s.body ≡ None
 may_end s i e =
-    let f : (is_active (state_at s.body.buffers i) ≡ true) × (i < length s.body.buffers) = least_found s.queue_number (λ k. is_active (state_at s.body.buffers k)) (length s.body.buffers) i e in
+    let f : (is_active (state_at s.body.buffers i) ≡ true) × (i < length s.body.buffers) =
+    least_found s.queue_number (λ k. is_active (state_at s.body.buffers k)) (length s.body.buffers) i e in
     ap (λ b. cond b (Some BadIndex) (cond (not (is_active (state_at s.body.buffers i))) (Some NotActive) None)) (none_past (length s.body.buffers) i f.1)
     ∙ ap (λ b. cond (not b) (Some NotActive) None) f.0
 
 -- a refusal can't be
-pub never_refused : (s : QueueState) (i : ℕ) (refused : Errno) → longest_active s ≡ Some i → Fails (end_refusal i s.body) refused → ⊥
-never_refused s i refused active fails = let none : option_map errno (end_refusal i s.body) ≡ None = ap (λ r. option_map errno r) (may_end s i active) in absurd (cc)
+pub never_refused : (s : QueueState) (i : ℕ) (refused : Errno) → longest_active s ≡ Some i
+    → Fails (end_refusal i s.body) refused → ⊥
+never_refused s i refused active fails = let none : option_map errno (end_refusal i s.body) ≡ None =
+    ap (λ r. option_map errno r) (may_end s i active) in absurd (cc)

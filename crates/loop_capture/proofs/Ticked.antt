@@ -27,7 +27,8 @@ not_idle Bad None e = absurd (cc)
 not_idle Bad (Some i) e = absurd (cc)
 
 module _ {S P : Type 0} (gives : S → Next → List ℕ → S → Type 0) (m : P → Plane) where
-  took_so : (now : ℕ) (tick : Tick) (d e : SeenDevice S) (q q' : Lined P) (s : QueueState) → Took gives m now tick d e q q' s → Ticked gives m now tick d e q q' s
+  took_so : (now : ℕ) (tick : Tick) (d e : SeenDevice S) (q q' : Lined P) (s : QueueState)
+      → Took gives m now tick d e q q' s → Ticked gives m now tick d e q q' s
   took_so now WrongSize d e q q' s t = absurd (not_wrong t.answer (longest_active s) t.tick_is)
   took_so now Idle d e q q' s t = absurd (not_idle t.answer (longest_active s) t.tick_is)
   took_so now (Completed i) d e q q' s t = t
@@ -35,8 +36,11 @@ module _ {S P : Type 0} (gives : S → Next → List ℕ → S → Type 0) (m : 
   took_so now Missed d e q q' s t = t
   took_so now Ended d e q q' s t = t
 
-  pub took : (now sequence : ℕ) (fresh : Bool) (answer : Next) (tick : Tick) (d e : SeenDevice S) (q between q' : Lined P) → length d.frame ≡ frame_size q.body.shape → q.body.started ≡ true → Happens m q between (take_fresh fresh) → sequence ≡ cond fresh 0 d.next → gives d.source answer e.frame e.source
-      → e.next ≡ sequence_after answer sequence → Ends m answer (record { sequence = sequence; timestamp = now }) e.frame tick between q' → Ticks gives m now tick d e q q'
+  pub took : (now sequence : ℕ) (fresh : Bool) (answer : Next) (tick : Tick) (d e : SeenDevice S)
+      (q between q' : Lined P) → length d.frame ≡ frame_size q.body.shape → q.body.started ≡ true
+      → Happens m q between (take_fresh fresh) → sequence ≡ cond fresh 0 d.next → gives d.source answer e.frame e.source
+      → e.next ≡ sequence_after answer sequence → Ends m answer (record { sequence = sequence; timestamp = now })
+      e.frame tick between q' → Ticks gives m now tick d e q q'
   took now sequence fresh answer tick d e q between q' fits started step is given next ends = λ s h.
       let x = step s h in
       let y = ends.1 (seen_state s) x.1 in

@@ -42,11 +42,14 @@ blocks-bare : (ring : Ring) (fs : List (ℕ × Picture)) → blocks_of ring (map
 blocks-bare ring [] = refl
 blocks-bare ring (f ∷ fs) = ap (with_block (block ring f.0)) (blocks-bare ring fs)
 
-under-bare : (fs : List (ℕ × Picture)) (number : ℕ) → frame_under (map bare_frame fs) number ≡ option_map bare (frame_under fs number)
+under-bare : (fs : List (ℕ × Picture)) (number : ℕ) → frame_under (map bare_frame fs) number ≡ option_map bare
+    (frame_under fs number)
 under-bare [] number = refl
 under-bare (f ∷ fs) number = go (f.0 == number) (under-bare fs number)
   where
-    go : (b : Bool) → frame_under (map bare_frame fs) number ≡ option_map bare (frame_under fs number) → (if b then Some (bare f.1) else frame_under (map bare_frame fs) number) ≡ option_map bare (if b then Some f.1 else frame_under fs number)
+    go : (b : Bool) → frame_under (map bare_frame fs) number ≡ option_map bare (frame_under fs number)
+        → (if b then Some (bare f.1) else frame_under (map bare_frame fs) number) ≡ option_map bare
+        (if b then Some f.1 else frame_under fs number)
     go true rest = refl
     go false rest = rest
 
@@ -57,21 +60,27 @@ some-under (Some p) = refl
 holds-bare : (r : Recording) (number : ℕ) → holds (bare_recording r) number ≡ holds r number
 holds-bare r number = ap is_some (under-bare r.frames number) ∙ some-under (frame_under r.frames number)
 
-filter-bare : (q : ℕ → Bool) (fs : List (ℕ × Picture)) → filter (λ f. q f.0) (map bare_frame fs) ≡ map bare_frame (filter (λ f. q f.0) fs)
+filter-bare : (q : ℕ → Bool) (fs : List (ℕ × Picture)) → filter (λ f. q f.0) (map bare_frame fs) ≡ map bare_frame
+    (filter (λ f. q f.0) fs)
 filter-bare q [] = refl
 filter-bare q (f ∷ fs) = go (q f.0) (filter-bare q fs)
   where
-    go : (b : Bool) → filter (λ x. q x.0) (map bare_frame fs) ≡ map bare_frame (filter (λ x. q x.0) fs) → (if b then bare_frame f ∷ filter (λ x. q x.0) (map bare_frame fs) else filter (λ x. q x.0) (map bare_frame fs)) ≡ map bare_frame (if b then f ∷ filter (λ x. q x.0) fs else filter (λ x. q x.0) fs)
+    go : (b : Bool) → filter (λ x. q x.0) (map bare_frame fs) ≡ map bare_frame (filter (λ x. q x.0) fs)
+        → (if b then bare_frame f ∷ filter (λ x. q x.0) (map bare_frame fs) else filter (λ x. q x.0)
+        (map bare_frame fs)) ≡ map bare_frame (if b then f ∷ filter (λ x. q x.0) fs else filter (λ x. q x.0) fs)
     go true rest = ap (λ l. bare_frame f ∷ l) rest
     go false rest = rest
 
-step-bare : (ring : Ring) (r : Recording) (step : Step) → stepped ring (bare_recording r) (bare_step step) ≡ bare_recording (stepped ring r step)
-step-bare ring r (store p) = ap (λ (fs : List (ℕ × Picture)). record r { next = r.next + 1; frames = fs }) (sym (map-append bare_frame r.frames ((r.next, p) ∷ [])))
+step-bare : (ring : Ring) (r : Recording) (step : Step) → stepped ring (bare_recording r)
+    (bare_step step) ≡ bare_recording (stepped ring r step)
+step-bare ring r (store p) = ap (λ (fs : List (ℕ × Picture)). record r { next = r.next + 1; frames = fs })
+    (sym (map-append bare_frame r.frames ((r.next, p) ∷ [])))
 step-bare ring r (recycle b) = ap (λ (fs : List (ℕ × Picture)). record r { frames = fs }) (filter-bare (λ n. not (block ring n == b)) r.frames)
 step-bare ring r (lock span) = refl
 step-bare ring r (unlock id) = refl
 
-plain-bare : (ring : Ring) (r : Recording) (list : List Step) → plain ring (bare_recording r) (map bare_step list) ≡ bare_recording (plain ring r list)
+plain-bare : (ring : Ring) (r : Recording) (list : List Step) → plain ring (bare_recording r)
+    (map bare_step list) ≡ bare_recording (plain ring r list)
 plain-bare ring r [] = refl
 plain-bare ring r (step ∷ list) = ap (λ (x : Recording). plain ring x (map bare_step list)) (step-bare ring r step) ∙ plain-bare ring (stepped ring r step) list
 
@@ -81,13 +90,17 @@ stores-bare : (ps : List Picture) → map store (map bare ps) ≡ map bare_step 
 stores-bare [] = refl
 stores-bare (p ∷ ps) = ap (λ l. store (bare p) ∷ l) (stores-bare ps)
 
-steps-bare : (ring : Ring) (r : Recording) (ps : List Picture) → steps ring (bare_recording r) (map bare ps) ≡ option_map (map bare_step) (steps ring r ps)
+steps-bare : (ring : Ring) (r : Recording) (ps : List Picture) → steps ring (bare_recording r)
+    (map bare ps) ≡ option_map (map bare_step) (steps ring r ps)
 steps-bare ring r ps =
     let same = blocks-bare ring r.frames in
-    (λ i. if r.next == last_number ring then None else stores_after (recycling_first ((r.next % ring.slots == 0) && (length (same i) == ring.segments)) (find (λ b. not (is_locked ring r b)) (take (length (same i) - 1) (same i)))) (map bare ps))
+    (λ i. if r.next == last_number ring then None else stores_after
+    (recycling_first ((r.next % ring.slots == 0) && (length (same i) == ring.segments))
+    (find (λ b. not (is_locked ring r b)) (take (length (same i) - 1) (same i)))) (map bare ps))
     ∙ go (r.next == last_number ring) (needs_recycling ring r) (victim ring r)
   where
-    go : (b n : Bool) (v : Option ℕ) → (if b then None else stores_after (recycling_first n v) (map bare ps)) ≡ option_map (map bare_step) (if b then None else stores_after (recycling_first n v) ps)
+    go : (b n : Bool) (v : Option ℕ) → (if b then None else stores_after (recycling_first n v) (map bare ps)) ≡
+        option_map (map bare_step) (if b then None else stores_after (recycling_first n v) ps)
     go true n v = refl
     go false false v = ap Some (stores-bare ps)
     go false true None = refl
@@ -97,7 +110,8 @@ or-none-bare : (o : Option (List Step)) → steps_or_none (option_map (map bare_
 or-none-bare None = refl
 or-none-bare (Some l) = refl
 
-asked-bare : (g : Geometry) (r : Recording) (ps : List Picture) → steps_asked g (bare_recording r) (map bare ps) ≡ map bare_step (steps_asked g r ps)
+asked-bare : (g : Geometry) (r : Recording) (ps : List Picture) → steps_asked g (bare_recording r)
+    (map bare ps) ≡ map bare_step (steps_asked g r ps)
 asked-bare g r ps = ap steps_or_none (steps-bare (ring_of g) r ps) ∙ or-none-bare (steps (ring_of g) r ps)
 
 -- ---- the answers of the store
@@ -105,18 +119,24 @@ asked-bare g r ps = ap steps_or_none (steps-bare (ring_of g) r ps) ∙ or-none-b
 victim-bare : (ring : Ring) (r : Recording) → lacks_victim ring (bare_recording r) ≡ lacks_victim ring r
 victim-bare ring r =
     let same = blocks-bare ring r.frames in
-    λ i. (r.next % ring.slots == 0 && length (same i) == ring.segments) && not (is_some (find (λ b. not (is_locked ring r b)) (take (length (same i) - 1) (same i))))
+    λ i. (r.next % ring.slots == 0 && length (same i) == ring.segments) && not
+    (is_some (find (λ b. not (is_locked ring r b)) (take (length (same i) - 1) (same i))))
 
 checks-bare : (g : Geometry) (s : StoreState) (c : Call) → checks g (bare_store s) (bare_stored c) ≡ checks g s c
 checks-bare g s (appended ps result) =
     let same = victim-bare (ring_of g) s.recording in
-    λ i. due s.must_reopen StoreFault.MustReopen ∷ due (s.recording.next == last_number (ring_of g)) StoreFault.NumbersSpent ∷ due (same i) StoreFault.AllLocked ∷ []
+    λ i. due s.must_reopen StoreFault.MustReopen
+    ∷ due (s.recording.next == last_number (ring_of g)) StoreFault.NumbersSpent
+    ∷ due (same i) StoreFault.AllLocked ∷ []
 checks-bare g s (locked span result) =
     λ i. due s.must_reopen StoreFault.MustReopen ∷ due (nat_lt span.to span.from) StoreFault.ClipEmpty
-    ∷ option_map StoreFault.ClipNotHeld (find (λ n. not (holds-bare s.recording n i)) (range_with_len span.from (span.to + 1 - span.from))) ∷ due (free_id s.recording == 64) StoreFault.ClipTableFull ∷ []
+    ∷ option_map StoreFault.ClipNotHeld
+    (find (λ n. not (holds-bare s.recording n i)) (range_with_len span.from (span.to + 1 - span.from)))
+    ∷ due (free_id s.recording == 64) StoreFault.ClipTableFull ∷ []
 checks-bare g s (unlocked id result) = refl
 checks-bare g s (was_read number result) = λ i. due s.must_reopen StoreFault.MustReopen ∷ due (not (holds-bare s.recording number i)) StoreFault.NotHeld ∷ []
-checks-bare g s (was_read_part number at result) = λ i. due s.must_reopen StoreFault.MustReopen ∷ due (not (holds-bare s.recording number i)) StoreFault.NotHeld ∷ []
+checks-bare g s (was_read_part number at result) = λ i. due s.must_reopen StoreFault.MustReopen
+    ∷ due (not (holds-bare s.recording number i)) StoreFault.NotHeld ∷ []
 
 fault-bare : (c : Call) → fault_answered (bare_stored c) ≡ fault_answered c
 fault-bare (appended ps result) = refl
@@ -127,40 +147,60 @@ fault-bare (was_read number (Err fault)) = refl
 fault-bare (was_read_part number at (Ok bytes)) = refl
 fault-bare (was_read_part number at (Err fault)) = refl
 
-given-bare : (r : Recording) (c : Call) → AnswersOtherwise (Unit {0}) r c → AnswersOtherwise (Unit {0}) (bare_recording r) (bare_stored c)
+given-bare : (r : Recording) (c : Call) → AnswersOtherwise (Unit {0}) r c
+    → AnswersOtherwise (Unit {0}) (bare_recording r) (bare_stored c)
 given-bare r (appended ps (Ok number)) is = is
 given-bare r (appended ps (Err fault)) is = is
 given-bare r (locked span (Ok id)) is = is
 given-bare r (locked span (Err fault)) is = is
 given-bare r (unlocked id (Ok x)) is = is
 given-bare r (unlocked id (Err fault)) is = is
-given-bare r (was_read number (Ok x)) given = λ now. let is = given now in record { picture = bare is.picture; there = under-bare r.frames number ∙ ap (option_map bare) is.there; head_is = is.head_is; bytes_are = refl }
+given-bare r (was_read number (Ok x)) given = λ now. let is = given now in
+    record {
+      picture = bare is.picture;
+      there = under-bare r.frames number ∙ ap (option_map bare) is.there;
+      head_is =
+          is.head_is;
+      bytes_are = refl;
+    }
 given-bare r (was_read number (Err fault)) is = is
-given-bare r (was_read_part number at (Ok bytes)) given = λ now. let is = given now in record { picture = bare is.picture; there = under-bare r.frames number ∙ ap (option_map bare) is.there; bytes_are = refl }
+given-bare r (was_read_part number at (Ok bytes)) given = λ now. let is = given now in
+    record {
+      picture = bare is.picture;
+      there = under-bare r.frames number ∙ ap (option_map bare) is.there;
+      bytes_are = refl;
+    }
 given-bare r (was_read_part number at (Err fault)) is = is
 
-stored-answer : (g : Geometry) (s : StoreState) (c : Call) → IsAnswered (Unit {0}) g s c → IsAnswered (Unit {0}) g (bare_store s) (bare_stored c)
+stored-answer : (g : Geometry) (s : StoreState) (c : Call) → IsAnswered (Unit {0}) g s c
+    → IsAnswered (Unit {0}) g (bare_store s) (bare_stored c)
 stored-answer g s c said =
-    subst (λ (l : List (Option StoreFault)). AnswersDue (first_of l) (bare_stored c) (AnswersOtherwise (Unit {0}) (bare_recording s.recording) (bare_stored c))) (sym (checks-bare g s c)) (go (first_of (checks g s c)) said)
+    subst (λ (l : List (Option StoreFault)). AnswersDue (first_of l) (bare_stored c)
+    (AnswersOtherwise (Unit {0}) (bare_recording s.recording) (bare_stored c))) (sym (checks-bare g s c))
+    (go (first_of (checks g s c)) said)
   where
-    go : (o : Option StoreFault) → AnswersDue o c (AnswersOtherwise (Unit {0}) s.recording c) → AnswersDue o (bare_stored c) (AnswersOtherwise (Unit {0}) (bare_recording s.recording) (bare_stored c))
+    go : (o : Option StoreFault) → AnswersDue o c (AnswersOtherwise (Unit {0}) s.recording c)
+        → AnswersDue o (bare_stored c) (AnswersOtherwise (Unit {0}) (bare_recording s.recording) (bare_stored c))
     go None is = given-bare s.recording c is
     go (Some fault) is = fault-bare c ∙ is
 
 -- ---- the state of the store after a call
 
-answered-bare : (o : Option StoreFault) (l : List Step) → if_answered o (map bare_step l) ≡ map bare_step (if_answered o l)
+answered-bare : (o : Option StoreFault) (l : List Step) → if_answered o (map bare_step l) ≡ map bare_step
+    (if_answered o l)
 answered-bare None l = refl
 answered-bare (Some fault) l = refl
 
-steps-of-bare : (g : Geometry) (s : StoreState) (c : Call) → steps_of g (bare_store s) (bare_stored c) ≡ map bare_step (steps_of g s c)
+steps-of-bare : (g : Geometry) (s : StoreState) (c : Call) → steps_of g (bare_store s) (bare_stored c) ≡ map bare_step
+    (steps_of g s c)
 steps-of-bare g s (appended ps result) = asked-bare g s.recording ps
 steps-of-bare g s (locked span result) = refl
 steps-of-bare g s (unlocked id result) = refl
 steps-of-bare g s (was_read number result) = refl
 steps-of-bare g s (was_read_part number at result) = refl
 
-made-bare : (g : Geometry) (s : StoreState) (c : Call) → made_by g (bare_store s) (bare_stored c) ≡ map bare_step (made_by g s c)
+made-bare : (g : Geometry) (s : StoreState) (c : Call) → made_by g (bare_store s) (bare_stored c) ≡ map bare_step
+    (made_by g s c)
 made-bare g s c =
     let same = fault-bare c in
     let steps = steps-of-bare g s c in
@@ -173,7 +213,8 @@ failed-bare (unlocked id result) = refl
 failed-bare (was_read number result) = refl
 failed-bare (was_read_part number at result) = refl
 
-stored-bare : (g : Geometry) (s : StoreState) (c : Call) → stored g (bare_store s) (bare_stored c) ≡ bare_store (stored g s c)
+stored-bare : (g : Geometry) (s : StoreState) (c : Call) → stored g (bare_store s) (bare_stored c) ≡ bare_store
+    (stored g s c)
 stored-bare g s c =
     let ring = ring_of g in
     let recording = ap (plain ring (bare_recording s.recording)) (made-bare g s c) ∙ plain-bare ring s.recording (made_by g s c) in
@@ -191,7 +232,11 @@ store-blind g s (c ∷ calls) =
     let rest = store-blind g (stored g s c) calls in
     let one = stored-bare g s c in
     record {
-      answers = λ said. (stored-answer g s c said.0, subst (λ (x : StoreState). AreAnswered (Unit {0}) g x (map bare_stored calls)) (sym one) (rest.answers said.1));
+      answers = λ said. (
+        stored-answer g s c said.0,
+        subst (λ (x : StoreState). AreAnswered (Unit {0}) g x (map bare_stored calls)) (sym one)
+            (rest.answers said.1),
+      );
       state = ap (λ (x : StoreState). after_calls g x (map bare_stored calls)) one ∙ rest.state;
     }
 
@@ -200,11 +245,13 @@ store-blind g s (c ∷ calls) =
 group-bare : (k : Rules) (s : DeskState) → group_of k (bare_state s) ≡ map bare (group_of k s)
 group-bare k s = take-map bare (min k.limits.group (k.geometry.slots - s.store.recording.next % k.geometry.slots)) s.pending
 
-append-of-bare : (group : List Picture) (result : Result Flushed StoreFault) → append_of (map bare group) result ≡ map bare_stored (append_of group result)
+append-of-bare : (group : List Picture) (result : Result Flushed StoreFault)
+    → append_of (map bare group) result ≡ map bare_stored (append_of group result)
 append-of-bare [] result = refl
 append-of-bare (p ∷ ps) result = refl
 
-calls-bare : (k : Rules) (s : DeskState) (c : DeskCall) → store_calls k (bare_state s) (bare_call c) ≡ map bare_stored (store_calls k s c)
+calls-bare : (k : Rules) (s : DeskState) (c : DeskCall) → store_calls k (bare_state s) (bare_call c) ≡ map bare_stored
+    (store_calls k s c)
 calls-bare k s (submitted p size result) = refl
 calls-bare k s (flushed result) = ap (λ (l : List Picture). append_of l result) (group-bare k s) ∙ append-of-bare (group_of k s) result
 calls-bare k s (clip_locked span result) = refl
@@ -212,7 +259,8 @@ calls-bare k s (clip_unlocked id result) = refl
 calls-bare k s (frame_read number result) = refl
 calls-bare k s (status_told status) = refl
 
-flush-bare : (s : DeskState) (group : List Picture) (result : Result Flushed StoreFault) → IsFlush s group result → IsFlush (bare_state s) (map bare group) result
+flush-bare : (s : DeskState) (group : List Picture) (result : Result Flushed StoreFault) → IsFlush s group result
+    → IsFlush (bare_state s) (map bare group) result
 flush-bare s group (Ok f) said =
     let count = length-map s.pending bare in
     let size = length-map group bare in
@@ -220,20 +268,36 @@ flush-bare s group (Ok f) said =
 flush-bare s [] (Err fault) said = said
 flush-bare s (p ∷ ps) (Err fault) said = tt
 
-call-bare : (k : Rules) (s : DeskState) (c : DeskCall) → IsDeskAnswer k s c → IsDeskAnswer k (bare_state s) (bare_call c)
-call-bare k s c said = (told c said.0, subst (λ (l : List Call). AreAnswered (Unit {0}) k.geometry (bare_store s.store) l) (sym (calls-bare k s c)) ((store-blind k.geometry s.store (store_calls k s c)).answers said.1))
+call-bare : (k : Rules) (s : DeskState) (c : DeskCall) → IsDeskAnswer k s c → IsDeskAnswer k (bare_state s)
+    (bare_call c)
+call-bare k s c said = (
+  told c said.0,
+  subst (λ (l : List Call). AreAnswered (Unit {0}) k.geometry (bare_store s.store) l) (sym (calls-bare k s c))
+      ((store-blind k.geometry s.store (store_calls k s c)).answers said.1),
+)
   where
     told : (d : DeskCall) → IsDeskTold k s d → IsDeskTold k (bare_state s) (bare_call d)
     told (submitted p size result) is =
         let count = length-map s.pending bare in
-        is ∙ (λ i. if s.store.must_reopen then Err StoreFault.MustReopen else if not (size == frame_bytes k.geometry) then Err StoreFault.WrongSize else if sym count i == k.limits.pending then Err StoreFault.PendingFull else if (s.store.recording.next + sym count i) == last_number (ring_of k.geometry) then Err StoreFault.NumbersSpent else Ok (s.store.recording.next + sym count i))
+        is ∙ (λ i. if s.store.must_reopen then Err StoreFault.MustReopen else if not (size == frame_bytes k.geometry)
+        then Err StoreFault.WrongSize else if sym count i == k.limits.pending then Err StoreFault.PendingFull else
+        if (s.store.recording.next + sym count i) == last_number
+        (ring_of k.geometry) then Err StoreFault.NumbersSpent else Ok (s.store.recording.next + sym count i))
     told (flushed result) is = subst (λ (l : List Picture). IsFlush (bare_state s) l result) (sym (group-bare k s)) (flush-bare s (group_of k s) result is)
     told (clip_locked span result) is = tt
     told (clip_unlocked id result) is = tt
     told (frame_read number result) is = tt
-    told (status_told status) is = record { next = is.next; held = is.held ∙ sym (length-map s.store.recording.frames bare_frame); pending = is.pending ∙ sym (length-map s.pending bare); must_reopen = is.must_reopen }
+    told (status_told status) is =
+        record {
+          next = is.next;
+          held = is.held ∙ sym (length-map s.store.recording.frames bare_frame);
+          pending =
+              is.pending ∙ sym (length-map s.pending bare);
+          must_reopen = is.must_reopen;
+        }
 
-pending-bare : (waiting : List Picture) (c : DeskCall) → pending_after (map bare waiting) (bare_call c) ≡ map bare (pending_after waiting c)
+pending-bare : (waiting : List Picture) (c : DeskCall) → pending_after (map bare waiting) (bare_call c) ≡ map bare
+    (pending_after waiting c)
 pending-bare waiting (submitted p size (Ok number)) = sym (map-append bare waiting (p ∷ []))
 pending-bare waiting (submitted p size (Err fault)) = refl
 pending-bare waiting (flushed (Ok f)) = drop-map bare f.stored waiting
@@ -243,9 +307,11 @@ pending-bare waiting (clip_unlocked id result) = refl
 pending-bare waiting (frame_read number result) = refl
 pending-bare waiting (status_told status) = refl
 
-after-bare : (k : Rules) (s : DeskState) (c : DeskCall) → desk_after k (bare_state s) (bare_call c) ≡ bare_state (desk_after k s c)
+after-bare : (k : Rules) (s : DeskState) (c : DeskCall) → desk_after k (bare_state s) (bare_call c) ≡ bare_state
+    (desk_after k s c)
 after-bare k s c =
-    let store = ap (λ (l : List Call). after_calls k.geometry (bare_store s.store) l) (calls-bare k s c) ∙ (store-blind k.geometry s.store (store_calls k s c)).state in
+    let store = ap (λ (l : List Call). after_calls k.geometry (bare_store s.store) l) (calls-bare k s c)
+    ∙ (store-blind k.geometry s.store (store_calls k s c)).state in
     let waiting = pending-bare s.pending c in
     λ i. record { store = store i; pending = waiting i }
 
@@ -276,7 +342,8 @@ outline-tells medium d outline s told stands now =
       pending = told.pending ∙ ap (λ l. length l) stands.pending;
     }
 
-pub outline-bare : {A : Type 0} (s : DeskState) (outline : Outline A) → IsOutlineOf s outline → IsOutlineOf (bare_state s) outline
+pub outline-bare : {A : Type 0} (s : DeskState) (outline : Outline A) → IsOutlineOf s outline
+    → IsOutlineOf (bare_state s) outline
 outline-bare s outline is = record {
   next = is.next;
   frames = is.frames ∙ sym (numbers-bare s.store.recording.frames);

@@ -27,7 +27,9 @@ with_store d store pending = record { store = store; pending = pending; limits =
 
 module _ {D : Type 0} (medium : D → Medium) (d : SeenDesk D) where
   -- a call that makes these calls of the store, and is told so
-  pub called : (new : Seen D) (pending : List Picture) (c : DeskCall) (calls : List Call) → Goes medium d.store new calls → ((s : DeskState) → TellsDesk d s → (store_calls (rules_of d) s c ≡ calls) × IsDeskTold (rules_of d) s c) → pending ≡ pending_after d.pending c
+  pub called : (new : Seen D) (pending : List Picture) (c : DeskCall) (calls : List Call)
+      → Goes medium d.store new calls → ((s : DeskState) → TellsDesk d s → (store_calls (rules_of d) s c ≡ calls)
+      × IsDeskTold (rules_of d) s c) → pending ≡ pending_after d.pending c
       → DeskGoes medium d (with_store d new pending) (c ∷ [])
   called new pending c calls goes said waits = record {
     one = goes.one;
@@ -44,24 +46,36 @@ module _ {D : Type 0} (medium : D → Medium) (d : SeenDesk D) where
 
   -- ---- a submit
 
-  pub goes-submit : (pending : List Picture) (p : Picture) (n : ℕ) (result : Result ℕ StoreFault) → TellsOne d.store → ((medium d.store.disk).honest → IsSound (medium d.store.disk)) → ((s : DeskState) → TellsDesk d s → result ≡ submit_answer (rules_of d) s n) → pending ≡ pending_after d.pending (submitted p n result)
+  pub goes-submit : (pending : List Picture) (p : Picture) (n : ℕ) (result : Result ℕ StoreFault) → TellsOne d.store
+      → ((medium d.store.disk).honest → IsSound (medium d.store.disk))
+      → ((s : DeskState) → TellsDesk d s → result ≡ submit_answer (rules_of d) s n)
+      → pending ≡ pending_after d.pending (submitted p n result)
       → DeskGoes medium d (with_store d d.store pending) (submitted p n result ∷ [])
-  goes-submit pending p n result one sound answer waits = called d.store pending (submitted p n result) [] (goes-none medium d.store one sound) (λ s at. (refl, answer s at)) waits
+  goes-submit pending p n result one sound answer waits = called d.store pending (submitted p n result) []
+      (goes-none medium d.store one sound) (λ s at. (refl, answer s at)) waits
 
   -- ---- calls of the store alone
 
-  pub goes-locked : (new : Seen D) (span : Span) (result : Result ℕ StoreFault) → Goes medium d.store new (locked span result ∷ []) → DeskGoes medium d (with_store d new d.pending) (clip_locked span result ∷ [])
+  pub goes-locked : (new : Seen D) (span : Span) (result : Result ℕ StoreFault)
+      → Goes medium d.store new (locked span result ∷ []) → DeskGoes medium d (with_store d new d.pending)
+      (clip_locked span result ∷ [])
   goes-locked new span result goes = called new d.pending (clip_locked span result) (locked span result ∷ []) goes (λ s at. (refl, tt)) refl
 
-  pub goes-unlocked : (new : Seen D) (id : ℕ) (result : Result (Unit {0}) StoreFault) → Goes medium d.store new (unlocked id result ∷ []) → DeskGoes medium d (with_store d new d.pending) (clip_unlocked id result ∷ [])
+  pub goes-unlocked : (new : Seen D) (id : ℕ) (result : Result (Unit {0}) StoreFault)
+      → Goes medium d.store new (unlocked id result ∷ []) → DeskGoes medium d (with_store d new d.pending)
+      (clip_unlocked id result ∷ [])
   goes-unlocked new id result goes = called new d.pending (clip_unlocked id result) (unlocked id result ∷ []) goes (λ s at. (refl, tt)) refl
 
-  pub goes-read : (new : Seen D) (number : ℕ) (result : Result (FrameHead × List ℕ) StoreFault) → Goes medium d.store new (was_read number result ∷ []) → DeskGoes medium d (with_store d new d.pending) (frame_read number result ∷ [])
+  pub goes-read : (new : Seen D) (number : ℕ) (result : Result (FrameHead × List ℕ) StoreFault)
+      → Goes medium d.store new (was_read number result ∷ []) → DeskGoes medium d (with_store d new d.pending)
+      (frame_read number result ∷ [])
   goes-read new number result goes = called new d.pending (frame_read number result) (was_read number result ∷ []) goes (λ s at. (refl, tt)) refl
 
   -- ---- a status
 
-  pub goes-status : (status : Status) → TellsOne d.store → ((medium d.store.disk).honest → IsSound (medium d.store.disk)) → TellsStatus medium d status → DeskGoes medium d d (status_told status ∷ [])
+  pub goes-status : (status : Status) → TellsOne d.store
+      → ((medium d.store.disk).honest → IsSound (medium d.store.disk)) → TellsStatus medium d status
+      → DeskGoes medium d d (status_told status ∷ [])
   goes-status status one sound tells = called d.store d.pending (status_told status) [] (goes-none medium d.store one sound)
       (λ s at. (
         refl,
@@ -81,16 +95,25 @@ module _ {D : Type 0} (medium : D → Medium) (d : SeenDesk D) where
       ap (λ (l : List Picture). take n l) (sym at.pending ∙ none) ∙ take-nil n
 
   -- such a flush makes no call of the store
-  flush-nothing : (result : Result Flushed StoreFault) → d.pending ≡ [] → TellsOne d.store → ((medium d.store.disk).honest → IsSound (medium d.store.disk)) → ((s : DeskState) → TellsDesk d s → IsFlush s [] result) → d.pending ≡ pending_after d.pending (flushed result)
+  flush-nothing : (result : Result Flushed StoreFault) → d.pending ≡ [] → TellsOne d.store
+      → ((medium d.store.disk).honest → IsSound (medium d.store.disk))
+      → ((s : DeskState) → TellsDesk d s → IsFlush s [] result) → d.pending ≡ pending_after d.pending (flushed result)
       → DeskGoes medium d d (flushed result ∷ [])
   flush-nothing result none one sound told waits =
       called d.store d.pending (flushed result) [] (goes-none medium d.store one sound)
-      (λ s at. let empty = none-waits s at none in (ap (λ (l : List Picture). append_of l result) empty, subst (λ (l : List Picture). IsFlush s l result) (sym empty) (told s at))) waits
+      (λ s at. let empty = none-waits s at none in (
+        ap (λ (l : List Picture). append_of l result) empty,
+        subst (λ (l : List Picture). IsFlush s l result)
+            (sym empty) (told s at),
+      )) waits
 
-  pub flush-must : d.pending ≡ [] → d.store.must_reopen ≡ true → TellsOne d.store → ((medium d.store.disk).honest → IsSound (medium d.store.disk)) → DeskGoes medium d d (flushed (Err MustReopen) ∷ [])
+  pub flush-must : d.pending ≡ [] → d.store.must_reopen ≡ true → TellsOne d.store
+      → ((medium d.store.disk).honest → IsSound (medium d.store.disk))
+      → DeskGoes medium d d (flushed (Err MustReopen) ∷ [])
   flush-must none must one sound = flush-nothing (Err MustReopen) none one sound (λ s at. (refl, sym at.store.must_reopen ∙ must)) refl
 
-  pub flush-none : (number : ℕ) → number ≡ d.store.next → d.pending ≡ [] → d.store.must_reopen ≡ false → TellsOne d.store → ((medium d.store.disk).honest → IsSound (medium d.store.disk))
+  pub flush-none : (number : ℕ) → number ≡ d.store.next → d.pending ≡ [] → d.store.must_reopen ≡ false
+      → TellsOne d.store → ((medium d.store.disk).honest → IsSound (medium d.store.disk))
       → DeskGoes medium d d (flushed (Ok (record { first = number; stored = 0; left = 0 })) ∷ [])
   flush-none number is none fine one sound =
       flush-nothing (Ok (record { first = number; stored = 0; left = 0 })) none one sound
@@ -107,7 +130,8 @@ module _ {D : Type 0} (medium : D → Medium) (d : SeenDesk D) where
     pub counted : count ≡ min most (length d.pending)
     pub some : 0 < count
 
-  group-is : (s : DeskState) → TellsDesk d s → (most count : ℕ) → IsGroup most count → group_of (rules_of d) s ≡ take count d.pending
+  group-is : (s : DeskState) → TellsDesk d s → (most count : ℕ) → IsGroup most count
+      → group_of (rules_of d) s ≡ take count d.pending
   group-is s at most count group =
       (λ i. take (min d.limits.group (d.store.geometry.slots - sym at.store.recording.next_is i % d.store.geometry.slots)) (sym at.pending i))
       ∙ ap (λ (n : ℕ). take n d.pending) (sym group.least) ∙ sym (take_min most d.pending) ∙ ap (λ (n : ℕ). take n d.pending) (sym group.counted)
@@ -115,26 +139,36 @@ module _ {D : Type 0} (medium : D → Medium) (d : SeenDesk D) where
   group-size : (most count : ℕ) → IsGroup most count → length (take count d.pending) ≡ count
   group-size most count group = length-take-le count d.pending (omega (arith, group.counted))
 
-  append-some : (group : List Picture) (result : Result Flushed StoreFault) → 0 < length group → append_of group result ≡ appended group (appended_as result) ∷ []
+  append-some : (group : List Picture) (result : Result Flushed StoreFault) → 0 < length group
+      → append_of group result ≡ appended group (appended_as result) ∷ []
   append-some [] result some = absurd (omega (arith, some))
   append-some (p ∷ ps) result some = refl
 
-  flush-calls : (s : DeskState) → TellsDesk d s → (most count : ℕ) (result : Result Flushed StoreFault) → IsGroup most count → append_of (group_of (rules_of d) s) result ≡ appended (take count d.pending) (appended_as result) ∷ []
+  flush-calls : (s : DeskState) → TellsDesk d s → (most count : ℕ) (result : Result Flushed StoreFault)
+      → IsGroup most count → append_of (group_of (rules_of d) s) result ≡ appended (take count d.pending)
+      (appended_as result) ∷ []
   flush-calls s at most count result group =
       ap (λ (l : List Picture). append_of l result) (group-is s at most count group)
       ∙ append-some (take count d.pending) result (omega (arith, group-size most count group, group.some))
 
-  told-err : (s : DeskState) (group : List Picture) (fault : StoreFault) → 0 < length group → IsFlush s group (Err fault)
+  told-err : (s : DeskState) (group : List Picture) (fault : StoreFault) → 0 < length group
+      → IsFlush s group (Err fault)
   told-err s [] fault some = absurd (omega (arith, some))
   told-err s (p ∷ ps) fault some = tt
 
-  pub flush-refused : (new : Seen D) (most count : ℕ) (fault : StoreFault) → IsGroup most count → Goes medium d.store new (appended (take count d.pending) (Err fault) ∷ [])
+  pub flush-refused : (new : Seen D) (most count : ℕ) (fault : StoreFault) → IsGroup most count
+      → Goes medium d.store new (appended (take count d.pending) (Err fault) ∷ [])
       → DeskGoes medium d (with_store d new d.pending) (flushed (Err fault) ∷ [])
   flush-refused new most count fault group goes =
       called new d.pending (flushed (Err fault)) (appended (take count d.pending) (Err fault) ∷ []) goes
-      (λ s at. (flush-calls s at most count (Err fault) group, told-err s (group_of (rules_of d) s) fault (omega (arith, ap length (group-is s at most count group), group-size most count group, group.some)))) refl
+      (λ s at. (
+        flush-calls s at most count (Err fault) group,
+        told-err s (group_of (rules_of d) s) fault
+            (omega (arith, ap length (group-is s at most count group), group-size most count group, group.some)),
+      )) refl
 
-  pub flush-stored : (new : Seen D) (most count first waiting : ℕ) → IsGroup most count → waiting ≡ length d.pending → Goes medium d.store new (appended (take count d.pending) (Ok first) ∷ [])
+  pub flush-stored : (new : Seen D) (most count first waiting : ℕ) → IsGroup most count → waiting ≡ length d.pending
+      → Goes medium d.store new (appended (take count d.pending) (Ok first) ∷ [])
       → DeskGoes medium d (with_store d new (drop count d.pending)) (flushed (Ok (record { first = first; stored = count; left = waiting - count })) ∷ [])
   flush-stored new most count first waiting group waits goes =
       let f : Flushed = record { first = first; stored = count; left = waiting - count } in
@@ -155,23 +189,31 @@ module _ {D : Type 0} (d : SeenDesk D) (s : DeskState) (at : TellsDesk d s) (n :
   pub answers-must : d.store.must_reopen ≡ true → Err MustReopen ≡ submit_answer (rules_of d) s n
   answers-must must = let m = sym at.store.must_reopen ∙ must in rw m refl
 
-  pub answers-size : d.store.must_reopen ≡ false → (n == frame_bytes d.store.geometry) ≡ false → Err WrongSize ≡ submit_answer (rules_of d) s n
+  pub answers-size : d.store.must_reopen ≡ false → (n == frame_bytes d.store.geometry) ≡ false
+      → Err WrongSize ≡ submit_answer (rules_of d) s n
   answers-size fine other = let m = sym at.store.must_reopen ∙ fine in rw (m, other) refl
 
-  pub answers-full : d.store.must_reopen ≡ false → (n == frame_bytes d.store.geometry) ≡ true → (length d.pending == d.limits.pending) ≡ true → Err PendingFull ≡ submit_answer (rules_of d) s n
+  pub answers-full : d.store.must_reopen ≡ false → (n == frame_bytes d.store.geometry) ≡ true
+      → (length d.pending == d.limits.pending) ≡ true → Err PendingFull ≡ submit_answer (rules_of d) s n
   answers-full fine right all =
       let m = sym at.store.must_reopen ∙ fine in
       let full = ap (λ (ps : List Picture). length ps == d.limits.pending) (sym at.pending) ∙ all in
       rw (m, right, full) refl
 
-  pub answers-spent : d.store.must_reopen ≡ false → (n == frame_bytes d.store.geometry) ≡ true → (length d.pending == d.limits.pending) ≡ false → ((d.store.next + length d.pending) == last_number (ring_of d.store.geometry)) ≡ true → Err NumbersSpent ≡ submit_answer (rules_of d) s n
+  pub answers-spent : d.store.must_reopen ≡ false → (n == frame_bytes d.store.geometry) ≡ true
+      → (length d.pending == d.limits.pending) ≡ false
+      → ((d.store.next + length d.pending) == last_number (ring_of d.store.geometry)) ≡ true
+      → Err NumbersSpent ≡ submit_answer (rules_of d) s n
   answers-spent fine right some last =
       let m = sym at.store.must_reopen ∙ fine in
       let room = ap (λ (ps : List Picture). length ps == d.limits.pending) (sym at.pending) ∙ some in
       let spent = (λ i. (sym at.store.recording.next_is i + length (sym at.pending i)) == last_number (ring_of d.store.geometry)) ∙ last in
       rw (m, right, room, spent) refl
 
-  pub answers-number : d.store.must_reopen ≡ false → (n == frame_bytes d.store.geometry) ≡ true → (length d.pending == d.limits.pending) ≡ false → ((d.store.next + length d.pending) == last_number (ring_of d.store.geometry)) ≡ false → Ok (d.store.next + length d.pending) ≡ submit_answer (rules_of d) s n
+  pub answers-number : d.store.must_reopen ≡ false → (n == frame_bytes d.store.geometry) ≡ true
+      → (length d.pending == d.limits.pending) ≡ false
+      → ((d.store.next + length d.pending) == last_number (ring_of d.store.geometry)) ≡ false
+      → Ok (d.store.next + length d.pending) ≡ submit_answer (rules_of d) s n
   answers-number fine right some low =
       let m = sym at.store.must_reopen ∙ fine in
       let room = ap (λ (ps : List Picture). length ps == d.limits.pending) (sym at.pending) ∙ some in

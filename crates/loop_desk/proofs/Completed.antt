@@ -22,7 +22,8 @@ Has plane size = (is_some plane ≡ true) ⊎ (size ≡ 0)
 same_size : (n : ℕ) → n ≤ n
 same_size n = omega arith
 
-full_part : (plane : Option Plane) (n : ℕ) (bytes : List ℕ) → Has plane n → take n (take n (bytes_in (slot_filled plane (take n bytes)))) ≡ take n bytes
+full_part : (plane : Option Plane) (n : ℕ) (bytes : List ℕ) → Has plane n
+    → take n (take n (bytes_in (slot_filled plane (take n bytes)))) ≡ take n bytes
 full_part None zero bytes h = refl
 full_part None (suc n) bytes (inl e) = absurd (cc)
 full_part None (suc n) bytes (inr e) = absurd (omega (arith, e))
@@ -32,13 +33,17 @@ last_size : (n a b c : ℕ) → n ≡ a + b + c → n - (a + b) ≤ c
 last_size n a b c e = omega (arith, e)
 
 -- the pieces of a frame, one behind the other
-pieces : (a b c : ℕ) (bytes : List ℕ) → length bytes ≡ a + b + c → take a bytes ++ (take b (drop a bytes) ++ take c (drop (a + b) bytes)) ≡ bytes
+pieces : (a b c : ℕ) (bytes : List ℕ) → length bytes ≡ a + b + c → take a bytes
+    ++ (take b (drop a bytes) ++ take c (drop (a + b) bytes)) ≡ bytes
 pieces a b c bytes e =
     let short : length (drop (a + b) bytes) ≤ c = rw (length-drop (a + b) bytes) (last_size (length bytes) a b c e) in
     ap (λ l. take a bytes ++ (take b (drop a bytes) ++ l)) (take_all c (drop (a + b) bytes) short ∙ sym (drop-drop b a bytes))
     ∙ (ap (λ l. take a bytes ++ l) (take-append-drop b (drop a bytes)) ∙ take-append-drop a bytes)
 
-taken_whole : (shape : Shape) (stamp : Stamp) (bytes : List ℕ) (b : Buffer Plane) (set : PlaneSet Plane) → b.planes ≡ Some set → Has set.planes.y (number_at shape.sizes 0) → Has set.planes.cb (number_at shape.sizes 1) → Has set.planes.cr (number_at shape.sizes 2) → length bytes ≡ frame_size shape → taken_bytes shape (completed_with shape stamp bytes b) ≡ bytes
+taken_whole : (shape : Shape) (stamp : Stamp) (bytes : List ℕ) (b : Buffer Plane) (set : PlaneSet Plane)
+    → b.planes ≡ Some set → Has set.planes.y (number_at shape.sizes 0) → Has set.planes.cb (number_at shape.sizes 1)
+    → Has set.planes.cr (number_at shape.sizes 2) → length bytes ≡ frame_size shape
+    → taken_bytes shape (completed_with shape stamp bytes b) ≡ bytes
 taken_whole shape stamp bytes b set is y cb cr whole =
     let n0 = number_at shape.sizes 0 in
     let n1 = number_at shape.sizes 1 in
@@ -84,12 +89,16 @@ has_one set e =
     let t3 = alike (is_some set.planes.cr) false in
     is_there set.planes.y (second_true t0 t1 (first_true (t0 && t1) t2 (first_true ((t0 && t1) && t2) t3 e)))
 
-three_taken : (shape : Shape) (stamp : Stamp) (bytes : List ℕ) (b : Buffer Plane) (set : PlaneSet Plane) → b.planes ≡ Some set → has_count 3 set ≡ true → length bytes ≡ frame_size shape → taken_bytes shape (completed_with shape stamp bytes b) ≡ bytes
+three_taken : (shape : Shape) (stamp : Stamp) (bytes : List ℕ) (b : Buffer Plane) (set : PlaneSet Plane)
+    → b.planes ≡ Some set → has_count 3 set ≡ true → length bytes ≡ frame_size shape
+    → taken_bytes shape (completed_with shape stamp bytes b) ≡ bytes
 three_taken shape stamp bytes b set is three whole =
     let h : HasThree set = has_three set three in taken_whole shape stamp bytes b set is (inl h.y) (inl h.cb) (inl h.cr) whole
 
 pub whole_taken : WholeFramesAreTaken
-whole_taken Grey width height stamp bytes b set is counted whole = taken_whole (shape_of Grey width height) stamp bytes b set is (inl (has_one set counted)) (inr refl) (inr refl) whole
+whole_taken Grey width height stamp bytes b set is counted whole =
+    taken_whole (shape_of Grey width height) stamp bytes b set is (inl (has_one set counted)) (inr refl)
+    (inr refl) whole
 whole_taken Ym12 width height stamp bytes b set is counted whole = three_taken (shape_of Ym12 width height) stamp bytes b set is counted whole
 whole_taken Ym16 width height stamp bytes b set is counted whole = three_taken (shape_of Ym16 width height) stamp bytes b set is counted whole
 whole_taken Ym24 width height stamp bytes b set is counted whole = three_taken (shape_of Ym24 width height) stamp bytes b set is counted whole

@@ -44,7 +44,8 @@ bytes_in_send = search (sendable, crosses) depth 20
 
 module _ (D : RattleType) (g : disk.Ghosts D.Denot) where
   pub desk_send : IsSend D → IsSend (Desk.the_row D heap.the_row g ghosts)
-  desk_send d = let a = store_send D g d in let b = buffer_send _ frame_send in let c = buffer_send _ frame_in_send in let e = buffer_send _ bytes_send in let f = buffer_send _ bytes_in_send in search sendable depth 20
+  desk_send d = let a = store_send D g d in let b = buffer_send _ frame_send in let c = buffer_send _ frame_in_send in
+      let e = buffer_send _ bytes_send in let f = buffer_send _ bytes_in_send in search sendable depth 20
 
 pub flushed_in_sync : IsSync Flushed.the_field.row
 flushed_in_sync = search sendable depth 40
@@ -73,4 +74,5 @@ bytes_in_sync = search (sendable, crosses) depth 20
 
 module _ (D : RattleType) (g : disk.Ghosts D.Denot) where
   pub desk_sync : IsSync D → IsSync (Desk.the_row D heap.the_row g ghosts)
-  desk_sync d = let a = store_sync D g d in let b = buffer_sync _ frame_sync in let c = buffer_sync _ frame_in_sync in let e = buffer_sync _ bytes_sync in let f = buffer_sync _ bytes_in_sync in search sendable depth 20
+  desk_sync d = let a = store_sync D g d in let b = buffer_sync _ frame_sync in let c = buffer_sync _ frame_in_sync in
+      let e = buffer_sync _ bytes_sync in let f = buffer_sync _ bytes_in_sync in search sendable depth 20

@@ -31,7 +31,8 @@ three_ends : (a b c : ℕ) (x y z : ℕ) → x ≡ 0 + a → y ≡ x + b → z �
 three_ends a b c x y z e f g = omega (arith, e, f, g)
 
 -- three pieces, each behind the one before
-pub three : (p0 p1 p2 : List ℕ) (o0 o1 o2 o3 : List ℕ) (x y z : ℕ) → Appends p0 0 o0 x o1 → Appends p1 x o1 y o2 → Appends p2 y o2 z o3 → Appends (p0 ++ (p1 ++ p2)) 0 o0 z o3
+pub three : (p0 p1 p2 : List ℕ) (o0 o1 o2 o3 : List ℕ) (x y z : ℕ) → Appends p0 0 o0 x o1 → Appends p1 x o1 y o2
+    → Appends p2 y o2 z o3 → Appends (p0 ++ (p1 ++ p2)) 0 o0 z o3
 three p0 p1 p2 o0 o1 o2 o3 x y z a b c = record {
   ends = three_ends (length p0) (length p1) (length p2) x y z a.ends b.ends c.ends
       ∙ ap (λ n. 0 + n) (ap (λ n. length p0 + n) (sym (length-append p1 p2)) ∙ sym (length-append p0 (p1 ++ p2)));
@@ -42,22 +43,26 @@ three p0 p1 p2 o0 o1 o2 o3 x y z a b c = record {
 -- ---- the buffer of an index
 
 module _ where
-  state_got : (bs : List (Buffer Plane)) (index : ℕ) (b : Buffer Plane) → slice_get bs index ≡ Some b → state_at bs index ≡ b.state
+  state_got : (bs : List (Buffer Plane)) (index : ℕ) (b : Buffer Plane) → slice_get bs index ≡ Some b
+      → state_at bs index ≡ b.state
   state_got [] index b e = absurd (cc)
   state_got (x ∷ bs) zero b e = let g : x ≡ b = cc in ap (λ y. y.state) g
   state_got (x ∷ bs) (suc index) b e = state_got bs index b e
 
-  used_got : (bs : List (Buffer Plane)) (index plane : ℕ) (b : Buffer Plane) → slice_get bs index ≡ Some b → used_at bs index plane ≡ number_at b.used plane
+  used_got : (bs : List (Buffer Plane)) (index plane : ℕ) (b : Buffer Plane) → slice_get bs index ≡ Some b
+      → used_at bs index plane ≡ number_at b.used plane
   used_got [] index plane b e = absurd (cc)
   used_got (x ∷ bs) zero plane b e = let g : x ≡ b = cc in ap (λ y. number_at y.used plane) g
   used_got (x ∷ bs) (suc index) plane b e = used_got bs index plane b e
 
-  bytes_got : (bs : List (Buffer Plane)) (index plane : ℕ) (b : Buffer Plane) → slice_get bs index ≡ Some b → bytes_at bs index plane ≡ bytes_in (plane_in b.planes plane)
+  bytes_got : (bs : List (Buffer Plane)) (index plane : ℕ) (b : Buffer Plane) → slice_get bs index ≡ Some b
+      → bytes_at bs index plane ≡ bytes_in (plane_in b.planes plane)
   bytes_got [] index plane b e = absurd (cc)
   bytes_got (x ∷ bs) zero plane b e = let g : x ≡ b = cc in ap (λ y. bytes_in (plane_in y.planes plane)) g
   bytes_got (x ∷ bs) (suc index) plane b e = bytes_got bs index plane b e
 
-own_here : (s : QueueState) (b : Buffer Plane) (index most plane : ℕ) → StaysIn s.body index b → most ≤ number_at b.used plane → IsOwn s.body.buffers index most plane
+own_here : (s : QueueState) (b : Buffer Plane) (index most plane : ℕ) → StaysIn s.body index b
+    → most ≤ number_at b.used plane → IsOwn s.body.buffers index most plane
 own_here s b index most plane left less =
     let x = dequeued_from s.body.kind b in
     record {
@@ -94,13 +99,15 @@ least_second : (a b : ℕ) → min a b ≤ b
 least_second a b = omega arith
 
 -- what DQBUF handed over is all that the buffer held
-given_all : (kind : Memory) (planes : Option (PlaneSet Plane)) (set : PlaneSet Plane) → Some set ≡ handed_over kind planes → planes ≡ Some set
+given_all : (kind : Memory) (planes : Option (PlaneSet Plane)) (set : PlaneSet Plane)
+    → Some set ≡ handed_over kind planes → planes ≡ Some set
 given_all Mmap planes set e = absurd (cc)
 given_all UserPtr planes set e = sym e
 given_all DmaBuf planes set e = sym e
 
 -- where nothing was handed over, what the buffer held is still there
-kept_all : (kind : Memory) (planes : Option (PlaneSet Plane)) → None ≡ handed_over kind planes → kept kind planes ≡ planes
+kept_all : (kind : Memory) (planes : Option (PlaneSet Plane)) → None ≡ handed_over kind planes
+    → kept kind planes ≡ planes
 kept_all Mmap planes e = refl
 kept_all UserPtr planes e = e
 kept_all DmaBuf planes e = e
@@ -115,13 +122,15 @@ least_sum : (a b c x y z : ℕ) → min a x + min b y + min c z ≤ a + b + c
 least_sum a b c x y z = omega arith
 
 -- there is room for what is copied
-pub room_for : (shape : Shape) (used counts : List ℕ) (n : ℕ) → counts ≡ counts_in shape used → frame_size shape ≤ n → count_of counts ≤ n
+pub room_for : (shape : Shape) (used counts : List ℕ) (n : ℕ) → counts ≡ counts_in shape used → frame_size shape ≤ n
+    → count_of counts ≤ n
 room_for shape used counts n is fits =
     let a = number_at shape.sizes 0 in
     let b = number_at shape.sizes 1 in
     let c = number_at shape.sizes 2 in
     let e : count_of counts ≡ min a (number_at used 0) + min b (number_at used 1) + min c (number_at used 2) = ap count_of is in
-    let l : min a (number_at used 0) + min b (number_at used 1) + min c (number_at used 2) ≤ a + b + c = least_sum a b c (number_at used 0) (number_at used 1) (number_at used 2) in
+    let l : min a (number_at used 0) + min b (number_at used 1) + min c (number_at used 2) ≤ a + b + c =
+    least_sum a b c (number_at used 0) (number_at used 1) (number_at used 2) in
     omega (arith, e, l, fits)
 
 nothing_more : (at : ℕ) → at ≡ at + 0
@@ -153,7 +162,8 @@ length_mid a k xs ys e f = search (rules, overwrites)
 
 -- ---- nothing copied, since there is no such plane
 
-no_bytes : (bs : List (Buffer Plane)) (index plane : ℕ) → has_plane_at bs index plane ≡ false → bytes_at bs index plane ≡ []
+no_bytes : (bs : List (Buffer Plane)) (index plane : ℕ) → has_plane_at bs index plane ≡ false
+    → bytes_at bs index plane ≡ []
 no_bytes [] index plane e = refl
 no_bytes (b ∷ bs) zero plane e = none_in (plane_in b.planes plane) e
   where
@@ -163,7 +173,8 @@ no_bytes (b ∷ bs) zero plane e = none_in (plane_in b.planes plane) e
 no_bytes (b ∷ bs) (suc index) plane e = no_bytes bs index plane e
 
 -- where a buffer is the application's and so much was used, only a plane that isn't there is refused
-no_plane : (index plane most : ℕ) (b : Body Plane) → IsOwn b.buffers index most plane → (copy_refusal index plane 0 most b ≡ None → ⊥) → has_plane_at b.buffers index plane ≡ false
+no_plane : (index plane most : ℕ) (b : Body Plane) → IsOwn b.buffers index most plane
+    → (copy_refusal index plane 0 most b ≡ None → ⊥) → has_plane_at b.buffers index plane ≡ false
 no_plane index plane most b own fails = by (has_plane_at b.buffers index plane) refl
   where
     by : (t : Bool) → has_plane_at b.buffers index plane ≡ t → t ≡ false
@@ -181,11 +192,15 @@ short_at : (at most n : ℕ) → at + most ≤ n → at ≤ n
 short_at at most n e = omega (arith, e)
 
 module _ {P : Type 0} (m : P → Plane) where
-  pub nothing_copied : (e : Errno) (q : Lined P) (index plane most at k : ℕ) (before after out : List ℕ) → Happens m q q (copy_plane index plane 0 (length before) (Err e)) → after ≡ before → length before ≡ most → k ≡ most → at + most ≤ length out → AppendsOwn m q index plane most at out at (put_mid at k out after)
+  pub nothing_copied : (e : Errno) (q : Lined P) (index plane most at k : ℕ) (before after out : List ℕ)
+      → Happens m q q (copy_plane index plane 0 (length before) (Err e)) → after ≡ before → length before ≡ most
+      → k ≡ most → at + most ≤ length out → AppendsOwn m q index plane most at out at (put_mid at k out after)
   nothing_copied e q index plane most at k before after out step same long is room s stands own =
       let t = step s stands in
-      let fails : option_map errno (copy_refusal index plane 0 most s.body) ≡ Some e = subst (λ n. option_map errno (copy_refusal index plane 0 n s.body) ≡ Some e) long t.0 in
-      let none : bytes_at s.body.buffers index plane ≡ [] = no_bytes s.body.buffers index plane (no_plane index plane most s.body own (some_reason e (copy_refusal index plane 0 most s.body) fails)) in
+      let fails : option_map errno (copy_refusal index plane 0 most s.body) ≡ Some e =
+      subst (λ n. option_map errno (copy_refusal index plane 0 n s.body) ≡ Some e) long t.0 in
+      let none : bytes_at s.body.buffers index plane ≡ [] = no_bytes s.body.buffers index plane
+      (no_plane index plane most s.body own (some_reason e (copy_refusal index plane 0 most s.body) fails)) in
       let begin : begin_at s.body.buffers index most plane ≡ [] = ap (take most) none ∙ take_nothing most in
       let size : length after ≡ k = ap length same ∙ (long ∙ sym is) in
       subst (λ l. Appends l at out at (put_mid at k out after)) (sym begin) (record {
@@ -195,30 +210,43 @@ module _ {P : Type 0} (m : P → Plane) where
       })
 
 module _ {P : Type 0} (m : P → Plane) where
-  part_given : (shape : Shape) (b : Buffer Plane) (set : PlaneSet Plane) (i : ℕ) → b.planes ≡ Some set → begin_of set (min (number_at shape.sizes i) (number_at b.used i)) i ≡ part shape b i
+  part_given : (shape : Shape) (b : Buffer Plane) (set : PlaneSet Plane) (i : ℕ) → b.planes ≡ Some set
+      → begin_of set (min (number_at shape.sizes i) (number_at b.used i)) i ≡ part shape b i
   part_given shape b set i is =
       take_both (number_at shape.sizes i) (number_at b.used i) (bytes_in (plane_of_set set i))
       ∙ ap (λ p. take (number_at shape.sizes i) (take (number_at b.used i) (bytes_in (plane_in p i)))) (sym is)
 
   -- out of planes that went to the application
-  pub frame_given : (shape : Shape) (q : Lined P) (index : ℕ) (used counts : List ℕ) (set : PlaneSet P) (before : List ℕ) (stop : ℕ) (after : List ℕ) → shape ≡ q.body.shape → counts ≡ counts_in shape used → Appends (begins_of (read_set m set) counts) 0 before stop after → CopiesFrame m q index used (Some set) before stop after
+  pub frame_given : (shape : Shape) (q : Lined P) (index : ℕ) (used counts : List ℕ) (set : PlaneSet P)
+      (before : List ℕ) (stop : ℕ) (after : List ℕ) → shape ≡ q.body.shape → counts ≡ counts_in shape used
+      → Appends (begins_of (read_set m set) counts) 0 before stop after
+      → CopiesFrame m q index used (Some set) before stop after
   frame_given shape q index used counts set before stop after own is appends s b stands left same planes =
       let sh : shape ≡ s.body.shape = own ∙ ap (λ x. x.shape) stands.shown.body in
       let all : b.planes ≡ Some (read_set m set) = given_all s.body.kind b.planes (read_set m set) planes in
       let c : counts ≡ counts_in s.body.shape b.used = is ∙ (ap (λ x. counts_in x used) sh ∙ ap (counts_in s.body.shape) same) in
       let bytes : begins_of (read_set m set) (counts_in s.body.shape b.used) ≡ taken_bytes s.body.shape b =
-      ap (λ l. l ++ (begin_of (read_set m set) (min (number_at s.body.shape.sizes 1) (number_at b.used 1)) 1 ++ begin_of (read_set m set) (min (number_at s.body.shape.sizes 2) (number_at b.used 2)) 2)) (part_given s.body.shape b (read_set m set) 0 all)
-      ∙ (ap (λ l. part s.body.shape b 0 ++ (l ++ begin_of (read_set m set) (min (number_at s.body.shape.sizes 2) (number_at b.used 2)) 2)) (part_given s.body.shape b (read_set m set) 1 all)
+      ap (λ l. l ++ (begin_of (read_set m set) (min (number_at s.body.shape.sizes 1) (number_at b.used 1)) 1
+      ++ begin_of (read_set m set) (min (number_at s.body.shape.sizes 2) (number_at b.used 2)) 2))
+      (part_given s.body.shape b (read_set m set) 0 all)
+      ∙ (ap (λ l. part s.body.shape b 0
+      ++ (l ++ begin_of (read_set m set) (min (number_at s.body.shape.sizes 2) (number_at b.used 2)) 2))
+      (part_given s.body.shape b (read_set m set) 1 all)
       ∙ ap (λ l. part s.body.shape b 0 ++ (part s.body.shape b 1 ++ l)) (part_given s.body.shape b (read_set m set) 2 all)) in
       subst (λ l. Appends l 0 before stop after) bytes (subst (λ x. Appends (begins_of (read_set m set) x) 0 before stop after) c appends)
 
-  part_own : (s : QueueState) (index : ℕ) (b : Buffer Plane) (i : ℕ) → StaysIn s.body index b → kept s.body.kind b.planes ≡ b.planes → begin_at s.body.buffers index (min (number_at s.body.shape.sizes i) (number_at b.used i)) i ≡ part s.body.shape b i
+  part_own : (s : QueueState) (index : ℕ) (b : Buffer Plane) (i : ℕ) → StaysIn s.body index b
+      → kept s.body.kind b.planes ≡ b.planes → begin_at s.body.buffers index
+      (min (number_at s.body.shape.sizes i) (number_at b.used i)) i ≡ part s.body.shape b i
   part_own s index b i left same =
-      ap (take (min (number_at s.body.shape.sizes i) (number_at b.used i))) (bytes_got s.body.buffers index i (dequeued_from s.body.kind b) left ∙ ap (λ p. bytes_in (plane_in p i)) same)
+      ap (take (min (number_at s.body.shape.sizes i) (number_at b.used i)))
+      (bytes_got s.body.buffers index i (dequeued_from s.body.kind b) left ∙ ap (λ p. bytes_in (plane_in p i)) same)
       ∙ take_both (number_at s.body.shape.sizes i) (number_at b.used i) (bytes_in (plane_in b.planes i))
 
   -- out of planes that stayed in the queue
-  pub frame_own : (shape : Shape) (q : Lined P) (index : ℕ) (used counts : List ℕ) (before : List ℕ) (stop : ℕ) (after : List ℕ) → shape ≡ q.body.shape → counts ≡ counts_in shape used → AppendsAllOwn m q index counts before stop after → CopiesFrame m q index used None before stop after
+  pub frame_own : (shape : Shape) (q : Lined P) (index : ℕ) (used counts : List ℕ) (before : List ℕ) (stop : ℕ)
+      (after : List ℕ) → shape ≡ q.body.shape → counts ≡ counts_in shape used
+      → AppendsAllOwn m q index counts before stop after → CopiesFrame m q index used None before stop after
   frame_own shape q index used counts before stop after own is appends s b stands left same planes =
       let sh : shape ≡ s.body.shape = own ∙ ap (λ x. x.shape) stands.shown.body in
       let all : kept s.body.kind b.planes ≡ b.planes = kept_all s.body.kind b.planes planes in
@@ -226,7 +254,8 @@ module _ {P : Type 0} (m : P → Plane) where
       let n0 = min (number_at s.body.shape.sizes 0) (number_at b.used 0) in
       let n1 = min (number_at s.body.shape.sizes 1) (number_at b.used 1) in
       let n2 = min (number_at s.body.shape.sizes 2) (number_at b.used 2) in
-      let there : AppendsAllOwn m q index (counts_in s.body.shape b.used) before stop after = subst (λ x. AppendsAllOwn m q index x before stop after) c appends in
+      let there : AppendsAllOwn m q index (counts_in s.body.shape b.used) before stop after =
+      subst (λ x. AppendsAllOwn m q index x before stop after) c appends in
       let text : Appends (begins_at s.body.buffers index (counts_in s.body.shape b.used)) 0 before stop after =
       there s stands (own_here s b index n0 0 left (least_second (number_at s.body.shape.sizes 0) (number_at b.used 0)))
       (own_here s b index n1 1 left (least_second (number_at s.body.shape.sizes 1) (number_at b.used 1)))

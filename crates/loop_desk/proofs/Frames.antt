@@ -14,7 +14,8 @@ use Rattle.loop_store.proofs.Putting.{answered-some}
 use Rattle.loop_desk.specs.declared.limits.Flushed.{Flushed}
 use Rattle.loop_desk.specs.Desk.{AreTold, DeskCall, DeskState, IsFlush, IsDeskTold, Rules, frame_accepted, accepted_in, append_of, clip_locked, clip_unlocked, desk_after, desk_after_calls, flushed, frame_read, frames_stored, group_of, pending_after, status_told, store_calls, store_calls_in, stored_by, submitted}
 
-pub each-parts : {S X : Type 0} (next : S → X → S) (P : S → X → Type 0) (s : S) (xs ys : List X) → EachIn next P s (xs ++ ys) → EachIn next P s xs × EachIn next P (after_all next s xs) ys
+pub each-parts : {S X : Type 0} (next : S → X → S) (P : S → X → Type 0) (s : S) (xs ys : List X)
+    → EachIn next P s (xs ++ ys) → EachIn next P s xs × EachIn next P (after_all next s xs) ys
 each-parts next P s [] ys both = (tt, both)
 each-parts next P s (x ∷ xs) ys both = let rest = each-parts next P (next s x) xs ys both.1 in ((both.0, rest.0), rest.1)
 
@@ -23,10 +24,12 @@ frames-stores [] = refl
 frames-stores (p ∷ ps) = ap (λ l. p ∷ l) (frames-stores ps)
 
 -- an append's steps store its frames
-frames-steps : (ring : Ring) (r : Recording) (group : List Picture) → steps ring r group ≢ None → frames_stored (steps_or_none (steps ring r group)) ≡ group
+frames-steps : (ring : Ring) (r : Recording) (group : List Picture) → steps ring r group ≢ None
+    → frames_stored (steps_or_none (steps ring r group)) ≡ group
 frames-steps ring r group some = go (r.next == last_number ring) (needs_recycling ring r) (victim ring r) some
   where
-    go : (b n : Bool) (v : Option ℕ) → (if b then None else stores_after (recycling_first n v) group) ≢ None → frames_stored (steps_or_none (if b then None else stores_after (recycling_first n v) group)) ≡ group
+    go : (b n : Bool) (v : Option ℕ) → (if b then None else stores_after (recycling_first n v) group) ≢ None
+        → frames_stored (steps_or_none (if b then None else stores_after (recycling_first n v) group)) ≡ group
     go true n v some = absurd (some refl)
     go false false v some = frames-stores group
     go false true None some = absurd (some refl)
@@ -36,31 +39,40 @@ frames-both : (a b : List Step) → frames_stored (a ++ b) ≡ frames_stored a +
 frames-both a b = flat_map-append stored_by a b
 
 -- a group and the frames behind it
-group-and-rest : (most : ℕ) (waiting : List Picture) → take most waiting ++ drop (length (take most waiting)) waiting ≡ waiting
+group-and-rest : (most : ℕ) (waiting : List Picture) → take most waiting
+    ++ drop (length (take most waiting)) waiting ≡ waiting
 group-and-rest most waiting =
     let count = length-take most waiting in
     let front = take_min most waiting in
     (λ i. sym front i ++ drop (count i) waiting) ∙ take-append-drop (min most (length waiting)) waiting
 
-flush-frames : (g : Geometry) (w : DeskState) (s : StoreState) (group : List Picture) (f : Flushed) → IsFlush w group (Ok f) → AreAnswered (Unit {0}) g s (append_of group (Ok f)) → group ++ drop (length group) w.pending ≡ w.pending
+flush-frames : (g : Geometry) (w : DeskState) (s : StoreState) (group : List Picture) (f : Flushed)
+    → IsFlush w group (Ok f) → AreAnswered (Unit {0}) g s (append_of group (Ok f)) → group
+    ++ drop (length group) w.pending ≡ w.pending
     → frames_stored (made_in g s (append_of group (Ok f))) ++ drop f.stored w.pending ≡ w.pending
 flush-frames g w s [] f told said whole = (λ i. drop (told.1 i).stored w.pending) ∙ whole
 flush-frames g w s (p ∷ ps) f told said whole =
     let list = steps_or_none (steps (ring_of g) s.recording (p ∷ ps)) in
-    let frames : frames_stored (list ++ []) ≡ p ∷ ps = ap frames_stored (append-nil list) ∙ frames-steps (ring_of g) s.recording (p ∷ ps) (answered-some (Unit {0}) g s (p ∷ ps) f.first said.0) in
+    let frames : frames_stored (list ++ []) ≡ p ∷ ps = ap frames_stored (append-nil list)
+    ∙ frames-steps (ring_of g) s.recording (p ∷ ps) (answered-some (Unit {0}) g s (p ∷ ps) f.first said.0) in
     let count = told.1 in
     (λ i. frames i ++ drop (count i).stored w.pending) ∙ whole
 
-none-stored : (g : Geometry) (s : StoreState) (group : List Picture) (fault : StoreFault) → frames_stored (made_in g s (append_of group (Err fault))) ≡ []
+none-stored : (g : Geometry) (s : StoreState) (group : List Picture) (fault : StoreFault)
+    → frames_stored (made_in g s (append_of group (Err fault))) ≡ []
 none-stored g s [] fault = refl
 none-stored g s (p ∷ ps) fault = refl
 
-call-frames : (k : Rules) (w : DeskState) (c : DeskCall) → IsDeskTold k w c → AreAnswered (Unit {0}) k.geometry w.store (store_calls k w c) → w.pending ++ frame_accepted c ≡ frames_stored (made_in k.geometry w.store (store_calls k w c)) ++ pending_after w.pending c
+call-frames : (k : Rules) (w : DeskState) (c : DeskCall) → IsDeskTold k w c
+    → AreAnswered (Unit {0}) k.geometry w.store (store_calls k w c) → w.pending ++ frame_accepted c ≡ frames_stored
+    (made_in k.geometry w.store (store_calls k w c)) ++ pending_after w.pending c
 call-frames k w (submitted p size (Ok number)) told said = refl
 call-frames k w (submitted p size (Err fault)) told said = append-nil w.pending
 call-frames k w (flushed (Ok f)) told said =
-    append-nil w.pending ∙ sym (flush-frames k.geometry w w.store (group_of k w) f told said (group-and-rest (min k.limits.group (k.geometry.slots - w.store.recording.next % k.geometry.slots)) w.pending))
-call-frames k w (flushed (Err fault)) told said = append-nil w.pending ∙ ap (λ (l : List Picture). l ++ w.pending) (sym (none-stored k.geometry w.store (group_of k w) fault))
+    append-nil w.pending ∙ sym (flush-frames k.geometry w w.store (group_of k w) f told said
+    (group-and-rest (min k.limits.group (k.geometry.slots - w.store.recording.next % k.geometry.slots)) w.pending))
+call-frames k w (flushed (Err fault)) told said = append-nil w.pending ∙ ap (λ (l : List Picture). l ++ w.pending)
+    (sym (none-stored k.geometry w.store (group_of k w) fault))
 call-frames k w (clip_locked span (Ok id)) told said = append-nil w.pending
 call-frames k w (clip_locked span (Err fault)) told said = append-nil w.pending
 call-frames k w (clip_unlocked id (Ok x)) told said = append-nil w.pending
@@ -70,7 +82,10 @@ call-frames k w (frame_read number (Err fault)) told said = append-nil w.pending
 call-frames k w (status_told status) told said = append-nil w.pending
 
 -- what waited, and then what was accepted, is what was stored, and then what waits
-pub none-lost : (k : Rules) (s : DeskState) (calls : List DeskCall) → AreTold k s calls → AreAnswered (Unit {0}) k.geometry s.store (store_calls_in k s calls) → s.pending ++ accepted_in calls ≡ frames_stored (made_in k.geometry s.store (store_calls_in k s calls)) ++ (desk_after_calls k s calls).pending
+pub none-lost : (k : Rules) (s : DeskState) (calls : List DeskCall) → AreTold k s calls
+    → AreAnswered (Unit {0}) k.geometry s.store (store_calls_in k s calls) → s.pending
+    ++ accepted_in calls ≡ frames_stored (made_in k.geometry s.store (store_calls_in k s calls))
+    ++ (desk_after_calls k s calls).pending
 none-lost k s [] told said = append-nil s.pending
 none-lost k s (c ∷ calls) told said =
     let g = k.geometry in
@@ -80,7 +95,10 @@ none-lost k s (c ∷ calls) told said =
     let parts = each-parts (after_store_call g) (IsAnswered (Unit {0}) g) s.store here there said in
     let one = call-frames k s c told.0 parts.0 in
     let rest = none-lost k t calls told.1 parts.1 in
-    let split : frames_stored (made_in g s.store (here ++ there)) ≡ frames_stored (made_in g s.store here) ++ frames_stored (made_in g t.store there) = ap frames_stored (told-behind (after_store_call g) (made_by g) s.store here there) ∙ frames-both (made_in g s.store here) (made_in g t.store there) in
+    let split : frames_stored (made_in g s.store (here ++ there)) ≡ frames_stored (made_in g s.store here)
+    ++ frames_stored (made_in g t.store there) =
+    ap frames_stored (told-behind (after_store_call g) (made_by g) s.store here there)
+    ∙ frames-both (made_in g s.store here) (made_in g t.store there) in
     sym (append_assoc s.pending (frame_accepted c) (accepted_in calls)) ∙ (λ i. one i ++ accepted_in calls)
     ∙ append_assoc (frames_stored (made_in g s.store here)) t.pending (accepted_in calls)
     ∙ ap (λ l. frames_stored (made_in g s.store here) ++ l) rest

@@ -19,29 +19,41 @@ state-told d one = record { store = record { recording = one.1; must_reopen = re
 
 module _ {D : Type 0} (medium : D → Medium) where
   -- the calls of its store
-  pub store-goes : (old new : SeenDesk D) (calls : List DeskCall) (goes : DeskGoes medium old new calls) → Goes medium old.store new.store (store_calls_in (rules_of old) (state-of old goes.one) calls)
+  pub store-goes : (old new : SeenDesk D) (calls : List DeskCall) (goes : DeskGoes medium old new calls)
+      → Goes medium old.store new.store (store_calls_in (rules_of old) (state-of old goes.one) calls)
   store-goes old new calls goes = goes.store (state-of old goes.one) (state-told old goes.one)
 
   -- the state of which it tells then
-  pub told-then : (old new : SeenDesk D) (calls : List DeskCall) (goes : DeskGoes medium old new calls) → TellsDesk new (desk_after_calls (rules_of old) (state-of old goes.one) calls)
+  pub told-then : (old new : SeenDesk D) (calls : List DeskCall) (goes : DeskGoes medium old new calls)
+      → TellsDesk new (desk_after_calls (rules_of old) (state-of old goes.one) calls)
   told-then old new calls goes = (goes.plays (state-of old goes.one) (state-told old goes.one)).1
 
   -- what one call was told
-  pub told-one : (old new : SeenDesk D) (c : DeskCall) (goes : DeskGoes medium old new (c ∷ [])) → IsDeskTold (rules_of old) (state-of old goes.one) c
+  pub told-one : (old new : SeenDesk D) (c : DeskCall) (goes : DeskGoes medium old new (c ∷ []))
+      → IsDeskTold (rules_of old) (state-of old goes.one) c
   told-one old new c goes = (goes.plays (state-of old goes.one) (state-told old goes.one)).0.0
 
   pub one-then : (old new : SeenDesk D) (calls : List DeskCall) → DeskGoes medium old new calls → TellsOne new.store
   one-then old new calls goes = (_, (told-then old new calls goes).store.recording)
 
-  pub rules-now : (old new : SeenDesk D) (calls : List DeskCall) → DeskGoes medium old new calls → rules_of new ≡ rules_of old
+  pub rules-now : (old new : SeenDesk D) (calls : List DeskCall) → DeskGoes medium old new calls
+      → rules_of new ≡ rules_of old
   rules-now old new calls goes = let same = (store-goes old new calls goes).geometry in λ i. record { geometry = same i; limits = goes.limits i }
 
   -- no call
-  pub desk-none : (desk : SeenDesk D) → TellsOne desk.store → ((medium desk.store.disk).honest → IsSound (medium desk.store.disk)) → DeskGoes medium desk desk []
-  desk-none desk one sound = record { one = one; store = λ s told. goes-none medium desk.store one sound; plays = plays-none (desk_model (rules_of desk)) (TellsDesk desk); limits = refl }
+  pub desk-none : (desk : SeenDesk D) → TellsOne desk.store
+      → ((medium desk.store.disk).honest → IsSound (medium desk.store.disk)) → DeskGoes medium desk desk []
+  desk-none desk one sound = record {
+    one = one;
+    store = λ s told. goes-none medium desk.store one sound;
+    plays =
+        plays-none (desk_model (rules_of desk)) (TellsDesk desk);
+    limits = refl;
+  }
 
   -- calls, and calls behind them
-  pub desk-joined : (old mid new : SeenDesk D) (xs ys : List DeskCall) → DeskGoes medium old mid xs → DeskGoes medium mid new ys → DeskGoes medium old new (xs ++ ys)
+  pub desk-joined : (old mid new : SeenDesk D) (xs ys : List DeskCall) → DeskGoes medium old mid xs
+      → DeskGoes medium mid new ys → DeskGoes medium old new (xs ++ ys)
   desk-joined old mid new xs ys first second =
       let k = rules_of old in
       let same = rules-now old mid xs first in record {
@@ -51,6 +63,7 @@ module _ {D : Type 0} (medium : D → Medium) where
             subst (λ (l : List Call). Goes medium old.store new.store l) (sym (told-behind (desk_after k) (store_calls k) s xs ys))
             (goes-joined medium old.store mid.store new.store (store_calls_in k s xs) (store_calls_in k t ys) (first.store s told)
             (subst (λ (x : Rules). Goes medium mid.store new.store (store_calls_in x t ys)) same (second.store t (first.plays s told).1)));
-        plays = plays-joined (desk_model k) (TellsDesk old) (TellsDesk mid) (TellsDesk new) xs ys first.plays (subst (λ (x : Rules). Plays (desk_model x) (TellsDesk mid) (TellsDesk new) ys) same second.plays);
+        plays = plays-joined (desk_model k) (TellsDesk old) (TellsDesk mid) (TellsDesk new) xs ys first.plays
+            (subst (λ (x : Rules). Plays (desk_model x) (TellsDesk mid) (TellsDesk new) ys) same second.plays);
         limits = second.limits ∙ first.limits;
       }

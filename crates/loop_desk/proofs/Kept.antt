@@ -19,10 +19,13 @@ pub keep-all : {X : Type 0} (n : ℕ) (xs : List X) → length xs ≤ n → keep
 keep-all n xs few = let none : length xs - n ≡ 0 = omega (arith, few) in ap (λ (k : ℕ). drop k xs) none
 
 -- all but the first are the last
-pub keep-rest : {X : Type 0} (count n : ℕ) (xs : List X) → n ≡ length xs → count ≤ n → keep_last (n - count) xs ≡ drop count xs
+pub keep-rest : {X : Type 0} (count n : ℕ) (xs : List X) → n ≡ length xs → count ≤ n
+    → keep_last (n - count) xs ≡ drop count xs
 keep-rest count n xs is few = let same : length xs - (n - count) ≡ count = omega (arith, is, few) in ap (λ (k : ℕ). drop k xs) same
 
-pub kept-pushed : {D A : Type 0} (store : Seen D) (limits : DeskLimits) (b : Buffer (Frame A)) (frame : Frame A) → IsDesk store limits b → length b.items < b.capacity → store.next + length b.items < last_number (ring_of store.geometry) → length frame.bytes.items ≡ frame_bytes store.geometry
+pub kept-pushed : {D A : Type 0} (store : Seen D) (limits : DeskLimits) (b : Buffer (Frame A)) (frame : Frame A)
+    → IsDesk store limits b → length b.items < b.capacity → store.next + length b.items < last_number
+    (ring_of store.geometry) → length frame.bytes.items ≡ frame_bytes store.geometry
     → IsDesk store limits (buffer (b.items ++ frame ∷ []) b.capacity)
 kept-pushed {A = A} store limits b frame desk room low size =
     let more : length (b.items ++ frame ∷ []) ≡ length b.items + 1 = omega (arith, length-append b.items (frame ∷ [])) in
@@ -36,7 +39,9 @@ kept-pushed {A = A} store limits b frame desk room low size =
       sizes = All-append right b.items (frame ∷ []) desk.sizes (All-cons right frame [] size (All-nil right));
     }
 
-pub kept-flushed : {D A : Type 0} (old new : Seen D) (limits : DeskLimits) (b : Buffer (Frame A)) (count : ℕ) → IsDesk old limits b → new.geometry ≡ old.geometry → new.next ≡ old.next + count → count ≤ length b.items → IsDesk new limits (buffer (drop count b.items) b.capacity)
+pub kept-flushed : {D A : Type 0} (old new : Seen D) (limits : DeskLimits) (b : Buffer (Frame A)) (count : ℕ)
+    → IsDesk old limits b → new.geometry ≡ old.geometry → new.next ≡ old.next + count → count ≤ length b.items
+    → IsDesk new limits (buffer (drop count b.items) b.capacity)
 kept-flushed {A = A} old new limits b count desk same next few =
     let fewer : length (drop count b.items) ≡ length b.items - count = length-drop count b.items in
     let right : Frame A → Type 0 = λ (f : Frame A). length f.bytes.items ≡ frame_bytes old.geometry in
@@ -47,11 +52,13 @@ kept-flushed {A = A} old new limits b count desk same next few =
       group = desk.group;
       few = omega (arith, fewer, desk.few);
       numbers = omega (arith, fewer, few, next, last, desk.numbers);
-      sizes = subst (λ (g : Geometry). All (λ (f : Frame A). length f.bytes.items ≡ frame_bytes g) (drop count b.items)) (sym same) (All-drop right count b.items desk.sizes);
+      sizes = subst (λ (g : Geometry). All (λ (f : Frame A). length f.bytes.items ≡ frame_bytes g)
+          (drop count b.items)) (sym same) (All-drop right count b.items desk.sizes);
     }
 
 -- a call of the store that stores nothing
-pub kept-same : {D A : Type 0} (old new : Seen D) (limits : DeskLimits) (b : Buffer (Frame A)) → IsDesk old limits b → new.geometry ≡ old.geometry → new.next ≡ old.next → IsDesk new limits b
+pub kept-same : {D A : Type 0} (old new : Seen D) (limits : DeskLimits) (b : Buffer (Frame A)) → IsDesk old limits b
+    → new.geometry ≡ old.geometry → new.next ≡ old.next → IsDesk new limits b
 kept-same {A = A} old new limits b desk same next =
     let last : last_number (ring_of new.geometry) ≡ last_number (ring_of old.geometry) = ap (λ (g : Geometry). last_number (ring_of g)) same in
     record {
@@ -72,7 +79,8 @@ none-of [] none = refl
 none-of (x ∷ xs) none = absurd (omega (arith, none))
 
 -- the first of the frames, and how many they are
-pub stored-size : {A : Type 0} (count : ℕ) (items frames : List (Frame A)) → frames ≡ items → count ≤ length items → length (pictures (take count frames)) ≡ count
+pub stored-size : {A : Type 0} (count : ℕ) (items frames : List (Frame A)) → frames ≡ items → count ≤ length items
+    → length (pictures (take count frames)) ≡ count
 stored-size {A} count items frames same few =
     length-map (take count frames) picture ∙ length-take-le count frames (subst (λ (l : List (Frame A)). count ≤ length l) (sym same) few)
 

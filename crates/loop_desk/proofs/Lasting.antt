@@ -21,15 +21,19 @@ use Rattle.loop_desk.proofs.Frames.{none-lost}
 use Rattle.loop_desk.proofs.Whole.{clips-whole, formed-below}
 
 -- what reads as a beginning of steps has each clip whole
-reads-whole : (g : Geometry) (r : Recording) (steps : List Step) (start image : List ℕ) → Holds g r start → HoldsSome g r steps image → HoldsWhole g r steps image
+reads-whole : (g : Geometry) (r : Recording) (steps : List Step) (start image : List ℕ) → Holds g r start
+    → HoldsSome g r steps image → HoldsWhole g r steps image
 reads-whole g r steps start image was some = record {
   count = some.count;
   few = some.few;
   held = some.held;
-  whole = clips-whole (ring_of g) r (take some.count steps) (formed-below r (reading-well_formed g r start was)) (reading-well_formed g (plain (ring_of g) r (take some.count steps)) image some.held);
+  whole = clips-whole (ring_of g) r (take some.count steps) (formed-below r (reading-well_formed g r start was))
+      (reading-well_formed g (plain (ring_of g) r (take some.count steps)) image some.held);
 }
 
-pub keeps-footage : {D : Type 0} (medium : D → Medium) (old new : SeenDesk D) (calls : List DeskCall) (s : StoreState) → DeskGoes medium old new calls → Stands medium old.store s → (medium old.store.disk).honest → KeepsFootage medium old new calls s
+pub keeps-footage : {D : Type 0} (medium : D → Medium) (old new : SeenDesk D) (calls : List DeskCall) (s : StoreState)
+    → DeskGoes medium old new calls → Stands medium old.store s → (medium old.store.disk).honest
+    → KeepsFootage medium old new calls s
 keeps-footage medium old new calls s goes stands now =
     let g = old.store.geometry in
     let k = rules_of old in
@@ -38,13 +42,20 @@ keeps-footage medium old new calls s goes stands now =
     let store = goes.store t at in
     let plays = goes.plays t at in
     let list = stored_calls old s calls in
-    let leaves : s.must_reopen ≡ false → LeavesSteps g s.recording (steps_made old s calls) (steps_begun old s calls) (medium old.store.disk) (medium new.store.disk) = λ fine. store.leaves s stands now fine in
+    let leaves : s.must_reopen ≡ false → LeavesSteps g s.recording (steps_made old s calls) (steps_begun old s calls)
+    (medium old.store.disk) (medium new.store.disk) = λ fine. store.leaves s stands now fine in
     record {
       now = λ fine. (leaves fine).now;
       moments = λ fine.
           let still : old.store.must_reopen ≡ false = stands.must_reopen ∙ fine in
-          weaker (medium old.store.disk) (medium new.store.disk) (HoldsSome g s.recording (steps_made old s calls ++ steps_begun old s calls)) (HoldsWhole g s.recording (steps_made old s calls ++ steps_begun old s calls)) (leaves fine).moments
-          (λ image some. reads-whole g s.recording (steps_made old s calls ++ steps_begun old s calls) (medium old.store.disk).bytes image (stands.recording.held still now) some);
+          weaker (medium old.store.disk) (medium new.store.disk)
+          (HoldsSome g s.recording (steps_made old s calls ++ steps_begun old s calls))
+          (HoldsWhole g s.recording (steps_made old s calls ++ steps_begun old s calls)) (leaves fine).moments
+          (λ image some. reads-whole g s.recording (steps_made old s calls ++ steps_begun old s calls)
+          (medium old.store.disk).bytes image (stands.recording.held still now) some);
       recording = subst (λ (r : Recording). StandsFor medium new.store r) (recording-after g s list) (store.stands s stands).recording;
-      none_lost = none-lost k t calls plays.0 (are-answered-as ((medium old.store.disk).honest × Stands medium old.store s) (Unit {0}) g s list (λ u. (now, stands)) (store.answers s at.store)) ∙ ap (λ (l : List Picture). frames_stored (steps_made old s calls) ++ l) (sym plays.1.pending);
+      none_lost = none-lost k t calls plays.0
+          (are-answered-as ((medium old.store.disk).honest × Stands medium old.store s) (Unit {0}) g s list
+          (λ u. (now, stands)) (store.answers s at.store))
+          ∙ ap (λ (l : List Picture). frames_stored (steps_made old s calls) ++ l) (sym plays.1.pending);
     }

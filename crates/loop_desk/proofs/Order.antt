@@ -20,7 +20,8 @@ use Rattle.loop_desk.proofs.Lasting.{keeps-footage}
 use Rattle.loop_desk.proofs.Queued.{dequeues}
 use Rattle.loop_desk.proofs.Taking.{completes}
 
-submit-frames : (h : HandState) (result : Result ℕ StoreFault) → IsSubmit h result → accepted_in (submit_calls h result) ++ hand_frame (hand_given h result) ≡ hand_frame h ++ []
+submit-frames : (h : HandState) (result : Result ℕ StoreFault) → IsSubmit h result
+    → accepted_in (submit_calls h result) ++ hand_frame (hand_given h result) ≡ hand_frame h ++ []
 submit-frames empty result said = refl
 submit-frames (full i p planes) (Ok number) said = refl
 submit-frames (full i p planes) (Err fault) said = refl
@@ -34,15 +35,18 @@ requeue-frames j (spent i planes) index said = refl
 desk-frames : (h : List Picture) (c : DeskCall) → frame_accepted c ≡ [] → accepted_in (c ∷ []) ++ h ≡ h ++ []
 desk-frames h c is = ap (λ (l : List Picture). (l ++ []) ++ h) is ∙ sym (append-nil h)
 
-dequeue-frames : {P : Type 0} (A : Type 0) (m : P → Plane) (j : IoctlState) (h : HandState) (result : Result ℕ LaneFault) → IsDequeue j h result
-    → hand_frame (front_after {P = P} {A = A} m (record { queue = j; hand = h }) (dequeued result)).hand ≡ hand_frame h ++ frame_of_turn {P = P} {A = A} m (record { queue = j; hand = h }) (at_front (dequeued result))
+dequeue-frames : {P : Type 0} (A : Type 0) (m : P → Plane) (j : IoctlState) (h : HandState)
+    (result : Result ℕ LaneFault) → IsDequeue j h result
+    → hand_frame (front_after {P = P} {A = A} m (record { queue = j; hand = h }) (dequeued result)).hand ≡ hand_frame
+    h ++ frame_of_turn {P = P} {A = A} m (record { queue = j; hand = h }) (at_front (dequeued result))
 dequeue-frames A m j empty (Ok index) said = refl
 dequeue-frames A m j (full i p planes) (Ok index) said = absurd (cc)
 dequeue-frames A m j (spent i planes) (Ok index) said = absurd (cc)
 dequeue-frames A m j h (Err fault) said = sym (append-nil (hand_frame h))
 
 module _ {P A : Type 0} (m : P → Plane) where
-  turn-frames : (f : Front) (t : LaneTurn P A) → IsAtFront m f t → accepted_in (calls_of_turn f.hand t) ++ hand_frame (after_turn m f t).hand ≡ hand_frame f.hand ++ frame_of_turn m f t
+  turn-frames : (f : Front) (t : LaneTurn P A) → IsAtFront m f t → accepted_in (calls_of_turn f.hand t)
+      ++ hand_frame (after_turn m f t).hand ≡ hand_frame f.hand ++ frame_of_turn m f t
   turn-frames f (at_front (on_queue e (Ok r))) said = sym (append-nil (hand_frame f.hand))
   turn-frames f (at_front (on_queue e (Err fault))) said = sym (append-nil (hand_frame f.hand))
   turn-frames f (at_front (dequeued result)) said = dequeue-frames A m f.queue f.hand result said
@@ -53,28 +57,34 @@ module _ {P A : Type 0} (m : P → Plane) where
   turn-frames f mixed said = absurd said
 
   -- what the desk accepted, and then what the hand has, is what the hand had, and then what was taken from the queue
-  pub along : (f : Front) (xs : List (LaneEvent P A × LaneReply P A)) → EachIn (lane_after m) (IsLaneTurn m) f xs → accepted_in (told_in (lane_after m) calls_at f xs) ++ hand_frame (after_all (lane_after m) f xs).hand ≡ hand_frame f.hand ++ frames_taken m f xs
+  pub along : (f : Front) (xs : List (LaneEvent P A × LaneReply P A)) → EachIn (lane_after m) (IsLaneTurn m) f xs
+      → accepted_in (told_in (lane_after m) calls_at f xs)
+      ++ hand_frame (after_all (lane_after m) f xs).hand ≡ hand_frame f.hand ++ frames_taken m f xs
   along f [] said = sym (append-nil (hand_frame f.hand))
   along f (x ∷ xs) said =
       let next = lane_after m f x in
       let rest = along next xs said.1 in
       let one = turn-frames f (turn_at f x) said.0 in
       let last = hand_frame (after_all (lane_after m) next xs).hand in
-      (λ i. flat_map-append frame_accepted (calls_at f x) (told_in (lane_after m) calls_at next xs) i ++ last) ∙ append_assoc (accepted_in (calls_at f x)) (accepted_in (told_in (lane_after m) calls_at next xs)) last
+      (λ i. flat_map-append frame_accepted (calls_at f x) (told_in (lane_after m) calls_at next xs) i ++ last)
+      ∙ append_assoc (accepted_in (calls_at f x)) (accepted_in (told_in (lane_after m) calls_at next xs)) last
       ∙ (λ i. accepted_in (calls_at f x) ++ rest i) ∙ sym (append_assoc (accepted_in (calls_at f x)) (hand_frame next.hand) (frames_taken m next xs))
       ∙ (λ i. one i ++ frames_taken m next xs) ∙ append_assoc (hand_frame f.hand) (frame_at m f x) (frames_taken m next xs)
 
 module _ {D P A : Type 0} (m : P → Plane) (medium : D → Medium) where
-  pub in-order : (old new : Lane D P A) (es : List (LaneEvent P A)) (ps : List (LaneReply P A)) (run : LaneRan m medium old new es ps) (f : Front) → StandsLane m old f
+  pub in-order : (old new : Lane D P A) (es : List (LaneEvent P A)) (ps : List (LaneReply P A))
+      (run : LaneRan m medium old new es ps) (f : Front) → StandsLane m old f
       → accepted_in run.calls ++ hand_frame (hand_state m new.hand) ≡ hand_frame (hand_state m old.hand) ++ frames_taken m f (zip es ps)
   in-order old new es ps run f stands =
       let ran = run.front f stands in
       let was = stands.hand in
       let is = ran.1.hand in
-      (λ i. accepted_in (run.are f stands i) ++ hand_frame (is i)) ∙ along m f (zip es ps) ran.0 ∙ ap (λ (h : HandState). hand_frame h ++ frames_taken m f (zip es ps)) (sym was)
+      (λ i. accepted_in (run.are f stands i) ++ hand_frame (is i)) ∙ along m f (zip es ps) ran.0
+      ∙ ap (λ (h : HandState). hand_frame h ++ frames_taken m f (zip es ps)) (sym was)
 
   -- what a run keeps
-  pub keeps : (old new : Lane D P A) (es : List (LaneEvent P A)) (ps : List (LaneReply P A)) → LaneRan m medium old new es ps → LaneKeeps m medium old new es ps
+  pub keeps : (old new : Lane D P A) (es : List (LaneEvent P A)) (ps : List (LaneReply P A))
+      → LaneRan m medium old new es ps → LaneKeeps m medium old new es ps
   keeps old new es ps run = record {
     ran = run;
     footage = λ s stands now. keeps-footage medium old.desk new.desk run.calls s run.desk stands now;

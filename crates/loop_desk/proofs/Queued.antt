@@ -31,7 +31,8 @@ get-within (x ∷ xs) (suc i) h = get-within xs i (omega arith)
 
 -- ---- one turn
 
-one-each : (s : QueueState) (events : List Event) → IsOneEvent s events → EachIn model.after_event model.MayHappen s events
+one-each : (s : QueueState) (events : List Event) → IsOneEvent s events
+    → EachIn model.after_event model.MayHappen s events
 one-each s [] one = absurd one
 one-each s (e ∷ []) one = (one, tt)
 one-each s (e ∷ d ∷ more) one = absurd one
@@ -58,11 +59,14 @@ module _ {P : Type 0} (A : Type 0) (m : P → Plane) where
   requeue-told j (spent i planes) (Err (Store fault)) said = absurd said.0
 
 module _ {P A : Type 0} (m : P → Plane) where
-  on-queue-told : (forbidden : Bool) (e : QueueEvent P A) (r : QueueReply P A) (j : IoctlState) → IsToldIf m forbidden e r j → AreBetween j.queue (cond forbidden j (state_after m e r j)).queue (cond forbidden [] (event_of m e r j))
+  on-queue-told : (forbidden : Bool) (e : QueueEvent P A) (r : QueueReply P A) (j : IoctlState)
+      → IsToldIf m forbidden e r j → AreBetween j.queue (cond forbidden j (state_after m e r j)).queue
+      (cond forbidden [] (event_of m e r j))
   on-queue-told true e r j said = (tt, refl)
   on-queue-told false e r j said = turn_told m e r j said
 
-  pub lane-told : (f : Front) (t : LaneTurn P A) → IsAtFront m f t → AreBetween f.queue.queue (after_turn m f t).queue.queue (event_at_turn m f t)
+  pub lane-told : (f : Front) (t : LaneTurn P A) → IsAtFront m f t
+      → AreBetween f.queue.queue (after_turn m f t).queue.queue (event_at_turn m f t)
   lane-told f (at_front (on_queue e (Ok r))) said = on-queue-told _ e r f.queue said.1
   lane-told f (at_front (on_queue e (Err fault))) said = (tt, refl)
   lane-told f (at_front (dequeued result)) said = dequeue-told A m f.queue f.hand result said
@@ -74,12 +78,15 @@ module _ {P A : Type 0} (m : P → Plane) where
 -- ---- lists
 
 pub lane-turns-are-events : {P : Type 0} (A : Type 0) (m : P → Plane) → LaneTurnsAreEvents A m
-lane-turns-are-events A m f xs each = all_told (lane_after m) (IsLaneTurn m) model.after_event model.MayHappen (λ x. x.queue.queue) (event_at m) (λ x t said. lane-told m x (turn_at x t) said) f xs each
+lane-turns-are-events A m f xs each = all_told (lane_after m) (IsLaneTurn m) model.after_event model.MayHappen
+    (λ x. x.queue.queue) (event_at m) (λ x t said. lane-told m x (turn_at x t) said) f xs each
 
-pub dequeues : {D P A : Type 0} (m : P → Plane) (medium : D → Medium) (old new : Lane D P A) (es : List (LaneEvent P A)) (ps : List (LaneReply P A)) → LaneRan m medium old new es ps
+pub dequeues : {D P A : Type 0} (m : P → Plane) (medium : D → Medium) (old new : Lane D P A)
+    (es : List (LaneEvent P A)) (ps : List (LaneReply P A)) → LaneRan m medium old new es ps
     → (f : Front) → StandsLane m old f → KeepsOrder old.queue new.queue (queue_events m f (zip es ps))
 dequeues {D} {P} {A} m medium old new es ps run f stands =
     let ran = run.front f stands in
     let xs = zip es ps in
     let are = lane-turns-are-events A m f xs ran.0 in
-    dequeues_in_order m old.queue new.queue f.queue.queue (queue_events m f xs) stands.queue.queue are.0 (subst (λ (s : QueueState). StandsQueue m new.queue s) are.1 ran.1.queue.queue)
+    dequeues_in_order m old.queue new.queue f.queue.queue (queue_events m f xs) stands.queue.queue are.0
+    (subst (λ (s : QueueState). StandsQueue m new.queue s) are.1 ran.1.queue.queue)

@@ -17,20 +17,23 @@ use Rattle.loop_desk.proofs.Gone.{desk-joined, desk-none}
 
 module _ {P A : Type 0} where
   -- as many replies as events
-  pub same-count : (es : List (LaneEvent P A)) (ps : List (LaneReply P A)) (calls : List DeskCall) → AreShownBy es ps calls → length ps ≡ length es
+  pub same-count : (es : List (LaneEvent P A)) (ps : List (LaneReply P A)) (calls : List DeskCall)
+      → AreShownBy es ps calls → length ps ≡ length es
   same-count [] [] calls shown = refl
   same-count [] (p ∷ ps) calls shown = absurd shown
   same-count (e ∷ es) [] calls shown = absurd shown
   same-count (e ∷ es) (p ∷ ps) calls shown = ap suc (same-count es ps shown.1.0 shown.1.1.1.1)
 
-  zip-behind : (es fs : List (LaneEvent P A)) (ps qs : List (LaneReply P A)) → length ps ≡ length es → zip (es ++ fs) (ps ++ qs) ≡ zip es ps ++ zip fs qs
+  zip-behind : (es fs : List (LaneEvent P A)) (ps qs : List (LaneReply P A)) → length ps ≡ length es
+      → zip (es ++ fs) (ps ++ qs) ≡ zip es ps ++ zip fs qs
   zip-behind [] fs [] qs same = refl
   zip-behind [] fs (p ∷ ps) qs same = absurd (omega (arith, same))
   zip-behind (e ∷ es) fs [] qs same = absurd (omega (arith, same))
   zip-behind (e ∷ es) fs (p ∷ ps) qs same = ap (λ l. (e, p) ∷ l) (zip-behind es fs ps qs (omega (arith, same)))
 
   -- what is shown by both lists
-  shown-behind : (es fs : List (LaneEvent P A)) (ps qs : List (LaneReply P A)) (xs ys : List DeskCall) → AreShownBy es ps xs → AreShownBy fs qs ys → AreShownBy (es ++ fs) (ps ++ qs) (xs ++ ys)
+  shown-behind : (es fs : List (LaneEvent P A)) (ps qs : List (LaneReply P A)) (xs ys : List DeskCall)
+      → AreShownBy es ps xs → AreShownBy fs qs ys → AreShownBy (es ++ fs) (ps ++ qs) (xs ++ ys)
   shown-behind [] fs [] qs xs ys first second = subst (λ (l : List DeskCall). AreShownBy fs qs (l ++ ys)) (sym first) second
   shown-behind [] fs (p ∷ ps) qs xs ys first second = absurd first
   shown-behind (e ∷ es) fs [] qs xs ys first second = absurd first
@@ -40,11 +43,14 @@ module _ {P A : Type 0} where
       (here, (rest ++ ys, (ap (λ l. l ++ ys) first.1.1.0 ∙ append_assoc here rest ys, (first.1.1.1.0, shown-behind es fs ps qs rest ys first.1.1.1.1 second))))
 
   -- one event and its reply
-  pub shown-one : (e : LaneEvent P A) (p : LaneReply P A) (calls : List DeskCall) → AreCallsOf e p calls → AreShownBy (e ∷ []) (p ∷ []) calls
+  pub shown-one : (e : LaneEvent P A) (p : LaneReply P A) (calls : List DeskCall) → AreCallsOf e p calls
+      → AreShownBy (e ∷ []) (p ∷ []) calls
   shown-one e p calls are = (calls, ([], (sym (append-nil calls), (are, refl))))
 
 module _ {D P A : Type 0} (m : P → Plane) (medium : D → Medium) where
-  pub ran-none : (lane : Lane D P A) → TellsOne lane.desk.store → ((medium lane.desk.store.disk).honest → IsSound (medium lane.desk.store.disk)) → LaneRan m medium lane lane [] []
+  pub ran-none : (lane : Lane D P A) → TellsOne lane.desk.store
+      → ((medium lane.desk.store.disk).honest → IsSound (medium lane.desk.store.disk))
+      → LaneRan m medium lane lane [] []
   ran-none lane one sound = record {
     calls = [];
     shown = refl;
@@ -54,7 +60,8 @@ module _ {D P A : Type 0} (m : P → Plane) (medium : D → Medium) where
   }
 
   -- events, and events behind them
-  pub ran-joined : (old mid new : Lane D P A) (es fs : List (LaneEvent P A)) (ps qs : List (LaneReply P A)) → LaneRan m medium old mid es ps → LaneRan m medium mid new fs qs → LaneRan m medium old new (es ++ fs) (ps ++ qs)
+  pub ran-joined : (old mid new : Lane D P A) (es fs : List (LaneEvent P A)) (ps qs : List (LaneReply P A))
+      → LaneRan m medium old mid es ps → LaneRan m medium mid new fs qs → LaneRan m medium old new (es ++ fs) (ps ++ qs)
   ran-joined old mid new es fs ps qs first second =
       let xs = zip es ps in
       let ys = zip fs qs in
@@ -63,10 +70,14 @@ module _ {D P A : Type 0} (m : P → Plane) (medium : D → Medium) where
         calls = first.calls ++ second.calls;
         shown = shown-behind es fs ps qs first.calls second.calls first.shown second.shown;
         desk = desk-joined medium old.desk mid.desk new.desk first.calls second.calls first.desk second.desk;
-        front = subst (λ (l : List (LaneEvent P A × LaneReply P A)). Plays (lane_machine m) (StandsLane m old) (StandsLane m new) l) (sym both) (plays-joined (lane_machine m) (StandsLane m old) (StandsLane m mid) (StandsLane m new) xs ys first.front second.front);
+        front = subst (λ (l : List (LaneEvent P A × LaneReply P A)). Plays (lane_machine m) (StandsLane m old)
+            (StandsLane m new) l) (sym both) (plays-joined (lane_machine m) (StandsLane m old) (StandsLane m mid)
+            (StandsLane m new) xs ys first.front second.front);
         are = λ (f : Front) (stands : StandsLane m old f).
             let f' = after_all (lane_after m) f xs in
-            (λ i. first.are f stands i ++ second.are f' (first.front f stands).1 i) ∙ (sym (told-behind (lane_after m) calls_at f xs ys) ∙ ap (told_in (lane_after m) calls_at f) (sym both));
+            (λ i. first.are f stands i ++ second.are f' (first.front f stands).1 i)
+            ∙ (sym (told-behind (lane_after m) calls_at f xs ys) ∙ ap (told_in (lane_after m) calls_at f)
+            (sym both));
       }
 
 same-items : {X : Type 0} (xs : List X) → map (λ x. x) xs ≡ xs

@@ -53,15 +53,18 @@ use Rattle.loop_desk.proofs.Turning.{taken_event}
 
 -- ---- lists
 
-each-first : {S X : Type 0} (after : S → X → S) (P : S → X → Type 0) (s : S) (xs ys : List X) → EachIn after P s (xs ++ ys) → EachIn after P s xs
+each-first : {S X : Type 0} (after : S → X → S) (P : S → X → Type 0) (s : S) (xs ys : List X)
+    → EachIn after P s (xs ++ ys) → EachIn after P s xs
 each-first after P s [] ys each = tt
 each-first after P s (x ∷ xs) ys each = (each.0, each-first after P (after s x) xs ys each.1)
 
-each-second : {S X : Type 0} (after : S → X → S) (P : S → X → Type 0) (s : S) (xs ys : List X) → EachIn after P s (xs ++ ys) → EachIn after P (after_all after s xs) ys
+each-second : {S X : Type 0} (after : S → X → S) (P : S → X → Type 0) (s : S) (xs ys : List X)
+    → EachIn after P s (xs ++ ys) → EachIn after P (after_all after s xs) ys
 each-second after P s [] ys each = each
 each-second after P s (x ∷ xs) ys each = each-second after P (after s x) xs ys each.1
 
-each-both : (s : QueueState) (es : List Event) → EachIn model.after_event model.MayHappen s es → EachIn model.after_event IsWhole s es → EachIn model.after_event IsCounted s es
+each-both : (s : QueueState) (es : List Event) → EachIn model.after_event model.MayHappen s es
+    → EachIn model.after_event IsWhole s es → EachIn model.after_event IsCounted s es
 each-both s [] first second = tt
 each-both s (e ∷ es) first second = ((first.0, second.0), each-both (model.after_event s e) es first.1 second.1)
 
@@ -78,7 +81,8 @@ quiet-if : (s : QueueState) (b : Bool) (es : List Event) → Quiet s es → Quie
 quiet-if s true es quiet = (tt, refl)
 quiet-if s false es quiet = quiet
 
-quiet-requeue : (s : QueueState) (kind : Memory) (h : HandState) (result : Result ℕ LaneFault) → Quiet s (requeue_event kind h result)
+quiet-requeue : (s : QueueState) (kind : Memory) (h : HandState) (result : Result ℕ LaneFault)
+    → Quiet s (requeue_event kind h result)
 quiet-requeue s kind empty result = (tt, refl)
 quiet-requeue s kind (full i p planes) result = (tt, refl)
 quiet-requeue s kind (spent i planes) (Ok index) = ((tt, tt), refl)
@@ -86,7 +90,8 @@ quiet-requeue s kind (spent i planes) (Err (Queue e)) = ((tt, tt), refl)
 quiet-requeue s kind (spent i planes) (Err (Store fault)) = (tt, refl)
 
 module _ {P A : Type 0} (m : P → Plane) where
-  quiet-plain : (s : QueueState) (e : Option Errno → Event) (result : Result (IoctlReply P A) (Refused P A)) → ((refusal : Option Errno) → Quiet s (e refusal ∷ [])) → Quiet s (option_to_list (plain_event e result))
+  quiet-plain : (s : QueueState) (e : Option Errno → Event) (result : Result (IoctlReply P A) (Refused P A))
+      → ((refusal : Option Errno) → Quiet s (e refusal ∷ [])) → Quiet s (option_to_list (plain_event e result))
   quiet-plain s e (Ok reply_to.Done) quiet = quiet None
   quiet-plain s e (Ok r) quiet = (tt, refl)
   quiet-plain s e (Err r) quiet = quiet (Some r.errno)
@@ -96,15 +101,20 @@ module _ {P A : Type 0} (m : P → Plane) where
   is_dqbuf c = false
 
   -- an ioctl of the queue's own type that isn't DQBUF
-  quiet-own : (c : Ioctl P A) (result : Result (IoctlReply P A) (Refused P A)) (j : IoctlState) → is_dqbuf c ≡ false → Quiet j.queue (option_to_list (call_event m c result j))
+  quiet-own : (c : Ioctl P A) (result : Result (IoctlReply P A) (Refused P A)) (j : IoctlState) → is_dqbuf c ≡ false
+      → Quiet j.queue (option_to_list (call_event m c result j))
   quiet-own (call.ReqBufs type count kind supply) (Ok (reply_to.Granted g)) j other = ((tt, tt), refl)
   quiet-own (call.ReqBufs type count kind supply) (Ok r) j other = (tt, refl)
   quiet-own (call.ReqBufs type count kind supply) (Err r) j other = ((tt, tt), refl)
   quiet-own (call.QueryBuf type index) (Ok (reply_to.Info info)) j other = ((tt, tt), refl)
   quiet-own (call.QueryBuf type index) (Ok r) j other = (tt, refl)
   quiet-own (call.QueryBuf type index) (Err r) j other = ((tt, tt), refl)
-  quiet-own (call.PrepareBuf type index given) result j other = quiet-plain j.queue (model.prepare_buf index (kind_named given) (planes_brought m given j.names)) result (λ refusal. ((tt, tt), refl))
-  quiet-own (call.QBuf type index given) result j other = quiet-plain j.queue (model.qbuf index (kind_named given) (planes_brought m given j.names)) result (λ refusal. ((tt, tt), refl))
+  quiet-own (call.PrepareBuf type index given) result j other =
+      quiet-plain j.queue (model.prepare_buf index (kind_named given) (planes_brought m given j.names)) result
+      (λ refusal. ((tt, tt), refl))
+  quiet-own (call.QBuf type index given) result j other =
+      quiet-plain j.queue (model.qbuf index (kind_named given) (planes_brought m given j.names)) result
+      (λ refusal. ((tt, tt), refl))
   quiet-own (call.DqBuf type) result j other = absurd (cc)
   quiet-own (call.StreamOn type) result j other = quiet-plain j.queue model.streamon result (λ refusal. ((tt, tt), refl))
   quiet-own (call.StreamOff type) (Ok reply_to.Done) j other = ((tt, tt), refl)
@@ -112,16 +122,24 @@ module _ {P A : Type 0} (m : P → Plane) where
   quiet-own (call.Mmap type index) result j other = quiet-plain j.queue (model.mmap index) result (λ refusal. ((tt, tt), refl))
   quiet-own (call.Munmap type index) result j other = quiet-plain j.queue (model.munmap index) result (λ refusal. ((tt, tt), refl))
 
-  typed-quiet : (c : Ioctl P A) (result : Result (IoctlReply P A) (Refused P A)) (j : IoctlState) → Quiet j.queue (option_to_list (call_event m c result j)) → Quiet j.queue (event_of m (queue_event.Ioctl c) (answer.Ioctl result) j)
+  typed-quiet : (c : Ioctl P A) (result : Result (IoctlReply P A) (Refused P A)) (j : IoctlState)
+      → Quiet j.queue (option_to_list (call_event m c result j))
+      → Quiet j.queue (event_of m (queue_event.Ioctl c) (answer.Ioctl result) j)
   typed-quiet c result j quiet = quiet-unless j.queue (refusal_before c j) (option_to_list (call_event m c result j)) quiet
 
-  quiet-call : (c : Ioctl P A) (result : Result (IoctlReply P A) (Refused P A)) (j : IoctlState) → is_dequeue {P = P} {A = A} j.queue.body.format (queue_event.Ioctl c) ≡ false → Quiet j.queue (event_of m (queue_event.Ioctl c) (answer.Ioctl result) j)
-  quiet-call (call.DqBuf type) result j other = subst (λ (t : Bool). Quiet j.queue (unless_refused (or_else (cond t None (Some BadType)) None) (option_to_list (call_event m (call.DqBuf type) result j)))) (sym other) (tt, refl)
+  quiet-call : (c : Ioctl P A) (result : Result (IoctlReply P A) (Refused P A)) (j : IoctlState)
+      → is_dequeue {P = P} {A = A} j.queue.body.format (queue_event.Ioctl c) ≡ false
+      → Quiet j.queue (event_of m (queue_event.Ioctl c) (answer.Ioctl result) j)
+  quiet-call (call.DqBuf type) result j other =
+      subst (λ (t : Bool). Quiet j.queue (unless_refused (or_else (cond t None (Some BadType)) None)
+      (option_to_list (call_event m (call.DqBuf type) result j)))) (sym other) (tt, refl)
   quiet-call c result j other = typed-quiet c result j (quiet-own c result j refl)
 
-  quiet-event : (e : QueueEvent P A) (r : QueueReply P A) (j : IoctlState) → is_dequeue j.queue.body.format e ≡ false → is_whole j.queue.body.shape e ≡ true → Quiet j.queue (event_of m e r j)
+  quiet-event : (e : QueueEvent P A) (r : QueueReply P A) (j : IoctlState) → is_dequeue j.queue.body.format e ≡ false
+      → is_whole j.queue.body.shape e ≡ true → Quiet j.queue (event_of m e r j)
   quiet-event (queue_event.Ioctl c) (answer.Ioctl result) j other whole = quiet-call c result j other
-  quiet-event (queue_event.Complete index stamp bytes) (answer.Ended (Ok u)) j other whole = ((eqb-true (length bytes.items) (frame_size j.queue.body.shape) whole, tt), refl)
+  quiet-event (queue_event.Complete index stamp bytes) (answer.Ended (Ok u)) j other whole =
+      ((eqb-true (length bytes.items) (frame_size j.queue.body.shape) whole, tt), refl)
   quiet-event (queue_event.Complete index stamp bytes) (answer.Ended (Err e)) j other whole = ((tt, tt), refl)
   quiet-event (queue_event.Fail index stamp) (answer.Ended result) j other whole = ((tt, tt), refl)
   quiet-event queue_event.Fatal answer.Fatal j other whole = ((tt, tt), refl)
@@ -130,20 +148,27 @@ module _ {P A : Type 0} (m : P → Plane) where
 -- ---- one turn
 
 taken-tells : (f : Front) (index : ℕ) (o : Option (Buffer Plane)) → slice_get f.queue.queue.body.buffers index ≡ o
-    → EachIn model.after_event IsWhole f.queue.queue (taken_event (kind_of f.queue) index o) × (map without_flags (hand_frame (hand_with f.queue.queue.body index o)) ≡ told_in model.after_event taken_by f.queue.queue (taken_event (kind_of f.queue) index o))
+    → EachIn model.after_event IsWhole f.queue.queue (taken_event (kind_of f.queue) index o)
+    × (map without_flags (hand_frame (hand_with f.queue.queue.body index o)) ≡ told_in model.after_event taken_by
+    f.queue.queue (taken_event (kind_of f.queue) index o))
 taken-tells f index None got = (tt, refl)
 taken-tells f index (Some b) got =
     let body : Body Plane = f.queue.queue.body in
     let planes = handed_over body.kind b.planes in (
       (tt, tt),
-      elim (was_given_up b.state) as (λ t. map without_flags (hand_frame (cond t (spent index planes) (full index (taken_frame body.shape b) planes))) ≡ cond t [] (without_flags (taken_frame body.shape b) ∷ []) ++ []) [ true ↦ refl | false ↦ refl ]
+      elim (was_given_up b.state) as
+          (λ t. map without_flags (hand_frame
+          (cond t (spent index planes) (full index (taken_frame body.shape b) planes))) ≡ cond t []
+          (without_flags (taken_frame body.shape b) ∷ []) ++ []) [ true ↦ refl | false ↦ refl ]
           ∙ sym (ap (λ o. shot body.shape o ++ []) got),
     )
 
 module _ {P A : Type 0} (m : P → Plane) where
   -- each completion is whole, and what the hand gets is what the event takes
   abbrev Tells : Front → LaneTurn P A → Type 0
-  Tells f t = EachIn model.after_event IsWhole f.queue.queue (event_at_turn m f t) × (map without_flags (frame_of_turn m f t) ≡ told_in model.after_event taken_by f.queue.queue (event_at_turn m f t))
+  Tells f t = EachIn model.after_event IsWhole f.queue.queue (event_at_turn m f t)
+      × (map without_flags (frame_of_turn m f t) ≡ told_in model.after_event taken_by f.queue.queue
+      (event_at_turn m f t))
 
 module _ {P : Type 0} (A : Type 0) (m : P → Plane) where
   dequeue-tells : (f : Front) (result : Result ℕ LaneFault) → Tells {P = P} {A = A} m f (at_front (dequeued result))
@@ -151,7 +176,9 @@ module _ {P : Type 0} (A : Type 0) (m : P → Plane) where
   dequeue-tells f (Err (Queue e)) = ((tt, tt), refl)
   dequeue-tells f (Err (Store fault)) = (tt, refl)
 
-  dqbuf-tells : (f : Front) (result : Result ℕ LaneFault) (b : Bool) → IsAtFront {P = P} {A = A} m f (if b then at_front (dequeued result) else mixed) → Tells {P = P} {A = A} m f (if b then at_front (dequeued result) else mixed)
+  dqbuf-tells : (f : Front) (result : Result ℕ LaneFault) (b : Bool) → IsAtFront {P = P} {A = A} m f
+      (if b then at_front (dequeued result) else mixed)
+      → Tells {P = P} {A = A} m f (if b then at_front (dequeued result) else mixed)
   dqbuf-tells f result true said = dequeue-tells f result
   dqbuf-tells f result false said = absurd said
 
@@ -160,14 +187,17 @@ module _ {P : Type 0} (A : Type 0) (m : P → Plane) where
   requeue-tells f (Err fault) = let quiet = quiet-requeue f.queue.queue (kind_of f.queue) f.hand (Err fault) in (quiet.0, sym quiet.1)
 
 module _ {P A : Type 0} (m : P → Plane) where
-  queue-tells : (f : Front) (e : QueueEvent P A) (result : Result (QueueReply P A) LaneFault) (b : Bool) → is_dequeue f.queue.queue.body.format e ≡ b → IsAtFront m f (if b then mixed else at_front (on_queue e result)) → Tells m f (if b then mixed else at_front (on_queue e result))
+  queue-tells : (f : Front) (e : QueueEvent P A) (result : Result (QueueReply P A) LaneFault) (b : Bool)
+      → is_dequeue f.queue.queue.body.format e ≡ b → IsAtFront m f (if b then mixed else at_front (on_queue e result))
+      → Tells m f (if b then mixed else at_front (on_queue e result))
   queue-tells f e result true is said = absurd said
   queue-tells f e (Ok r) false is said =
       let quiet = quiet-if f.queue.queue (forbids (index_in f.hand) e) (event_of m e r f.queue) (quiet-event m e r f.queue is said.0) in
       (quiet.0, sym quiet.1)
   queue-tells f e (Err fault) false is said = (tt, refl)
 
-  lane-tells : (f : Front) (e : LaneEvent P A) (p : LaneReply P A) → IsAtFront m f (turn_of f.queue.queue.body.format e p) → Tells m f (turn_of f.queue.queue.body.format e p)
+  lane-tells : (f : Front) (e : LaneEvent P A) (p : LaneReply P A)
+      → IsAtFront m f (turn_of f.queue.queue.body.format e p) → Tells m f (turn_of f.queue.queue.body.format e p)
   lane-tells f (event.Queue e) (reply.Queue result) said = queue-tells f e result (is_dequeue f.queue.queue.body.format e) refl said
   lane-tells f (event.Queue e) (reply.Dequeue result) said = dqbuf-tells A m f result (is_dequeue f.queue.queue.body.format e) said
   lane-tells f event.Dequeue (reply.Dequeue result) said = dequeue-tells A m f result
@@ -183,11 +213,15 @@ module _ {P A : Type 0} (m : P → Plane) where
 
 module _ {P A : Type 0} (m : P → Plane) where
   counted : (f : Front) (xs : List (LaneEvent P A × LaneReply P A)) → EachIn (lane_after m) (IsLaneTurn m) f xs
-      → EachIn model.after_event IsCounted f.queue.queue (queue_events m f xs) × ((after_all (lane_after m) f xs).queue.queue ≡ after_all model.after_event f.queue.queue (queue_events m f xs))
+      → EachIn model.after_event IsCounted f.queue.queue (queue_events m f xs)
+      × ((after_all (lane_after m) f xs).queue.queue ≡ after_all model.after_event f.queue.queue
+      (queue_events m f xs))
   counted f xs each = all_told (lane_after m) (IsLaneTurn m) model.after_event IsCounted (λ x. x.queue.queue) (event_at m)
-      (λ x t said. let told = lane-told m x (turn_at x t) said in (each-both x.queue.queue (event_at m x t) told.0 (lane-tells m x t.0 t.1 said).0, told.1)) f xs each
+      (λ x t said. let told = lane-told m x (turn_at x t) said in
+      (each-both x.queue.queue (event_at m x t) told.0 (lane-tells m x t.0 t.1 said).0, told.1)) f xs each
 
-  frames-told : (f : Front) (xs : List (LaneEvent P A × LaneReply P A)) → EachIn (lane_after m) (IsLaneTurn m) f xs → map without_flags (frames_taken m f xs) ≡ told_in model.after_event taken_by f.queue.queue (queue_events m f xs)
+  frames-told : (f : Front) (xs : List (LaneEvent P A × LaneReply P A)) → EachIn (lane_after m) (IsLaneTurn m) f xs
+      → map without_flags (frames_taken m f xs) ≡ told_in model.after_event taken_by f.queue.queue (queue_events m f xs)
   frames-told f [] each = refl
   frames-told f (x ∷ xs) each =
       let next = lane_after m f x in
@@ -201,21 +235,27 @@ module _ {P A : Type 0} (m : P → Plane) where
       ∙ sym (told-behind model.after_event taken_by s (event_at m f x) (queue_events m next xs))))
 
   -- from a front whose queue has nothing done
-  from-front : (format : PixelFormat) (width height : ℕ) (f : Front) (part : List (LaneEvent P A × LaneReply P A)) → Runs f.queue.queue [] → IsHolding (shape_of format width height) f.queue.queue → EachIn (lane_after m) (IsLaneTurn m) f part → list_any stops (queue_events m f part) ≡ false
+  from-front : (format : PixelFormat) (width height : ℕ) (f : Front) (part : List (LaneEvent P A × LaneReply P A))
+      → Runs f.queue.queue [] → IsHolding (shape_of format width height) f.queue.queue
+      → EachIn (lane_after m) (IsLaneTurn m) f part → list_any stops (queue_events m f part) ≡ false
       → TakesCompleted m f part
   from-front format width height f part runs holding each on =
       let all = frames_along format width height f.queue.queue (queue_events m f part) [] runs holding on (counted f part each).0 in
       (all.0, all.1 ∙ ap (λ l. l ++ all.0) (sym (frames-told f part each)))
 
-pub completes : {D P A : Type 0} (m : P → Plane) (medium : D → Medium) (old new : Lane D P A) (es : List (LaneEvent P A)) (ps : List (LaneReply P A)) → LaneRan m medium old new es ps
-    → (f : Front) → StandsLane m old f → (format : PixelFormat) (width height : ℕ) → old.queue.body.shape ≡ shape_of format width height → TakesFrames m f (zip es ps)
+pub completes : {D P A : Type 0} (m : P → Plane) (medium : D → Medium) (old new : Lane D P A)
+    (es : List (LaneEvent P A)) (ps : List (LaneReply P A)) → LaneRan m medium old new es ps
+    → (f : Front) → StandsLane m old f → (format : PixelFormat) (width height : ℕ)
+    → old.queue.body.shape ≡ shape_of format width height → TakesFrames m f (zip es ps)
 completes {D} {P} {A} m medium old new es ps run f stands format width height shaped =
     let told = (run.front f stands).0 in
     let s : QueueState = f.queue.queue in
     let own : s.body.shape ≡ shape_of format width height = sym (ap (λ (b : Body Plane). b.shape) stands.queue.queue.shown.body) ∙ shaped in
     record {
       from_start = λ (part behind : List (LaneEvent P A × LaneReply P A)) is on none.
-          let each = each-first (lane_after m) (IsLaneTurn m) f part behind (subst (λ (l : List (LaneEvent P A × LaneReply P A)). EachIn (lane_after m) (IsLaneTurn m) f l) is told) in
+          let each = each-first (lane_after m) (IsLaneTurn m) f part behind
+          (subst (λ (l : List (LaneEvent P A × LaneReply P A)). EachIn (lane_after m) (IsLaneTurn m) f l) is told)
+          in
           let runs : Runs s [] = record {
             incoming = [];
             shows = record {
@@ -226,25 +266,37 @@ completes {D} {P} {A} m medium old new es ps run f stands format width height sh
             };
             still = λ e. refl;
           } in
-          from-front m format width height f part runs (record { shaped = own; fit = stands.queue.queue.fit; held = held_none s.body.buffers (λ i. ap (λ bs. waits (state_at bs i)) none) }) each on;
+          from-front m format width height f part runs
+          (record {
+            shaped = own;
+            fit = stands.queue.queue.fit;
+            held =
+                held_none s.body.buffers (λ i. ap (λ bs. waits (state_at bs i)) none);
+          }) each on;
       from_stop = λ (before part behind : List (LaneEvent P A × LaneReply P A)) (stop : LaneEvent P A × LaneReply P A) (e : Event) is here stopped on.
           let all = subst (λ (l : List (LaneEvent P A × LaneReply P A)). EachIn (lane_after m) (IsLaneTurn m) f l) is told in
           let first = counted m f before (each-first (lane_after m) (IsLaneTurn m) f before (stop ∷ (part ++ behind)) all) in
           let now : Front = front_behind m f before in
           let next : Front = front_behind m f (before ++ stop ∷ []) in
           let follows : next ≡ lane_after m now stop = after-behind (lane_after m) f before (stop ∷ []) in
-          let later : EachIn (lane_after m) (IsLaneTurn m) now (stop ∷ (part ++ behind)) = each-second (lane_after m) (IsLaneTurn m) f before (stop ∷ (part ++ behind)) all in
-          let each : EachIn (lane_after m) (IsLaneTurn m) next part = subst (λ (x : Front). EachIn (lane_after m) (IsLaneTurn m) x part) (sym follows) (each-first (lane_after m) (IsLaneTurn m) (lane_after m now stop) part behind later.1) in
+          let later : EachIn (lane_after m) (IsLaneTurn m) now (stop ∷ (part ++ behind)) =
+          each-second (lane_after m) (IsLaneTurn m) f before (stop ∷ (part ++ behind)) all in
+          let each : EachIn (lane_after m) (IsLaneTurn m) next part =
+          subst (λ (x : Front). EachIn (lane_after m) (IsLaneTurn m) x part) (sym follows)
+          (each-first (lane_after m) (IsLaneTurn m) (lane_after m now stop) part behind later.1) in
           let n : QueueState = now.queue.queue in
           let came : n ≡ after_all model.after_event s (queue_events m f before) = first.1 in
           let two = counted m now (stop ∷ []) (later.0, tt) in
           let events = queue_events m now (stop ∷ []) in
           let went : next.queue.queue ≡ after_all model.after_event n events = ap (λ (x : Front). x.queue.queue) follows ∙ two.1 in
           let done : next.queue.queue ≡ model.after_event n e = went ∙ ap (λ l. after_all model.after_event n (l ++ [])) here in
-          let fit_now : AllFit n.body = subst (λ (t : QueueState). AllFit t.body) (sym came) (all_fit s (queue_events m f before) first.0 stands.queue.queue.fit) in
+          let fit_now : AllFit n.body = subst (λ (t : QueueState). AllFit t.body) (sym came)
+          (all_fit s (queue_events m f before) first.0 stands.queue.queue.fit) in
           from-front m format width height next part (subst (λ (t : QueueState). Runs t []) (sym done) (runs_stopped n e stopped))
           (record {
-            shaped = ap (λ (t : QueueState). t.body.shape) went ∙ (all_shaped n events ∙ (ap (λ (t : QueueState). t.body.shape) came ∙ (all_shaped s (queue_events m f before) ∙ own)));
+            shaped = ap (λ (t : QueueState). t.body.shape) went
+                ∙ (all_shaped n events ∙ (ap (λ (t : QueueState). t.body.shape) came
+                ∙ (all_shaped s (queue_events m f before) ∙ own)));
             fit = subst (λ (t : QueueState). AllFit t.body) (sym went) (all_fit n events two.0 fit_now);
             held = held_none next.queue.queue.body.buffers (λ i. ap (λ (t : QueueState). waits (state_at t.body.buffers i)) done ∙ stopped_waits n e stopped i);
           }) each on;

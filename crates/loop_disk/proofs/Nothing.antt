@@ -20,7 +20,8 @@ abbrev pub no_fields : RattleType
 no_fields = Struct (record { name = []; args = []; types = []; fields = [] })
 
 -- where such a value is, its owner can be said to have it: what is asked for are the values of no field, which are at hand
-pub makes_nothing : {M : Type 1} {𝓤 : Ura M} {𝓛 : Logic 𝓤} {K : Type 0} {known : List (Item 𝓤)} {G : Goal 𝓤 𝓛.H} → K → Step K 𝓛 (‵ (no_fields.own_val tt just_it) ∷ known) G known G
+pub makes_nothing : {M : Type 1} {𝓤 : Ura M} {𝓛 : Logic 𝓤} {K : Type 0} {known : List (Item 𝓤)} {G : Goal 𝓤 𝓛.H} → K
+    → Step K 𝓛 (‵ (no_fields.own_val tt just_it) ∷ known) G known G
 makes_nothing k = step (λ later.
     let fields = within (record { name = []; args = []; types = []; fields = [] }) tt just_it in
     nothing k $ feq_i k (List Val) just_it just_it refl $ fjoin k $ fpack k (Valss []) fields tt $ later)

@@ -37,20 +37,27 @@ none_held UserPtr fd name = inl refl
 none_held DmaBuf fd name = inl refl
 
 none_linked : (b : Body Plane) (before : Names Plane) → b.buffers ≡ [] → IsLinked b [] before
-none_linked b before e = λ (fd : ℕ). subst (λ bs. IsOnce (fd_times fd (values_held b.kind bs) + fd_times {T = Plane} fd []) (before fd)) (sym e) (none_held b.kind fd (before fd))
+none_linked b before e = λ (fd : ℕ). subst
+    (λ bs. IsOnce (fd_times fd (values_held b.kind bs) + fd_times {T = Plane} fd []) (before fd)) (sym e)
+    (none_held b.kind fd (before fd))
 
 pub new_queues_stand : {P : Type 0} (m : P → Plane) → NewQueuesStand m
 new_queues_stand m code table s stands none = record { queue = stands; names = refl; linked = none_linked s.body (read_names m (names_in table)) none }
 
 -- ---- the fds of planes that are queued
 
-pub queued_kind : (index : ℕ) (given : Option (PlaneSet Plane)) (s : QueueState) → (after_queue index given s).body.kind ≡ s.body.kind
+pub queued_kind : (index : ℕ) (given : Option (PlaneSet Plane)) (s : QueueState)
+    → (after_queue index given s).body.kind ≡ s.body.kind
 queued_kind index given s = used_kind Queue index given s
 
-pub queued_none : (index : ℕ) (s : QueueState) (fd : ℕ) → fd_times fd (values_held s.body.kind (after_queue index None s).body.buffers) ≡ fd_times fd (values_held s.body.kind s.body.buffers)
+pub queued_none : (index : ℕ) (s : QueueState) (fd : ℕ)
+    → fd_times fd (values_held s.body.kind (after_queue index None s).body.buffers) ≡ fd_times fd
+    (values_held s.body.kind s.body.buffers)
 queued_none index s fd = held_same s.body.kind s.body.buffers (after_queue index None s).body.buffers fd (used_none Queue index s fd)
 
-pub queued_some : (index : ℕ) (set : PlaneSet Plane) (s : QueueState) (fd : ℕ) → queue_refusal index s.body.kind (Some set) s.body ≡ None → in_buffers fd (after_queue index (Some set) s).body.buffers ≡ in_buffers fd s.body.buffers + in_buffer fd (Some set)
+pub queued_some : (index : ℕ) (set : PlaneSet Plane) (s : QueueState) (fd : ℕ) → queue_refusal index s.body.kind
+    (Some set) s.body ≡ None → in_buffers fd (after_queue index (Some set) s).body.buffers ≡ in_buffers fd
+    s.body.buffers + in_buffer fd (Some set)
 queued_some index set s fd e =
     let f : IsFit index s.body.kind s.body = fit Queue index s.body.kind set s.body e in used_some Queue index set s fd f.within f.empty
 
@@ -69,16 +76,21 @@ same_aside : (j : IoctlState) → IsAside j j
 same_aside j = record { out = refl; kind = refl }
 
 module _ {P A : Type 0} (m : P → Plane) where
-  plain_kind : (event : Option Errno → Event) (r : IoctlReply P A) (s : QueueState) → (after_event s (event None)).body.kind ≡ s.body.kind → (after_event_if s (plain_event {P = P} {A = A} event (Ok r))).body.kind ≡ s.body.kind
+  plain_kind : (event : Option Errno → Event) (r : IoctlReply P A) (s : QueueState)
+      → (after_event s (event None)).body.kind ≡ s.body.kind
+      → (after_event_if s (plain_event {P = P} {A = A} event (Ok r))).body.kind ≡ s.body.kind
   plain_kind event reply.Done s e = e
   plain_kind event r s e = refl
 
-  call_kind : (c : Ioctl P A) (r : IoctlReply P A) (j : IoctlState) → is_request (event.Ioctl c) ≡ false → (after_event_if j.queue (call_event m c (Ok r) j)).body.kind ≡ j.queue.body.kind
+  call_kind : (c : Ioctl P A) (r : IoctlReply P A) (j : IoctlState) → is_request (event.Ioctl c) ≡ false
+      → (after_event_if j.queue (call_event m c (Ok r) j)).body.kind ≡ j.queue.body.kind
   call_kind (call.ReqBufs type count kind supply) r j e = absurd (cc)
   call_kind (call.QueryBuf type index) (reply.Info info) j e = refl
   call_kind (call.QueryBuf type index) r j e = refl
   call_kind (call.PrepareBuf type index given) r j e = plain_kind (prepare_buf index (kind_named given) (planes_brought m given j.names)) r j.queue refl
-  call_kind (call.QBuf type index given) r j e = plain_kind (qbuf index (kind_named given) (planes_brought m given j.names)) r j.queue (used_kind Queue index (planes_brought m given j.names) j.queue)
+  call_kind (call.QBuf type index given) r j e =
+      plain_kind (qbuf index (kind_named given) (planes_brought m given j.names)) r j.queue
+      (used_kind Queue index (planes_brought m given j.names) j.queue)
   call_kind (call.DqBuf type) (reply.Dequeued d) j e = refl
   call_kind (call.DqBuf type) r j e = refl
   call_kind (call.StreamOn type) r j e = plain_kind streamon r j.queue (on_kind j.queue.body)
@@ -87,16 +99,19 @@ module _ {P A : Type 0} (m : P → Plane) where
   call_kind (call.Mmap type index) r j e = plain_kind (mmap index) r j.queue refl
   call_kind (call.Munmap type index) r j e = plain_kind (munmap index) r j.queue refl
 
-  call_out : (c : Ioctl P A) (result : Result (IoctlReply P A) (Refused P A)) (j : IoctlState) → (after_ioctl m c j result).out ≡ j.out
+  call_out : (c : Ioctl P A) (result : Result (IoctlReply P A) (Refused P A)) (j : IoctlState)
+      → (after_ioctl m c j result).out ≡ j.out
   call_out c (Ok r) j = refl
   call_out c (Err r) j = refl
 
-  call_aside : (c : Ioctl P A) (result : Result (IoctlReply P A) (Refused P A)) (j : IoctlState) → is_request (event.Ioctl c) ≡ false → IsAside j (after_ioctl m c j result)
+  call_aside : (c : Ioctl P A) (result : Result (IoctlReply P A) (Refused P A)) (j : IoctlState)
+      → is_request (event.Ioctl c) ≡ false → IsAside j (after_ioctl m c j result)
   call_aside c (Ok r) j e = record { out = refl; kind = call_kind c r j e }
   call_aside c (Err r) j e = same_aside j
 
   -- all but REQBUFS
-  pub event_aside : (e : QueueEvent P A) (r : QueueReply P A) (j : IoctlState) → is_request e ≡ false → IsAside j (state_after m e r j)
+  pub event_aside : (e : QueueEvent P A) (r : QueueReply P A) (j : IoctlState) → is_request e ≡ false
+      → IsAside j (state_after m e r j)
   event_aside (event.Ioctl c) (answer.Ioctl result) j n = call_aside c result j n
   event_aside (event.Complete index stamp bytes) (answer.Ended (Ok u)) j n = record { out = refl; kind = refl }
   event_aside (event.Complete index stamp bytes) (answer.Ended (Err e)) j n = same_aside j

@@ -23,15 +23,18 @@ use Rattle.loop_ioctl.proofs.Attached.{in_buffer, kept_changed, last_none}
 use Rattle.loop_ioctl.proofs.Putting.{still_linked, moves, stays}
 
 -- a plane filled has the fd that it had
-slot_fds : (fd f : ℕ) (p : Option Plane) (bytes : List ℕ) (a b : List (ℕ × Plane)) → fd_times fd a ≡ fd_times fd b → fd_times fd (value_with_fd f (slot_filled p bytes) ++ a) ≡ fd_times fd (value_with_fd f p ++ b)
+slot_fds : (fd f : ℕ) (p : Option Plane) (bytes : List ℕ) (a b : List (ℕ × Plane)) → fd_times fd a ≡ fd_times fd b
+    → fd_times fd (value_with_fd f (slot_filled p bytes) ++ a) ≡ fd_times fd (value_with_fd f p ++ b)
 slot_fds fd f None bytes a b e = e
 slot_fds fd f (Some p) bytes a b e = omega (arith, e)
 
-last_fds : (fd f : ℕ) (p : Option Plane) (bytes : List ℕ) → fd_times fd (value_with_fd f (slot_filled p bytes)) ≡ fd_times fd (value_with_fd f p)
+last_fds : (fd f : ℕ) (p : Option Plane) (bytes : List ℕ)
+    → fd_times fd (value_with_fd f (slot_filled p bytes)) ≡ fd_times fd (value_with_fd f p)
 last_fds fd f None bytes = refl
 last_fds fd f (Some p) bytes = refl
 
-filled_fds : (shape : Shape) (bytes : List ℕ) (planes : Option (PlaneSet Plane)) (fd : ℕ) → in_buffer fd (option_map (set_by slot_filled shape bytes) planes) ≡ in_buffer fd planes
+filled_fds : (shape : Shape) (bytes : List ℕ) (planes : Option (PlaneSet Plane)) (fd : ℕ)
+    → in_buffer fd (option_map (set_by slot_filled shape bytes) planes) ≡ in_buffer fd planes
 filled_fds shape bytes None fd = refl
 filled_fds shape bytes (Some set) fd =
     let b0 = take (number_at shape.sizes 0) bytes in
@@ -40,31 +43,49 @@ filled_fds shape bytes (Some set) fd =
     let f0 = number_at set.fds 0 in
     let f1 = number_at set.fds 1 in
     ap (fd_times fd) (last_none (values_in (set_by slot_filled shape bytes set)))
-    ∙ (slot_fds fd (number_at set.fds 2) set.planes.cr b2 (value_with_fd f1 (slot_filled set.planes.cb b1) ++ value_with_fd f0 (slot_filled set.planes.y b0)) (value_with_fd f1 set.planes.cb ++ value_with_fd f0 set.planes.y)
+    ∙ (slot_fds fd (number_at set.fds 2) set.planes.cr b2 (value_with_fd f1 (slot_filled set.planes.cb b1)
+    ++ value_with_fd f0 (slot_filled set.planes.y b0)) (value_with_fd f1 set.planes.cb
+    ++ value_with_fd f0 set.planes.y)
     (slot_fds fd f1 set.planes.cb b1 (value_with_fd f0 (slot_filled set.planes.y b0)) (value_with_fd f0 set.planes.y) (last_fds fd f0 set.planes.y b0))
     ∙ sym (ap (fd_times fd) (last_none (values_in set))))
 
-pub completed_linked : (index : ℕ) (stamp : Stamp) (bytes : List ℕ) (s : QueueState) (out : List (ℕ × Plane)) (n : Names Plane) → IsLinked s.body out n → IsLinked (after_complete index stamp bytes s).body out n
+pub completed_linked : (index : ℕ) (stamp : Stamp) (bytes : List ℕ) (s : QueueState) (out : List (ℕ × Plane))
+    (n : Names Plane) → IsLinked s.body out n → IsLinked (after_complete index stamp bytes s).body out n
 completed_linked index stamp bytes s out n linked =
     still_linked s.body (after_complete index stamp bytes s).body out n refl
     (λ (fd : ℕ). kept_changed (completed_with s.body.shape stamp bytes) index s.body.buffers fd (λ b d. filled_fds s.body.shape bytes b.planes d)) linked
 
-pub failed_linked : (index : ℕ) (stamp : Stamp) (s : QueueState) (out : List (ℕ × Plane)) (n : Names Plane) → IsLinked s.body out n → IsLinked (after_fail index stamp s).body out n
-failed_linked index stamp s out n linked = still_linked s.body (after_fail index stamp s).body out n refl (λ (fd : ℕ). kept_changed (failed_with stamp) index s.body.buffers fd (λ b d. refl)) linked
+pub failed_linked : (index : ℕ) (stamp : Stamp) (s : QueueState) (out : List (ℕ × Plane)) (n : Names Plane)
+    → IsLinked s.body out n → IsLinked (after_fail index stamp s).body out n
+failed_linked index stamp s out n linked = still_linked s.body (after_fail index stamp s).body out n refl
+    (λ (fd : ℕ). kept_changed (failed_with stamp) index s.body.buffers fd (λ b d. refl)) linked
 
 module _ {P : Type 0} (A : Type 0) (m : P → Plane) where
-  pub complete_reacts : (index : ℕ) (stamp : Stamp) (bytes : Vec ℕ A) (result : Result (Unit {0}) Errno) (q q' : Lined P) (table : Fds P) → Happens m q q' (complete index stamp bytes.items (refusal_of result)) → Reacts m (event.Complete index stamp bytes) (answer.Ended result) q table q' table
+  pub complete_reacts : (index : ℕ) (stamp : Stamp) (bytes : Vec ℕ A) (result : Result (Unit {0}) Errno)
+      (q q' : Lined P) (table : Fds P) → Happens m q q' (complete index stamp bytes.items (refusal_of result))
+      → Reacts m (event.Complete index stamp bytes) (answer.Ended result) q table q' table
   complete_reacts index stamp bytes (Ok u) q q' table step j stands =
-      let t = step j.queue stands.queue in (t.0, moves m q q' table j (after_complete index stamp bytes.items j.queue) stands t.1 (completed_linked index stamp bytes.items j.queue j.out j.names stands.linked))
+      let t = step j.queue stands.queue in (
+        t.0,
+        moves m q q' table j (after_complete index stamp bytes.items j.queue) stands t.1
+            (completed_linked index stamp bytes.items j.queue j.out j.names stands.linked),
+      )
   complete_reacts index stamp bytes (Err e) q q' table step j stands = let t = step j.queue stands.queue in (t.0, stays m q q' table j stands t.1)
 
-  pub fail_reacts : (index : ℕ) (stamp : Stamp) (result : Result (Unit {0}) Errno) (q q' : Lined P) (table : Fds P) → Happens m q q' (fail index stamp (refusal_of result)) → Reacts {A = A} m (event.Fail index stamp) (answer.Ended result) q table q' table
+  pub fail_reacts : (index : ℕ) (stamp : Stamp) (result : Result (Unit {0}) Errno) (q q' : Lined P) (table : Fds P)
+      → Happens m q q' (fail index stamp (refusal_of result)) → Reacts {A = A} m (event.Fail index stamp)
+      (answer.Ended result) q table q' table
   fail_reacts index stamp (Ok u) q q' table step j stands =
-      let t = step j.queue stands.queue in (t.0, moves m q q' table j (after_fail index stamp j.queue) stands t.1 (failed_linked index stamp j.queue j.out j.names stands.linked))
+      let t = step j.queue stands.queue in (
+        t.0,
+        moves m q q' table j (after_fail index stamp j.queue) stands t.1
+            (failed_linked index stamp j.queue j.out j.names stands.linked),
+      )
   fail_reacts index stamp (Err e) q q' table step j stands = let t = step j.queue stands.queue in (t.0, stays m q q' table j stands t.1)
 
   pub fatal_reacts : (q q' : Lined P) (table : Fds P) → Happens m q q' fatal → Reacts {A = A} m event.Fatal answer.Fatal q table q' table
   fatal_reacts q q' table step j stands = let t = step j.queue stands.queue in (t.0, moves m q q' table j (fatal_state j.queue) stands t.1 stands.linked)
 
-pub whole_bytes : {P A : Type 0} (shape : Shape) (e : QueueEvent P A) (index : ℕ) (stamp : Stamp) (bytes : Vec ℕ A) → is_whole shape e ≡ true → e ≡ event.Complete index stamp bytes → length bytes.items ≡ frame_size shape
+pub whole_bytes : {P A : Type 0} (shape : Shape) (e : QueueEvent P A) (index : ℕ) (stamp : Stamp) (bytes : Vec ℕ A)
+    → is_whole shape e ≡ true → e ≡ event.Complete index stamp bytes → length bytes.items ≡ frame_size shape
 whole_bytes shape e index stamp bytes whole is = eqb-true (length bytes.items) (frame_size shape) (sym (ap (is_whole shape) is) ∙ whole)

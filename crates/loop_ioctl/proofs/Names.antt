@@ -35,15 +35,18 @@ else_last None b e = e
 else_last (Some r) b e = absurd (cc)
 
 module _ {T : Type 0} where
-  pub renamed_here : (fd : ℕ) (name : Option (Option T)) (before : Names T) (x : ℕ) → x ≡ fd → renamed fd name before x ≡ name
+  pub renamed_here : (fd : ℕ) (name : Option (Option T)) (before : Names T) (x : ℕ) → x ≡ fd
+      → renamed fd name before x ≡ name
   unfolding renamed
   renamed_here fd name before x e = ap (λ t. cond t name (before x)) (tested x fd e)
 
-  pub renamed_other : (fd : ℕ) (name : Option (Option T)) (before : Names T) (x : ℕ) → (x ≡ fd → ⊥) → renamed fd name before x ≡ before x
+  pub renamed_other : (fd : ℕ) (name : Option (Option T)) (before : Names T) (x : ℕ) → (x ≡ fd → ⊥)
+      → renamed fd name before x ≡ before x
   unfolding renamed
   renamed_other fd name before x e = ap (λ t. cond t name (before x)) (differ x fd e)
 
-  pub names_updated : (before after : Fds T) (fd : ℕ) (slot : Option (Option T)) → Updates before after fd slot → names_in after ≡ renamed fd slot (names_in before)
+  pub names_updated : (before after : Fds T) (fd : ℕ) (slot : Option (Option T)) → Updates before after fd slot
+      → names_in after ≡ renamed fd slot (names_in before)
   unfolding names_in
   names_updated before after fd slot u =
       ext (λ (x : ℕ). elim (cases_eq x fd) [
@@ -61,20 +64,26 @@ module _ {T : Type 0} where
 
   -- ---- one place
 
-  pub took_some : (due : Bool) (fd : ℕ) (value : T) (before after : Fds T) → due ≡ true → IsHere before fd value → Updates before after fd (Some None) → TakesPlace due fd (Ok (Some value)) before after
+  pub took_some : (due : Bool) (fd : ℕ) (value : T) (before after : Fds T) → due ≡ true → IsHere before fd value
+      → Updates before after fd (Some None) → TakesPlace due fd (Ok (Some value)) before after
   took_some due fd value before after d h u =
       let e : names_in before fd ≡ Some (Some value) = names_get before fd ∙ h in
       subst (λ t. TakesPlace t fd (Ok (Some value)) before after) (sym d) (ap fd_refusal e, sym (ap value_of e), names_updated before after fd (Some None) u)
 
-  fault_reason : (fault : FdFault) (name : Option (Option T)) → AttachFault fault name → fd_refusal name ≡ Some (reason_of fault)
+  fault_reason : (fault : FdFault) (name : Option (Option T)) → AttachFault fault name
+      → fd_refusal name ≡ Some (reason_of fault)
   fault_reason NoSuchFd name h = ap fd_refusal h
   fault_reason Attached name h = ap fd_refusal h
   fault_reason NotAttached name h = absurd h
   fault_reason NoMemory name h = absurd h
   fault_reason TableFull name h = absurd h
 
-  pub took_fails : (due : Bool) (fd : ℕ) (fault : FdFault) (before after : Fds T) → due ≡ true → AttachFault fault (names before fd) → after ≡ before → TakesPlace {T = T} due fd (Err (reason_of fault)) before after
-  took_fails due fd fault before after d h same = subst (λ t. TakesPlace {T = T} t fd (Err (reason_of fault)) before after) (sym d) (ap fd_refusal (names_get before fd) ∙ fault_reason fault (names before fd) h, same)
+  pub took_fails : (due : Bool) (fd : ℕ) (fault : FdFault) (before after : Fds T) → due ≡ true
+      → AttachFault fault (names before fd) → after ≡ before
+      → TakesPlace {T = T} due fd (Err (reason_of fault)) before after
+  took_fails due fd fault before after d h same =
+      subst (λ t. TakesPlace {T = T} t fd (Err (reason_of fault)) before after) (sym d)
+      (ap fd_refusal (names_get before fd) ∙ fault_reason fault (names before fd) h, same)
 
   not_away : (fault : FdFault) (name : Option (Option T)) → DetachFault fault name → name ≡ Some None → ⊥
   not_away NoSuchFd name h e = cc
@@ -83,12 +92,15 @@ module _ {T : Type 0} where
   not_away NoMemory name h e = h
   not_away TableFull name h e = h
 
-  pub gave : {U : Type 0} (fd : ℕ) (value : T) (before after : Fds T) (result : Result U (FdFault × T)) → OnOk result (Updates before after fd (Some (Some value))) → IfErr result (λ e. DetachFault e.0 (names before fd)) → GivesBack (value_with_fd fd (Some value)) before after
+  pub gave : {U : Type 0} (fd : ℕ) (value : T) (before after : Fds T) (result : Result U (FdFault × T))
+      → OnOk result (Updates before after fd (Some (Some value)))
+      → IfErr result (λ e. DetachFault e.0 (names before fd)) → GivesBack (value_with_fd fd (Some value)) before after
   gave fd value before after (Ok u) ok fault = λ _. names_updated before after fd (Some (Some value)) ok
   gave fd value before after (Err e) ok fault = λ away. absurd (not_away e.0 (names before fd) fault (sym (names_get before fd) ∙ away.0))
 
   -- a value that was taken, given back
-  restored : (fd : ℕ) (value : T) (before : Names T) → before fd ≡ Some (Some value) → renamed fd (Some (Some value)) (renamed fd (Some None) before) ≡ before
+  restored : (fd : ℕ) (value : T) (before : Names T) → before fd ≡ Some (Some value) → renamed fd (Some (Some value))
+      (renamed fd (Some None) before) ≡ before
   restored fd value before h =
       ext (λ (x : ℕ). elim (cases_eq x fd) [
         | inl e ↦ renamed_here fd (Some (Some value)) (renamed fd (Some None) before) x e ∙ sym (ap before e ∙ h)
@@ -100,27 +112,41 @@ module _ {T : Type 0} where
     away : AreAway vs after
     back : given_back vs after ≡ before
 
-  name_restored : (fd : ℕ) (before : Names T) (name : Option (Option T)) → before fd ≡ name → fd_refusal name ≡ None → IsRestored (value_with_fd fd (value_of name)) before (renamed fd (Some None) before)
+  name_restored : (fd : ℕ) (before : Names T) (name : Option (Option T)) → before fd ≡ name → fd_refusal name ≡ None
+      → IsRestored (value_with_fd fd (value_of name)) before (renamed fd (Some None) before)
   name_restored fd before None h e = absurd (cc)
   name_restored fd before (Some None) h e = absurd (cc)
   name_restored fd before (Some (Some value)) h e = record { away = (renamed_here fd (Some None) before fd refl, tt); back = restored fd value before h }
 
-  place_restored : (due : Bool) (fd : ℕ) (before : Names T) → place_refusal due fd before ≡ None → IsRestored (value_with_fd fd (place_value due fd before)) before (place_taken due fd before)
+  place_restored : (due : Bool) (fd : ℕ) (before : Names T) → place_refusal due fd before ≡ None
+      → IsRestored (value_with_fd fd (place_value due fd before)) before (place_taken due fd before)
   place_restored false fd before e = record { away = tt; back = refl }
   place_restored true fd before e = name_restored fd before (before fd) refl e
 
   -- a place taken, and given back from a table that names the same
-  pub undone : (due : Bool) (fd : ℕ) (place : Option T) (a b c d : Fds T) → TakesPlace due fd (Ok place) a b → names_in c ≡ names_in b → GivesBack (value_with_fd fd place) c d → names_in d ≡ names_in a
+  pub undone : (due : Bool) (fd : ℕ) (place : Option T) (a b c d : Fds T) → TakesPlace due fd (Ok place) a b
+      → names_in c ≡ names_in b → GivesBack (value_with_fd fd place) c d → names_in d ≡ names_in a
   undone due fd place a b c d took same gave =
-      let r : IsRestored (value_with_fd fd (place_value due fd (names_in a))) (names_in a) (place_taken due fd (names_in a)) = place_restored due fd (names_in a) took.0 in
+      let r : IsRestored (value_with_fd fd (place_value due fd (names_in a))) (names_in a)
+      (place_taken due fd (names_in a)) = place_restored due fd (names_in a) took.0 in
       let e : names_in c ≡ place_taken due fd (names_in a) = same ∙ took.2 in
       let away : AreAway (value_with_fd fd place) (names_in c) =
-      subst (λ p. AreAway (value_with_fd fd p) (names_in c)) (sym took.1) (subst (λ n. AreAway (value_with_fd fd (place_value due fd (names_in a))) n) (sym e) r.away) in
-      gave away ∙ (ap (λ n. given_back (value_with_fd fd place) n) e ∙ (ap (λ p. given_back (value_with_fd fd p) (place_taken due fd (names_in a))) took.1 ∙ r.back))
+      subst (λ p. AreAway (value_with_fd fd p) (names_in c)) (sym took.1)
+      (subst (λ n. AreAway (value_with_fd fd (place_value due fd (names_in a))) n) (sym e) r.away) in
+      gave away ∙ (ap (λ n. given_back (value_with_fd fd place) n) e
+      ∙ (ap (λ p. given_back (value_with_fd fd p) (place_taken due fd (names_in a))) took.1 ∙ r.back))
 
   -- ---- sets
 
-  pub set_took : (named : PlaneFds) (y cb cr : Option T) (a b c d : Fds T) → TakesPlace (nat_lt 0 named.count) (number_at named.fds 0) (Ok y) a b → TakesPlace (nat_lt 1 named.count) (number_at named.fds 1) (Ok cb) b c → TakesPlace (nat_lt 2 named.count) (number_at named.fds 2) (Ok cr) c d → TakesSet named (Ok (record { count = named.count; planes = record { y = y; cb = cb; cr = cr }; fds = named.fds })) a d
+  pub set_took : (named : PlaneFds) (y cb cr : Option T) (a b c d : Fds T) → TakesPlace (nat_lt 0 named.count)
+      (number_at named.fds 0) (Ok y) a b → TakesPlace (nat_lt 1 named.count) (number_at named.fds 1) (Ok cb) b c
+      → TakesPlace (nat_lt 2 named.count) (number_at named.fds 2) (Ok cr) c d
+      → TakesSet named (Ok (record {
+        count = named.count;
+        planes = record { y = y; cb = cb; cr = cr };
+        fds =
+            named.fds;
+      })) a d
   set_took named y cb cr a b c d first second third =
       let d1 = nat_lt 1 named.count in
       let d2 = nat_lt 2 named.count in
@@ -140,15 +166,20 @@ module _ {T : Type 0} where
         third.2 ∙ ap (place_taken d2 f2) e2,
       )
 
-  pub set_fails_first : (named : PlaneFds) (reason : Reason) (a b : Fds T) → TakesPlace {T = T} (nat_lt 0 named.count) (number_at named.fds 0) (Err reason) a b → TakesSet {T = T} named (Err reason) a b
+  pub set_fails_first : (named : PlaneFds) (reason : Reason) (a b : Fds T) → TakesPlace {T = T} (nat_lt 0 named.count)
+      (number_at named.fds 0) (Err reason) a b → TakesSet {T = T} named (Err reason) a b
   set_fails_first named reason a b first =
       let n1 = first_taken named (names_in a) in
       let n2 = second_taken named (names_in a) in (
-        ap (λ x. or_else x (or_else (place_refusal (nat_lt 1 named.count) (number_at named.fds 1) n1) (place_refusal (nat_lt 2 named.count) (number_at named.fds 2) n2))) first.0,
+        ap (λ x. or_else x (or_else (place_refusal (nat_lt 1 named.count) (number_at named.fds 1) n1)
+            (place_refusal (nat_lt 2 named.count) (number_at named.fds 2) n2))) first.0,
         same_values a b (ap names_in first.1),
       )
 
-  pub set_fails_second : (named : PlaneFds) (reason : Reason) (y : Option T) (a b c d : Fds T) → TakesPlace (nat_lt 0 named.count) (number_at named.fds 0) (Ok y) a b → TakesPlace {T = T} (nat_lt 1 named.count) (number_at named.fds 1) (Err reason) b c → GivesBack (value_with_fd (number_at named.fds 0) y) c d → TakesSet {T = T} named (Err reason) a d
+  pub set_fails_second : (named : PlaneFds) (reason : Reason) (y : Option T) (a b c d : Fds T)
+      → TakesPlace (nat_lt 0 named.count) (number_at named.fds 0) (Ok y) a b
+      → TakesPlace {T = T} (nat_lt 1 named.count) (number_at named.fds 1) (Err reason) b c
+      → GivesBack (value_with_fd (number_at named.fds 0) y) c d → TakesSet {T = T} named (Err reason) a d
   set_fails_second named reason y a b c d first second gave =
       let d1 = nat_lt 1 named.count in
       let f1 = number_at named.fds 1 in
@@ -158,7 +189,11 @@ module _ {T : Type 0} where
         same_values a d (undone (nat_lt 0 named.count) (number_at named.fds 0) y a b c d first (ap names_in second.1) gave),
       )
 
-  pub set_fails_third : (named : PlaneFds) (reason : Reason) (y cb : Option T) (a b c d e f : Fds T) → TakesPlace (nat_lt 0 named.count) (number_at named.fds 0) (Ok y) a b → TakesPlace (nat_lt 1 named.count) (number_at named.fds 1) (Ok cb) b c → TakesPlace {T = T} (nat_lt 2 named.count) (number_at named.fds 2) (Err reason) c d → GivesBack (value_with_fd (number_at named.fds 1) cb) d e → GivesBack (value_with_fd (number_at named.fds 0) y) e f → TakesSet {T = T} named (Err reason) a f
+  pub set_fails_third : (named : PlaneFds) (reason : Reason) (y cb : Option T) (a b c d e f : Fds T)
+      → TakesPlace (nat_lt 0 named.count) (number_at named.fds 0) (Ok y) a b → TakesPlace (nat_lt 1 named.count)
+      (number_at named.fds 1) (Ok cb) b c → TakesPlace {T = T} (nat_lt 2 named.count) (number_at named.fds 2)
+      (Err reason) c d → GivesBack (value_with_fd (number_at named.fds 1) cb) d e
+      → GivesBack (value_with_fd (number_at named.fds 0) y) e f → TakesSet {T = T} named (Err reason) a f
   set_fails_third named reason y cb a b c d e f first second third gave more =
       let d1 = nat_lt 1 named.count in
       let f1 = number_at named.fds 1 in
@@ -169,12 +204,14 @@ module _ {T : Type 0} where
         ap (λ x. or_else x (or_else (place_refusal d1 f1 (first_taken named (names_in a))) last)) first.0
             ∙ (ap (λ x. or_else x last) (sym (ap (place_refusal d1 f1) first.2) ∙ second.0)
             ∙ (sym (ap (place_refusal d2 f2) e2) ∙ third.0)),
-        same_values a f (undone (nat_lt 0 named.count) (number_at named.fds 0) y a b e f first (undone d1 f1 cb b c d e second (ap names_in third.1) gave) more),
+        same_values a f (undone (nat_lt 0 named.count) (number_at named.fds 0) y a b e f first
+            (undone d1 f1 cb b c d e second (ap names_in third.1) gave) more),
       )
 
   -- ---- values given back
 
-  pub back_joined : (vs ws : List (ℕ × T)) (before : Names T) → given_back (vs ++ ws) before ≡ given_back ws (given_back vs before)
+  pub back_joined : (vs ws : List (ℕ × T)) (before : Names T) → given_back (vs ++ ws) before ≡ given_back ws
+      (given_back vs before)
   back_joined [] ws before = refl
   back_joined (v ∷ vs) ws before = back_joined vs ws (renamed v.0 (Some (Some v.1)) before)
 
@@ -182,35 +219,46 @@ module _ {T : Type 0} where
   away_first [] ws before h = tt
   away_first (v ∷ vs) ws before h = (h.0, away_first vs ws (renamed v.0 (Some (Some v.1)) before) h.1)
 
-  away_second : (vs ws : List (ℕ × T)) (before : Names T) → AreAway (vs ++ ws) before → AreAway ws (given_back vs before)
+  away_second : (vs ws : List (ℕ × T)) (before : Names T) → AreAway (vs ++ ws) before
+      → AreAway ws (given_back vs before)
   away_second [] ws before h = h
   away_second (v ∷ vs) ws before h = away_second vs ws (renamed v.0 (Some (Some v.1)) before) h.1
 
-  pub gives_joined : (vs ws : List (ℕ × T)) (a b c : Fds T) → GivesBack vs a b → GivesBack ws b c → GivesBack (vs ++ ws) a c
+  pub gives_joined : (vs ws : List (ℕ × T)) (a b c : Fds T) → GivesBack vs a b → GivesBack ws b c
+      → GivesBack (vs ++ ws) a c
   gives_joined vs ws a b c first second =
       λ (away : AreAway (vs ++ ws) (names_in a)).
       let e : names_in b ≡ given_back vs (names_in a) = first (away_first vs ws (names_in a) away) in
       let rest : AreAway ws (names_in b) = subst (λ n. AreAway ws n) (sym e) (away_second vs ws (names_in a) away) in
       second rest ∙ (ap (given_back ws) e ∙ sym (back_joined vs ws (names_in a)))
 
-  pub set_gave : (set : PlaneSet T) (a b c d : Fds T) → GivesBack (value_with_fd (number_at set.fds 2) set.planes.cr) a b → GivesBack (value_with_fd (number_at set.fds 1) set.planes.cb) b c → GivesBack (value_with_fd (number_at set.fds 0) set.planes.y) c d → GivesBack (values_in set) a d
+  pub set_gave : (set : PlaneSet T) (a b c d : Fds T) → GivesBack (value_with_fd (number_at set.fds 2) set.planes.cr)
+      a b → GivesBack (value_with_fd (number_at set.fds 1) set.planes.cb) b c
+      → GivesBack (value_with_fd (number_at set.fds 0) set.planes.y) c d → GivesBack (values_in set) a d
   set_gave set a b c d first second third =
-      gives_joined (value_with_fd (number_at set.fds 2) set.planes.cr) (value_with_fd (number_at set.fds 1) set.planes.cb ++ value_with_fd (number_at set.fds 0) set.planes.y) a b d first
+      gives_joined (value_with_fd (number_at set.fds 2) set.planes.cr)
+      (value_with_fd (number_at set.fds 1) set.planes.cb ++ value_with_fd (number_at set.fds 0) set.planes.y) a b
+      d first
       (gives_joined (value_with_fd (number_at set.fds 1) set.planes.cb) (value_with_fd (number_at set.fds 0) set.planes.y) b c d second third)
 
   -- ---- a set that was taken, given back
 
-  away_joined : (vs ws : List (ℕ × T)) (before : Names T) → AreAway vs before → AreAway ws (given_back vs before) → AreAway (vs ++ ws) before
+  away_joined : (vs ws : List (ℕ × T)) (before : Names T) → AreAway vs before → AreAway ws (given_back vs before)
+      → AreAway (vs ++ ws) before
   away_joined [] ws before first second = second
   away_joined (v ∷ vs) ws before first second = (first.0, away_joined vs ws (renamed v.0 (Some (Some v.1)) before) first.1 second)
 
-  both_restored : (vs ws : List (ℕ × T)) (before middle after : Names T) → IsRestored vs middle after → IsRestored ws before middle → IsRestored (vs ++ ws) before after
+  both_restored : (vs ws : List (ℕ × T)) (before middle after : Names T) → IsRestored vs middle after
+      → IsRestored ws before middle → IsRestored (vs ++ ws) before after
   both_restored vs ws before middle after last first = record {
     away = away_joined vs ws after last.away (subst (λ n. AreAway ws n) (sym last.back) first.away);
     back = back_joined vs ws after ∙ (ap (given_back ws) last.back ∙ first.back);
   }
 
-  pub set_passed : (named : PlaneFds) (before : Names T) → set_refusal named before ≡ None → (place_refusal (nat_lt 0 named.count) (number_at named.fds 0) before ≡ None) × (place_refusal (nat_lt 1 named.count) (number_at named.fds 1) (first_taken named before) ≡ None) × (place_refusal (nat_lt 2 named.count) (number_at named.fds 2) (second_taken named before) ≡ None)
+  pub set_passed : (named : PlaneFds) (before : Names T) → set_refusal named before ≡ None
+      → (place_refusal (nat_lt 0 named.count) (number_at named.fds 0) before ≡ None)
+      × (place_refusal (nat_lt 1 named.count) (number_at named.fds 1) (first_taken named before) ≡ None)
+      × (place_refusal (nat_lt 2 named.count) (number_at named.fds 2) (second_taken named before) ≡ None)
   set_passed named before e =
       let a = place_refusal (nat_lt 0 named.count) (number_at named.fds 0) before in
       let b = place_refusal (nat_lt 1 named.count) (number_at named.fds 1) (first_taken named before) in
@@ -218,7 +266,8 @@ module _ {T : Type 0} where
       let rest : or_else b c ≡ None = else_last a (or_else b c) e in
       (else_first a (or_else b c) e, else_first b c rest, else_last b c rest)
 
-  set_restored : (named : PlaneFds) (before : Names T) → set_refusal named before ≡ None → IsRestored (values_in (set_named named before)) before (set_taken named before)
+  set_restored : (named : PlaneFds) (before : Names T) → set_refusal named before ≡ None
+      → IsRestored (values_in (set_named named before)) before (set_taken named before)
   set_restored named before e =
       let p = set_passed named before e in
       let n1 = first_taken named before in
@@ -227,9 +276,11 @@ module _ {T : Type 0} where
       let v1 = value_with_fd (number_at named.fds 1) (place_value (nat_lt 1 named.count) (number_at named.fds 1) n1) in
       let v2 = value_with_fd (number_at named.fds 2) (place_value (nat_lt 2 named.count) (number_at named.fds 2) n2) in
       both_restored v2 (v1 ++ v0) before n2 (set_taken named before) (place_restored (nat_lt 2 named.count) (number_at named.fds 2) n2 p.2)
-      (both_restored v1 v0 before n1 n2 (place_restored (nat_lt 1 named.count) (number_at named.fds 1) n1 p.1) (place_restored (nat_lt 0 named.count) (number_at named.fds 0) before p.0))
+      (both_restored v1 v0 before n1 n2 (place_restored (nat_lt 1 named.count) (number_at named.fds 1) n1 p.1)
+      (place_restored (nat_lt 0 named.count) (number_at named.fds 0) before p.0))
 
-  pub set_undone : (named : PlaneFds) (set : PlaneSet T) (a b c : Fds T) → TakesSet named (Ok set) a b → GivesBack (values_in set) b c → names_in c ≡ names_in a
+  pub set_undone : (named : PlaneFds) (set : PlaneSet T) (a b c : Fds T) → TakesSet named (Ok set) a b
+      → GivesBack (values_in set) b c → names_in c ≡ names_in a
   set_undone named set a b c took gave =
       let r : IsRestored (values_in (set_named named (names_in a))) (names_in a) (set_taken named (names_in a)) = set_restored named (names_in a) took.0 in
       let away : AreAway (values_in set) (names_in b) =

@@ -25,7 +25,8 @@ pub nothing_left : {X : Type 0} (l : List X) → length l ≡ 0 → l ≡ []
 nothing_left [] h = refl
 nothing_left (x ∷ xs) h = absurd (omega arith)
 
-pub turns-behind : {P A : Type 0} (es fs : List (QueueEvent P A)) (rs ss : List (QueueReply P A)) → length rs ≡ length es → turns (es ++ fs) (rs ++ ss) ≡ turns es rs ++ turns fs ss
+pub turns-behind : {P A : Type 0} (es fs : List (QueueEvent P A)) (rs ss : List (QueueReply P A))
+    → length rs ≡ length es → turns (es ++ fs) (rs ++ ss) ≡ turns es rs ++ turns fs ss
 turns-behind [] fs [] ss e = refl
 turns-behind [] fs (r ∷ rs) ss e = absurd (omega arith)
 turns-behind (x ∷ es) fs [] ss e = absurd (omega arith)
@@ -42,10 +43,14 @@ module _ {P A : Type 0} where
   pub runs_none : (m : P → Plane) (q : Lined P) (t : Fds P) → Runs {P = P} {A = A} m [] [] q t q t
   runs_none m q t = record { count = refl; told = plays-none (ioctl_machine {A = A} m) (StandsIoctl m q t) }
 
-  runs_one : (m : P → Plane) (e : QueueEvent P A) (r : QueueReply P A) (q q' : Lined P) (t t' : Fds P) → Reacts m e r q t q' t' → Runs m (e ∷ []) (r ∷ []) q t q' t'
+  runs_one : (m : P → Plane) (e : QueueEvent P A) (r : QueueReply P A) (q q' : Lined P) (t t' : Fds P)
+      → Reacts m e r q t q' t' → Runs m (e ∷ []) (r ∷ []) q t q' t'
   runs_one m e r q q' t t' reacts = record { count = refl; told = plays-once (ioctl_machine m) (StandsIoctl m q t) (StandsIoctl m q' t') (e, r) reacts }
 
   -- one event more
-  pub runs_more : (m : P → Plane) (es : List (QueueEvent P A)) (e : QueueEvent P A) (rs more : List (QueueReply P A)) (r : QueueReply P A) (q q' q'' : Lined P) (t t' t'' : Fds P) → more ≡ rs ++ r ∷ [] → Runs m es rs q t q' t' → Reacts m e r q' t' q'' t'' → Runs m (es ++ e ∷ []) more q t q'' t''
+  pub runs_more : (m : P → Plane) (es : List (QueueEvent P A)) (e : QueueEvent P A) (rs more : List (QueueReply P A))
+      (r : QueueReply P A) (q q' q'' : Lined P) (t t' t'' : Fds P) → more ≡ rs ++ r ∷ [] → Runs m es rs q t q' t'
+      → Reacts m e r q' t' q'' t'' → Runs m (es ++ e ∷ []) more q t q'' t''
   runs_more m es e rs more r q q' q'' t t' t'' pushed first reacts =
-      subst (λ l. Runs m (es ++ e ∷ []) l q t q'' t'') (sym pushed) (runs_join A m es (e ∷ []) rs (r ∷ []) q q' q'' t t' t'' first (runs_one m e r q' q'' t' t'' reacts))
+      subst (λ l. Runs m (es ++ e ∷ []) l q t q'' t'') (sym pushed)
+      (runs_join A m es (e ∷ []) rs (r ∷ []) q q' q'' t t' t'' first (runs_one m e r q' q'' t' t'' reacts))

@@ -9,7 +9,8 @@ use Rattle.loop_overlay.specs.Sound.{length-laid_on}
 use Rattle.loop_overlay.specs.Parts.{IsBufferOf}
 
 -- a byte before the write
-laid_before : (image : List ℕ) (w : KeptWrite) (i : ℕ) → i < length image → i < w.at → get_or (laid_on image w) i 0 ≡ get_or image i 0
+laid_before : (image : List ℕ) (w : KeptWrite) (i : ℕ) → i < length image → i < w.at
+    → get_or (laid_on image w) i 0 ≡ get_or image i 0
 laid_before image w i within before =
     let front : length (take w.at image) ≡ min w.at (length image) = length-take w.at image in
     get_or-take (length image) (with_bytes_at w.at w.bytes image) i 0 within
@@ -18,20 +19,23 @@ laid_before image w i within before =
     ∙ get_or-take w.at image i 0 before
 
 -- a byte of the write
-laid_there : (image : List ℕ) (w : KeptWrite) (i : ℕ) → i < length image → w.at ≤ i → i < w.at + length w.bytes → get_or (laid_on image w) i 0 ≡ get_or w.bytes (i - w.at) 0
+laid_there : (image : List ℕ) (w : KeptWrite) (i : ℕ) → i < length image → w.at ≤ i → i < w.at + length w.bytes
+    → get_or (laid_on image w) i 0 ≡ get_or w.bytes (i - w.at) 0
 laid_there image w i within from to =
     get_or-take (length image) (with_bytes_at w.at w.bytes image) i 0 within
     ∙ ap (λ (k : ℕ). get_or (with_bytes_at w.at w.bytes image) k 0) (omega (arith, from))
     ∙ get_or-written_there w.at w.bytes image (i - w.at) (omega (arith, within, from)) (omega (arith, from, to))
 
 -- a byte behind the write
-laid_behind : (image : List ℕ) (w : KeptWrite) (i : ℕ) → i < length image → w.at + length w.bytes ≤ i → get_or (laid_on image w) i 0 ≡ get_or image i 0
+laid_behind : (image : List ℕ) (w : KeptWrite) (i : ℕ) → i < length image → w.at + length w.bytes ≤ i
+    → get_or (laid_on image w) i 0 ≡ get_or image i 0
 laid_behind image w i within behind =
     get_or-take (length image) (with_bytes_at w.at w.bytes image) i 0 within
     ∙ get_or-written_behind w.at w.bytes image i (omega (arith, within, behind)) behind
 
 -- a byte from `at` on, where the write has none from there on
-laid_beyond : (at : ℕ) (image : List ℕ) (w : KeptWrite) (i : ℕ) → i < length image → at ≤ i → length w.bytes ≤ at - w.at → get_or (laid_on image w) i 0 ≡ get_or image i 0
+laid_beyond : (at : ℕ) (image : List ℕ) (w : KeptWrite) (i : ℕ) → i < length image → at ≤ i
+    → length w.bytes ≤ at - w.at → get_or (laid_on image w) i 0 ≡ get_or image i 0
 laid_beyond at image w i within low behind = ⊎_elim
     (λ (before : i < w.at). laid_before image w i within before)
     (λ (past : w.at ≤ i). laid_behind image w i within (omega (arith, past, low, behind)))
@@ -50,7 +54,8 @@ part_outside at to from image buf w to_is from_is outside part =
     }
 
 -- the bytes that the write has in the part, written over it
-pub part_laid : (at to from count : ℕ) (image buf : List ℕ) (w : KeptWrite) → to ≡ w.at - at → from ≡ at - w.at → count ≡ min (length buf - to) (length w.bytes - from)
+pub part_laid : (at to from count : ℕ) (image buf : List ℕ) (w : KeptWrite) → to ≡ w.at - at → from ≡ at - w.at
+    → count ≡ min (length buf - to) (length w.bytes - from)
     → to < length buf → from < length w.bytes → IsBufferOf at image buf → IsBufferOf at (laid_on image w) (with_bytes_at to (piece from count w.bytes) buf)
 part_laid at to from count image buf w to_is from_is count_is inside has part =
     let laid_bytes = piece from count w.bytes in

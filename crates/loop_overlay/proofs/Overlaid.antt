@@ -12,7 +12,8 @@ use Rattle.loop_overlay.specs.Layers.{KeptWrite, laid, laid_on, overlaid}
 use Rattle.loop_overlay.specs.Sound.{length-laid}
 
 -- one write more
-pub laid_more : (writes : List KeptWrite) (w : KeptWrite) (image : List ℕ) → laid (writes ++ w ∷ []) image ≡ laid_on (laid writes image) w
+pub laid_more : (writes : List KeptWrite) (w : KeptWrite) (image : List ℕ) → laid (writes ++ w ∷ []) image ≡ laid_on
+    (laid writes image) w
 laid_more writes w image = fold-append laid_on image writes (w ∷ [])
 
 -- one that fits
@@ -21,19 +22,23 @@ laid_fits : (writes : List KeptWrite) (w : KeptWrite) (image : List ℕ) → w.a
 laid_fits writes w image fits =
     let size = length-laid writes image in
     laid_more writes w image
-    ∙ take_all (length (laid writes image)) (with_bytes_at w.at w.bytes (laid writes image)) (omega (arith, length-written w.at w.bytes (laid writes image) (omega (arith, fits, size))))
+    ∙ take_all (length (laid writes image)) (with_bytes_at w.at w.bytes (laid writes image))
+    (omega (arith, length-written w.at w.bytes (laid writes image) (omega (arith, fits, size))))
 
-torn_now : (m : Medium) (writes : List KeptWrite) (f : Failures) (at n : ℕ) (c : List ℕ) → SameOutside at n (laid writes m.bytes) c → TornAt at n (overlaid m writes f) c
+torn_now : (m : Medium) (writes : List KeptWrite) (f : Failures) (at n : ℕ) (c : List ℕ)
+    → SameOutside at n (laid writes m.bytes) c → TornAt at n (overlaid m writes f) c
 torn_now m writes f at n c outside = (laid writes m.bytes, refl, outside)
 
 -- a write that is kept
-pub kept_write : (m : Medium) (writes : List KeptWrite) (f : Failures) (w : KeptWrite) → w.at + length w.bytes ≤ length m.bytes
+pub kept_write : (m : Medium) (writes : List KeptWrite) (f : Failures) (w : KeptWrite)
+    → w.at + length w.bytes ≤ length m.bytes
     → Writes {T = Unit {0}} w.at w.bytes (overlaid m writes f) (overlaid m (writes ++ w ∷ []) f) (Ok tt)
 kept_write m writes f w fits =
     let now = laid writes m.bytes in
     let n = length w.bytes in
     let done : laid (writes ++ w ∷ []) m.bytes ≡ with_bytes_at w.at w.bytes now = laid_fits writes w m.bytes fits in
-    let outside : SameOutside w.at n now (with_bytes_at w.at w.bytes now) = written_outside w.at w.bytes now (omega (arith, fits, length-laid writes m.bytes)) in
+    let outside : SameOutside w.at n now (with_bytes_at w.at w.bytes now) = written_outside w.at w.bytes now
+    (omega (arith, fits, length-laid writes m.bytes)) in
     let torn : (c : List ℕ) → c ≡ laid (writes ++ w ∷ []) m.bytes → TornAt w.at n (overlaid m writes f) c =
     λ c left. torn_now m writes f w.at n c (subst (λ (l : List ℕ). SameOutside w.at n now l) (sym (left ∙ done)) outside) in
     let longer : length (writes ++ w ∷ []) ≡ length writes + 1 = length-append writes (w ∷ []) in
@@ -45,7 +50,9 @@ kept_write m writes f w fits =
       time = record {
         later = omega (arith, longer);
         nothing_else = λ t c le left. ⊎_elim
-            (λ (new : length writes < left.0). inr (torn c (left.3 ∙ ap (λ (ws : List KeptWrite). laid ws m.bytes) (take_all left.0 (writes ++ w ∷ []) (omega (arith, new, longer))))))
+            (λ (new : length writes < left.0). inr
+            (torn c (left.3 ∙ ap (λ (ws : List KeptWrite). laid ws m.bytes)
+            (take_all left.0 (writes ++ w ∷ []) (omega (arith, new, longer))))))
             (λ (old : left.0 ≤ length writes). inl (left.0, left.1, old, left.3 ∙ before left.0 old))
             (cases_lt (length writes) left.0);
       };
@@ -58,19 +65,28 @@ pub refused_write : (m : Medium) (writes : List KeptWrite) (f g : Failures) (at 
 refused_write m writes f g at bytes e = record {
   done = tt;
   elsewhere = untouched at (length bytes) (laid writes m.bytes);
-  images = λ c left. torn_now m writes f at (length bytes) c (subst (λ (l : List ℕ). SameOutside at (length bytes) (laid writes m.bytes) l) (sym left) (untouched at (length bytes) (laid writes m.bytes)));
+  images = λ c left. torn_now m writes f at (length bytes) c
+      (subst (λ (l : List ℕ). SameOutside at (length bytes) (laid writes m.bytes) l) (sym left)
+      (untouched at (length bytes) (laid writes m.bytes)));
   time = record { later = omega arith; nothing_else = λ t c le left. inl left };
   keeps = λ t c le left. left;
 }
 
 pub synced : (m : Medium) (writes : List KeptWrite) (f : Failures) → Syncs {T = Unit {0}} (overlaid m writes f) (overlaid m writes f) (Ok tt)
 synced m writes f = record {
-  stays = record { bytes = refl; images = λ c left. left; time = record { later = omega arith; nothing_else = λ t c le left. inl left }; keeps = λ t c le left. left };
+  stays = record {
+    bytes = refl;
+    images = λ c left. left;
+    time =
+        record { later = omega arith; nothing_else = λ t c le left. inl left };
+    keeps = λ t c le left. left;
+  };
   settled = λ c left. left;
 }
 
 -- a read of the disk beneath
-pub looked : (old new : Medium) (writes : List KeptWrite) (f g : Failures) → Stays old new → Stays (overlaid old writes f) (overlaid new writes g)
+pub looked : (old new : Medium) (writes : List KeptWrite) (f g : Failures) → Stays old new
+    → Stays (overlaid old writes f) (overlaid new writes g)
 looked old new writes f g stays =
     let same : (ws : List KeptWrite) → laid ws new.bytes ≡ laid ws old.bytes = λ ws. ap (λ (l : List ℕ). laid ws l) stays.bytes in record {
       bytes = same writes;
@@ -80,7 +96,8 @@ looked old new writes f g stays =
     }
 
 -- the next write of some
-pub laid_next : (writes : List KeptWrite) (i : ℕ) (w : KeptWrite) (image : List ℕ) → i < length writes → w ≡ get_or writes i w
+pub laid_next : (writes : List KeptWrite) (i : ℕ) (w : KeptWrite) (image : List ℕ) → i < length writes
+    → w ≡ get_or writes i w
     → laid (take (i + 1) writes) image ≡ laid_on (laid (take i writes) image) w
 laid_next writes i w image within is =
     ap (λ (ws : List KeptWrite). laid ws image) (take_more writes i w within ∙ ap (λ (v : KeptWrite). take i writes ++ v ∷ []) (sym is))

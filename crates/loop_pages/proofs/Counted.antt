@@ -24,20 +24,25 @@ finds (p ∷ ps) page some_time = dite (ℕ_discrete page p)
     (λ not. let none_here = one_other page p not in let r = finds ps page (omega arith) in (suc r.0, omega arith, r.2))
 
 -- a view that lists the page adds to the count
-listed_by : (views : List Holding) (seat : ℕ) (v : Holding) (page : ℕ) → get_elem? views seat ≡ some v → times page v.pages ≤ times_listed page views
+listed_by : (views : List Holding) (seat : ℕ) (v : Holding) (page : ℕ) → get_elem? views seat ≡ some v
+    → times page v.pages ≤ times_listed page views
 listed_by [] seat v page at = absurd (some-ne-none v (sym at))
-listed_by (x ∷ xs) zero v page at = let is : times page x.pages ≡ times page v.pages = ap (λ (u : Holding). times page u.pages) (some-injective x v at) in omega arith
+listed_by (x ∷ xs) zero v page at = let is : times page x.pages ≡ times page v.pages =
+    ap (λ (u : Holding). times page u.pages) (some-injective x v at) in omega arith
 listed_by (x ∷ xs) (suc seat) v page at = let r = listed_by xs seat v page at in omega arith
 
 -- two views that list it add both
-both_listed : (views : List Holding) (seat other : ℕ) (v w : Holding) (page : ℕ) → get_elem? views seat ≡ some v → get_elem? views other ≡ some w → other ≢ seat
+both_listed : (views : List Holding) (seat other : ℕ) (v w : Holding) (page : ℕ) → get_elem? views seat ≡ some v
+    → get_elem? views other ≡ some w → other ≢ seat
     → times page v.pages + times page w.pages ≤ times_listed page views
 both_listed [] seat other v w page at there apart = absurd (some-ne-none v (sym at))
 both_listed (x ∷ xs) zero zero v w page at there apart = absurd (apart refl)
 both_listed (x ∷ xs) zero (suc other) v w page at there apart =
-    let is : times page x.pages ≡ times page v.pages = ap (λ (u : Holding). times page u.pages) (some-injective x v at) in let r = listed_by xs other w page there in omega arith
+    let is : times page x.pages ≡ times page v.pages = ap (λ (u : Holding). times page u.pages)
+    (some-injective x v at) in let r = listed_by xs other w page there in omega arith
 both_listed (x ∷ xs) (suc seat) zero v w page at there apart =
-    let is : times page x.pages ≡ times page w.pages = ap (λ (u : Holding). times page u.pages) (some-injective x w there) in let r = listed_by xs seat v page at in omega arith
+    let is : times page x.pages ≡ times page w.pages = ap (λ (u : Holding). times page u.pages)
+    (some-injective x w there) in let r = listed_by xs seat v page at in omega arith
 both_listed (x ∷ xs) (suc seat) (suc other) v w page at there apart = let r = both_listed xs seat other v w page at there (λ e. apart (ap suc e)) in omega arith
 
 -- where the count is not 0, some view lists the page
@@ -47,14 +52,19 @@ holder (x ∷ xs) page some_time = dite (ℕ_discrete (times page x.pages) 0)
     (λ not. let r = holder xs page (omega arith) in (suc r.0, r.1))
     (λ here. (zero, (x, refl, finds x.pages page (omega arith))))
 
-only : (views : List Holding) (page seat other : ℕ) → times_listed page views ≤ 1 → ListsPage views seat page → ListsPage views other page → Dec (other ≡ seat) → other ≡ seat
+only : (views : List Holding) (page seat other : ℕ) → times_listed page views ≤ 1 → ListsPage views seat page
+    → ListsPage views other page → Dec (other ≡ seat) → other ≡ seat
 only views page seat other once here there (yes same) = same
 only views page seat other once (v, at, has) (w, at', has') (no apart) =
     let sum = both_listed views seat other v w page at at' apart in let a = counts v.pages page has in let b = counts w.pages page has' in absurd (omega arith)
 
 pub one_holder : (count : ℕ) (s : State (Unit {0}) Holding) → IsLedgerKept count s → OneHolder s
 one_holder count s kept page = let is = kept.counted page in let once = kept.once page in dite (ℕ_discrete (times_listed page s.views) 0)
-    (λ not. inr (is ∙ not, λ seat lists. let a = listed_by s.views seat lists.0 page lists.1 in let b = counts lists.0.pages page lists.2 in absurd (omega arith)))
+    (λ not. inr (
+      is ∙ not,
+      λ seat lists. let a = listed_by s.views seat lists.0 page lists.1 in let b =
+          counts lists.0.pages page lists.2 in absurd (omega arith),
+    ))
     (λ some_time.
     let one_time : times_listed page s.views ≡ 1 = omega arith in
     let h = holder s.views page (omega arith) in

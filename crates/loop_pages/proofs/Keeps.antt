@@ -37,14 +37,16 @@ pub split_keeps : (count id : ℕ) (v : Holding) → Splits (IsLedgerKept count)
 split_keeps count id v s kept at =
     let empty : Holding = holding [] [] [] in
     let same : set s.views id v ++ empty ∷ [] ≡ s.views ++ empty ∷ [] = ap (λ (vs : List Holding). vs ++ empty ∷ []) (set_again s.views id v at) in
-    let as_before : (page : ℕ) → times_listed page (set s.views id v ++ empty ∷ []) ≡ times_listed page s.views = λ page. ap (times_listed page) same ∙ listed-append page s.views in record {
+    let as_before : (page : ℕ) → times_listed page (set s.views id v ++ empty ∷ []) ≡ times_listed page s.views =
+    λ page. ap (times_listed page) same ∙ listed-append page s.views in record {
       size = kept.size;
       counted = λ page. kept.counted page ∙ sym (as_before page);
       once = λ page. let e = as_before page in let o = kept.once page in omega arith;
     }
 
 -- the word of a free page becomes 1, and the view gains the page
-won : (count id : ℕ) (me : Me (Unit {0}) Holding) (page : ℕ) (missed tried : List ℕ) (s : State (Unit {0}) Holding) → page < count → IsLedgerKept count s → get_elem? s.views id ≡ some me.0
+won : (count id : ℕ) (me : Me (Unit {0}) Holding) (page : ℕ) (missed tried : List ℕ) (s : State (Unit {0}) Holding)
+    → page < count → IsLedgerKept count s → get_elem? s.views id ≡ some me.0
     → get_or s.words page 0 ≡ 0 → IsLedgerKept count (stepped s page 1 id me.1 (holding (me.0.pages ++ page ∷ []) missed tried) keeps)
 won count id me page missed tried s within kept at free =
     let w : Holding = holding (me.0.pages ++ page ∷ []) missed tried in
@@ -58,11 +60,13 @@ won count id me page missed tried s within kept at free =
     let none_more = one_other other page not in omega arith)
 
 -- the word of a held page stays, and the view holds what it held
-lost : (count id : ℕ) (me : Me (Unit {0}) Holding) (page : ℕ) (missed tried : List ℕ) (s : State (Unit {0}) Holding) → page < count → IsLedgerKept count s → get_elem? s.views id ≡ some me.0
+lost : (count id : ℕ) (me : Me (Unit {0}) Holding) (page : ℕ) (missed tried : List ℕ) (s : State (Unit {0}) Holding)
+    → page < count → IsLedgerKept count s → get_elem? s.views id ≡ some me.0
     → IsLedgerKept count (stepped s page (get_or s.words page 0) id me.1 (holding me.0.pages missed tried) keeps)
 lost count id me page missed tried s within kept at =
     let w : Holding = holding me.0.pages missed tried in
-    let as_before : (other : ℕ) → times_listed other (set s.views id w) ≡ times_listed other s.views = λ other. let sum = listed-set other s.views id me.0 w at in omega arith in
+    let as_before : (other : ℕ) → times_listed other (set s.views id w) ≡ times_listed other s.views =
+    λ other. let sum = listed-set other s.views id me.0 w at in omega arith in
     let was = kept.counted page in
     let here = as_before page in
     let most = kept.once page in
@@ -81,19 +85,22 @@ try_keeps count slots id me page within s kept _ at _ =
       w,
       keeps,
       tt,
-      subst (λ b. IsLedgerKept count (stepped s page (either b 1 n) id me.1 w keeps)) (sym (eq-eqb n 0 free)) (won count id me page before tried s within kept at free),
+      subst (λ b. IsLedgerKept count (stepped s page (either b 1 n) id me.1 w keeps)) (sym (eq-eqb n 0 free))
+          (won count id me page before tried s within kept at free),
       subst (λ b. MatchBool b (w ≡ w) (w ≡ l)) (sym (eq-eqb n 0 free)) refl,
     ))
     (λ held. (
       l,
       keeps,
       tt,
-      subst (λ b. IsLedgerKept count (stepped s page (either b 1 n) id me.1 l keeps)) (sym (ne_eqb n 0 held)) (lost count id me page (before ++ page ∷ []) tried s within kept at),
+      subst (λ b. IsLedgerKept count (stepped s page (either b 1 n) id me.1 l keeps)) (sym (ne_eqb n 0 held))
+          (lost count id me page (before ++ page ∷ []) tried s within kept at),
       subst (λ b. MatchBool b (l ≡ w) (l ≡ l)) (sym (ne_eqb n 0 held)) refl,
     ))
 
 -- a store of 0 to the page that the view lists last keeps the rule
-pub free_keeps : (count slots id : ℕ) (me : Me (Unit {0}) Holding) (page : ℕ) (rest : List ℕ) → page < count → me.0.pages ≡ rest ++ page ∷ []
+pub free_keeps : (count slots id : ℕ) (me : Me (Unit {0}) Holding) (page : ℕ) (rest : List ℕ) → page < count
+    → me.0.pages ≡ rest ++ page ∷ []
     → Allows (IsLedgerKept count) slots id me page (λ _. 0) (λ _. frees (step slots page 0 0 none) me 0)
 free_keeps count slots id me page rest within last s kept _ at _ =
     let w : Holding = holding rest me.0.missed me.0.tried in
@@ -113,6 +120,7 @@ free_keeps count slots id me page rest within last s kept _ at _ =
     )
 
 -- what holds of each page holds of the last one
-pub last_within : (pages rest : List ℕ) (page count : ℕ) → pages ≡ rest ++ page ∷ [] → All (λ n. n < count) pages → page < count
+pub last_within : (pages rest : List ℕ) (page count : ℕ) → pages ≡ rest ++ page ∷ [] → All (λ n. n < count) pages
+    → page < count
 last_within pages rest page count is each =
     All-contains (λ n. n < count) pages page each (subst (λ l. Contains l page) (sym is) (Contains-push rest page))

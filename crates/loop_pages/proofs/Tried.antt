@@ -27,10 +27,12 @@ rising_push limit pages r = record {
 -- one number more
 range_more : (n : ℕ) → range_with_len 0 (n + 1) ≡ range_with_len 0 n ++ n ∷ []
 range_more n =
-    sym (map-id (range_with_len 0 (n + 1))) ∙ map-range_with_len_more (λ (i : ℕ). i) 0 n n (omega arith) ∙ ap (λ (l : List ℕ). l ++ n ∷ []) (map-id (range_with_len 0 n))
+    sym (map-id (range_with_len 0 (n + 1))) ∙ map-range_with_len_more (λ (i : ℕ). i) 0 n n (omega arith)
+    ∙ ap (λ (l : List ℕ). l ++ n ∷ []) (map-id (range_with_len 0 n))
 
 -- one page more was tried
-order_more : (page : ℕ) (before tried : List ℕ) → tried ≡ before ++ range_with_len 0 page → tried ++ page ∷ [] ≡ before ++ range_with_len 0 (page + 1)
+order_more : (page : ℕ) (before tried : List ℕ) → tried ≡ before ++ range_with_len 0 page → tried ++ page
+    ∷ [] ≡ before ++ range_with_len 0 (page + 1)
 order_more page before tried is =
     ap (λ (l : List ℕ). l ++ page ∷ []) is ∙ append_assoc before (range_with_len 0 page) (page ∷ []) ∙ ap (λ (l : List ℕ). before ++ l) (sym (range_more page))
 
@@ -45,7 +47,8 @@ none_tried before = record {
 }
 
 -- the next page was got
-pub got_one : (page : ℕ) (got missed before tried : List ℕ) → IsTried page got missed before tried → IsTried (page + 1) (got ++ page ∷ []) missed before (tried ++ page ∷ [])
+pub got_one : (page : ℕ) (got missed before tried : List ℕ) → IsTried page got missed before tried
+    → IsTried (page + 1) (got ++ page ∷ []) missed before (tried ++ page ∷ [])
 got_one page got missed before tried t = record {
   order = order_more page before tried t.order;
   got_rise = rising_push page got t.got_rise;
@@ -57,7 +60,8 @@ got_one page got missed before tried t = record {
 }
 
 -- the next page was missed
-pub missed_one : (page : ℕ) (got missed before tried : List ℕ) → IsTried page got missed before tried → IsTried (page + 1) got (missed ++ page ∷ []) before (tried ++ page ∷ [])
+pub missed_one : (page : ℕ) (got missed before tried : List ℕ) → IsTried page got missed before tried
+    → IsTried (page + 1) got (missed ++ page ∷ []) before (tried ++ page ∷ [])
 missed_one page got missed before tried t = record {
   order = order_more page before tried t.order;
   got_rise = rising_wider page got t.got_rise;
@@ -69,45 +73,56 @@ missed_one page got missed before tried t = record {
 }
 
 -- the next page was got, and is the last that the claim asked for
-pub got_all : (most count page : ℕ) (got missed before tried : List ℕ) → page < most → length (got ++ page ∷ []) ≡ count → IsTried page got missed before tried
+pub got_all : (most count page : ℕ) (got missed before tried : List ℕ) → page < most
+    → length (got ++ page ∷ []) ≡ count → IsTried page got missed before tried
     → IsGot most count (got ++ page ∷ []) missed before (tried ++ page ∷ [])
 got_all most count page got missed before tried within all t =
     let last : count - 1 ≡ length got = omega (arith, length-append got (page ∷ [])) in
-    let at : slice_index (got ++ page ∷ []) (count - 1) ≡ page = ap (λ (k : ℕ). get_or (got ++ page ∷ []) k 0) last ∙ get_or-append_seam got page [] 0 in record {
+    let at : slice_index (got ++ page ∷ []) (count - 1) ≡ page = ap (λ (k : ℕ). get_or (got ++ page ∷ []) k 0) last
+    ∙ get_or-append_seam got page [] 0 in record {
       all = all;
       tries = subst (λ (n : ℕ). IsTried (n + 1) (got ++ page ∷ []) missed before (tried ++ page ∷ [])) (sym at) (got_one page got missed before tried t);
       within = omega arith;
     }
 
 -- the same where a claim's list of missed pages is begun at page 0
-pub got_next : (page : ℕ) (got now old new before tried after : List ℕ) → now ≡ got ++ page ∷ [] → new ≡ missed_before page old → after ≡ tried ++ page ∷ []
+pub got_next : (page : ℕ) (got now old new before tried after : List ℕ) → now ≡ got ++ page ∷ []
+    → new ≡ missed_before page old → after ≡ tried ++ page ∷ []
     → IsTried page got (missed_before page old) before tried → IsTried (page + 1) now (missed_before (page + 1) new) before after
 got_next page got now old new before tried after is same more t =
     subst (λ (l : List ℕ). IsTried (page + 1) l (missed_before (page + 1) new) before after) (sym is)
     (subst (λ (l : List ℕ). IsTried (page + 1) (got ++ page ∷ []) l before after) (sym (missed_on page new ∙ same))
-    (subst (λ (l : List ℕ). IsTried (page + 1) (got ++ page ∷ []) (missed_before page old) before l) (sym more) (got_one page got (missed_before page old) before tried t)))
+    (subst (λ (l : List ℕ). IsTried (page + 1) (got ++ page ∷ []) (missed_before page old) before l) (sym more)
+    (got_one page got (missed_before page old) before tried t)))
 
-pub missed_next : (page : ℕ) (got now old new before tried after : List ℕ) → now ≡ got → new ≡ missed_before page old ++ page ∷ [] → after ≡ tried ++ page ∷ []
+pub missed_next : (page : ℕ) (got now old new before tried after : List ℕ) → now ≡ got → new ≡ missed_before page old
+    ++ page ∷ [] → after ≡ tried ++ page ∷ []
     → IsTried page got (missed_before page old) before tried → IsTried (page + 1) now (missed_before (page + 1) new) before after
 missed_next page got now old new before tried after is same more t =
     subst (λ (l : List ℕ). IsTried (page + 1) l (missed_before (page + 1) new) before after) (sym is)
     (subst (λ (l : List ℕ). IsTried (page + 1) got l before after) (sym (missed_on page new ∙ same))
-    (subst (λ (l : List ℕ). IsTried (page + 1) got (missed_before page old ++ page ∷ []) before l) (sym more) (missed_one page got (missed_before page old) before tried t)))
+    (subst (λ (l : List ℕ). IsTried (page + 1) got (missed_before page old ++ page ∷ []) before l) (sym more)
+    (missed_one page got (missed_before page old) before tried t)))
 
-pub got_last : (most count page : ℕ) (got now old new before tried after : List ℕ) → now ≡ got ++ page ∷ [] → new ≡ missed_before page old → after ≡ tried ++ page ∷ []
+pub got_last : (most count page : ℕ) (got now old new before tried after : List ℕ) → now ≡ got ++ page ∷ []
+    → new ≡ missed_before page old → after ≡ tried ++ page ∷ []
     → page < most → length now ≡ count → IsTried page got (missed_before page old) before tried → IsGot most count now new before after
 got_last most count page got now old new before tried after is same more within all t =
     let all' : length (got ++ page ∷ []) ≡ count = ap length (sym is) ∙ all in
     subst (λ (l : List ℕ). IsGot most count l new before after) (sym is)
     (subst (λ (l : List ℕ). IsGot most count (got ++ page ∷ []) l before after) (sym same)
-    (subst (λ (l : List ℕ). IsGot most count (got ++ page ∷ []) (missed_before page old) before l) (sym more) (got_all most count page got (missed_before page old) before tried within all' t)))
+    (subst (λ (l : List ℕ). IsGot most count (got ++ page ∷ []) (missed_before page old) before l) (sym more)
+    (got_all most count page got (missed_before page old) before tried within all' t)))
 
 -- a claim that tried every page of a ledger that has some
-tried_all : (most count : ℕ) (got missed before tried : List ℕ) → 0 < most → length got < count → IsTried most got (missed_before most missed) before tried → IsShort most count got missed before tried
+tried_all : (most count : ℕ) (got missed before tried : List ℕ) → 0 < most → length got < count
+    → IsTried most got (missed_before most missed) before tried → IsShort most count got missed before tried
 tried_all zero count got missed before tried some few t = absurd (omega arith)
 tried_all (suc most) count got missed before tried some few t = record { few = few; tries = t }
 
-pub short_of : (most count page : ℕ) (got missed before tried : List ℕ) → page ≡ most → 0 < most → length got < count → IsTried page got (missed_before page missed) before tried
+pub short_of : (most count page : ℕ) (got missed before tried : List ℕ) → page ≡ most → 0 < most → length got < count
+    → IsTried page got (missed_before page missed) before tried
     → IsShort most count got missed before tried
 short_of most count page got missed before tried end some few t =
-    subst (λ (n : ℕ). IsShort n count got missed before tried) end (let some' : 0 < page = omega arith in tried_all page count got missed before tried some' few t)
+    subst (λ (n : ℕ). IsShort n count got missed before tried) end (let some' : 0 < page = omega arith in
+    tried_all page count got missed before tried some' few t)

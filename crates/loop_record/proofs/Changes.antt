@@ -28,7 +28,8 @@ pub record Shown (g : Geometry) (ss : List Segment) (clips : List (Option Span))
   pub held : has_bad_clip (recording_of g ss clips) ≡ false
   pub is : recording_of g ss clips ≡ r
 
-passed : {X : Type 0} (b : Bool) (d : Damage) (x : Result X Damage) (y : X) → cond b (Err d) x ≡ Ok y → (b ≡ false) × (x ≡ Ok y)
+passed : {X : Type 0} (b : Bool) (d : Damage) (x : Result X Damage) (y : X) → cond b (Err d) x ≡ Ok y → (b ≡ false)
+    × (x ≡ Ok y)
 passed true d x y e = absurd cc
 passed false d x y e = (refl, e)
 
@@ -38,7 +39,8 @@ ok x = Ok x
 done : {X : Type 0} (x y : X) → ok x ≡ ok y → x ≡ y
 done x y e = cc
 
-pub shown_of : (g : Geometry) (ss : List Segment) (clips : List (Option Span)) (r : Recording) → recording_or_damage g ss clips ≡ Ok r → Shown g ss clips r
+pub shown_of : (g : Geometry) (ss : List Segment) (clips : List (Option Span)) (r : Recording)
+    → recording_or_damage g ss clips ≡ Ok r → Shown g ss clips r
 shown_of g ss clips r e =
     let p1 = passed (list_any (is_high g) ss) BlockTooHigh _ r e in
     let p2 = passed (repeats ss) RepeatedBlock _ r p1.1 in
@@ -47,18 +49,24 @@ shown_of g ss clips r e =
     let p5 = passed (has_bad_clip (recording_of g ss clips)) ClipRange _ r p4.1 in
     record { low_enough = p1.0; single = p2.0; full = p3.0; right = p4.0; held = p5.0; is = done (recording_of g ss clips) r p5.1 }
 
-pub of_shown : (g : Geometry) (ss : List Segment) (clips : List (Option Span)) (r : Recording) → Shown g ss clips r → recording_or_damage g ss clips ≡ Ok r
+pub of_shown : (g : Geometry) (ss : List Segment) (clips : List (Option Span)) (r : Recording) → Shown g ss clips r
+    → recording_or_damage g ss clips ≡ Ok r
 of_shown g ss clips r s =
-    (λ i. cond (s.low_enough i) (Err BlockTooHigh) (cond (s.single i) (Err RepeatedBlock) (cond (s.full i) (Err ClosedGate) (cond (s.right i) (Err SlotHead) (cond (s.held i) (Err ClipRange) (ok (s.is i)))))))
+    (λ i. cond (s.low_enough i) (Err BlockTooHigh)
+    (cond (s.single i) (Err RepeatedBlock)
+    (cond (s.full i) (Err ClosedGate)
+    (cond (s.right i) (Err SlotHead) (cond (s.held i) (Err ClipRange) (ok (s.is i)))))))
 
 -- ---- the next number
 
-pub next_after-behind : (g : Geometry) (xs : List Segment) (s : Segment) (ss : List Segment) → next_after g (xs ++ s ∷ ss) ≡ next_after g (s ∷ ss)
+pub next_after-behind : (g : Geometry) (xs : List Segment) (s : Segment) (ss : List Segment)
+    → next_after g (xs ++ s ∷ ss) ≡ next_after g (s ∷ ss)
 next_after-behind g [] s ss = refl
 next_after-behind g (x ∷ []) s ss = refl
 next_after-behind g (x ∷ y ∷ xs) s ss = next_after-behind g (y ∷ xs) s ss
 
-next_after-above : (g : Geometry) (b : ℕ) (s : Segment) (ss : List Segment) → AllAbove b (s ∷ ss) → (b + 1) * g.slots ≤ next_after g (s ∷ ss)
+next_after-above : (g : Geometry) (b : ℕ) (s : Segment) (ss : List Segment) → AllAbove b (s ∷ ss)
+    → (b + 1) * g.slots ≤ next_after g (s ∷ ss)
 next_after-above g b s [] h =
     let le : (b + 1) * g.slots ≤ s.block * g.slots = mul-le-mul_right g.slots (omega (arith, h.0)) in
     omega (arith, le)
@@ -71,7 +79,8 @@ grown-last ts [] u = refl
 grown-last ts (s ∷ []) u = refl
 grown-last ts (s ∷ t ∷ ss) u = ap (λ vs. s ∷ vs) (grown-last ts (t ∷ ss) u)
 
-pub checked-commit : (ring : Ring) (g : Geometry) (ts : List Slot) (u : Segment) (lower higher : List Segment) (clips : List (Option Span)) (r : Recording)
+pub checked-commit : (ring : Ring) (g : Geometry) (ts : List Slot) (u : Segment) (lower higher : List Segment)
+    (clips : List (Option Span)) (r : Recording)
     → AllAbove u.block higher → r.next < (u.block + 1) * g.slots → hold_from (frame_bytes g) r.next ts ≡ true
     → recording_or_damage g (lower ++ u ∷ higher) clips ≡ Ok r
     → recording_or_damage g (lower ++ record u { slots = u.slots ++ ts } ∷ higher) clips ≡ Ok (plain ring r (map store (map (λ t. t.picture) ts)))
@@ -84,8 +93,10 @@ checked-commit ring g ts u lower (h ∷ hs) clips r above within hold e =
     absurd (omega (arith, next, within, next_after-above g u.block h hs above))
 
 -- where the next number comes in it
-pub newest-next : (g : Geometry) (u : Segment) (lower higher : List Segment) (clips : List (Option Span)) (r : Recording)
-    → AllAbove u.block higher → r.next < (u.block + 1) * g.slots → recording_or_damage g (lower ++ u ∷ higher) clips ≡ Ok r → r.next ≡ u.block * g.slots + length u.slots
+pub newest-next : (g : Geometry) (u : Segment) (lower higher : List Segment) (clips : List (Option Span))
+    (r : Recording)
+    → AllAbove u.block higher → r.next < (u.block + 1) * g.slots
+    → recording_or_damage g (lower ++ u ∷ higher) clips ≡ Ok r → r.next ≡ u.block * g.slots + length u.slots
 newest-next g u lower [] clips r above within e =
     sym (ap (λ (q : Recording). q.next) (shown_of g (lower ++ u ∷ []) clips r e).is) ∙ next_after-behind g lower u []
 newest-next g u lower (h ∷ hs) clips r above within e =
@@ -105,11 +116,14 @@ has_block-below b (s ∷ ss) h =
     let rest = has_block-below b ss h.1 in
     λ i. first i || rest i
 
-pub all_frames-append : (g : Geometry) (xs ys : List Segment) → all_frames g (xs ++ ys) ≡ all_frames g xs ++ all_frames g ys
+pub all_frames-append : (g : Geometry) (xs ys : List Segment) → all_frames g (xs ++ ys) ≡ all_frames g xs
+    ++ all_frames g ys
 all_frames-append g [] ys = refl
-all_frames-append g (x ∷ xs) ys = ap (λ fs. frames_of g x ++ fs) (all_frames-append g xs ys) ∙ sym (append_assoc (frames_of g x) (all_frames g xs) (all_frames g ys))
+all_frames-append g (x ∷ xs) ys = ap (λ fs. frames_of g x ++ fs) (all_frames-append g xs ys)
+    ∙ sym (append_assoc (frames_of g x) (all_frames g xs) (all_frames g ys))
 
-full_last : (g : Geometry) (b : ℕ) (s : Segment) → s.block < b → ltb g.slots (length s.slots) ≡ false → s.block * g.slots + length s.slots ≡ b * g.slots → eqb (length s.slots) g.slots ≡ true
+full_last : (g : Geometry) (b : ℕ) (s : Segment) → s.block < b → ltb g.slots (length s.slots) ≡ false
+    → s.block * g.slots + length s.slots ≡ b * g.slots → eqb (length s.slots) g.slots ≡ true
 full_last g b s below fits next =
     let le : (s.block + 1) * g.slots ≤ b * g.slots = mul-le-mul_right g.slots (omega (arith, below)) in
     let split : (s.block + 1) * g.slots ≡ s.block * g.slots + g.slots = omega (arith, add-mul s.block 1 g.slots) in
@@ -117,7 +131,8 @@ full_last g b s below fits next =
     let is : length s.slots ≡ g.slots = omega (arith, le, split, most, next) in
     grind (arith, nat_tests, is)
 
-lacks_frame-begun : (g : Geometry) (b : ℕ) (ss : List Segment) → AllBelow b ss → list_any (is_overfull g) ss ≡ false → next_after g ss ≡ b * g.slots → lacks_frame g ss ≡ false → lacks_frame g (ss ++ empty_segment b ∷ []) ≡ false
+lacks_frame-begun : (g : Geometry) (b : ℕ) (ss : List Segment) → AllBelow b ss → list_any (is_overfull g) ss ≡ false
+    → next_after g ss ≡ b * g.slots → lacks_frame g ss ≡ false → lacks_frame g (ss ++ empty_segment b ∷ []) ≡ false
 lacks_frame-begun g b [] below fits next full = refl
 lacks_frame-begun g b (s ∷ []) below fits next full =
     let k = neither (is_overfull g s) false fits in
@@ -130,7 +145,8 @@ lacks_frame-begun g b (s ∷ t ∷ ss) below fits next full =
     λ i. f.0 i || rest i
 
 pub checked-begin : (g : Geometry) (b : ℕ) (lower higher : List Segment) (clips : List (Option Span)) (r : Recording)
-    → 1 ≤ g.slots → AllBelow b lower → AllAbove b higher → list_any (is_overfull g) (lower ++ higher) ≡ false → r.next ≡ b * g.slots → is_high g (empty_segment b) ≡ false
+    → 1 ≤ g.slots → AllBelow b lower → AllAbove b higher → list_any (is_overfull g) (lower ++ higher) ≡ false
+    → r.next ≡ b * g.slots → is_high g (empty_segment b) ≡ false
     → recording_or_damage g (lower ++ higher) clips ≡ Ok r
     → recording_or_damage g (lower ++ empty_segment b ∷ higher) clips ≡ Ok r
 checked-begin g b lower (h ∷ hs) clips r some below above fits next low e =
@@ -145,8 +161,10 @@ checked-begin g b lower [] clips r some below above fits next low e =
     let next' : next_after g lower ≡ b * g.slots = ap (λ (q : Recording). q.next) old.is ∙ next in
     let apart = has_block-below b lower below in
     let same_next : next_after g (lower ++ empty_segment b ∷ []) ≡ next_after g lower = next_after-behind g lower (empty_segment b) [] ∙ omega (arith, next') in
-    let same_frames : all_frames g (lower ++ empty_segment b ∷ []) ≡ all_frames g lower = all_frames-append g lower (empty_segment b ∷ []) ∙ append-nil (all_frames g lower) in
-    let same : recording_of g (lower ++ empty_segment b ∷ []) clips ≡ recording_of g lower clips = λ i. record { next = same_next i; frames = same_frames i; clips = clips } in
+    let same_frames : all_frames g (lower ++ empty_segment b ∷ []) ≡ all_frames g lower =
+    all_frames-append g lower (empty_segment b ∷ []) ∙ append-nil (all_frames g lower) in
+    let same : recording_of g (lower ++ empty_segment b ∷ []) clips ≡ recording_of g lower clips =
+    λ i. record { next = same_next i; frames = same_frames i; clips = clips } in
     let high : list_any (is_high g) (lower ++ []) ≡ false = ap (list_any (is_high g)) whole ∙ old.low_enough in
     let bad : list_any (is_bad_slot g) (lower ++ []) ≡ false = ap (list_any (is_bad_slot g)) whole ∙ old.right in
     let apart' : has_block b (lower ++ []) ≡ false = ap (has_block b) whole ∙ apart in

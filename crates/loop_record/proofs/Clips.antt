@@ -17,13 +17,17 @@ use Rattle.loop_record.proofs.Parts.{within_before, within_behind, map_range-set
 use Rattle.loop_record.proofs.Readings.{get_or-map_range}
 
 -- the parts of the old image but for one clip
-pub parts-clip : (g : Geometry) (id : ℕ) (c : Option Span) (old new : List ℕ) → g.slots ≤ 256 → id < 64 → ShowsClip id c old new
+pub parts-clip : (g : Geometry) (id : ℕ) (c : Option Span) (old new : List ℕ) → g.slots ≤ 256 → id < 64
+    → ShowsClip id c old new
     → parts_of g new ≡ record { segments = (parts_of g old).segments; clips = set (parts_of g old).clips id c }
 parts-clip g id c old new few l s =
     let other : (i : ℕ) → (i < 0 + id) ⊎ (0 + id < i) → clip_in new i ≡ clip_in old i = λ i o. same_clip new old i (within i o) in
     let at : 0 + id ≡ id = omega arith in
     let clips = map_range-set (clip_in new) (clip_in old) 0 64 id c l other (ap (clip_in new) at ∙ s.holds) in
-    let segments = map_range (segment_in g new) (segment_in g old) 0 g.segments (λ j low high. same_segment g new old j few (within_behind (clip_at id) 32 (segment_at g j) (segment_at g j + segment_size g) old new s.outside (omega (arith, l)))) in
+    let segments = map_range (segment_in g new) (segment_in g old) 0 g.segments
+    (λ j low high. same_segment g new old j few
+    (within_behind (clip_at id) 32 (segment_at g j) (segment_at g j + segment_size g) old new s.outside
+    (omega (arith, l)))) in
     λ i. record { segments = segments i; clips = clips i }
   where
     within : (i : ℕ) → (i < 0 + id) ⊎ (0 + id < i) → SameWithin (clip_at i) (clip_at i + 32) new old
@@ -31,7 +35,8 @@ parts-clip g id c old new few l s =
     within i (inr a) = within_behind (clip_at id) 32 (clip_at i) (clip_at i + 32) old new s.outside (omega (arith, a))
 
 -- where one clip of an image has changed, the rest read the same
-pub reading-clip : (g : Geometry) (r s : Recording) (id : ℕ) (c : Option Span) (old new : List ℕ) → Holds g r old → id < 64 → ShowsClip id c old new
+pub reading-clip : (g : Geometry) (r s : Recording) (id : ℕ) (c : Option Span) (old new : List ℕ) → Holds g r old
+    → id < 64 → ShowsClip id c old new
     → shown_by g (record { segments = (parts_of g old).segments; clips = set (parts_of g old).clips id c }) ≡ Ok s → Holds g s new
 reading-clip g r s id c old new e l shows is =
     let was = reading-stages g r old e in
@@ -43,7 +48,8 @@ reading-clip g r s id c old new e l shows is =
       recording = ap (shown_by g) parts ∙ is;
     })
 
-bad_clips-set : (r : Recording) (cs : List (Option Span)) (id : ℕ) (c : Option Span) → list_any (is_bad_clip r) cs ≡ false → is_bad_clip r c ≡ false → list_any (is_bad_clip r) (set cs id c) ≡ false
+bad_clips-set : (r : Recording) (cs : List (Option Span)) (id : ℕ) (c : Option Span)
+    → list_any (is_bad_clip r) cs ≡ false → is_bad_clip r c ≡ false → list_any (is_bad_clip r) (set cs id c) ≡ false
 bad_clips-set r [] id c e f = refl
 bad_clips-set r (d ∷ cs) zero c e f = or_false (is_bad_clip r c) (list_any (is_bad_clip r) cs) f (neither (is_bad_clip r d) (list_any (is_bad_clip r) cs) e).1
 bad_clips-set r (d ∷ cs) (suc id) c e f =
@@ -51,7 +57,8 @@ bad_clips-set r (d ∷ cs) (suc id) c e f =
     or_false (is_bad_clip r d) (list_any (is_bad_clip r) (set cs id c)) k.0 (bad_clips-set r cs id c k.1 f)
 
 -- the same segments beside clips of which one has changed to one that isn't bad
-pub checked-clip : (g : Geometry) (ss : List Segment) (clips : List (Option Span)) (r : Recording) (id : ℕ) (c : Option Span) → recording_or_damage g ss clips ≡ Ok r → is_bad_clip r c ≡ false
+pub checked-clip : (g : Geometry) (ss : List Segment) (clips : List (Option Span)) (r : Recording) (id : ℕ)
+    (c : Option Span) → recording_or_damage g ss clips ≡ Ok r → is_bad_clip r c ≡ false
     → recording_or_damage g ss (set clips id c) ≡ Ok (record r { clips = set r.clips id c })
 checked-clip g ss clips r id c e good =
     let old = shown_of g ss clips r e in
@@ -67,7 +74,9 @@ checked-clip g ss clips r id c e good =
     })
 
 -- Where the entry of the least free id has opened with a clip that may be locked, the image reads as the recording with that clip.
-pub reading-lock : (g : Geometry) (r : Recording) (s : Span) (old new : List ℕ) → Holds g r old → IsTrue (is_legal (ring_of g) r (lock s)) → ShowsClip (free_id r) (Some s) old new → Holds g (after_step (ring_of g) r (lock s)) new
+pub reading-lock : (g : Geometry) (r : Recording) (s : Span) (old new : List ℕ) → Holds g r old
+    → IsTrue (is_legal (ring_of g) r (lock s)) → ShowsClip (free_id r) (Some s) old new
+    → Holds g (after_step (ring_of g) r (lock s)) new
 reading-lock g r s old new e legal shows =
     let k = both (leb s.from s.to && holds_all r s) (ltb (free_id r) 64) legal in
     let m = both (leb s.from s.to) (holds_all r s) k.0 in
@@ -81,20 +90,23 @@ reading-lock g r s old new e legal shows =
     below n t = at_most (suc n) 64 t
 
 -- Where the entry of an id has closed, the image reads as the recording without that clip.
-pub reading-unlock : (g : Geometry) (r : Recording) (id : ℕ) (old new : List ℕ) → Holds g r old → id < 64 → ShowsClip id None old new → Holds g (after_step (ring_of g) r (unlock id)) new
+pub reading-unlock : (g : Geometry) (r : Recording) (id : ℕ) (old new : List ℕ) → Holds g r old → id < 64
+    → ShowsClip id None old new → Holds g (after_step (ring_of g) r (unlock id)) new
 reading-unlock g r id old new e l shows =
     let was = reading-stages g r old e in
     reading-clip g r (after_step (ring_of g) r (unlock id)) id None old new e l shows
     (checked-clip g (by_block (open_segments (parts_of g old).segments)) (parts_of g old).clips r id None was.recording refl)
 
 -- the recording's clips are those of the entries
-pub clips-are : (g : Geometry) (r : Recording) (image : List ℕ) → Holds g r image → r.clips ≡ map (clip_in image) (range_with_len 0 64)
+pub clips-are : (g : Geometry) (r : Recording) (image : List ℕ) → Holds g r image → r.clips ≡ map (clip_in image)
+    (range_with_len 0 64)
 clips-are g r image e =
     let was = reading-stages g r image e in
     sym (ap (λ (q : Recording). q.clips) (shown_of g (by_block (open_segments (parts_of g image).segments)) (parts_of g image).clips r was.recording).is)
 
 -- the clip of an id is that of its entry
-pub clip_of-entry : (g : Geometry) (r : Recording) (image : List ℕ) (id : ℕ) → Holds g r image → id < 64 → clip_of r id ≡ clip_in image id
+pub clip_of-entry : (g : Geometry) (r : Recording) (image : List ℕ) (id : ℕ) → Holds g r image → id < 64
+    → clip_of r id ≡ clip_in image id
 clip_of-entry g r image id e l =
     let at : 0 + id ≡ id = omega arith in
     ap (λ (cs : List (Option Span)). get_or cs id None) (clips-are g r image e) ∙ get_or-map_range (clip_in image) 0 64 id None l ∙ ap (clip_in image) at

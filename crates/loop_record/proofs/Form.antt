@@ -18,7 +18,9 @@ use Rattle.loop_record.proofs.Parts.{reading-stages}
 use Rattle.loop_record.proofs.Readings.{overfull_none, length-range}
 
 -- frames of segments whose blocks rise have numbers that rise
-all_frames-rise : (g : Geometry) (low : ℕ) (s : Segment) (ss : List Segment) → Rises (s ∷ ss) → list_any (is_overfull g) (s ∷ ss) ≡ false → low ≤ s.block * g.slots → RiseBetween low (next_after g (s ∷ ss)) (all_frames g (s ∷ ss))
+all_frames-rise : (g : Geometry) (low : ℕ) (s : Segment) (ss : List Segment) → Rises (s ∷ ss)
+    → list_any (is_overfull g) (s ∷ ss) ≡ false → low ≤ s.block * g.slots → RiseBetween low (next_after g (s ∷ ss))
+    (all_frames g (s ∷ ss))
 all_frames-rise g low s [] rises fits from =
     let size = length-map s.slots (λ t. t.picture) in
     RiseBetween-append low (s.block * g.slots + length s.slots) (s.block * g.slots + length s.slots) (frames_of g s) []
@@ -36,7 +38,8 @@ all_frames-rise g low s (t ∷ ss) rises fits from =
     (RiseBetween-enumerate (s.block * g.slots) end (map (λ t. t.picture) s.slots) (omega (arith, size))))
     (all_frames-rise g end t ss rises.1 k.1 (omega (arith, most, le, split)))
 
-rising_of : (g : Geometry) (ss : List Segment) → Rises ss → list_any (is_overfull g) ss ≡ false → RiseBetween 0 (next_after g ss) (all_frames g ss)
+rising_of : (g : Geometry) (ss : List Segment) → Rises ss → list_any (is_overfull g) ss ≡ false
+    → RiseBetween 0 (next_after g ss) (all_frames g ss)
 rising_of g [] rises fits = omega arith
 rising_of g (s ∷ ss) rises fits = all_frames-rise g 0 s ss rises fits (omega arith)
 

@@ -31,25 +31,33 @@ use Rattle.loop_record.specs.Recording.{Picture, head, empty}
 use Rattle.loop_record.proofs.Readings.{length-range}
 
 pub insert-in_place : (g : Geometry) (image : List ℕ) (x : Found) (xs : List Found)
-    → segments_of g image (take (position_or_len (λ f. leb x.block f.block) xs) xs ++ x ∷ drop (position_or_len (λ f. leb x.block f.block) xs) xs) ≡ in_place (segment_of g image x) (segments_of g image xs)
+    → segments_of g image (take (position_or_len (λ f. leb x.block f.block) xs) xs ++ x
+    ∷ drop (position_or_len (λ f. leb x.block f.block) xs) xs) ≡ in_place (segment_of g image x)
+    (segments_of g image xs)
 insert-in_place g image x [] = refl
 insert-in_place g image x (y ∷ ys) = go (leb x.block y.block) (insert-in_place g image x ys)
   where
     k : ℕ
     k = position_or_len (λ f. leb x.block f.block) ys
 
-    go : (t : Bool) → segments_of g image (take k ys ++ x ∷ drop k ys) ≡ in_place (segment_of g image x) (segments_of g image ys)
-        → segments_of g image (take (cond (not t) (1 + k) 0) (y ∷ ys) ++ x ∷ drop (cond (not t) (1 + k) 0) (y ∷ ys)) ≡ cond t (segment_of g image x ∷ segment_of g image y ∷ segments_of g image ys) (segment_of g image y ∷ in_place (segment_of g image x) (segments_of g image ys))
+    go : (t : Bool) → segments_of g image (take k ys ++ x ∷ drop k ys) ≡ in_place (segment_of g image x)
+        (segments_of g image ys)
+        → segments_of g image (take (cond (not t) (1 + k) 0) (y ∷ ys) ++ x ∷ drop (cond (not t) (1 + k) 0) (y ∷ ys)) ≡
+        cond t (segment_of g image x ∷ segment_of g image y ∷ segments_of g image ys)
+        (segment_of g image y ∷ in_place (segment_of g image x) (segments_of g image ys))
     go true ih = refl
     go false ih =
         let next : 1 + k ≡ suc k = omega arith in
         ap (λ (n : ℕ). segments_of g image (take n (y ∷ ys) ++ x ∷ drop n (y ∷ ys))) next ∙ ap (λ (ss : List Segment). segment_of g image y ∷ ss) ih
 
-any-map : (p : ℕ → Bool) (g : Geometry) (image : List ℕ) (xs : List Found) → list_any (λ (s : Segment). p s.block) (segments_of g image xs) ≡ list_any (λ (f : Found). p f.block) xs
+any-map : (p : ℕ → Bool) (g : Geometry) (image : List ℕ) (xs : List Found) → list_any (λ (s : Segment). p s.block)
+    (segments_of g image xs) ≡ list_any (λ (f : Found). p f.block) xs
 any-map p g image [] = refl
 any-map p g image (x ∷ xs) = ap (λ (t : Bool). p x.block || t) (any-map p g image xs)
 
-pub repeats-first : (g : Geometry) (image : List ℕ) (x : Found) (xs : List Found) → repeats (segments_of g image (x ∷ xs)) ≡ (list_any (λ (f : Found). eqb f.block x.block) xs || repeats (segments_of g image xs))
+pub repeats-first : (g : Geometry) (image : List ℕ) (x : Found) (xs : List Found)
+    → repeats (segments_of g image (x ∷ xs)) ≡ (list_any (λ (f : Found). eqb f.block x.block) xs || repeats
+    (segments_of g image xs))
 repeats-first g image x xs = ap (λ (t : Bool). t || repeats (segments_of g image xs)) (any-map (λ b. eqb b x.block) g image xs)
 
 pub place-le : (p : Found → Bool) (xs : List Found) → position_or_len p xs ≤ length xs
@@ -64,7 +72,8 @@ place-le p (x ∷ xs) = go (p x) (place-le p xs)
 pub length-slots : (g : Geometry) (image : List ℕ) (f : Found) → length (segment_of g image f).slots ≡ f.frames
 length-slots g image f = length-map (range_with_len 0 f.frames) (λ i. slot_in (frame_bytes g) image (slot_at g f.segment i)) ∙ length-range 0 f.frames
 
-pub lacks_frame-front : (g : Geometry) (image : List ℕ) (xs : List Found) (last : Found) → lacks_frame g (segments_of g image (xs ++ last ∷ [])) ≡ list_any (λ (f : Found). not (eqb f.frames g.slots)) xs
+pub lacks_frame-front : (g : Geometry) (image : List ℕ) (xs : List Found) (last : Found)
+    → lacks_frame g (segments_of g image (xs ++ last ∷ [])) ≡ list_any (λ (f : Found). not (eqb f.frames g.slots)) xs
 lacks_frame-front g image [] last = refl
 lacks_frame-front g image (x ∷ []) last = ap (λ (n : ℕ). not (eqb n g.slots) || false) (length-slots g image x)
 lacks_frame-front g image (x ∷ y ∷ xs) last =
@@ -72,43 +81,62 @@ lacks_frame-front g image (x ∷ y ∷ xs) last =
     let here = length-slots g image x in
     λ i. not (eqb (here i) g.slots) || rest i
 
-pub repeats-then : (g : Geometry) (image : List ℕ) (all xs : List Found) (x : Found) (r : Bool) → all ≡ x ∷ xs → r ≡ list_any (λ (f : Found). eqb f.block x.block) xs → r ≡ true → r ≡ repeats (segments_of g image all)
+pub repeats-then : (g : Geometry) (image : List ℕ) (all xs : List Found) (x : Found) (r : Bool) → all ≡ x ∷ xs
+    → r ≡ list_any (λ (f : Found). eqb f.block x.block) xs → r ≡ true → r ≡ repeats (segments_of g image all)
 repeats-then g image all xs x r is found e =
-    e ∙ ap (λ (t : Bool). t || repeats (segments_of g image xs)) (sym (sym found ∙ e)) ∙ sym (ap (λ (ys : List Found). repeats (segments_of g image ys)) is ∙ repeats-first g image x xs)
+    e ∙ ap (λ (t : Bool). t || repeats (segments_of g image xs)) (sym (sym found ∙ e))
+    ∙ sym (ap (λ (ys : List Found). repeats (segments_of g image ys)) is ∙ repeats-first g image x xs)
 
-pub repeats-else : (g : Geometry) (image : List ℕ) (all xs : List Found) (x : Found) (r s : Bool) → all ≡ x ∷ xs → r ≡ list_any (λ (f : Found). eqb f.block x.block) xs → r ≡ false → s ≡ repeats (segments_of g image xs) → s ≡ repeats (segments_of g image all)
+pub repeats-else : (g : Geometry) (image : List ℕ) (all xs : List Found) (x : Found) (r s : Bool) → all ≡ x ∷ xs
+    → r ≡ list_any (λ (f : Found). eqb f.block x.block) xs → r ≡ false → s ≡ repeats (segments_of g image xs)
+    → s ≡ repeats (segments_of g image all)
 repeats-else g image all xs x r s is found e rest =
-    rest ∙ ap (λ (t : Bool). t || repeats (segments_of g image xs)) (sym (sym found ∙ e)) ∙ sym (ap (λ (ys : List Found). repeats (segments_of g image ys)) is ∙ repeats-first g image x xs)
+    rest ∙ ap (λ (t : Bool). t || repeats (segments_of g image xs)) (sym (sym found ∙ e))
+    ∙ sym (ap (λ (ys : List Found). repeats (segments_of g image ys)) is ∙ repeats-first g image x xs)
 
 -- what the header of segment j, cut out of its image, says
-pub found-is : (g : Geometry) (image : List ℕ) (j at : ℕ) (r : Result (Option SegmentHead) Damage) → g.slots ≤ 256 → at ≡ segment_at g j → r ≡ checked_header g (header_at g (slice_range image at (at + 512)) 0) → found_of j r ≡ found_at g image j
+pub found-is : (g : Geometry) (image : List ℕ) (j at : ℕ) (r : Result (Option SegmentHead) Damage) → g.slots ≤ 256
+    → at ≡ segment_at g j → r ≡ checked_header g (header_at g (slice_range image at (at + 512)) 0)
+    → found_of j r ≡ found_at g image j
 found-is g image j at r few is e = ap (found_of j) (e ∙ ap (checked_header g) (header_at-slice g image at few ∙ ap (header_at g image) is))
 
 -- the first slots of a segment
 abbrev pub read_slots : Geometry → List ℕ → ℕ → ℕ → List Slot
 read_slots g image j n = map (λ i. slot_in (frame_bytes g) image (slot_at g j i)) (range_with_len 0 n)
 
-pub read_slots-split : (g : Geometry) (image : List ℕ) (j i m : ℕ) → read_slots g image j (i + m) ≡ read_slots g image j i ++ map (λ k. slot_in (frame_bytes g) image (slot_at g j k)) (range_with_len i m)
+pub read_slots-split : (g : Geometry) (image : List ℕ) (j i m : ℕ)
+    → read_slots g image j (i + m) ≡ read_slots g image j i
+    ++ map (λ k. slot_in (frame_bytes g) image (slot_at g j k)) (range_with_len i m)
 read_slots-split g image j i m =
     let slot = λ (k : ℕ). slot_in (frame_bytes g) image (slot_at g j k) in
     let at : 0 + i ≡ i = omega arith in
-    ap (map slot) (range_append 0 i m) ∙ map-append slot (range_with_len 0 i) (range_with_len (0 + i) m) ∙ ap (λ (k : ℕ). read_slots g image j i ++ map slot (range_with_len k m)) at
+    ap (map slot) (range_append 0 i m) ∙ map-append slot (range_with_len 0 i) (range_with_len (0 + i) m)
+    ∙ ap (λ (k : ℕ). read_slots g image j i ++ map slot (range_with_len k m)) at
 
 pub length-read_slots : (g : Geometry) (image : List ℕ) (j n : ℕ) → length (read_slots g image j n) ≡ n
 length-read_slots g image j n = length-map (range_with_len 0 n) (λ i. slot_in (frame_bytes g) image (slot_at g j i)) ∙ length-range 0 n
 
 -- the slots so far hold their frames, and one more does
-pub slots-hold : (g : Geometry) (image : List ℕ) (j i first : ℕ) → hold_from (frame_bytes g) first (read_slots g image j i) ≡ true → is_slot_of (frame_bytes g) (first + i) (slot_in (frame_bytes g) image (slot_at g j i)) ≡ true
+pub slots-hold : (g : Geometry) (image : List ℕ) (j i first : ℕ) → hold_from (frame_bytes g) first
+    (read_slots g image j i) ≡ true → is_slot_of (frame_bytes g) (first + i)
+    (slot_in (frame_bytes g) image (slot_at g j i)) ≡ true
     → hold_from (frame_bytes g) first (read_slots g image j (i + 1)) ≡ true
 slots-hold g image j i first held one =
     let s = slot_in (frame_bytes g) image (slot_at g j i) in
     let end : first + length (read_slots g image j i) ≡ first + i = ap (λ (k : ℕ). first + k) (length-read_slots g image j i) in
-    ap (hold_from (frame_bytes g) first) (read_slots-split g image j i 1) ∙ hold_from-append (frame_bytes g) first (read_slots g image j i) (s ∷ []) (first + i) end ∙ (λ k. held k && (one k && true))
+    ap (hold_from (frame_bytes g) first) (read_slots-split g image j i 1) ∙ hold_from-append (frame_bytes g) first
+    (read_slots g image j i) (s ∷ []) (first + i) end ∙ (λ k. held k && (one k && true))
 
 -- a slot that holds another frame makes its segment a bad one
-pub slots-bad : (g : Geometry) (image : List ℕ) (f : Found) (i : ℕ) → i < f.frames → is_slot_of (frame_bytes g) (f.block * g.slots + i) (slot_in (frame_bytes g) image (slot_at g f.segment i)) ≡ false → is_bad_slot g (segment_of g image f) ≡ true
+pub slots-bad : (g : Geometry) (image : List ℕ) (f : Found) (i : ℕ) → i < f.frames
+    → is_slot_of (frame_bytes g) (f.block * g.slots + i) (slot_in (frame_bytes g) image (slot_at g f.segment i)) ≡
+    false → is_bad_slot g (segment_of g image f) ≡ true
 slots-bad g image f i l fails =
-    ap not (ap (hold_from (frame_bytes g) first) split ∙ hold_from-append (frame_bytes g) first (read_slots g image f.segment i) (slot i ∷ rest) (first + i) end ∙ (λ k. hold_from (frame_bytes g) first (read_slots g image f.segment i) && (fails k && hold_from (frame_bytes g) (first + i + 1) rest)) ∙ and_false (hold_from (frame_bytes g) first (read_slots g image f.segment i)))
+    ap not (ap (hold_from (frame_bytes g) first) split ∙ hold_from-append (frame_bytes g) first
+    (read_slots g image f.segment i) (slot i ∷ rest) (first + i) end
+    ∙ (λ k. hold_from (frame_bytes g) first (read_slots g image f.segment i) &&
+    (fails k && hold_from (frame_bytes g) (first + i + 1) rest))
+    ∙ and_false (hold_from (frame_bytes g) first (read_slots g image f.segment i)))
   where
     first : ℕ
     first = f.block * g.slots
@@ -133,7 +161,9 @@ slots-bad g image f i l fails =
 
 -- ---- what was found
 
-pub found-none : (g : Geometry) (image : List ℕ) (j : ℕ) → (let o : Option Found = None in let r : Result (Option Found) Damage = Ok o in r) ≡ found_at g image j → segment_in g image j ≡ None
+pub found-none : (g : Geometry) (image : List ℕ) (j : ℕ)
+    → (let o : Option Found = None in let r : Result (Option Found) Damage = Ok o in r) ≡ found_at g image j
+    → segment_in g image j ≡ None
 found-none g image j e = gate (is_open image (segment_at g j)) refl e
   where
     said : SegmentHead
@@ -146,11 +176,13 @@ found-none g image j e = gate (is_open image (segment_at g j)) refl e
     high true e = absurd cc
     high false e = absurd cc
 
-    gate : (t : Bool) → is_open image (segment_at g j) ≡ t → ok None ≡ found_of j (checked_header g (cond t (Some said) None)) → segment_in g image j ≡ None
+    gate : (t : Bool) → is_open image (segment_at g j) ≡ t
+        → ok None ≡ found_of j (checked_header g (cond t (Some said) None)) → segment_in g image j ≡ None
     gate true is e = absurd (high (is_too_high g said.block) e)
     gate false is e = λ i. cond (is i) (Some (record { block = said.block; slots = read_slots g image j (whole_frames g image j) })) None
 
-pub found-some : (g : Geometry) (image : List ℕ) (j : ℕ) (f : Found) → (let o : Option Found = Some f in let r : Result (Option Found) Damage = Ok o in r) ≡ found_at g image j
+pub found-some : (g : Geometry) (image : List ℕ) (j : ℕ) (f : Found)
+    → (let o : Option Found = Some f in let r : Result (Option Found) Damage = Ok o in r) ≡ found_at g image j
     → (segment_in g image j ≡ Some (segment_of g image f)) × (f.segment ≡ j) × (f.frames ≤ g.slots) × (is_too_high g f.block ≡ false)
 found-some g image j f e = gate (is_open image (segment_at g j)) refl e
   where
@@ -166,7 +198,9 @@ found-some g image j f e = gate (is_open image (segment_at g j)) refl e
     same : ok (Some f) ≡ ok (Some these) → these ≡ f
     same e = cc
 
-    whole : is_open image (segment_at g j) ≡ true → is_too_high g said.block ≡ false → these ≡ f → (segment_in g image j ≡ Some (segment_of g image f)) × (f.segment ≡ j) × (f.frames ≤ g.slots) × (is_too_high g f.block ≡ false)
+    whole : is_open image (segment_at g j) ≡ true → is_too_high g said.block ≡ false → these ≡ f
+        → (segment_in g image j ≡ Some (segment_of g image f)) × (f.segment ≡ j) × (f.frames ≤ g.slots)
+        × (is_too_high g f.block ≡ false)
     whole is low are = (
       (λ i. cond (is i) (Some (segment_of g image these)) None) ∙ ap (λ (x : Found). Some (segment_of g image x)) are,
       sym (ap (λ (x : Found). x.segment) are),
@@ -174,16 +208,24 @@ found-some g image j f e = gate (is_open image (segment_at g j)) refl e
       sym (ap (λ (x : Found). is_too_high g x.block) are) ∙ low,
     )
 
-    high : (t : Bool) → is_too_high g said.block ≡ t → is_open image (segment_at g j) ≡ true → ok (Some f) ≡ found_of j (cond t (Err BlockTooHigh) (Ok (Some said))) → (segment_in g image j ≡ Some (segment_of g image f)) × (f.segment ≡ j) × (f.frames ≤ g.slots) × (is_too_high g f.block ≡ false)
+    high : (t : Bool) → is_too_high g said.block ≡ t → is_open image (segment_at g j) ≡ true
+        → ok (Some f) ≡ found_of j (cond t (Err BlockTooHigh) (Ok (Some said)))
+        → (segment_in g image j ≡ Some (segment_of g image f)) × (f.segment ≡ j) × (f.frames ≤ g.slots)
+        × (is_too_high g f.block ≡ false)
     high true low is e = absurd cc
     high false low is e = whole is low (same e)
 
-    gate : (t : Bool) → is_open image (segment_at g j) ≡ t → ok (Some f) ≡ found_of j (checked_header g (cond t (Some said) None)) → (segment_in g image j ≡ Some (segment_of g image f)) × (f.segment ≡ j) × (f.frames ≤ g.slots) × (is_too_high g f.block ≡ false)
+    gate : (t : Bool) → is_open image (segment_at g j) ≡ t
+        → ok (Some f) ≡ found_of j (checked_header g (cond t (Some said) None))
+        → (segment_in g image j ≡ Some (segment_of g image f)) × (f.segment ≡ j) × (f.frames ≤ g.slots)
+        × (is_too_high g f.block ≡ false)
     gate true is e = high (is_too_high g said.block) refl is e
     gate false is e = absurd cc
 
 -- what is wrong with a header is that its block is too high
-pub found-high : (g : Geometry) (image : List ℕ) (j : ℕ) (d : Damage) → (let r : Result (Option Found) Damage = Err d in r) ≡ found_at g image j → (d ≡ BlockTooHigh) × IsSomeHigh g (segment_in g image j)
+pub found-high : (g : Geometry) (image : List ℕ) (j : ℕ) (d : Damage)
+    → (let r : Result (Option Found) Damage = Err d in r) ≡ found_at g image j → (d ≡ BlockTooHigh)
+    × IsSomeHigh g (segment_in g image j)
 found-high g image j d e = gate (is_open image (segment_at g j)) refl e
   where
     said : SegmentHead
@@ -195,25 +237,38 @@ found-high g image j d e = gate (is_open image (segment_at g j)) refl e
     same : err d ≡ err BlockTooHigh → d ≡ BlockTooHigh
     same e = cc
 
-    there : is_open image (segment_at g j) ≡ true → segment_in g image j ≡ Some (record { block = said.block; slots = read_slots g image j (whole_frames g image j) })
+    there : is_open image (segment_at g j) ≡ true
+        → segment_in g image j ≡ Some (record {
+          block = said.block;
+          slots =
+              read_slots g image j (whole_frames g image j);
+        })
     there is = λ i. cond (is i) (Some (record { block = said.block; slots = read_slots g image j (whole_frames g image j) })) None
 
-    high : (t : Bool) → is_too_high g said.block ≡ t → is_open image (segment_at g j) ≡ true → err d ≡ found_of j (cond t (Err BlockTooHigh) (Ok (Some said))) → (d ≡ BlockTooHigh) × IsSomeHigh g (segment_in g image j)
+    high : (t : Bool) → is_too_high g said.block ≡ t → is_open image (segment_at g j) ≡ true
+        → err d ≡ found_of j (cond t (Err BlockTooHigh) (Ok (Some said))) → (d ≡ BlockTooHigh)
+        × IsSomeHigh g (segment_in g image j)
     high true up is e = (same e, subst (IsSomeHigh g) (sym (there is)) up)
     high false up is e = absurd cc
 
-    gate : (t : Bool) → is_open image (segment_at g j) ≡ t → err d ≡ found_of j (checked_header g (cond t (Some said) None)) → (d ≡ BlockTooHigh) × IsSomeHigh g (segment_in g image j)
+    gate : (t : Bool) → is_open image (segment_at g j) ≡ t
+        → err d ≡ found_of j (checked_header g (cond t (Some said) None)) → (d ≡ BlockTooHigh)
+        × IsSomeHigh g (segment_in g image j)
     gate true is e = high (is_too_high g said.block) refl is e
     gate false is e = absurd cc
 
-pub AreIn-insert : (g : Geometry) (x : Found) (xs : List Found) (k : ℕ) → IsIn g x → AreIn g xs → AreIn g (take k xs ++ x ∷ drop k xs)
+pub AreIn-insert : (g : Geometry) (x : Found) (xs : List Found) (k : ℕ) → IsIn g x → AreIn g xs
+    → AreIn g (take k xs ++ x ∷ drop k xs)
 AreIn-insert g x [] zero i h = (i, tt)
 AreIn-insert g x [] (suc k) i h = (i, tt)
 AreIn-insert g x (y ∷ ys) zero i h = (i, h)
 AreIn-insert g x (y ∷ ys) (suc k) i h = (h.0, AreIn-insert g x ys k i h.1)
 
 -- one more segment, of lower index than those before
-pub opened-more : (g : Geometry) (image : List ℕ) (done : ℕ) → done < g.segments → by_block (open_segments (map (segment_in g image) (range_with_len (g.segments - (done + 1)) (done + 1)))) ≡ with_segment (segment_in g image (g.segments - 1 - done)) (by_block (open_segments (map (segment_in g image) (range_with_len (g.segments - done) done))))
+pub opened-more : (g : Geometry) (image : List ℕ) (done : ℕ) → done < g.segments
+    → by_block (open_segments (map (segment_in g image) (range_with_len (g.segments - (done + 1)) (done + 1)))) ≡
+    with_segment (segment_in g image (g.segments - 1 - done))
+    (by_block (open_segments (map (segment_in g image) (range_with_len (g.segments - done) done))))
 opened-more g image done l =
     let j = g.segments - 1 - done in
     let a : g.segments - (done + 1) ≡ j = omega arith in
@@ -229,14 +284,17 @@ opened-more g image done l =
     go None = refl
     go (Some s) = refl
 
-pub some-high : (g : Geometry) (image : List ℕ) (j : ℕ) → j < g.segments → IsSomeHigh g (segment_in g image j) → list_any (is_high g) (by_block (open_segments (parts_of g image).segments)) ≡ true
+pub some-high : (g : Geometry) (image : List ℕ) (j : ℕ) → j < g.segments → IsSomeHigh g (segment_in g image j)
+    → list_any (is_high g) (by_block (open_segments (parts_of g image).segments)) ≡ true
 some-high g image j l high = any-by_block (is_high g) (open_segments (parts_of g image).segments) ∙ among 0 g.segments (omega arith) (omega (arith, l))
   where
-    first : (o : Option Segment) (xs : List (Option Segment)) → IsSomeHigh g o → list_any (is_high g) (open_segments (o ∷ xs)) ≡ true
+    first : (o : Option Segment) (xs : List (Option Segment)) → IsSomeHigh g o
+        → list_any (is_high g) (open_segments (o ∷ xs)) ≡ true
     first None xs h = elim h [ ]
     first (Some s) xs h = λ i. h i || list_any (is_high g) (open_segments xs)
 
-    behind : (o : Option Segment) (xs : List (Option Segment)) → list_any (is_high g) (open_segments xs) ≡ true → list_any (is_high g) (open_segments (o ∷ xs)) ≡ true
+    behind : (o : Option Segment) (xs : List (Option Segment)) → list_any (is_high g) (open_segments xs) ≡ true
+        → list_any (is_high g) (open_segments (o ∷ xs)) ≡ true
     behind None xs e = e
     behind (Some s) xs e = or_true (is_high g s) (list_any (is_high g) (open_segments xs)) e
       where
@@ -244,12 +302,17 @@ some-high g image j l high = any-by_block (is_high g) (open_segments (parts_of g
         or_true true c e = refl
         or_true false c e = e
 
-    among : (lo n : ℕ) → lo ≤ j → j < lo + n → list_any (is_high g) (open_segments (map (segment_in g image) (range_with_len lo n))) ≡ true
+    among : (lo n : ℕ) → lo ≤ j → j < lo + n
+        → list_any (is_high g) (open_segments (map (segment_in g image) (range_with_len lo n))) ≡ true
     among lo zero low up = absurd (omega (arith, low, up))
     among lo (suc n) low up = pick (eqb lo j) refl (λ l. among (lo + 1) n l (omega (arith, up)))
       where
-        pick : (t : Bool) → eqb lo j ≡ t → (lo + 1 ≤ j → list_any (is_high g) (open_segments (map (segment_in g image) (range_with_len (lo + 1) n))) ≡ true) → list_any (is_high g) (open_segments (map (segment_in g image) (range_with_len lo (suc n)))) ≡ true
-        pick true is rest = first (segment_in g image lo) (map (segment_in g image) (range_with_len (lo + 1) n)) (subst (λ (k : ℕ). IsSomeHigh g (segment_in g image k)) (sym (equal lo j is)) high)
+        pick : (t : Bool) → eqb lo j ≡ t
+            → (lo + 1 ≤ j → list_any (is_high g)
+            (open_segments (map (segment_in g image) (range_with_len (lo + 1) n))) ≡ true)
+            → list_any (is_high g) (open_segments (map (segment_in g image) (range_with_len lo (suc n)))) ≡ true
+        pick true is rest = first (segment_in g image lo) (map (segment_in g image) (range_with_len (lo + 1) n))
+            (subst (λ (k : ℕ). IsSomeHigh g (segment_in g image k)) (sym (equal lo j is)) high)
         pick false is rest = behind (segment_in g image lo) (map (segment_in g image) (range_with_len (lo + 1) n)) (rest (beyond is))
           where
             beyond : eqb lo j ≡ false → lo + 1 ≤ j
@@ -257,7 +320,8 @@ some-high g image j l high = any-by_block (is_high g) (open_segments (parts_of g
 
 -- ---- answers that stand for a fault
 
-pub slot-wrong : (n number : ℕ) (s : Slot) (d : Damage) → (let r : Result FrameHead Damage = Err d in r) ≡ slot_head n number s → (Damaged d ≡ Damaged SlotHead) × (is_slot_of n number s ≡ false)
+pub slot-wrong : (n number : ℕ) (s : Slot) (d : Damage) → (let r : Result FrameHead Damage = Err d in r) ≡ slot_head n
+    number s → (Damaged d ≡ Damaged SlotHead) × (is_slot_of n number s ≡ false)
 slot-wrong n number s d e = go (is_slot_of n number s) refl e
   where
     err : Damage → Result FrameHead Damage
@@ -266,12 +330,14 @@ slot-wrong n number s d e = go (is_slot_of n number s) refl e
     same : err d ≡ err SlotHead → Damaged d ≡ Damaged SlotHead
     same e = cc
 
-    go : (t : Bool) → is_slot_of n number s ≡ t → err d ≡ cond t (Ok (head number s.picture)) (Err SlotHead) → (Damaged d ≡ Damaged SlotHead) × (is_slot_of n number s ≡ false)
+    go : (t : Bool) → is_slot_of n number s ≡ t → err d ≡ cond t (Ok (head number s.picture)) (Err SlotHead)
+        → (Damaged d ≡ Damaged SlotHead) × (is_slot_of n number s ≡ false)
     go true is e = absurd cc
     go false is e = (same e, is)
 
 -- a slot lies on the disk
-pub slot-room : (g : Geometry) (image : List ℕ) (j i : ℕ) → j < g.segments → i < g.slots → length image ≡ disk_size g → slot_at g j i + 32 + frame_bytes g ≤ length image
+pub slot-room : (g : Geometry) (image : List ℕ) (j i : ℕ) → j < g.segments → i < g.slots → length image ≡ disk_size g
+    → slot_at g j i + 32 + frame_bytes g ≤ length image
 slot-room g image j i l k size =
     let within = slot_within g j i k in
     let le : (j + 1) * segment_size g ≤ g.segments * segment_size g = mul-le-mul_right (segment_size g) (omega (arith, l)) in
@@ -282,7 +348,8 @@ pub AreIn-last : (g : Geometry) (xs : List Found) (x : Found) → AreIn g (xs ++
 AreIn-last g [] x h = h.0
 AreIn-last g (y ∷ ys) x h = AreIn-last g ys x h.1
 
-pub next_after-last : (g : Geometry) (image : List ℕ) (xs : List Found) (x : Found) → next_after g (segments_of g image (xs ++ x ∷ [])) ≡ x.block * g.slots + x.frames
+pub next_after-last : (g : Geometry) (image : List ℕ) (xs : List Found) (x : Found)
+    → next_after g (segments_of g image (xs ++ x ∷ [])) ≡ x.block * g.slots + x.frames
 next_after-last g image [] x = ap (λ (n : ℕ). x.block * g.slots + n) (length-slots g image x)
 next_after-last g image (y ∷ []) x = ap (λ (n : ℕ). x.block * g.slots + n) (length-slots g image x)
 next_after-last g image (y ∷ z ∷ ys) x = next_after-last g image (z ∷ ys) x
@@ -299,10 +366,12 @@ block-fits g b low =
 abbrev pub some_bad : List (ℕ × Picture) → List (Option Span) → Bool
 some_bad frames clips = list_any (is_bad_clip (record empty { frames = frames })) clips
 
-entry-cut : (table cut : List ℕ) (id : ℕ) → cut ≡ slice_range table (id * 32) (id * 32 + 32) → entry_at cut 0 ≡ entry_at table (id * 32)
+entry-cut : (table cut : List ℕ) (id : ℕ) → cut ≡ slice_range table (id * 32) (id * 32 + 32)
+    → entry_at cut 0 ≡ entry_at table (id * 32)
 entry-cut table cut id is = ap (λ (c : List ℕ). entry_at c 0) is ∙ entry_at-slice table (id * 32)
 
-any-range : (p : Option Span → Bool) (f : ℕ → Option Span) (lo n j : ℕ) → lo ≤ j → j < lo + n → p (f j) ≡ true → list_any p (map f (range_with_len lo n)) ≡ true
+any-range : (p : Option Span → Bool) (f : ℕ → Option Span) (lo n j : ℕ) → lo ≤ j → j < lo + n → p (f j) ≡ true
+    → list_any p (map f (range_with_len lo n)) ≡ true
 any-range p f lo zero j low up e = absurd (omega (arith, low, up))
 any-range p f lo (suc n) j low up e = pick (eqb lo j) refl (λ l. any-range p f (lo + 1) n j l (omega (arith, up)) e)
   where
@@ -310,8 +379,10 @@ any-range p f lo (suc n) j low up e = pick (eqb lo j) refl (λ l. any-range p f 
     or_true true c e = refl
     or_true false c e = e
 
-    pick : (t : Bool) → eqb lo j ≡ t → (lo + 1 ≤ j → list_any p (map f (range_with_len (lo + 1) n)) ≡ true) → (p (f lo) || list_any p (map f (range_with_len (lo + 1) n))) ≡ true
-    pick true is rest = ap (λ (k : ℕ). p (f k) || list_any p (map f (range_with_len (lo + 1) n))) (equal lo j is) ∙ ap (λ (t : Bool). t || list_any p (map f (range_with_len (lo + 1) n))) e
+    pick : (t : Bool) → eqb lo j ≡ t → (lo + 1 ≤ j → list_any p (map f (range_with_len (lo + 1) n)) ≡ true)
+        → (p (f lo) || list_any p (map f (range_with_len (lo + 1) n))) ≡ true
+    pick true is rest = ap (λ (k : ℕ). p (f k) || list_any p (map f (range_with_len (lo + 1) n))) (equal lo j is)
+        ∙ ap (λ (t : Bool). t || list_any p (map f (range_with_len (lo + 1) n))) e
     pick false is rest = or_true (p (f lo)) (list_any p (map f (range_with_len (lo + 1) n))) (rest (beyond is))
       where
         beyond : eqb lo j ≡ false → lo + 1 ≤ j
@@ -321,7 +392,9 @@ any-range p f lo (suc n) j low up e = pick (eqb lo j) refl (λ l. any-range p f 
 abbrev pub entries : List ℕ → ℕ → Option Span
 entries table id = entry_at table (id * 32)
 
-pub clip-wrong : (g : Geometry) (fs : List Found) (table cut : List ℕ) (id : ℕ) (d : Damage) → id < 64 → cut ≡ slice_range table (id * 32) (id * 32 + 32) → (let r : Result (Option Span) Damage = Err d in r) ≡ held_clip g fs (entry_at cut 0)
+pub clip-wrong : (g : Geometry) (fs : List Found) (table cut : List ℕ) (id : ℕ) (d : Damage) → id < 64
+    → cut ≡ slice_range table (id * 32) (id * 32 + 32)
+    → (let r : Result (Option Span) Damage = Err d in r) ≡ held_clip g fs (entry_at cut 0)
     → (d ≡ ClipRange) × (list_any (lacks_number g fs) (table_clips table) ≡ true)
 clip-wrong g fs table cut id d l is e = go (lacks_number g fs (entries table id)) refl (e ∙ ap (held_clip g fs) (entry-cut table cut id is))
   where
@@ -331,13 +404,17 @@ clip-wrong g fs table cut id d l is e = go (lacks_number g fs (entries table id)
     same : err d ≡ err ClipRange → d ≡ ClipRange
     same e = cc
 
-    go : (t : Bool) → lacks_number g fs (entries table id) ≡ t → err d ≡ cond t (Err ClipRange) (Ok (entries table id)) → (d ≡ ClipRange) × (list_any (lacks_number g fs) (table_clips table) ≡ true)
+    go : (t : Bool) → lacks_number g fs (entries table id) ≡ t → err d ≡ cond t (Err ClipRange)
+        (Ok (entries table id)) → (d ≡ ClipRange) × (list_any (lacks_number g fs) (table_clips table) ≡ true)
     go true bad e = (same e, any-range (lacks_number g fs) (entries table) 0 64 id (omega arith) (omega (arith, l)) bad)
     go false bad e = absurd cc
 
-pub clips-more : (g : Geometry) (fs : List Found) (table cut : List ℕ) (clips : List (Option Span)) (id : ℕ) (c : Option Span) → id < length clips → cut ≡ slice_range table (id * 32) (id * 32 + 32) → (let r : Result (Option Span) Damage = Ok c in r) ≡ held_clip g fs (entry_at cut 0)
+pub clips-more : (g : Geometry) (fs : List Found) (table cut : List ℕ) (clips : List (Option Span)) (id : ℕ)
+    (c : Option Span) → id < length clips → cut ≡ slice_range table (id * 32) (id * 32 + 32)
+    → (let r : Result (Option Span) Damage = Ok c in r) ≡ held_clip g fs (entry_at cut 0)
     → take id clips ≡ map (entries table) (range_with_len 0 id) → list_any (lacks_number g fs) (map (entries table) (range_with_len 0 id)) ≡ false
-    → (take (id + 1) (set clips id c) ≡ map (entries table) (range_with_len 0 (id + 1))) × (list_any (lacks_number g fs) (map (entries table) (range_with_len 0 (id + 1))) ≡ false)
+    → (take (id + 1) (set clips id c) ≡ map (entries table) (range_with_len 0 (id + 1)))
+    × (list_any (lacks_number g fs) (map (entries table) (range_with_len 0 (id + 1))) ≡ false)
 clips-more g fs table cut clips id c l is e so_far good = go (lacks_number g fs (entries table id)) refl (e ∙ ap (held_clip g fs) (entry-cut table cut id is))
   where
     ok : Option Span → Result (Option Span) Damage
@@ -346,36 +423,50 @@ clips-more g fs table cut clips id c l is e so_far good = go (lacks_number g fs 
     same : ok c ≡ ok (entries table id) → c ≡ entries table id
     same e = cc
 
-    split : map (entries table) (range_with_len 0 (id + 1)) ≡ map (entries table) (range_with_len 0 id) ++ entries table id ∷ []
+    split : map (entries table) (range_with_len 0 (id + 1)) ≡ map (entries table) (range_with_len 0 id)
+        ++ entries table id ∷ []
     split =
         let at : 0 + id ≡ id = omega arith in
-        ap (map (entries table)) (range_append 0 id 1) ∙ map-append (entries table) (range_with_len 0 id) (range_with_len (0 + id) 1) ∙ ap (λ (k : ℕ). map (entries table) (range_with_len 0 id) ++ entries table k ∷ []) at
+        ap (map (entries table)) (range_append 0 id 1) ∙ map-append (entries table) (range_with_len 0 id)
+        (range_with_len (0 + id) 1) ∙ ap (λ (k : ℕ). map (entries table) (range_with_len 0 id) ++ entries table k
+        ∷ []) at
 
-    go : (t : Bool) → lacks_number g fs (entries table id) ≡ t → ok c ≡ cond t (Err ClipRange) (Ok (entries table id)) → (take (id + 1) (set clips id c) ≡ map (entries table) (range_with_len 0 (id + 1))) × (list_any (lacks_number g fs) (map (entries table) (range_with_len 0 (id + 1))) ≡ false)
+    go : (t : Bool) → lacks_number g fs (entries table id) ≡ t → ok c ≡ cond t (Err ClipRange) (Ok (entries table id))
+        → (take (id + 1) (set clips id c) ≡ map (entries table) (range_with_len 0 (id + 1)))
+        × (list_any (lacks_number g fs) (map (entries table) (range_with_len 0 (id + 1))) ≡ false)
     go true bad e = absurd cc
     go false bad e =
         let n : id + 1 ≡ suc id = omega arith in (
           ap (λ (k : ℕ). take k (set clips id c)) n ∙ take-suc-set clips id c l ∙ (λ i. so_far i ++ same e i ∷ []) ∙ sym split,
-          ap (list_any (lacks_number g fs)) split ∙ list_any-append (lacks_number g fs) (map (entries table) (range_with_len 0 id)) (entries table id ∷ []) ∙ (λ i. good i || (bad i || false)),
+          ap (list_any (lacks_number g fs)) split ∙ list_any-append (lacks_number g fs)
+              (map (entries table) (range_with_len 0 id)) (entries table id ∷ []) ∙ (λ i. good i || (bad i || false)),
         )
 
-pub clips-all : (g : Geometry) (fs : List Found) (table : List ℕ) (clips : List (Option Span)) (id : ℕ) → id ≡ 64 → length clips ≡ 64 → take id clips ≡ map (entries table) (range_with_len 0 id) → list_any (lacks_number g fs) (map (entries table) (range_with_len 0 id)) ≡ false
+pub clips-all : (g : Geometry) (fs : List Found) (table : List ℕ) (clips : List (Option Span)) (id : ℕ) → id ≡ 64
+    → length clips ≡ 64 → take id clips ≡ map (entries table) (range_with_len 0 id) → list_any (lacks_number g fs)
+    (map (entries table) (range_with_len 0 id)) ≡ false
     → (clips ≡ table_clips table) × (list_any (lacks_number g fs) (table_clips table) ≡ false)
-clips-all g fs table clips id last size are good =
-    (sym (take_all id clips (omega (arith, last, size))) ∙ are ∙ ap (λ (n : ℕ). map (entries table) (range_with_len 0 n)) last, ap (λ (n : ℕ). list_any (lacks_number g fs) (map (entries table) (range_with_len 0 n))) (sym last) ∙ good)
+clips-all g fs table clips id last size are good = (
+  sym (take_all id clips (omega (arith, last, size))) ∙ are
+      ∙ ap (λ (n : ℕ). map (entries table) (range_with_len 0 n)) last,
+  ap (λ (n : ℕ). list_any (lacks_number g fs) (map (entries table) (range_with_len 0 n))) (sym last) ∙ good,
+)
 
 -- ---- the whole
 
 pub reading-no_geometry : (image : List ℕ) (f : LayoutFault) → (let r : Result Geometry LayoutFault = Err f in r) ≡ geometry_in image → reading image ≡ Err f
 reading-no_geometry image f e = ap (contents image) (sym e)
 
-pub reading-other_size : (g : Geometry) (image : List ℕ) → (let r : Result Geometry LayoutFault = Ok g in r) ≡ geometry_in image → (length image ≡ disk_size g → ⊥) → reading image ≡ Err (Damaged DiskSize)
+pub reading-other_size : (g : Geometry) (image : List ℕ)
+    → (let r : Result Geometry LayoutFault = Ok g in r) ≡ geometry_in image → (length image ≡ disk_size g → ⊥)
+    → reading image ≡ Err (Damaged DiskSize)
 reading-other_size g image e other =
     let sized : eqb (length image) (disk_size g) ≡ false = differ_test (length image) (disk_size g) other in
     ap (contents image) (sym e) ∙ (λ i. cond (sized i) (with_geometry g (shown_by g (parts_of g image))) (Err (Damaged DiskSize)))
 
 -- found segments aren't too high
-pub AreIn-low : (g : Geometry) (image : List ℕ) (fs : List Found) → AreIn g fs → list_any (is_high g) (segments_of g image fs) ≡ false
+pub AreIn-low : (g : Geometry) (image : List ℕ) (fs : List Found) → AreIn g fs
+    → list_any (is_high g) (segments_of g image fs) ≡ false
 AreIn-low g image [] h = refl
 AreIn-low g image (f ∷ fs) h =
     let rest = AreIn-low g image fs h.1 in
@@ -396,23 +487,41 @@ pub record IsRead (g : Geometry) (image : List ℕ) (ss : List Segment) : Type 0
 abbrev pub clips_in : List ℕ → List (Option Span)
 clips_in image = map (clip_in image) (range_with_len 0 64)
 
-reading-is : (g : Geometry) (image : List ℕ) (ss : List Segment) → IsRead g image ss → reading image ≡ with_geometry g (recording_or_damage g ss (clips_in image))
+reading-is : (g : Geometry) (image : List ℕ) (ss : List Segment) → IsRead g image ss → reading image ≡ with_geometry g
+    (recording_or_damage g ss (clips_in image))
 reading-is g image ss r =
     let sized : eqb (length image) (disk_size g) ≡ true = equal_test (length image) (disk_size g) r.size in
-    ap (contents image) r.geometry ∙ (λ i. cond (sized i) (with_geometry g (shown_by g (parts_of g image))) (Err (Damaged DiskSize))) ∙ ap (λ (xs : List Segment). with_geometry g (recording_or_damage g xs (clips_in image))) (sym r.are)
+    ap (contents image) r.geometry
+    ∙ (λ i. cond (sized i) (with_geometry g (shown_by g (parts_of g image))) (Err (Damaged DiskSize)))
+    ∙ ap (λ (xs : List Segment). with_geometry g (recording_or_damage g xs (clips_in image))) (sym r.are)
 
-pub reading-high : (g : Geometry) (image : List ℕ) → geometry_in image ≡ Ok g → length image ≡ disk_size g → list_any (is_high g) (by_block (open_segments (parts_of g image).segments)) ≡ true → reading image ≡ Err (Damaged BlockTooHigh)
-reading-high g image e size high = reading-is g image (by_block (open_segments (parts_of g image).segments)) (record { geometry = e; size = size; are = refl }) ∙ ap (with_geometry g) (picked (list_any (is_high g) (by_block (open_segments (parts_of g image).segments))) _ _ high)
+pub reading-high : (g : Geometry) (image : List ℕ) → geometry_in image ≡ Ok g → length image ≡ disk_size g
+    → list_any (is_high g) (by_block (open_segments (parts_of g image).segments)) ≡ true
+    → reading image ≡ Err (Damaged BlockTooHigh)
+reading-high g image e size high = reading-is g image (by_block (open_segments (parts_of g image).segments))
+    (record { geometry = e; size = size; are = refl })
+    ∙ ap (with_geometry g) (picked (list_any (is_high g) (by_block (open_segments (parts_of g image).segments))) _ _
+    high)
 
-pub reading-repeats : (g : Geometry) (image : List ℕ) (ss : List Segment) → IsRead g image ss → list_any (is_high g) ss ≡ false → repeats ss ≡ true → reading image ≡ Err (Damaged RepeatedBlock)
-reading-repeats g image ss r low twice = reading-is g image ss r ∙ ap (with_geometry g) (passed (list_any (is_high g) ss) _ _ low ∙ picked (repeats ss) _ _ twice)
+pub reading-repeats : (g : Geometry) (image : List ℕ) (ss : List Segment) → IsRead g image ss
+    → list_any (is_high g) ss ≡ false → repeats ss ≡ true → reading image ≡ Err (Damaged RepeatedBlock)
+reading-repeats g image ss r low twice = reading-is g image ss r
+    ∙ ap (with_geometry g) (passed (list_any (is_high g) ss) _ _ low ∙ picked (repeats ss) _ _ twice)
 
-pub reading-lacks : (g : Geometry) (image : List ℕ) (ss : List Segment) → IsRead g image ss → list_any (is_high g) ss ≡ false → repeats ss ≡ false → lacks_frame g ss ≡ true → reading image ≡ Err (Damaged ClosedGate)
-reading-lacks g image ss r low single lacks = reading-is g image ss r ∙ ap (with_geometry g) (passed (list_any (is_high g) ss) _ _ low ∙ passed (repeats ss) _ _ single ∙ picked (lacks_frame g ss) _ _ lacks)
+pub reading-lacks : (g : Geometry) (image : List ℕ) (ss : List Segment) → IsRead g image ss
+    → list_any (is_high g) ss ≡ false → repeats ss ≡ false → lacks_frame g ss ≡ true
+    → reading image ≡ Err (Damaged ClosedGate)
+reading-lacks g image ss r low single lacks = reading-is g image ss r
+    ∙ ap (with_geometry g) (passed (list_any (is_high g) ss) _ _ low ∙ passed (repeats ss) _ _ single
+    ∙ picked (lacks_frame g ss) _ _ lacks)
 
-pub reading-bad_slot : (g : Geometry) (image : List ℕ) (ss : List Segment) → IsRead g image ss → list_any (is_high g) ss ≡ false → repeats ss ≡ false → lacks_frame g ss ≡ false → list_any (is_bad_slot g) ss ≡ true → reading image ≡ Err (Damaged SlotHead)
+pub reading-bad_slot : (g : Geometry) (image : List ℕ) (ss : List Segment) → IsRead g image ss
+    → list_any (is_high g) ss ≡ false → repeats ss ≡ false → lacks_frame g ss ≡ false
+    → list_any (is_bad_slot g) ss ≡ true → reading image ≡ Err (Damaged SlotHead)
 reading-bad_slot g image ss r low single full bad =
-    reading-is g image ss r ∙ ap (with_geometry g) (passed (list_any (is_high g) ss) _ _ low ∙ passed (repeats ss) _ _ single ∙ passed (lacks_frame g ss) _ _ full ∙ picked (list_any (is_bad_slot g) ss) _ _ bad)
+    reading-is g image ss r ∙ ap (with_geometry g) (passed (list_any (is_high g) ss) _ _ low
+    ∙ passed (repeats ss) _ _ single ∙ passed (lacks_frame g ss) _ _ full
+    ∙ picked (list_any (is_bad_slot g) ss) _ _ bad)
 
 -- nothing is wrong with the segments
 pub record IsSoundSo (g : Geometry) (image : List ℕ) (ss : List Segment) : Type 0 where
@@ -422,14 +531,21 @@ pub record IsSoundSo (g : Geometry) (image : List ℕ) (ss : List Segment) : Typ
   pub full : lacks_frame g ss ≡ false
   pub right : list_any (is_bad_slot g) ss ≡ false
 
-segments-sound : (g : Geometry) (image : List ℕ) (ss : List Segment) → IsSoundSo g image ss → reading image ≡ with_geometry g (cond (has_bad_clip (recording_of g ss (clips_in image))) (Err ClipRange) (Ok (recording_of g ss (clips_in image))))
+segments-sound : (g : Geometry) (image : List ℕ) (ss : List Segment) → IsSoundSo g image ss
+    → reading image ≡ with_geometry g (cond (has_bad_clip (recording_of g ss (clips_in image))) (Err ClipRange)
+    (Ok (recording_of g ss (clips_in image))))
 segments-sound g image ss s =
-    reading-is g image ss s.read ∙ ap (with_geometry g) (passed (list_any (is_high g) ss) _ _ s.low ∙ passed (repeats ss) _ _ s.single ∙ passed (lacks_frame g ss) _ _ s.full ∙ passed (list_any (is_bad_slot g) ss) _ _ s.right)
+    reading-is g image ss s.read ∙ ap (with_geometry g) (passed (list_any (is_high g) ss) _ _ s.low
+    ∙ passed (repeats ss) _ _ s.single ∙ passed (lacks_frame g ss) _ _ s.full
+    ∙ passed (list_any (is_bad_slot g) ss) _ _ s.right)
 
-pub reading-bad_clip : (g : Geometry) (image : List ℕ) (ss : List Segment) → IsSoundSo g image ss → some_bad (all_frames g ss) (clips_in image) ≡ true → reading image ≡ Err (Damaged ClipRange)
+pub reading-bad_clip : (g : Geometry) (image : List ℕ) (ss : List Segment) → IsSoundSo g image ss
+    → some_bad (all_frames g ss) (clips_in image) ≡ true → reading image ≡ Err (Damaged ClipRange)
 reading-bad_clip g image ss s bad = segments-sound g image ss s ∙ ap (with_geometry g) (picked (has_bad_clip (recording_of g ss (clips_in image))) _ _ bad)
 
-pub reading-all : (g : Geometry) (image : List ℕ) (ss : List Segment) → IsSoundSo g image ss → some_bad (all_frames g ss) (clips_in image) ≡ false → reading image ≡ Ok (record { geometry = g; recording = recording_of g ss (clips_in image) })
+pub reading-all : (g : Geometry) (image : List ℕ) (ss : List Segment) → IsSoundSo g image ss
+    → some_bad (all_frames g ss) (clips_in image) ≡ false
+    → reading image ≡ Ok (record { geometry = g; recording = recording_of g ss (clips_in image) })
 reading-all g image ss s good = segments-sound g image ss s ∙ ap (with_geometry g) (passed (has_bad_clip (recording_of g ss (clips_in image))) _ _ good)
 
 -- what was read of an image of this geometry
@@ -440,20 +556,26 @@ pub record IsFoundIn (g : Geometry) (image : List ℕ) (fs xs : List Found) : Ty
   pub within : AreIn g fs
   pub same : xs ≡ fs
 
-pub found-read : (g : Geometry) (image : List ℕ) (fs xs : List Found) → IsFoundIn g image fs xs → IsRead g image (segments_of g image xs)
+pub found-read : (g : Geometry) (image : List ℕ) (fs xs : List Found) → IsFoundIn g image fs xs
+    → IsRead g image (segments_of g image xs)
 found-read g image fs xs f = record { geometry = f.geometry; size = f.size; are = ap (λ (ys : List Found). segments_of g image ys) f.same ∙ f.are }
 
-pub found-low : (g : Geometry) (image : List ℕ) (fs xs : List Found) → IsFoundIn g image fs xs → list_any (is_high g) (segments_of g image xs) ≡ false
+pub found-low : (g : Geometry) (image : List ℕ) (fs xs : List Found) → IsFoundIn g image fs xs
+    → list_any (is_high g) (segments_of g image xs) ≡ false
 found-low g image fs xs f = ap (λ (ys : List Found). list_any (is_high g) (segments_of g image ys)) f.same ∙ AreIn-low g image fs f.within
 
 pub found-within : (g : Geometry) (image : List ℕ) (fs xs : List Found) → IsFoundIn g image fs xs → AreIn g xs
 found-within g image fs xs f = subst (AreIn g) (sym f.same) f.within
 
-pub read-repeats : (g : Geometry) (image : List ℕ) (fs xs : List Found) (r : Bool) → IsFoundIn g image fs xs → r ≡ repeats (segments_of g image xs) → r ≡ true → reading image ≡ Err (Damaged RepeatedBlock)
+pub read-repeats : (g : Geometry) (image : List ℕ) (fs xs : List Found) (r : Bool) → IsFoundIn g image fs xs
+    → r ≡ repeats (segments_of g image xs) → r ≡ true → reading image ≡ Err (Damaged RepeatedBlock)
 read-repeats g image fs xs r f is e = reading-repeats g image (segments_of g image xs) (found-read g image fs xs f) (found-low g image fs xs f) (sym is ∙ e)
 
-pub read-lacks : (g : Geometry) (image : List ℕ) (fs xs : List Found) (r s : Bool) → IsFoundIn g image fs xs → r ≡ repeats (segments_of g image xs) → r ≡ false → s ≡ lacks_frame g (segments_of g image xs) → s ≡ true → reading image ≡ Err (Damaged ClosedGate)
-read-lacks g image fs xs r s f is e lacks e' = reading-lacks g image (segments_of g image xs) (found-read g image fs xs f) (found-low g image fs xs f) (sym is ∙ e) (sym lacks ∙ e')
+pub read-lacks : (g : Geometry) (image : List ℕ) (fs xs : List Found) (r s : Bool) → IsFoundIn g image fs xs
+    → r ≡ repeats (segments_of g image xs) → r ≡ false → s ≡ lacks_frame g (segments_of g image xs) → s ≡ true
+    → reading image ≡ Err (Damaged ClosedGate)
+read-lacks g image fs xs r s f is e lacks e' = reading-lacks g image (segments_of g image xs)
+    (found-read g image fs xs f) (found-low g image fs xs f) (sym is ∙ e) (sym lacks ∙ e')
 
 -- the segments of the image have no repeated block and lack no frame
 pub record AreFull (g : Geometry) (image : List ℕ) (fs xs : List Found) : Type 0 where
@@ -464,25 +586,42 @@ pub record AreFull (g : Geometry) (image : List ℕ) (fs xs : List Found) : Type
 abbrev pub fault_is : LayoutFault → Result Contents LayoutFault
 fault_is f = Err f
 
-whole-so : (g : Geometry) (image : List ℕ) (fs xs : List Found) → AreFull g image fs xs → list_any (is_bad_slot g) (segments_of g image xs) ≡ false → IsSoundSo g image (segments_of g image xs)
-whole-so g image fs xs a right = record { read = found-read g image fs xs a.found; low = found-low g image fs xs a.found; single = a.single; full = a.full; right = right }
+whole-so : (g : Geometry) (image : List ℕ) (fs xs : List Found) → AreFull g image fs xs
+    → list_any (is_bad_slot g) (segments_of g image xs) ≡ false → IsSoundSo g image (segments_of g image xs)
+whole-so g image fs xs a right =
+    record {
+      read = found-read g image fs xs a.found;
+      low = found-low g image fs xs a.found;
+      single = a.single;
+      full =
+          a.full;
+      right = right;
+    }
 
-pub read-bad_clip : (g : Geometry) (image : List ℕ) (fs xs : List Found) (frames : List (ℕ × Picture)) (d : Damage) → AreFull g image fs xs → list_any (is_bad_slot g) (segments_of g image xs) ≡ false → frames ≡ all_frames g (segments_of g image xs)
+pub read-bad_clip : (g : Geometry) (image : List ℕ) (fs xs : List Found) (frames : List (ℕ × Picture)) (d : Damage)
+    → AreFull g image fs xs → list_any (is_bad_slot g) (segments_of g image xs) ≡ false
+    → frames ≡ all_frames g (segments_of g image xs)
     → d ≡ ClipRange → some_bad frames (clips_in image) ≡ true → reading image ≡ Err (Damaged d)
 read-bad_clip g image fs xs frames d a right are is bad =
-    reading-bad_clip g image (segments_of g image xs) (whole-so g image fs xs a right) (sym (ap (λ (q : List (ℕ × Picture)). some_bad q (clips_in image)) are) ∙ bad) ∙ ap (λ (x : Damage). fault_of x) (sym is)
+    reading-bad_clip g image (segments_of g image xs) (whole-so g image fs xs a right)
+    (sym (ap (λ (q : List (ℕ × Picture)). some_bad q (clips_in image)) are) ∙ bad)
+    ∙ ap (λ (x : Damage). fault_of x) (sym is)
   where
     fault_of : Damage → Result Contents LayoutFault
     fault_of x = Err (Damaged x)
 
-pub read-all : (g : Geometry) (image : List ℕ) (fs xs : List Found) (next : ℕ) (frames : List (ℕ × Picture)) (clips : List (Option Span)) → AreFull g image fs xs → list_any (is_bad_slot g) (segments_of g image xs) ≡ false → frames ≡ all_frames g (segments_of g image xs)
+pub read-all : (g : Geometry) (image : List ℕ) (fs xs : List Found) (next : ℕ) (frames : List (ℕ × Picture))
+    (clips : List (Option Span)) → AreFull g image fs xs → list_any (is_bad_slot g) (segments_of g image xs) ≡ false
+    → frames ≡ all_frames g (segments_of g image xs)
     → next ≡ next_after g (segments_of g image xs) → clips ≡ clips_in image → some_bad frames (clips_in image) ≡ false
     → Holds g (record { next = next; frames = frames; clips = clips }) image
 read-all g image fs xs next frames clips a right are after clips_are good =
-    reading-all g image (segments_of g image xs) (whole-so g image fs xs a right) (sym (ap (λ (q : List (ℕ × Picture)). some_bad q (clips_in image)) are) ∙ good)
+    reading-all g image (segments_of g image xs) (whole-so g image fs xs a right)
+    (sym (ap (λ (q : List (ℕ × Picture)). some_bad q (clips_in image)) are) ∙ good)
     ∙ (λ i. Ok (record { geometry = g; recording = record { next = sym after i; frames = sym are i; clips = sym clips_are i } }))
 
-pub good-frames : (image : List ℕ) (fs gs : List (ℕ × Picture)) → gs ≡ fs → some_bad fs (clips_in image) ≡ false → some_bad gs (clips_in image) ≡ false
+pub good-frames : (image : List ℕ) (fs gs : List (ℕ × Picture)) → gs ≡ fs → some_bad fs (clips_in image) ≡ false
+    → some_bad gs (clips_in image) ≡ false
 good-frames image fs gs e good = ap (λ (q : List (ℕ × Picture)). some_bad q (clips_in image)) e ∙ good
 
 pub fault-of : {f h : LayoutFault} → f ≡ h → fault_is f ≡ fault_is h

@@ -25,7 +25,9 @@ use Rattle.loop_record.proofs.Written.{slot_in-slot_bytes, geometry_in-super_byt
 
 -- ---- a fresh image
 
-none_opened : (g : Geometry) (image : List ℕ) (lo n : ℕ) → ((j : ℕ) → lo ≤ j → j < lo + n → is_open image (segment_at g j) ≡ false) → open_segments (map (segment_in g image) (range_with_len lo n)) ≡ []
+none_opened : (g : Geometry) (image : List ℕ) (lo n : ℕ)
+    → ((j : ℕ) → lo ≤ j → j < lo + n → is_open image (segment_at g j) ≡ false)
+    → open_segments (map (segment_in g image) (range_with_len lo n)) ≡ []
 none_opened g image lo zero closed = refl
 none_opened g image lo (suc n) closed =
     let first = closed lo (omega arith) (omega arith) in
@@ -40,7 +42,8 @@ pub reading-fresh : (g : Geometry) (image : List ℕ) → IsTrue (is_good g) →
 reading-fresh g image good f =
     let whole : image ≡ super_bytes g ++ drop 512 image = sym (take-append-drop 512 image) ∙ ap (λ (bs : List ℕ). bs ++ drop 512 image) f.superblock in
     let segments = none_opened g image 0 g.segments (λ j low high. f.segments j (omega (arith, high))) in
-    let clips : map (clip_in image) (range_with_len 0 64) ≡ replicate 64 None = map_range (clip_in image) no_clip 0 64 (λ id low high. closed id (f.clips id (omega (arith, high)))) in
+    let clips : map (clip_in image) (range_with_len 0 64) ≡ replicate 64 None = map_range (clip_in image) no_clip 0 64
+    (λ id low high. closed id (f.clips id (omega (arith, high)))) in
     stages-reading g empty image (record {
       geometry = ap geometry_in whole ∙ geometry_in-super_bytes g (drop 512 image) good;
       size = f.size;
@@ -53,58 +56,75 @@ reading-fresh g image good f =
 -- ---- parts that were written
 
 -- a byte of a part of the image
-byte-slice : (at n i : ℕ) (image : List ℕ) → i < n → get_or image (at + i) 0 ≡ get_or (slice_range image at (at + n)) i 0
+byte-slice : (at n i : ℕ) (image : List ℕ) → i < n → get_or image (at + i) 0 ≡ get_or (slice_range image at (at + n))
+    i 0
 byte-slice at n i image l =
     let size : at + n - at ≡ n = omega arith in
     sym (get_or-drop at image i 0) ∙ sym (get_or-take (at + n - at) (drop at image) i 0 (omega (arith, size)))
 
 -- a segment whose header was written without frames is begun
-pub segment_in-header_bytes : (g : Geometry) (image : List ℕ) (j b : ℕ) → b < 2 ^ 64 → 1 ≤ g.slots → slice_range image (segment_at g j) (segment_at g j + 512) ≡ header_bytes b → segment_in g image j ≡ Some (empty_segment b)
+pub segment_in-header_bytes : (g : Geometry) (image : List ℕ) (j b : ℕ) → b < 2 ^ 64 → 1 ≤ g.slots
+    → slice_range image (segment_at g j) (segment_at g j + 512) ≡ header_bytes b
+    → segment_in g image j ≡ Some (empty_segment b)
 segment_in-header_bytes g image j b fits some e =
     let at = segment_at g j in
-    let byte : (i : ℕ) → i < 512 → get_or image (at + i) 0 ≡ get_or (header_bytes b) i 0 = λ i l. byte-slice at 512 i image l ∙ ap (λ (bs : List ℕ). get_or bs i 0) e in
+    let byte : (i : ℕ) → i < 512 → get_or image (at + i) 0 ≡ get_or (header_bytes b) i 0 =
+    λ i l. byte-slice at 512 i image l ∙ ap (λ (bs : List ℕ). get_or bs i 0) e in
     let gate : is_open image at ≡ true = ap (λ (k : ℕ). is_open image k) (omega arith) ∙ ap (λ (x : ℕ). eqb x 0xA5) (byte 0 (omega arith)) in
-    let number : little_from (at + 8) 8 image ≡ b = little_from-slice at (at + 512) 8 8 image (omega arith) ∙ ap (little_from 8 8) e ∙ little_number-reads_back 8 b [] fits in
+    let number : little_from (at + 8) 8 image ≡ b = little_from-slice at (at + 512) 8 8 image (omega arith)
+    ∙ ap (little_from 8 8) e ∙ little_number-reads_back 8 b [] fits in
     let first : is_open image (at + 256 + 0) ≡ false = ap (λ (k : ℕ). is_open image k) (omega arith) ∙ ap (λ (x : ℕ). eqb x 0xA5) (byte 256 (omega arith)) in
     let whole : whole_frames g image j ≡ 0 = open_gates-are g.slots 0 (at + 256) image (λ i l. absurd (omega (arith, l))) (omega arith) (inr first) in
-    let slots : map (λ i. slot_in (frame_bytes g) image (slot_at g j i)) (range_with_len 0 (whole_frames g image j)) ≡ [] = ap (λ (n : ℕ). map (λ i. slot_in (frame_bytes g) image (slot_at g j i)) (range_with_len 0 n)) whole in
+    let slots : map (λ i. slot_in (frame_bytes g) image (slot_at g j i))
+    (range_with_len 0 (whole_frames g image j)) ≡ [] =
+    ap (λ (n : ℕ). map (λ i. slot_in (frame_bytes g) image (slot_at g j i)) (range_with_len 0 n)) whole in
     λ i. cond (gate i) (Some (record { block = number i; slots = slots i })) None
 
 -- an entry that was written holds its clip
-pub clip_in-entry_bytes : (image : List ℕ) (id : ℕ) (s : Span) → s.from < 2 ^ 64 → s.to < 2 ^ 64 → slice_range image (clip_at id) (clip_at id + 32) ≡ entry_bytes s → clip_in image id ≡ Some s
+pub clip_in-entry_bytes : (image : List ℕ) (id : ℕ) (s : Span) → s.from < 2 ^ 64 → s.to < 2 ^ 64
+    → slice_range image (clip_at id) (clip_at id + 32) ≡ entry_bytes s → clip_in image id ≡ Some s
 clip_in-entry_bytes image id s low high e =
     let at = clip_at id in
-    let gate : is_open image at ≡ true = ap (λ (k : ℕ). is_open image k) (omega arith) ∙ ap (λ (x : ℕ). eqb x 0xA5) (byte-slice at 32 0 image (omega arith) ∙ ap (λ (bs : List ℕ). get_or bs 0 0) e) in
-    let from : little_from (at + 8) 8 image ≡ s.from = little_from-slice at (at + 32) 8 8 image (omega arith) ∙ ap (little_from 8 8) e ∙ little_number-reads_back 8 s.from [] low in
-    let to : little_from (at + 16) 8 image ≡ s.to = little_from-slice at (at + 32) 16 8 image (omega arith) ∙ ap (little_from 16 8) e ∙ little_number-reads_back 8 s.to [] high in
+    let gate : is_open image at ≡ true = ap (λ (k : ℕ). is_open image k) (omega arith)
+    ∙ ap (λ (x : ℕ). eqb x 0xA5) (byte-slice at 32 0 image (omega arith) ∙ ap (λ (bs : List ℕ). get_or bs 0 0) e) in
+    let from : little_from (at + 8) 8 image ≡ s.from = little_from-slice at (at + 32) 8 8 image (omega arith)
+    ∙ ap (little_from 8 8) e ∙ little_number-reads_back 8 s.from [] low in
+    let to : little_from (at + 16) 8 image ≡ s.to = little_from-slice at (at + 32) 16 8 image (omega arith)
+    ∙ ap (little_from 16 8) e ∙ little_number-reads_back 8 s.to [] high in
     λ i. cond (gate i) (Some (record { from = from i; to = to i })) None
 
 -- ---- a part by itself
 
 -- the number at a place of a part
-pub number-slice : (at n i m : ℕ) (image : List ℕ) → i + m ≤ n → little_from i m (slice_range image at (at + n)) ≡ little_from (at + i) m image
+pub number-slice : (at n i m : ℕ) (image : List ℕ) → i + m ≤ n
+    → little_from i m (slice_range image at (at + n)) ≡ little_from (at + i) m image
 number-slice at n i m image h = sym (little_from-slice at (at + n) i m image (omega (arith, h)))
 
-pub open-slice : (at n i : ℕ) (image : List ℕ) → i < n → is_open (slice_range image at (at + n)) i ≡ is_open image (at + i)
+pub open-slice : (at n i : ℕ) (image : List ℕ) → i < n → is_open (slice_range image at (at + n)) i ≡ is_open image
+    (at + i)
 open-slice at n i image l = ap (λ (x : ℕ). eqb x 0xA5) (sym (byte-slice at n i image l))
 
-bytes-slice : (at n : ℕ) (image : List ℕ) (i : ℕ) (bs : List ℕ) → i + length bs ≤ n → has_bytes (slice_range image at (at + n)) i bs ≡ has_bytes image (at + i) bs
+bytes-slice : (at n : ℕ) (image : List ℕ) (i : ℕ) (bs : List ℕ) → i + length bs ≤ n
+    → has_bytes (slice_range image at (at + n)) i bs ≡ has_bytes image (at + i) bs
 bytes-slice at n image i [] h = refl
 bytes-slice at n image i (b ∷ bs) h =
-    let first : eqb (get_or (slice_range image at (at + n)) i 0) b ≡ eqb (get_or image (at + i) 0) b = ap (λ (x : ℕ). eqb x b) (sym (byte-slice at n i image (omega (arith, h)))) in
+    let first : eqb (get_or (slice_range image at (at + n)) i 0) b ≡ eqb (get_or image (at + i) 0) b =
+    ap (λ (x : ℕ). eqb x b) (sym (byte-slice at n i image (omega (arith, h)))) in
     let place : at + (i + 1) ≡ at + i + 1 = omega arith in
     let rest = bytes-slice at n image (i + 1) bs (omega (arith, h)) ∙ ap (λ (k : ℕ). has_bytes image k bs) place in
     λ j. first j && rest j
 
 -- the superblock, cut out of its image, says what it says in it
-pub geometry_in-slice : (image : List ℕ) → 512 ≤ length image → geometry_in (slice_range image 0 512) ≡ geometry_in image
+pub geometry_in-slice : (image : List ℕ) → 512 ≤ length image
+    → geometry_in (slice_range image 0 512) ≡ geometry_in image
 geometry_in-slice image room = λ i. cond (whole i && gate i && name i) (geometry i) (Err NotFormatted)
   where
     cut : List ℕ
     cut = slice_range image 0 512
 
     whole : leb 512 (length cut) ≡ leb 512 (length image)
-    whole = at_most_test 512 (length cut) (omega (arith, length-take 512 (drop 0 image), length-drop 0 image, room)) ∙ sym (at_most_test 512 (length image) room)
+    whole = at_most_test 512 (length cut) (omega (arith, length-take 512 (drop 0 image), length-drop 0 image, room))
+        ∙ sym (at_most_test 512 (length image) room)
 
     gate : is_open cut 0 ≡ is_open image 0
     gate = open-slice 0 512 0 image (omega arith)
@@ -127,18 +147,30 @@ geometry_in-slice image room = λ i. cond (whole i && gate i && name i) (geometr
     of_format None = refl
     of_format (Some f) =
         let fields : geometry_fields cut f ≡ geometry_fields image f =
-        λ i. record { width = field 12 (omega arith) i; height = field 16 (omega arith) i; format = f; rate_num = field 24 (omega arith) i; rate_den = field 28 (omega arith) i; segments = field 32 (omega arith) i; slots = field 36 (omega arith) i } in
+        λ i. record {
+          width = field 12 (omega arith) i;
+          height = field 16 (omega arith) i;
+          format = f;
+          rate_num =
+              field 24 (omega arith) i;
+          rate_den = field 28 (omega arith) i;
+          segments = field 32 (omega arith) i;
+          slots = field 36 (omega arith) i;
+        } in
         let version = field 8 (omega arith) in
         let size = field 40 (omega arith) in
-        λ i. cond (eqb (version i) 1 && is_good (fields i) && eqb (size i) (frame_bytes (fields i)) && list_all (λ x. eqb x 0) (zeros i)) (Ok (fields i)) (Err (Damaged Superblock))
+        λ i. cond (eqb (version i) 1 && is_good (fields i) && eqb (size i) (frame_bytes (fields i)) && list_all
+        (λ x. eqb x 0) (zeros i)) (Ok (fields i)) (Err (Damaged Superblock))
 
     geometry : checked_geometry cut (format_at cut 20) ≡ checked_geometry image (format_at image 20)
     geometry = ap (λ (o : Option PixelFormat). checked_geometry cut o) format ∙ of_format (format_at image 20)
 
 -- the header of a segment, cut out of its image, says what it says in it
-pub header_at-slice : (g : Geometry) (image : List ℕ) (at : ℕ) → g.slots ≤ 256 → header_at g (slice_range image at (at + 512)) 0 ≡ header_at g image at
+pub header_at-slice : (g : Geometry) (image : List ℕ) (at : ℕ) → g.slots ≤ 256
+    → header_at g (slice_range image at (at + 512)) 0 ≡ header_at g image at
 header_at-slice g image at few =
-    let gate : is_open (slice_range image at (at + 512)) 0 ≡ is_open image at = open-slice at 512 0 image (omega arith) ∙ ap (λ (k : ℕ). is_open image k) (omega arith) in
+    let gate : is_open (slice_range image at (at + 512)) 0 ≡ is_open image at =
+    open-slice at 512 0 image (omega arith) ∙ ap (λ (k : ℕ). is_open image k) (omega arith) in
     let block = number-slice at 512 8 8 image (omega arith) in
     let frames : open_gates g.slots (slice_range image at (at + 512)) 256 ≡ open_gates g.slots image (at + 256) =
     prefix_range (λ i. is_open (slice_range image at (at + 512)) (256 + i)) (λ i. is_open image (at + 256 + i)) 0 g.slots (λ i low high.
@@ -148,7 +180,8 @@ header_at-slice g image at few =
 -- a clip entry, cut out of its image, holds what it holds in it
 pub entry_at-slice : (image : List ℕ) (at : ℕ) → entry_at (slice_range image at (at + 32)) 0 ≡ entry_at image at
 entry_at-slice image at =
-    let gate : is_open (slice_range image at (at + 32)) 0 ≡ is_open image at = open-slice at 32 0 image (omega arith) ∙ ap (λ (k : ℕ). is_open image k) (omega arith) in
+    let gate : is_open (slice_range image at (at + 32)) 0 ≡ is_open image at = open-slice at 32 0 image (omega arith)
+    ∙ ap (λ (k : ℕ). is_open image k) (omega arith) in
     let from = number-slice at 32 8 8 image (omega arith) in
     let to = number-slice at 32 16 8 image (omega arith) in
     λ i. cond (gate i) (Some (record { from = from i; to = to i })) None
@@ -158,7 +191,9 @@ pub slot_in-slice : (n at : ℕ) (image : List ℕ) → slot_in n (slice_range i
 slot_in-slice n at image =
     let whole : at + 32 + n ≡ at + (32 + n) = omega arith in
     let cut = slice_range image at (at + 32 + n) in
-    let field : (i m : ℕ) → i + m ≤ 32 → little_from i m cut ≡ little_from (at + i) m image = λ i m h. ap (λ (e : ℕ). little_from i m (slice_range image at e)) whole ∙ number-slice at (32 + n) i m image (omega (arith, h)) in
+    let field : (i m : ℕ) → i + m ≤ 32 → little_from i m cut ≡ little_from (at + i) m image =
+    λ i m h. ap (λ (e : ℕ). little_from i m (slice_range image at e)) whole ∙ number-slice at (32 + n) i m image
+    (omega (arith, h)) in
     let number = field 0 8 (omega arith) ∙ ap (λ (k : ℕ). little_from k 8 image) (omega arith) in
     let sequence = field 8 4 (omega arith) in
     let flags = field 12 4 (omega arith) in
@@ -167,18 +202,22 @@ slot_in-slice n at image =
     let bytes : slice_range cut 32 (0 + 32 + n) ≡ slice_range image (at + 32) (at + 32 + n) = inner in
     λ i. record { number = number i; size = size i; picture = record { sequence = sequence i; flags = flags i; timestamp = timestamp i; bytes = bytes i } }
   where
-    inner : take (0 + 32 + n - 32) (drop 32 (take (at + 32 + n - at) (drop at image))) ≡ take (at + 32 + n - (at + 32)) (drop (at + 32) image)
+    inner : take (0 + 32 + n - 32) (drop 32 (take (at + 32 + n - at) (drop at image))) ≡ take
+        (at + 32 + n - (at + 32)) (drop (at + 32) image)
     inner =
         let a : 0 + 32 + n - 32 ≡ n = omega arith in
         let b : at + 32 + n - at ≡ 32 + n = omega arith in
         let c : at + 32 + n - (at + 32) ≡ n = omega arith in
-        rw (a, b, c) (ap (take n) (drop-take 32 n (drop at image)) ∙ take-take n n (drop 32 (drop at image)) (omega arith) ∙ ap (take n) (drop-drop 32 at image))
+        rw (a, b, c) (ap (take n) (drop-take 32 n (drop at image)) ∙ take-take n n (drop 32 (drop at image))
+        (omega arith) ∙ ap (take n) (drop-drop 32 at image))
 
 -- ---- written by itself
 
-written_slot : (number : ℕ) (p : Picture) → FitsSlot number p → slot_head (length p.bytes) number (slot_in (length p.bytes) (slot_bytes number p) 0) ≡ Ok (head number p)
+written_slot : (number : ℕ) (p : Picture) → FitsSlot number p → slot_head (length p.bytes) number
+    (slot_in (length p.bytes) (slot_bytes number p) 0) ≡ Ok (head number p)
 written_slot number p f =
-    let whole : slice_range (slot_bytes number p) 0 (0 + 32 + length p.bytes) ≡ slot_bytes number p = take_all (0 + 32 + length p.bytes - 0) (slot_bytes number p) (omega arith) in
+    let whole : slice_range (slot_bytes number p) 0 (0 + 32 + length p.bytes) ≡ slot_bytes number p =
+    take_all (0 + 32 + length p.bytes - 0) (slot_bytes number p) (omega arith) in
     let is = slot_in-slot_bytes (length p.bytes) 0 number p (slot_bytes number p) f refl whole in
     let first = equal_test number number refl in
     let second = equal_test (length p.bytes) (length p.bytes) refl in

@@ -28,13 +28,15 @@ is_high_from g b good high = go (cases_lt (2 ^ 62) ((b + 1) * g.slots))
         let most : b + 1 ≤ 2 ^ 62 / g.slots = (le-div_iff_mul-le l.slots.0).1 fits in
         absurd (omega (arith, most, high))
 
-pub checked_header-low : (g : Geometry) (image : List ℕ) (at b k : ℕ) → is_open image at ≡ true → little_from (at + 8) 8 image ≡ b → open_gates g.slots image (at + 256) ≡ k → is_too_high g b ≡ false
+pub checked_header-low : (g : Geometry) (image : List ℕ) (at b k : ℕ) → is_open image at ≡ true
+    → little_from (at + 8) 8 image ≡ b → open_gates g.slots image (at + 256) ≡ k → is_too_high g b ≡ false
     → checked_header g (header_at g image at) ≡ Ok (Some (record { block = b; frames = k }))
 checked_header-low g image at b k gate block frames low =
     (λ i. checked_header g (cond (gate i) (Some (record { block = block i; frames = frames i })) None))
     ∙ (λ i. cond (low i) (Err BlockTooHigh) (Ok (Some (record { block = b; frames = k }))))
 
-pub checked_header-high : (g : Geometry) (image : List ℕ) (at b : ℕ) → is_open image at ≡ true → little_from (at + 8) 8 image ≡ b → is_too_high g b ≡ true
+pub checked_header-high : (g : Geometry) (image : List ℕ) (at b : ℕ) → is_open image at ≡ true
+    → little_from (at + 8) 8 image ≡ b → is_too_high g b ≡ true
     → checked_header g (header_at g image at) ≡ Err BlockTooHigh
 checked_header-high g image at b gate block high =
     let k = open_gates g.slots image (at + 256) in

@@ -22,7 +22,8 @@ use Rattle.loop_record.proofs.Fresh.{number-slice, open-slice}
 use Rattle.loop_record.proofs.Decided.{equal, not_below, not_below_test}
 use Rattle.loop_record.proofs.FoundSegments.{length-slots}
 
-under-both : (fs gs : List (ℕ × Picture)) (n : ℕ) → is_some (frame_under (fs ++ gs) n) ≡ (is_some (frame_under fs n) || is_some (frame_under gs n))
+under-both : (fs gs : List (ℕ × Picture)) (n : ℕ) → is_some (frame_under (fs ++ gs) n) ≡
+    (is_some (frame_under fs n) || is_some (frame_under gs n))
 under-both [] gs n = refl
 under-both (f ∷ fs) gs n = go (eqb f.0 n) (under-both fs gs n)
   where
@@ -32,17 +33,20 @@ under-both (f ∷ fs) gs n = go (eqb f.0 n) (under-both fs gs n)
     go false ih = ih
 
 -- numbers that follow one another are those of a range
-under-enumerate : (n b : ℕ) (ps : List Picture) → is_some (frame_under (enumerate_from b ps) n) ≡ (leb b n && ltb n (b + length ps))
+under-enumerate : (n b : ℕ) (ps : List Picture) → is_some (frame_under (enumerate_from b ps) n) ≡
+    (leb b n && ltb n (b + length ps))
 under-enumerate n b [] = grind (arith, nat_tests)
 under-enumerate n b (p ∷ ps) = go (eqb b n) refl (under-enumerate n (b + 1) ps)
   where
-    go : (t : Bool) → eqb b n ≡ t → is_some (frame_under (enumerate_from (b + 1) ps) n) ≡ (leb (b + 1) n && ltb n (b + 1 + length ps))
+    go : (t : Bool) → eqb b n ≡ t → is_some (frame_under (enumerate_from (b + 1) ps) n) ≡
+        (leb (b + 1) n && ltb n (b + 1 + length ps))
         → is_some (cond t (Some p) (frame_under (enumerate_from (b + 1) ps) n)) ≡ (leb b n && ltb n (b + suc (length ps)))
     go true e ih = grind (arith, nat_tests, e)
     go false e ih = ih ∙ grind (arith, nat_tests, e)
 
 -- a block's numbers, by place and by division
-by-division : (slots b n k : ℕ) → 1 ≤ slots → k ≤ slots → (leb (b * slots) n && ltb n (b * slots + k)) ≡ (eqb b (n / slots) && ltb (n % slots) k)
+by-division : (slots b n k : ℕ) → 1 ≤ slots → k ≤ slots → (leb (b * slots) n && ltb n (b * slots + k)) ≡
+    (eqb b (n / slots) && ltb (n % slots) k)
 by-division slots b n k some few = go (eqb b q) (ltb b q) refl refl
   where
     q : ℕ
@@ -80,19 +84,23 @@ by-division slots b n k some few = go (eqb b q) (ltb b q) refl refl
         (λ i. fails i && ltb n (b * slots + k)) ∙ sym (λ i. e i && ltb m k)
 
 -- the frames of the segments have just the numbers that the headers say
-pub held-number : (g : Geometry) (image : List ℕ) (fs : List Found) (n : ℕ) → 1 ≤ g.slots → AreIn g fs → is_some (frame_under (all_frames g (segments_of g image fs)) n) ≡ list_any (found_number g n) fs
+pub held-number : (g : Geometry) (image : List ℕ) (fs : List Found) (n : ℕ) → 1 ≤ g.slots → AreIn g fs
+    → is_some (frame_under (all_frames g (segments_of g image fs)) n) ≡ list_any (found_number g n) fs
 held-number g image [] n some h = refl
 held-number g image (f ∷ fs) n some h =
     let pictures = map (λ t. t.picture) (segment_of g image f).slots in
     let size : length pictures ≡ f.frames = length-map (segment_of g image f).slots (λ t. t.picture) ∙ length-slots g image f in
     let here : is_some (frame_under (frames_of g (segment_of g image f)) n) ≡ found_number g n f =
-    under-enumerate n (f.block * g.slots) pictures ∙ ap (λ (k : ℕ). leb (f.block * g.slots) n && ltb n (f.block * g.slots + k)) size ∙ by-division g.slots f.block n f.frames some h.0.few in
+    under-enumerate n (f.block * g.slots) pictures
+    ∙ ap (λ (k : ℕ). leb (f.block * g.slots) n && ltb n (f.block * g.slots + k)) size
+    ∙ by-division g.slots f.block n f.frames some h.0.few in
     let rest = held-number g image fs n some h.1 in
     under-both (frames_of g (segment_of g image f)) (all_frames g (segments_of g image fs)) n ∙ (λ i. here i || rest i)
 
 -- so for each number of a range
 pub held-all : (g : Geometry) (image : List ℕ) (fs : List Found) (from count : ℕ) → 1 ≤ g.slots → AreIn g fs
-    → list_all (λ n. is_some (frame_under (all_frames g (segments_of g image fs)) n)) (range_with_len from count) ≡ list_all (λ n. list_any (found_number g n) fs) (range_with_len from count)
+    → list_all (λ n. is_some (frame_under (all_frames g (segments_of g image fs)) n))
+    (range_with_len from count) ≡ list_all (λ n. list_any (found_number g n) fs) (range_with_len from count)
 held-all g image fs from count some h = λ i. list_all (λ n. held-number g image fs n some h i) (range_with_len from count)
 
 -- an entry of the table is the image's
@@ -102,25 +110,34 @@ entry-within image id l =
     let at = clip_at id in
     let place : (k : ℕ) → 512 + (id * 32 + k) ≡ at + k = λ k. omega arith in
     let gate : is_open cut (id * 32) ≡ is_open image at = open-slice 512 2048 (id * 32) image (omega (arith, l)) in
-    let from : little_from (id * 32 + 8) 8 cut ≡ little_from (at + 8) 8 image = number-slice 512 2048 (id * 32 + 8) 8 image (omega (arith, l)) ∙ ap (λ (k : ℕ). little_from k 8 image) (place 8) in
-    let to : little_from (id * 32 + 16) 8 cut ≡ little_from (at + 16) 8 image = number-slice 512 2048 (id * 32 + 16) 8 image (omega (arith, l)) ∙ ap (λ (k : ℕ). little_from k 8 image) (place 16) in
+    let from : little_from (id * 32 + 8) 8 cut ≡ little_from (at + 8) 8 image =
+    number-slice 512 2048 (id * 32 + 8) 8 image (omega (arith, l)) ∙ ap (λ (k : ℕ). little_from k 8 image)
+    (place 8) in
+    let to : little_from (id * 32 + 16) 8 cut ≡ little_from (at + 16) 8 image =
+    number-slice 512 2048 (id * 32 + 16) 8 image (omega (arith, l)) ∙ ap (λ (k : ℕ). little_from k 8 image)
+    (place 16) in
     λ i. cond (gate i) (Some (record { from = from i; to = to i })) None
 
 -- so for each number of a clip
-pub lacks-bad : (g : Geometry) (image : List ℕ) (fs : List Found) (c : Option Span) → 1 ≤ g.slots → AreIn g fs → is_bad_clip (record empty { frames = all_frames g (segments_of g image fs) }) c ≡ lacks_number g fs c
+pub lacks-bad : (g : Geometry) (image : List ℕ) (fs : List Found) (c : Option Span) → 1 ≤ g.slots → AreIn g fs
+    → is_bad_clip (record empty { frames = all_frames g (segments_of g image fs) }) c ≡ lacks_number g fs c
 lacks-bad g image fs None some h = refl
 lacks-bad g image fs (Some s) some h =
     let all = held-all g image fs s.from (s.to + 1 - s.from) some h in
     λ i. ltb s.to s.from || not (all i)
 
 -- the clips of an image are those of its clip table, and some is bad where the table has one that lacks a number
-pub clips-table : (image : List ℕ) → table_clips (slice_range image 512 2560) ≡ map (clip_in image) (range_with_len 0 64)
-clips-table image = map_range (λ id. entry_at (slice_range image 512 2560) (id * 32)) (clip_in image) 0 64 (λ id low high. entry-within image id (omega (arith, high)))
+pub clips-table : (image : List ℕ) → table_clips (slice_range image 512 2560) ≡ map (clip_in image)
+    (range_with_len 0 64)
+clips-table image = map_range (λ id. entry_at (slice_range image 512 2560) (id * 32)) (clip_in image) 0 64
+    (λ id low high. entry-within image id (omega (arith, high)))
 
-pub bad-lacks : (g : Geometry) (image : List ℕ) (fs : List Found) (t : Bool) → 1 ≤ g.slots → AreIn g fs → list_any (lacks_number g fs) (table_clips (slice_range image 512 2560)) ≡ t
+pub bad-lacks : (g : Geometry) (image : List ℕ) (fs : List Found) (t : Bool) → 1 ≤ g.slots → AreIn g fs
+    → list_any (lacks_number g fs) (table_clips (slice_range image 512 2560)) ≡ t
     → list_any (is_bad_clip (record empty { frames = all_frames g (segments_of g image fs) })) (map (clip_in image) (range_with_len 0 64)) ≡ t
 bad-lacks g image fs t some h e =
-    (λ i. list_any (λ c. lacks-bad g image fs c some h i) (map (clip_in image) (range_with_len 0 64))) ∙ sym (ap (list_any (lacks_number g fs)) (clips-table image)) ∙ e
+    (λ i. list_any (λ c. lacks-bad g image fs c some h i) (map (clip_in image) (range_with_len 0 64)))
+    ∙ sym (ap (list_any (lacks_number g fs)) (clips-table image)) ∙ e
 
 -- a clip that was decoded has a number
 pub clip-order : (e : Option Span) (s : Span) → (let r : Result (Option Span) Damage = Ok (Some s) in r) ≡ checked_clip e → s.from ≤ s.to
@@ -138,13 +155,16 @@ clip-order (Some x) s is = go (ltb x.to x.from) refl is
     go false low is = omega (arith, ap (λ (y : Span). y.from) (same is), ap (λ (y : Span). y.to) (same is), not_below x.to x.from low)
 
 -- an empty clip lacks a number
-pub clip-empty : (g : Geometry) (fs : List Found) (e : Option Span) (d : Damage) → (let r : Result (Option Span) Damage = Err d in r) ≡ checked_clip e → (let r : Result (Option Span) Damage = Err d in r) ≡ held_clip g fs e
+pub clip-empty : (g : Geometry) (fs : List Found) (e : Option Span) (d : Damage)
+    → (let r : Result (Option Span) Damage = Err d in r) ≡ checked_clip e
+    → (let r : Result (Option Span) Damage = Err d in r) ≡ held_clip g fs e
 clip-empty g fs None d is = absurd cc
 clip-empty g fs (Some x) d is = go (ltb x.to x.from) _ is
   where
     err : Damage → Result (Option Span) Damage
     err y = Err y
 
-    go : (t u : Bool) → err d ≡ cond t (Err ClipRange) (Ok (Some x)) → err d ≡ cond (t || u) (Err ClipRange) (Ok (Some x))
+    go : (t u : Bool) → err d ≡ cond t (Err ClipRange) (Ok (Some x)) → err d ≡ cond (t || u) (Err ClipRange)
+        (Ok (Some x))
     go true u is = is
     go false u is = absurd cc

@@ -20,14 +20,18 @@ use Rattle.loop_record.proofs.Framing.{SameWithin, map_range, same_segment, same
 
 -- ---- parts of one image and of the other
 
-pub within_before : (at n from to : ℕ) (old new : List ℕ) → SameOutside at n old new → to ≤ at → SameWithin from to new old
+pub within_before : (at n from to : ℕ) (old new : List ℕ) → SameOutside at n old new → to ≤ at
+    → SameWithin from to new old
 within_before at n from to old new s h = record { size = s.size; bytes = λ k l u. s.before k (omega (arith, u, h)) }
 
-pub within_behind : (at n from to : ℕ) (old new : List ℕ) → SameOutside at n old new → at + n ≤ from → SameWithin from to new old
+pub within_behind : (at n from to : ℕ) (old new : List ℕ) → SameOutside at n old new → at + n ≤ from
+    → SameWithin from to new old
 within_behind at n from to old new s h = record { size = s.size; bytes = λ k l u. s.behind k (omega (arith, l, h)) }
 
 -- a list over a range, with one element another
-pub map_range-set : {X : Type 0} (f h : ℕ → X) (lo n j : ℕ) (x : X) → j < n → ((i : ℕ) → (i < lo + j) ⊎ (lo + j < i) → f i ≡ h i) → f (lo + j) ≡ x → map f (range_with_len lo n) ≡ set (map h (range_with_len lo n)) j x
+pub map_range-set : {X : Type 0} (f h : ℕ → X) (lo n j : ℕ) (x : X) → j < n
+    → ((i : ℕ) → (i < lo + j) ⊎ (lo + j < i) → f i ≡ h i) → f (lo + j) ≡ x → map f (range_with_len lo n) ≡ set
+    (map h (range_with_len lo n)) j x
 map_range-set f h lo zero j x l same is = absurd (omega (arith, l))
 map_range-set f h lo (suc n) zero x l same is =
     let at : lo ≡ lo + zero = omega arith in
@@ -52,18 +56,23 @@ apart g i j l =
     omega (arith, le, split)
 
 -- the parts of the old image but for segment j
-pub parts-shows : (g : Geometry) (j : ℕ) (part : Option Segment) (old new : List ℕ) → g.slots ≤ 256 → j < g.segments → ShowsSegment g j part old new
+pub parts-shows : (g : Geometry) (j : ℕ) (part : Option Segment) (old new : List ℕ) → g.slots ≤ 256 → j < g.segments
+    → ShowsSegment g j part old new
     → parts_of g new ≡ record { segments = set (parts_of g old).segments j part; clips = (parts_of g old).clips }
 parts-shows g j part old new few l s =
     let other : (i : ℕ) → (i < 0 + j) ⊎ (0 + j < i) → segment_in g new i ≡ segment_in g old i = λ i o. same_segment g new old i few (within i o) in
     let at : 0 + j ≡ j = omega arith in
     let segments = map_range-set (segment_in g new) (segment_in g old) 0 g.segments j part l other (ap (segment_in g new) at ∙ s.holds) in
-    let clips = map_range (clip_in new) (clip_in old) 0 64 (λ id low high. same_clip new old id (within_before (segment_at g j) (segment_size g) (clip_at id) (clip_at id + 32) old new s.outside (omega (arith, high)))) in
+    let clips = map_range (clip_in new) (clip_in old) 0 64
+    (λ id low high. same_clip new old id (within_before (segment_at g j) (segment_size g) (clip_at id)
+    (clip_at id + 32) old new s.outside (omega (arith, high)))) in
     λ i. record { segments = segments i; clips = clips i }
   where
     within : (i : ℕ) → (i < 0 + j) ⊎ (0 + j < i) → SameWithin (segment_at g i) (segment_at g i + segment_size g) new old
-    within i (inl a) = within_before (segment_at g j) (segment_size g) (segment_at g i) (segment_at g i + segment_size g) old new s.outside (apart g i j (omega (arith, a)))
-    within i (inr a) = within_behind (segment_at g j) (segment_size g) (segment_at g i) (segment_at g i + segment_size g) old new s.outside (apart g j i (omega (arith, a)))
+    within i (inl a) = within_before (segment_at g j) (segment_size g) (segment_at g i)
+        (segment_at g i + segment_size g) old new s.outside (apart g i j (omega (arith, a)))
+    within i (inr a) = within_behind (segment_at g j) (segment_size g) (segment_at g i)
+        (segment_at g i + segment_size g) old new s.outside (apart g j i (omega (arith, a)))
 
 -- ---- what an image reads as, by its stages
 
@@ -75,7 +84,8 @@ pub record ReadsAs (g : Geometry) (r : Recording) (image : List ℕ) : Type 0 wh
 abbrev pub these : Geometry → Recording → Contents
 these g r = record { geometry = g; recording = r }
 
-pub reading-stages : (g : Geometry) (r : Recording) (image : List ℕ) → reading image ≡ Ok (these g r) → ReadsAs g r image
+pub reading-stages : (g : Geometry) (r : Recording) (image : List ℕ) → reading image ≡ Ok (these g r)
+    → ReadsAs g r image
 reading-stages g r image e = go (geometry_in image) refl e
   where
     ok_is : Contents → Result Contents LayoutFault
@@ -90,14 +100,16 @@ reading-stages g r image e = go (geometry_in image) refl e
         (ap (λ (c : Contents). c.geometry) same, λ i. Ok (same i).recording)
     inner h (Err d) e = absurd cc
 
-    sized : (h : Geometry) (t : Bool) (q : Result Contents LayoutFault) → cond t q (Err (Damaged DiskSize)) ≡ Ok (these g r) → (t ≡ true) × (q ≡ Ok (these g r))
+    sized : (h : Geometry) (t : Bool) (q : Result Contents LayoutFault) → cond t q (Err (Damaged DiskSize)) ≡ Ok
+        (these g r) → (t ≡ true) × (q ≡ Ok (these g r))
     sized h true q e = (refl, e)
     sized h false q e = absurd cc
 
     equal : (m n : ℕ) → eqb m n ≡ true → m ≡ n
     equal m n e = grind (arith, nat_tests, e)
 
-    go : (o : Result Geometry LayoutFault) → geometry_in image ≡ o → contents image o ≡ Ok (these g r) → ReadsAs g r image
+    go : (o : Result Geometry LayoutFault) → geometry_in image ≡ o → contents image o ≡ Ok (these g r)
+        → ReadsAs g r image
     go (Err d) is e = absurd cc
     go (Ok h) is e =
         let k = sized h (eqb (length image) (disk_size h)) (with_geometry h (shown_by h (parts_of h image))) e in
@@ -109,7 +121,8 @@ reading-stages g r image e = go (geometry_in image) refl e
           recording = subst (λ (x : Geometry). shown_by x (parts_of x image) ≡ Ok r) q.0 q.1;
         }
 
-pub stages-reading : (g : Geometry) (r : Recording) (image : List ℕ) → ReadsAs g r image → reading image ≡ Ok (these g r)
+pub stages-reading : (g : Geometry) (r : Recording) (image : List ℕ) → ReadsAs g r image
+    → reading image ≡ Ok (these g r)
 stages-reading g r image s =
     let sized : eqb (length image) (disk_size g) ≡ true = equal (length image) (disk_size g) s.size in
     ap (contents image) s.geometry ∙ (λ i. cond (sized i) (with_geometry g (s.recording i)) (Err (Damaged DiskSize)))
@@ -142,14 +155,16 @@ geometry-good g image e = go (is_formatted image) e
         let c = both _ _ b.0 in
         subst (λ (x : Geometry). is_good x ≡ true) k.1 c.1
 
-    go : (t : Bool) → cond t (checked_geometry image (format_at image 20)) (Err NotFormatted) ≡ Ok g → IsTrue (is_good g)
+    go : (t : Bool) → cond t (checked_geometry image (format_at image 20)) (Err NotFormatted) ≡ Ok g
+        → IsTrue (is_good g)
     go true e = named (format_at image 20) e
     go false e = absurd cc
 
 -- ---- the whole
 
 -- where segment j of an image has changed, the rest read the same
-pub reading-shows : (g : Geometry) (r s : Recording) (j : ℕ) (part : Option Segment) (old new : List ℕ) → reading old ≡ Ok (these g r) → j < g.segments → ShowsSegment g j part old new
+pub reading-shows : (g : Geometry) (r s : Recording) (j : ℕ) (part : Option Segment) (old new : List ℕ)
+    → reading old ≡ Ok (these g r) → j < g.segments → ShowsSegment g j part old new
     → shown_by g (record { segments = set (parts_of g old).segments j part; clips = (parts_of g old).clips }) ≡ Ok s → reading new ≡ Ok (these g s)
 reading-shows g r s j part old new e l shows is =
     let was = reading-stages g r old e in

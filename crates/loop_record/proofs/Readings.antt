@@ -24,7 +24,8 @@ pub length-range : (lo n : ℕ) → length (range_with_len lo n) ≡ n
 length-range lo zero = refl
 length-range lo (suc n) = omega (arith, length-range (lo + 1) n)
 
-pub get_or-map_range : {X : Type 0} (f : ℕ → X) (lo n j : ℕ) (d : X) → j < n → get_or (map f (range_with_len lo n)) j d ≡ f (lo + j)
+pub get_or-map_range : {X : Type 0} (f : ℕ → X) (lo n j : ℕ) (d : X) → j < n
+    → get_or (map f (range_with_len lo n)) j d ≡ f (lo + j)
 get_or-map_range f lo zero j d l = absurd (omega (arith, l))
 get_or-map_range f lo (suc n) zero d l = ap f (omega arith)
 get_or-map_range f lo (suc n) (suc j) d l = get_or-map_range f (lo + 1) n j d (omega (arith, l)) ∙ ap f (omega arith)
@@ -32,7 +33,8 @@ get_or-map_range f lo (suc n) (suc j) d l = get_or-map_range f (lo + 1) n j d (o
 pub segments_length : (g : Geometry) (image : List ℕ) → length (parts_of g image).segments ≡ g.segments
 segments_length g image = omega (arith, length-map (range_with_len 0 g.segments) (segment_in g image), length-range 0 g.segments)
 
-pub segment_there : (g : Geometry) (image : List ℕ) (j : ℕ) → j < g.segments → get_or (parts_of g image).segments j None ≡ segment_in g image j
+pub segment_there : (g : Geometry) (image : List ℕ) (j : ℕ) → j < g.segments
+    → get_or (parts_of g image).segments j None ≡ segment_in g image j
 segment_there g image j l =
     let at : 0 + j ≡ j = omega arith in
     get_or-map_range (segment_in g image) 0 g.segments j None l ∙ ap (segment_in g image) at
@@ -51,20 +53,24 @@ opened_fit g image lo (suc n) = go (segment_in g image lo) (one lo) (opened_fit 
         most : length (range_with_len 0 (whole_frames g image i)) ≤ g.slots
         most = omega (arith, length-range 0 (whole_frames g image i), prefix_range-le (λ k. is_open image (gate_at g i k)) 0 g.slots)
 
-        cases : (t : Bool) (b : ℕ) (f : ℕ → Slot) → length (range_with_len 0 (whole_frames g image i)) ≤ g.slots → fits (cond t (Some (record { block = b; slots = map f (range_with_len 0 (whole_frames g image i)) })) None)
+        cases : (t : Bool) (b : ℕ) (f : ℕ → Slot) → length (range_with_len 0 (whole_frames g image i)) ≤ g.slots
+            → fits (cond t (Some (record { block = b; slots = map f (range_with_len 0 (whole_frames g image i)) }))
+            None)
         cases true b f le =
             let same = length-map (range_with_len 0 (whole_frames g image i)) f in
             let le' : length (map f (range_with_len 0 (whole_frames g image i))) ≤ g.slots = omega (arith, same, le) in
             grind (arith, nat_tests, le')
         cases false b f le = tt
 
-    go : (o : Option Segment) → fits o → list_any (is_overfull g) (open_segments (map (segment_in g image) (range_with_len (lo + 1) n))) ≡ false
+    go : (o : Option Segment) → fits o
+        → list_any (is_overfull g) (open_segments (map (segment_in g image) (range_with_len (lo + 1) n))) ≡ false
         → list_any (is_overfull g) (open_segments (o ∷ map (segment_in g image) (range_with_len (lo + 1) n))) ≡ false
     go None f rest = rest
     go (Some s) f rest = λ i. f i || rest i
 
 -- no segment of an image has more slots than there are
-pub overfull_none : (g : Geometry) (image : List ℕ) → list_any (is_overfull g) (by_block (open_segments (parts_of g image).segments)) ≡ false
+pub overfull_none : (g : Geometry) (image : List ℕ)
+    → list_any (is_overfull g) (by_block (open_segments (parts_of g image).segments)) ≡ false
 overfull_none g image = any-by_block (is_overfull g) (open_segments (parts_of g image).segments) ∙ opened_fit g image 0 g.segments
 
 -- ---- commit
@@ -106,7 +112,8 @@ reading-begin g r old new j b e l there apart next low shows =
     let is : get_or ps j None ≡ None = segment_there g old j l ∙ there in
     let single = (shown_of g (by_block (open_segments ps)) clips r was.recording).single in
     let whole : set ps j None ≡ ps = sym (ap (λ (q : Option Segment). set ps j q) is) ∙ set-get_or ps j None in
-    let p = placed b j ps (omega (arith, l, segments_length g old)) (ap (λ qs. has_block b (open_segments qs)) whole ∙ apart) (ap (λ qs. repeats (open_segments qs)) whole ∙ sym (repeats-by_block (open_segments ps)) ∙ single) in
+    let p = placed b j ps (omega (arith, l, segments_length g old)) (ap (λ qs. has_block b (open_segments qs)) whole
+    ∙ apart) (ap (λ qs. repeats (open_segments qs)) whole ∙ sym (repeats-by_block (open_segments ps)) ∙ single) in
     let sorted : by_block (open_segments ps) ≡ p.lower ++ p.higher = sym (ap (λ qs. by_block (open_segments qs)) whole) ∙ p.without in
     let before : recording_or_damage g (p.lower ++ p.higher) clips ≡ Ok r = sym (ap (λ ss. recording_or_damage g ss clips) sorted) ∙ was.recording in
     let fits : list_any (is_overfull g) (p.lower ++ p.higher) ≡ false = sym (ap (list_any (is_overfull g)) sorted) ∙ overfull_none g old in
@@ -138,18 +145,24 @@ reading-retire g r old new j u e l there chosen shows =
 -- ---- nothing
 
 -- Where the segment is as it was, the image reads as before.
-pub reading-same : (g : Geometry) (r : Recording) (old new : List ℕ) (j : ℕ) → reading old ≡ Ok (these g r) → j < g.segments → ShowsSegment g j (segment_in g old j) old new → reading new ≡ Ok (these g r)
+pub reading-same : (g : Geometry) (r : Recording) (old new : List ℕ) (j : ℕ) → reading old ≡ Ok (these g r)
+    → j < g.segments → ShowsSegment g j (segment_in g old j) old new → reading new ≡ Ok (these g r)
 reading-same g r old new j e l shows =
     let ps = (parts_of g old).segments in
     let clips = (parts_of g old).clips in
     let whole : set ps j (segment_in g old j) ≡ ps = ap (λ (q : Option Segment). set ps j q) (sym (segment_there g old j l)) ∙ set-get_or ps j None in
-    reading-shows g r r j (segment_in g old j) old new e l shows (ap (λ qs. recording_or_damage g (by_block (open_segments qs)) clips) whole ∙ (reading-stages g r old e).recording)
+    reading-shows g r r j (segment_in g old j) old new e l shows
+    (ap (λ qs. recording_or_damage g (by_block (open_segments qs)) clips) whole
+    ∙ (reading-stages g r old e).recording)
 
 -- an open segment has a slot for each whole frame
-pub whole-length : (g : Geometry) (image : List ℕ) (j : ℕ) (u : Segment) → segment_in g image j ≡ Some u → whole_frames g image j ≡ length u.slots
+pub whole-length : (g : Geometry) (image : List ℕ) (j : ℕ) (u : Segment) → segment_in g image j ≡ Some u
+    → whole_frames g image j ≡ length u.slots
 whole-length g image j u e = go (is_open image _) _ _ e
   where
-    go : (t : Bool) (b : ℕ) (f : ℕ → Slot) → cond t (Some (record { block = b; slots = map f (range_with_len 0 (whole_frames g image j)) })) None ≡ Some u → whole_frames g image j ≡ length u.slots
+    go : (t : Bool) (b : ℕ) (f : ℕ → Slot)
+        → cond t (Some (record { block = b; slots = map f (range_with_len 0 (whole_frames g image j)) })) None ≡ Some
+        u → whole_frames g image j ≡ length u.slots
     go true b f e =
         let same = length-map (range_with_len 0 (whole_frames g image j)) f in
         let there : slots_of (Some (record { block = b; slots = map f (range_with_len 0 (whole_frames g image j)) })) ≡ u.slots = ap slots_of e in
@@ -161,7 +174,8 @@ whole-length g image j u e = go (is_open image _) _ _ e
     go false b f e = absurd cc
 
 -- the segment of the next number has the frames before it
-pub reading-newest : (g : Geometry) (r : Recording) (image : List ℕ) (j : ℕ) (u : Segment) → reading image ≡ Ok (these g r) → j < g.segments → segment_in g image j ≡ Some u → u.block ≡ r.next / g.slots
+pub reading-newest : (g : Geometry) (r : Recording) (image : List ℕ) (j : ℕ) (u : Segment)
+    → reading image ≡ Ok (these g r) → j < g.segments → segment_in g image j ≡ Some u → u.block ≡ r.next / g.slots
     → whole_frames g image j ≡ r.next % g.slots
 reading-newest g r image j u e l there newest =
     let ps = (parts_of g image).segments in

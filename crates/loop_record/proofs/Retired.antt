@@ -23,7 +23,8 @@ use Rattle.loop_record.proofs.Decided.{neither, both, clash, differ, differ_test
 abbrev pub is_in : Ring → ℕ → ℕ × Picture → Bool
 is_in ring b f = eqb (block ring f.0) b
 
-enumerate_in : (ring : Ring) (b n : ℕ) (ps : List Picture) → b * ring.slots ≤ n → n + length ps ≤ (b + 1) * ring.slots → list_all (is_in ring b) (enumerate_from n ps) ≡ true
+enumerate_in : (ring : Ring) (b n : ℕ) (ps : List Picture) → b * ring.slots ≤ n → n + length ps ≤ (b + 1) * ring.slots
+    → list_all (is_in ring b) (enumerate_from n ps) ≡ true
 enumerate_in ring b n [] low high = refl
 enumerate_in ring b n (p ∷ ps) low high =
     let is : n / ring.slots ≡ b = div-eq_of_lt-le ring.slots low (omega (arith, high)) in
@@ -31,14 +32,17 @@ enumerate_in ring b n (p ∷ ps) low high =
     let rest = enumerate_in ring b (n + 1) ps (omega (arith, low)) (omega (arith, high)) in
     λ i. first i && rest i
 
-pub frames_in : (ring : Ring) (g : Geometry) (s : Segment) → ring.slots ≡ g.slots → is_overfull g s ≡ false → list_all (is_in ring s.block) (frames_of g s) ≡ true
+pub frames_in : (ring : Ring) (g : Geometry) (s : Segment) → ring.slots ≡ g.slots → is_overfull g s ≡ false
+    → list_all (is_in ring s.block) (frames_of g s) ≡ true
 frames_in ring g s same fits =
     let most : length s.slots ≤ g.slots = grind (arith, nat_tests, fits) in
     let split : (s.block + 1) * ring.slots ≡ s.block * ring.slots + ring.slots = omega (arith, add-mul s.block 1 ring.slots) in
     let at : s.block * ring.slots ≡ s.block * g.slots = ap (λ (k : ℕ). s.block * k) same in
-    enumerate_in ring s.block (s.block * g.slots) (map (λ t. t.picture) s.slots) (omega (arith, at)) (omega (arith, at, split, same, most, length-map s.slots (λ t. t.picture)))
+    enumerate_in ring s.block (s.block * g.slots) (map (λ t. t.picture) s.slots) (omega (arith, at))
+    (omega (arith, at, split, same, most, length-map s.slots (λ t. t.picture)))
 
-others_out : (ring : Ring) (b c : ℕ) (fs : List (ℕ × Picture)) → (b ≡ c → ⊥) → list_all (is_in ring b) fs ≡ true → list_any (is_in ring c) fs ≡ false
+others_out : (ring : Ring) (b c : ℕ) (fs : List (ℕ × Picture)) → (b ≡ c → ⊥) → list_all (is_in ring b) fs ≡ true
+    → list_any (is_in ring c) fs ≡ false
 others_out ring b c [] apart all = refl
 others_out ring b c (f ∷ fs) apart all =
     let k = both (is_in ring b f) (list_all (is_in ring b) fs) all in
@@ -57,23 +61,30 @@ others_out ring b c (f ∷ fs) apart all =
         pick true e = absurd (ne (grind (arith, nat_tests, e)))
         pick false e = e
 
-any_append : {X : Type 0} (p : X → Bool) (xs ys : List X) → list_any p xs ≡ false → list_any p ys ≡ false → list_any p (xs ++ ys) ≡ false
+any_append : {X : Type 0} (p : X → Bool) (xs ys : List X) → list_any p xs ≡ false → list_any p ys ≡ false
+    → list_any p (xs ++ ys) ≡ false
 any_append p [] ys e f = f
 any_append p (x ∷ xs) ys e f =
     let k = neither (p x) (list_any p xs) e in
     or_false (p x) (list_any p (xs ++ ys)) k.0 (any_append p xs ys k.1 f)
 
-below_out : (ring : Ring) (g : Geometry) (b : ℕ) (ss : List Segment) → ring.slots ≡ g.slots → AllBelow b ss → list_any (is_overfull g) ss ≡ false → list_any (is_in ring b) (all_frames g ss) ≡ false
+below_out : (ring : Ring) (g : Geometry) (b : ℕ) (ss : List Segment) → ring.slots ≡ g.slots → AllBelow b ss
+    → list_any (is_overfull g) ss ≡ false → list_any (is_in ring b) (all_frames g ss) ≡ false
 below_out ring g b [] same below fits = refl
 below_out ring g b (s ∷ ss) same below fits =
     let k = neither (is_overfull g s) (list_any (is_overfull g) ss) fits in
-    any_append (is_in ring b) (frames_of g s) (all_frames g ss) (others_out ring s.block b (frames_of g s) (λ e. absurd (omega (arith, e, below.0))) (frames_in ring g s same k.0)) (below_out ring g b ss same below.1 k.1)
+    any_append (is_in ring b) (frames_of g s) (all_frames g ss)
+    (others_out ring s.block b (frames_of g s) (λ e. absurd (omega (arith, e, below.0)))
+    (frames_in ring g s same k.0)) (below_out ring g b ss same below.1 k.1)
 
-above_out : (ring : Ring) (g : Geometry) (b : ℕ) (ss : List Segment) → ring.slots ≡ g.slots → AllAbove b ss → list_any (is_overfull g) ss ≡ false → list_any (is_in ring b) (all_frames g ss) ≡ false
+above_out : (ring : Ring) (g : Geometry) (b : ℕ) (ss : List Segment) → ring.slots ≡ g.slots → AllAbove b ss
+    → list_any (is_overfull g) ss ≡ false → list_any (is_in ring b) (all_frames g ss) ≡ false
 above_out ring g b [] same above fits = refl
 above_out ring g b (s ∷ ss) same above fits =
     let k = neither (is_overfull g s) (list_any (is_overfull g) ss) fits in
-    any_append (is_in ring b) (frames_of g s) (all_frames g ss) (others_out ring s.block b (frames_of g s) (λ e. absurd (omega (arith, e, above.0))) (frames_in ring g s same k.0)) (above_out ring g b ss same above.1 k.1)
+    any_append (is_in ring b) (frames_of g s) (all_frames g ss)
+    (others_out ring s.block b (frames_of g s) (λ e. absurd (omega (arith, e, above.0)))
+    (frames_in ring g s same k.0)) (above_out ring g b ss same above.1 k.1)
 
 keeps_all : {X : Type 0} (p : X → Bool) (xs : List X) → list_any p xs ≡ false → filter (λ x. not (p x)) xs ≡ xs
 keeps_all p [] e = refl
@@ -97,7 +108,8 @@ LastOnly b [] = Unit {0}
 LastOnly b (x ∷ []) = Unit {0}
 LastOnly b (x ∷ y ∷ xs) = (x ≡ b → ⊥) × LastOnly b (y ∷ xs)
 
-one_block : (ring : Ring) (b : ℕ) (fs : List (ℕ × Picture)) → list_all (is_in ring b) fs ≡ true → (blocks_of ring fs ≡ []) ⊎ (blocks_of ring fs ≡ b ∷ [])
+one_block : (ring : Ring) (b : ℕ) (fs : List (ℕ × Picture)) → list_all (is_in ring b) fs ≡ true
+    → (blocks_of ring fs ≡ []) ⊎ (blocks_of ring fs ≡ b ∷ [])
 one_block ring b [] all = inl refl
 one_block ring b (f ∷ fs) all =
     let k = both (is_in ring b f) (list_all (is_in ring b) fs) all in
@@ -124,7 +136,8 @@ last_only-with b c (x ∷ bs) apart l = go (eqb c x)
     go true = l
     go false = (apart, l)
 
-last_only-frames : (ring : Ring) (b : ℕ) (fs us : List (ℕ × Picture)) → list_any (is_in ring b) fs ≡ false → list_all (is_in ring b) us ≡ true → LastOnly b (blocks_of ring (fs ++ us))
+last_only-frames : (ring : Ring) (b : ℕ) (fs us : List (ℕ × Picture)) → list_any (is_in ring b) fs ≡ false
+    → list_all (is_in ring b) us ≡ true → LastOnly b (blocks_of ring (fs ++ us))
 last_only-frames ring b [] us none all = last_only_one b (blocks_of ring us) (one_block ring b us all)
 last_only-frames ring b (f ∷ fs) us none all =
     let k = neither (is_in ring b f) (list_any (is_in ring b) fs) none in
@@ -137,13 +150,16 @@ last_only-front b (x ∷ y ∷ bs) l =
     let n : suc (suc (length bs)) - 1 ≡ suc (suc (length bs) - 1) = omega arith in
     let first = differ_test x b l.0 in
     let rest = last_only-front b (y ∷ bs) l.1 in
-    ap (λ (k : ℕ). list_any (λ c. eqb c b) (take k (x ∷ y ∷ bs))) n ∙ or_false (eqb x b) (list_any (λ c. eqb c b) (take (suc (length bs) - 1) (y ∷ bs))) first rest
+    ap (λ (k : ℕ). list_any (λ c. eqb c b) (take k (x ∷ y ∷ bs))) n
+    ∙ or_false (eqb x b) (list_any (λ c. eqb c b) (take (suc (length bs) - 1) (y ∷ bs))) first rest
 
-pub found : (p : ℕ → Bool) (b : ℕ) (xs : List ℕ) → find p xs ≡ Some b → (list_any (λ c. eqb c b) xs ≡ true) × (p b ≡ true)
+pub found : (p : ℕ → Bool) (b : ℕ) (xs : List ℕ) → find p xs ≡ Some b → (list_any (λ c. eqb c b) xs ≡ true)
+    × (p b ≡ true)
 found p b [] e = absurd cc
 found p b (x ∷ xs) e = go (p x) refl (found p b xs) e
   where
-    go : (t : Bool) → p x ≡ t → (find p xs ≡ Some b → (list_any (λ c. eqb c b) xs ≡ true) × (p b ≡ true)) → cond t (Some x) (find p xs) ≡ Some b → ((eqb x b || list_any (λ c. eqb c b) xs) ≡ true) × (p b ≡ true)
+    go : (t : Bool) → p x ≡ t → (find p xs ≡ Some b → (list_any (λ c. eqb c b) xs ≡ true) × (p b ≡ true))
+        → cond t (Some x) (find p xs) ≡ Some b → ((eqb x b || list_any (λ c. eqb c b) xs) ≡ true) × (p b ≡ true)
     go true passes rest h =
         let is : x ≡ b = cc in
         let same : eqb x b ≡ true = grind (arith, nat_tests, is) in
@@ -156,12 +172,15 @@ found p b (x ∷ xs) e = go (p x) refl (found p b xs) e
 
 -- ---- clips
 
-pub under-filter : (ring : Ring) (b n : ℕ) (fs : List (ℕ × Picture)) → eqb (block ring n) b ≡ false → frame_under (filter (λ f. not (eqb (block ring f.0) b)) fs) n ≡ frame_under fs n
+pub under-filter : (ring : Ring) (b n : ℕ) (fs : List (ℕ × Picture)) → eqb (block ring n) b ≡ false
+    → frame_under (filter (λ f. not (eqb (block ring f.0) b)) fs) n ≡ frame_under fs n
 under-filter ring b n [] out = refl
 under-filter ring b n (f ∷ fs) out = go (eqb (block ring f.0) b) refl (under-filter ring b n fs out)
   where
-    go : (t : Bool) → eqb (block ring f.0) b ≡ t → frame_under (filter (λ x. not (eqb (block ring x.0) b)) fs) n ≡ frame_under fs n
-        → frame_under (cond (not t) (f ∷ filter (λ x. not (eqb (block ring x.0) b)) fs) (filter (λ x. not (eqb (block ring x.0) b)) fs)) n ≡ cond (eqb f.0 n) (Some f.1) (frame_under fs n)
+    go : (t : Bool) → eqb (block ring f.0) b ≡ t → frame_under (filter (λ x. not (eqb (block ring x.0) b)) fs) n ≡
+        frame_under fs n
+        → frame_under (cond (not t) (f ∷ filter (λ x. not (eqb (block ring x.0) b)) fs)
+        (filter (λ x. not (eqb (block ring x.0) b)) fs)) n ≡ cond (eqb f.0 n) (Some f.1) (frame_under fs n)
     go false is ih = ap (λ o. cond (eqb f.0 n) (Some f.1) o) ih
     go true is ih =
         let other : eqb f.0 n ≡ false = differ_test f.0 n (λ e. differ (block ring n) b out (sym (ap (block ring) e) ∙ equal (block ring f.0) b is)) in
@@ -170,7 +189,8 @@ under-filter ring b n (f ∷ fs) out = go (eqb (block ring f.0) b) refl (under-f
         equal : (m k : ℕ) → eqb m k ≡ true → m ≡ k
         equal m k e = grind (arith, nat_tests, e)
 
-still_all : (p q : ℕ → Bool) (lo len : ℕ) → ((n : ℕ) → lo ≤ n → n < lo + len → p n ≡ true → q n ≡ true) → list_all p (range_with_len lo len) ≡ true → list_all q (range_with_len lo len) ≡ true
+still_all : (p q : ℕ → Bool) (lo len : ℕ) → ((n : ℕ) → lo ≤ n → n < lo + len → p n ≡ true → q n ≡ true)
+    → list_all p (range_with_len lo len) ≡ true → list_all q (range_with_len lo len) ≡ true
 still_all p q lo zero h e = refl
 still_all p q lo (suc len) h e =
     let k = both (p lo) (list_all p (range_with_len (lo + 1) len)) e in
@@ -178,7 +198,8 @@ still_all p q lo (suc len) h e =
     let rest = still_all p q (lo + 1) len (λ n l u. h n (omega (arith, l)) (omega (arith, u))) k.1 in
     λ i. first i && rest i
 
-pub outside_clip : (ring : Ring) (b n : ℕ) (s : Span) → 1 ≤ ring.slots → meets ring b (Some s) ≡ false → s.from ≤ n → n ≤ s.to → eqb (block ring n) b ≡ false
+pub outside_clip : (ring : Ring) (b n : ℕ) (s : Span) → 1 ≤ ring.slots → meets ring b (Some s) ≡ false → s.from ≤ n
+    → n ≤ s.to → eqb (block ring n) b ≡ false
 outside_clip ring b n s some free low high = differ_test (block ring n) b (λ is. clash (meets ring b (Some s)) (is_met is) free)
   where
     clash : (t : Bool) → t ≡ true → t ≡ false → ⊥
@@ -196,7 +217,8 @@ outside_clip ring b n s some free low high = differ_test (block ring n) b (λ is
         let d : leb b (s.to / ring.slots) ≡ true = grind (arith, nat_tests, to_le, is) in
         λ i. a i && c i && d i
 
-clip_kept : (ring : Ring) (r : Recording) (b : ℕ) (c : Option Span) → 1 ≤ ring.slots → meets ring b c ≡ false → is_bad_clip r c ≡ false → is_bad_clip (after_step ring r (recycle b)) c ≡ false
+clip_kept : (ring : Ring) (r : Recording) (b : ℕ) (c : Option Span) → 1 ≤ ring.slots → meets ring b c ≡ false
+    → is_bad_clip r c ≡ false → is_bad_clip (after_step ring r (recycle b)) c ≡ false
 clip_kept ring r b None some free e = refl
 clip_kept ring r b (Some s) some free e =
     let k = neither (ltb s.to s.from) (not (holds_all r s)) e in
@@ -206,16 +228,21 @@ clip_kept ring r b (Some s) some free e =
     ap is_some (under-filter ring b n r.frames (outside_clip ring b n s some free low (omega (arith, order, high)))) ∙ h) held in
     λ i. k.0 i || not (still i)
 
-clips_kept : (ring : Ring) (r : Recording) (b : ℕ) (cs : List (Option Span)) → 1 ≤ ring.slots → list_any (meets ring b) cs ≡ false → list_any (is_bad_clip r) cs ≡ false → list_any (is_bad_clip (after_step ring r (recycle b))) cs ≡ false
+clips_kept : (ring : Ring) (r : Recording) (b : ℕ) (cs : List (Option Span)) → 1 ≤ ring.slots
+    → list_any (meets ring b) cs ≡ false → list_any (is_bad_clip r) cs ≡ false
+    → list_any (is_bad_clip (after_step ring r (recycle b))) cs ≡ false
 clips_kept ring r b [] some free e = refl
 clips_kept ring r b (c ∷ cs) some free e =
     let f = neither (meets ring b c) (list_any (meets ring b) cs) free in
     let k = neither (is_bad_clip r c) (list_any (is_bad_clip r) cs) e in
-    or_false (is_bad_clip (after_step ring r (recycle b)) c) (list_any (is_bad_clip (after_step ring r (recycle b))) cs) (clip_kept ring r b c some f.0 k.0) (clips_kept ring r b cs some f.1 k.1)
+    or_false (is_bad_clip (after_step ring r (recycle b)) c)
+    (list_any (is_bad_clip (after_step ring r (recycle b))) cs) (clip_kept ring r b c some f.0 k.0)
+    (clips_kept ring r b cs some f.1 k.1)
 
 -- ---- the whole
 
-lacks_frame-without : (g : Geometry) (xs : List Segment) (u y : Segment) (ys : List Segment) → lacks_frame g (xs ++ u ∷ y ∷ ys) ≡ false → lacks_frame g (xs ++ y ∷ ys) ≡ false
+lacks_frame-without : (g : Geometry) (xs : List Segment) (u y : Segment) (ys : List Segment)
+    → lacks_frame g (xs ++ u ∷ y ∷ ys) ≡ false → lacks_frame g (xs ++ y ∷ ys) ≡ false
 lacks_frame-without g [] u y ys e = (neither (not (eqb (length u.slots) g.slots)) (lacks_frame g (y ∷ ys)) e).1
 lacks_frame-without g (x ∷ []) u y ys e =
     let k = neither (not (eqb (length x.slots) g.slots)) (lacks_frame g (u ∷ y ∷ ys)) e in
@@ -225,7 +252,8 @@ lacks_frame-without g (x ∷ z ∷ xs) u y ys e =
     or_false (not (eqb (length x.slots) g.slots)) (lacks_frame g (z ∷ xs ++ y ∷ ys)) k.0 (lacks_frame-without g (z ∷ xs) u y ys k.1)
 
 -- the open segments without the victim
-pub checked-retire : (ring : Ring) (g : Geometry) (u : Segment) (lower higher : List Segment) (clips : List (Option Span)) (r : Recording)
+pub checked-retire : (ring : Ring) (g : Geometry) (u : Segment) (lower higher : List Segment)
+    (clips : List (Option Span)) (r : Recording)
     → ring.slots ≡ g.slots → 1 ≤ g.slots → AllBelow u.block lower → AllAbove u.block higher → list_any (is_overfull g) (lower ++ u ∷ higher) ≡ false
     → victim ring r ≡ Some u.block
     → recording_or_damage g (lower ++ u ∷ higher) clips ≡ Ok r
@@ -233,7 +261,8 @@ pub checked-retire : (ring : Ring) (g : Geometry) (u : Segment) (lower higher : 
 checked-retire ring g u lower [] clips r same some below above fits chosen e =
     let b = u.block in
     let old = shown_of g (lower ++ u ∷ []) clips r e in
-    let moved : list_any (is_overfull g) (lower ++ u ∷ []) ≡ (is_overfull g u || list_any (is_overfull g) (lower ++ [])) = any_move (is_overfull g) u lower [] in
+    let moved : list_any (is_overfull g) (lower ++ u ∷ []) ≡
+    (is_overfull g u || list_any (is_overfull g) (lower ++ [])) = any_move (is_overfull g) u lower [] in
     let k = neither (is_overfull g u) (list_any (is_overfull g) (lower ++ [])) (sym moved ∙ fits) in
     let fits' : list_any (is_overfull g) lower ≡ false = sym (ap (list_any (is_overfull g)) (append-nil lower)) ∙ k.1 in
     let frames : r.frames ≡ all_frames g lower ++ frames_of g u =
@@ -255,7 +284,8 @@ checked-retire ring g u lower (h ∷ hs) clips r same some below above fits chos
     let low = neither (is_high g u) (list_any (is_high g) (lower ++ higher)) (sym (any_move (is_high g) u lower higher) ∙ old.low_enough) in
     let single = neither (has_block b (lower ++ higher)) (repeats (lower ++ higher)) (sym (repeats_move u lower higher) ∙ old.single) in
     let right = neither (is_bad_slot g u) (list_any (is_bad_slot g) (lower ++ higher)) (sym (any_move (is_bad_slot g) u lower higher) ∙ old.right) in
-    let next : next_after g (lower ++ higher) ≡ next_after g (lower ++ u ∷ higher) = next_after-behind g lower h hs ∙ sym (next_after-behind g lower u higher) in
+    let next : next_after g (lower ++ higher) ≡ next_after g (lower ++ u ∷ higher) = next_after-behind g lower h hs
+    ∙ sym (next_after-behind g lower u higher) in
     let keep = λ (f : ℕ × Picture). not (eqb (block ring f.0) b) in
     let front = keeps_all (is_in ring b) (all_frames g lower) (below_out ring g b lower same below sides.0) in
     let mid = keeps_none (is_in ring b) (frames_of g u) (frames_in ring g u same over.0) in
@@ -264,13 +294,15 @@ checked-retire ring g u lower (h ∷ hs) clips r same some below above fits chos
     ap (filter keep) (all_frames-append g lower (u ∷ higher)) ∙ filter-append keep (all_frames g lower) (frames_of g u ++ all_frames g higher)
     ∙ (λ i. front i ++ filter-append keep (frames_of g u) (all_frames g higher) i) ∙ (λ i. all_frames g lower ++ (mid i ++ back i)) in
     let frames : all_frames g (lower ++ higher) ≡ filter keep (all_frames g (lower ++ u ∷ higher)) = all_frames-append g lower higher ∙ sym kept in
-    let is : recording_of g (lower ++ higher) clips ≡ after_step ring (recording_of g (lower ++ u ∷ higher) clips) (recycle b) = λ i. record { next = next i; frames = frames i; clips = clips } in
+    let is : recording_of g (lower ++ higher) clips ≡ after_step ring (recording_of g (lower ++ u ∷ higher) clips)
+    (recycle b) = λ i. record { next = next i; frames = frames i; clips = clips } in
     of_shown g (lower ++ higher) clips (after_step ring r (recycle b)) (record {
       low_enough = low.1;
       single = single.1;
       full = lacks_frame-without g lower u h hs old.full;
       right = right.1;
-      held = ap has_bad_clip is ∙ clips_kept ring (recording_of g (lower ++ u ∷ higher) clips) b clips (subst (λ (k : ℕ). 1 ≤ k) (sym same) some) unmet old.held;
+      held = ap has_bad_clip is ∙ clips_kept ring (recording_of g (lower ++ u ∷ higher) clips) b clips
+          (subst (λ (k : ℕ). 1 ≤ k) (sym same) some) unmet old.held;
       is = is ∙ ap (λ (q : Recording). after_step ring q (recycle b)) old.is;
     })
   where
@@ -278,5 +310,6 @@ checked-retire ring g u lower (h ∷ hs) clips r same some below above fits chos
     unnot_true true e = absurd cc
     unnot_true false e = refl
 
-    any_split : (p : Segment → Bool) (xs ys : List Segment) → list_any p (xs ++ ys) ≡ false → (list_any p xs ≡ false) × (list_any p ys ≡ false)
+    any_split : (p : Segment → Bool) (xs ys : List Segment) → list_any p (xs ++ ys) ≡ false → (list_any p xs ≡ false)
+        × (list_any p ys ≡ false)
     any_split p xs ys e = neither (list_any p xs) (list_any p ys) (sym (list_any-append p xs ys) ∙ e)

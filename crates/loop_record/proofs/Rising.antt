@@ -12,23 +12,28 @@ pub RiseBetween-le : (low high : ℕ) (fs : List (ℕ × Picture)) → RiseBetwe
 RiseBetween-le low high [] h = h
 RiseBetween-le low high (f ∷ fs) h = omega (arith, h.0, RiseBetween-le (f.0 + 1) high fs h.1)
 
-pub RiseBetween-lower : (low low' high : ℕ) (fs : List (ℕ × Picture)) → low' ≤ low → RiseBetween low high fs → RiseBetween low' high fs
+pub RiseBetween-lower : (low low' high : ℕ) (fs : List (ℕ × Picture)) → low' ≤ low → RiseBetween low high fs
+    → RiseBetween low' high fs
 RiseBetween-lower low low' high [] l h = omega (arith, l, h)
 RiseBetween-lower low low' high (f ∷ fs) l h = (omega (arith, l, h.0), h.1)
 
-pub RiseBetween-append : (low mid high : ℕ) (fs gs : List (ℕ × Picture)) → RiseBetween low mid fs → RiseBetween mid high gs → RiseBetween low high (fs ++ gs)
+pub RiseBetween-append : (low mid high : ℕ) (fs gs : List (ℕ × Picture)) → RiseBetween low mid fs
+    → RiseBetween mid high gs → RiseBetween low high (fs ++ gs)
 RiseBetween-append low mid high [] gs h k = RiseBetween-lower mid low high gs h k
 RiseBetween-append low mid high (f ∷ fs) gs h k = (h.0, RiseBetween-append (f.0 + 1) mid high fs gs h.1 k)
 
-pub RiseBetween-filter : (p : ℕ × Picture → Bool) (low high : ℕ) (fs : List (ℕ × Picture)) → RiseBetween low high fs → RiseBetween low high (filter p fs)
+pub RiseBetween-filter : (p : ℕ × Picture → Bool) (low high : ℕ) (fs : List (ℕ × Picture)) → RiseBetween low high fs
+    → RiseBetween low high (filter p fs)
 RiseBetween-filter p low high [] h = h
 RiseBetween-filter p low high (f ∷ fs) h = go (p f) (RiseBetween-filter p (f.0 + 1) high fs h.1)
   where
-    go : (b : Bool) → RiseBetween (f.0 + 1) high (filter p fs) → RiseBetween low high (cond b (f ∷ filter p fs) (filter p fs))
+    go : (b : Bool) → RiseBetween (f.0 + 1) high (filter p fs)
+        → RiseBetween low high (cond b (f ∷ filter p fs) (filter p fs))
     go true k = (h.0, k)
     go false k = RiseBetween-lower (f.0 + 1) low high (filter p fs) (omega (arith, h.0)) k
 
-pub RiseBetween-enumerate : (n high : ℕ) (ps : List Picture) → n + length ps ≤ high → RiseBetween n high (enumerate_from n ps)
+pub RiseBetween-enumerate : (n high : ℕ) (ps : List Picture) → n + length ps ≤ high
+    → RiseBetween n high (enumerate_from n ps)
 RiseBetween-enumerate n high [] h = omega (arith, h)
 RiseBetween-enumerate n high (p ∷ ps) h = (omega arith, RiseBetween-enumerate (n + 1) high ps (omega (arith, h)))
 
@@ -47,7 +52,8 @@ pub held-among : (n : ℕ) (fs : List (ℕ × Picture)) → is_some (frame_under
 held-among n [] e = absurd cc
 held-among n (f ∷ fs) e = go (eqb f.0 n) refl (held-among n fs) e
   where
-    go : (t : Bool) → eqb f.0 n ≡ t → (is_some (frame_under fs n) ≡ true → Among n (numbers_of fs)) → is_some (cond t (Some f.1) (frame_under fs n)) ≡ true → (f.0 ≡ n) ⊎ Among n (numbers_of fs)
+    go : (t : Bool) → eqb f.0 n ≡ t → (is_some (frame_under fs n) ≡ true → Among n (numbers_of fs))
+        → is_some (cond t (Some f.1) (frame_under fs n)) ≡ true → (f.0 ≡ n) ⊎ Among n (numbers_of fs)
     go true is rest h = inl (equal f.0 n is)
     go false is rest h = inr (rest h)
 
@@ -62,20 +68,23 @@ among-held n (f ∷ fs) e = go (eqb f.0 n) refl (λ h. among-held n fs h) e
     same : f.0 ≡ n → eqb f.0 n ≡ true
     same is = grind (arith, nat_tests, is)
 
-    go : (t : Bool) → eqb f.0 n ≡ t → (Among n (numbers_of fs) → is_some (frame_under fs n) ≡ true) → (f.0 ≡ n) ⊎ Among n (numbers_of fs) → is_some (cond t (Some f.1) (frame_under fs n)) ≡ true
+    go : (t : Bool) → eqb f.0 n ≡ t → (Among n (numbers_of fs) → is_some (frame_under fs n) ≡ true) → (f.0 ≡ n)
+        ⊎ Among n (numbers_of fs) → is_some (cond t (Some f.1) (frame_under fs n)) ≡ true
     go true is rest h = refl
     go false is rest (inl h) = absurd (clash (eqb f.0 n) is (same h))
     go false is rest (inr h) = rest h
 
 -- each number lies in the range
-pub among-range : (low high n : ℕ) (fs : List (ℕ × Picture)) → RiseBetween low high fs → Among n (numbers_of fs) → (low ≤ n) × (n < high)
+pub among-range : (low high n : ℕ) (fs : List (ℕ × Picture)) → RiseBetween low high fs → Among n (numbers_of fs)
+    → (low ≤ n) × (n < high)
 among-range low high n [] h e = elim e [ ]
 among-range low high n (f ∷ fs) h (inl is) = (omega (arith, h.0, is), omega (arith, is, RiseBetween-le (f.0 + 1) high fs h.1))
 among-range low high n (f ∷ fs) h (inr rest) = let k = among-range (f.0 + 1) high n fs h.1 rest in (omega (arith, h.0, k.0), k.1)
 
 -- ---- tests over a range
 
-pub all_range-each : (p : ℕ → Bool) (lo len n : ℕ) → list_all p (range_with_len lo len) ≡ true → lo ≤ n → n < lo + len → p n ≡ true
+pub all_range-each : (p : ℕ → Bool) (lo len n : ℕ) → list_all p (range_with_len lo len) ≡ true → lo ≤ n → n < lo + len
+    → p n ≡ true
 all_range-each p lo zero n e low high = absurd (omega (arith, low, high))
 all_range-each p lo (suc len) n e low high =
     let k = both (p lo) (list_all p (range_with_len (lo + 1) len)) e in
@@ -88,7 +97,8 @@ all_range-each p lo (suc len) n e low high =
         beyond : eqb lo n ≡ false → lo + 1 ≤ n
         beyond e = grind (arith, nat_tests, e, low)
 
-pub each-all_range : (p : ℕ → Bool) (lo len : ℕ) → ((n : ℕ) → lo ≤ n → n < lo + len → p n ≡ true) → list_all p (range_with_len lo len) ≡ true
+pub each-all_range : (p : ℕ → Bool) (lo len : ℕ) → ((n : ℕ) → lo ≤ n → n < lo + len → p n ≡ true)
+    → list_all p (range_with_len lo len) ≡ true
 each-all_range p lo zero h = refl
 each-all_range p lo (suc len) h =
     let first = h lo (omega arith) (omega arith) in
@@ -109,7 +119,8 @@ none-each p (y ∷ ys) x e h = go (λ c. none-each p ys x k.1 c) h
     go rest (zero, l, is) = ap p (sym is) ∙ k.0
     go rest (suc i, l, is) = rest (i, omega (arith, l), is)
 
-pub each-none : {X : Type 0} (p : X → Bool) (xs : List X) → ((x : X) → Contains xs x → p x ≡ false) → list_any p xs ≡ false
+pub each-none : {X : Type 0} (p : X → Bool) (xs : List X) → ((x : X) → Contains xs x → p x ≡ false)
+    → list_any p xs ≡ false
 each-none p [] h = refl
 each-none p (y ∷ ys) h =
     let first = h y (zero, omega arith, refl) in

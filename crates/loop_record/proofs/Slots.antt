@@ -32,7 +32,8 @@ under-enumerate : (high n : ℕ) (ps : List Picture) → n + length ps ≤ high 
 under-enumerate high n [] h = tt
 under-enumerate high n (p ∷ ps) h = (omega (arith, h), under-enumerate high (n + 1) ps (omega (arith, h)))
 
-lower-under : (g : Geometry) (b : ℕ) (ss : List Segment) → AllBelow b ss → list_any (is_overfull g) ss ≡ false → Under (b * g.slots) (all_frames g ss)
+lower-under : (g : Geometry) (b : ℕ) (ss : List Segment) → AllBelow b ss → list_any (is_overfull g) ss ≡ false
+    → Under (b * g.slots) (all_frames g ss)
 lower-under g b [] h fits = tt
 lower-under g b (s ∷ ss) h fits =
     let k = neither (is_overfull g s) (list_any (is_overfull g) ss) fits in
@@ -44,14 +45,16 @@ lower-under g b (s ∷ ss) h fits =
     (lower-under g b ss h.1 k.1)
 
 -- a number is sought behind frames of lower ones
-frame_under-behind : (high n : ℕ) (fs gs : List (ℕ × Picture)) → Under high fs → high ≤ n → frame_under (fs ++ gs) n ≡ frame_under gs n
+frame_under-behind : (high n : ℕ) (fs gs : List (ℕ × Picture)) → Under high fs → high ≤ n
+    → frame_under (fs ++ gs) n ≡ frame_under gs n
 frame_under-behind high n [] gs h le = refl
 frame_under-behind high n (f ∷ fs) gs h le =
     let apart : eqb f.0 n ≡ false = grind (arith, nat_tests, h.0, le) in
     let rest = frame_under-behind high n fs gs h.1 le in
     λ i. cond (apart i) (Some f.1) (rest i)
 
-frame_under-enumerate : (n i : ℕ) (ps : List Picture) (p : Picture) (gs : List (ℕ × Picture)) → i < length ps → frame_under (enumerate_from n ps ++ gs) (n + i) ≡ Some (get_or ps i p)
+frame_under-enumerate : (n i : ℕ) (ps : List Picture) (p : Picture) (gs : List (ℕ × Picture)) → i < length ps
+    → frame_under (enumerate_from n ps ++ gs) (n + i) ≡ Some (get_or ps i p)
 frame_under-enumerate n i [] p gs l = absurd (omega (arith, l))
 frame_under-enumerate n zero (q ∷ ps) p gs l =
     let same : eqb n (n + 0) ≡ true = grind (arith, nat_tests) in
@@ -61,7 +64,8 @@ frame_under-enumerate n (suc i) (q ∷ ps) p gs l =
     let at : n + suc i ≡ n + 1 + i = omega arith in
     (λ k. cond (apart k) (Some q) (frame_under (enumerate_from (n + 1) ps ++ gs) (at k))) ∙ frame_under-enumerate (n + 1) i ps p gs (omega (arith, l))
 
-hold_from-at : (n number i : ℕ) (ss : List Slot) (s : Slot) → i < length ss → hold_from n number ss ≡ true → is_slot_of n (number + i) (get_or ss i s) ≡ true
+hold_from-at : (n number i : ℕ) (ss : List Slot) (s : Slot) → i < length ss → hold_from n number ss ≡ true
+    → is_slot_of n (number + i) (get_or ss i s) ≡ true
 hold_from-at n number i [] s l e = absurd (omega (arith, l))
 hold_from-at n number zero (t ∷ ss) s l e =
     let h = both (is_slot_of n number t) (hold_from n (number + 1) ss) e in
@@ -75,14 +79,20 @@ hold_from-at n number (suc i) (t ∷ ss) s l e =
 -- ---- slots
 
 -- the slots of an open segment stand in its places
-pub slots-are : (g : Geometry) (image : List ℕ) (j : ℕ) (u : Segment) → segment_in g image j ≡ Some u → u.slots ≡ map (λ i. slot_in (frame_bytes g) image (slot_at g j i)) (range_with_len 0 (whole_frames g image j))
+pub slots-are : (g : Geometry) (image : List ℕ) (j : ℕ) (u : Segment) → segment_in g image j ≡ Some u
+    → u.slots ≡ map (λ i. slot_in (frame_bytes g) image (slot_at g j i)) (range_with_len 0 (whole_frames g image j))
 slots-are g image j u e = go (is_open image _) _ e
   where
     slots_of : Option Segment → List Slot
     slots_of None = []
     slots_of (Some s) = s.slots
 
-    go : (t : Bool) (b : ℕ) → cond t (Some (record { block = b; slots = map (λ i. slot_in (frame_bytes g) image (slot_at g j i)) (range_with_len 0 (whole_frames g image j)) })) None ≡ Some u
+    go : (t : Bool) (b : ℕ) → cond t
+        (Some (record {
+          block = b;
+          slots = map (λ i. slot_in (frame_bytes g) image (slot_at g j i))
+              (range_with_len 0 (whole_frames g image j));
+        })) None ≡ Some u
         → u.slots ≡ map (λ i. slot_in (frame_bytes g) image (slot_at g j i)) (range_with_len 0 (whole_frames g image j))
     go true b e = sym (ap slots_of e)
     go false b e = absurd cc
@@ -92,7 +102,8 @@ pub record IsSlotOf (g : Geometry) (r : Recording) (number : ℕ) (s : Slot) : T
   pub right : is_slot_of (frame_bytes g) number s ≡ true
   pub held : frame_under r.frames number ≡ Some s.picture
 
-pub reading-slot : (g : Geometry) (r : Recording) (image : List ℕ) (j i : ℕ) (u : Segment) → Holds g r image → j < g.segments → segment_in g image j ≡ Some u → i < whole_frames g image j
+pub reading-slot : (g : Geometry) (r : Recording) (image : List ℕ) (j i : ℕ) (u : Segment) → Holds g r image
+    → j < g.segments → segment_in g image j ≡ Some u → i < whole_frames g image j
     → IsSlotOf g r (u.block * g.slots + i) (slot_in (frame_bytes g) image (slot_at g j i))
 reading-slot g r image j i u e l there within =
     let ps = (parts_of g image).segments in
@@ -107,18 +118,26 @@ reading-slot g r image j i u e l there within =
     let now = shown_of g (p.lower ++ u ∷ p.higher) clips r (sym (ap (λ ss. recording_or_damage g ss clips) sorted) ∙ was.recording) in
     let count : length u.slots ≡ whole_frames g image j = sym (whole-length g image j u there) in
     let at : 0 + i ≡ i = omega arith in
-    let slot : get_or u.slots i s ≡ s = ap (λ (ss : List Slot). get_or ss i s) (slots-are g image j u there) ∙ get_or-map_range (λ k. slot_in (frame_bytes g) image (slot_at g j k)) 0 (whole_frames g image j) i s within
+    let slot : get_or u.slots i s ≡ s = ap (λ (ss : List Slot). get_or ss i s) (slots-are g image j u there)
+    ∙ get_or-map_range (λ k. slot_in (frame_bytes g) image (slot_at g j k)) 0 (whole_frames g image j) i s within
     ∙ ap (λ (k : ℕ). slot_in (frame_bytes g) image (slot_at g j k)) at in
     let bad = neither (is_bad_slot g u) (list_any (is_bad_slot g) (p.lower ++ p.higher)) (sym (any_move (is_bad_slot g) u p.lower p.higher) ∙ now.right) in
     let hold : hold_from (frame_bytes g) (u.block * g.slots) u.slots ≡ true = not_false _ bad.0 in
-    let overfull = neither (is_overfull g u) (list_any (is_overfull g) (p.lower ++ p.higher)) (sym (any_move (is_overfull g) u p.lower p.higher) ∙ sym (ap (list_any (is_overfull g)) sorted) ∙ overfull_none g image) in
-    let frames : r.frames ≡ all_frames g p.lower ++ (frames_of g u ++ all_frames g p.higher) = sym (ap (λ (q : Recording). q.frames) now.is) ∙ all_frames-append g p.lower (u ∷ p.higher) in
+    let overfull = neither (is_overfull g u) (list_any (is_overfull g) (p.lower ++ p.higher))
+    (sym (any_move (is_overfull g) u p.lower p.higher) ∙ sym (ap (list_any (is_overfull g)) sorted)
+    ∙ overfull_none g image) in
+    let frames : r.frames ≡ all_frames g p.lower ++ (frames_of g u ++ all_frames g p.higher) =
+    sym (ap (λ (q : Recording). q.frames) now.is) ∙ all_frames-append g p.lower (u ∷ p.higher) in
     record {
-      right = sym (ap (λ (t : Slot). is_slot_of (frame_bytes g) (u.block * g.slots + i) t) slot) ∙ hold_from-at (frame_bytes g) (u.block * g.slots) i u.slots s (omega (arith, within, count)) hold;
+      right = sym (ap (λ (t : Slot). is_slot_of (frame_bytes g) (u.block * g.slots + i) t) slot)
+          ∙ hold_from-at (frame_bytes g) (u.block * g.slots) i u.slots s (omega (arith, within, count)) hold;
       held =
           ap (λ (fs : List (ℕ × Picture)). frame_under fs (u.block * g.slots + i)) frames
-          ∙ frame_under-behind (u.block * g.slots) (u.block * g.slots + i) (all_frames g p.lower) (frames_of g u ++ all_frames g p.higher) (lower-under g u.block p.lower p.below (front p.lower p.higher overfull.1)) (omega arith)
-          ∙ frame_under-enumerate (u.block * g.slots) i (map (λ t. t.picture) u.slots) s.picture (all_frames g p.higher) (omega (arith, within, count, length-map u.slots (λ t. t.picture)))
+          ∙ frame_under-behind (u.block * g.slots) (u.block * g.slots + i) (all_frames g p.lower)
+          (frames_of g u ++ all_frames g p.higher)
+          (lower-under g u.block p.lower p.below (front p.lower p.higher overfull.1)) (omega arith)
+          ∙ frame_under-enumerate (u.block * g.slots) i (map (λ t. t.picture) u.slots) s.picture
+          (all_frames g p.higher) (omega (arith, within, count, length-map u.slots (λ t. t.picture)))
           ∙ ap (λ (q : Picture). Some q) (get_or-map (λ t. t.picture) u.slots i s s.picture (omega (arith, within, count)) ∙ ap (λ (t : Slot). t.picture) slot);
     }
   where

@@ -42,12 +42,14 @@ block-le : (ring : Ring) (m n : ℕ) → 1 ≤ ring.slots → m ≤ n → block 
 block-le ring m n some l = (le-div_iff_mul-le some).1 (omega (arith, l, div-mul-le_self m ring.slots))
 
 -- the blocks of frames whose numbers rise, rise
-pub blocks-rise : (ring : Ring) (low high : ℕ) (fs : List (ℕ × Picture)) → 1 ≤ ring.slots → RiseBetween low high fs → RiseFrom (block ring low) (blocks_of ring fs)
+pub blocks-rise : (ring : Ring) (low high : ℕ) (fs : List (ℕ × Picture)) → 1 ≤ ring.slots → RiseBetween low high fs
+    → RiseFrom (block ring low) (blocks_of ring fs)
 blocks-rise ring low high [] some h = tt
 blocks-rise ring low high (f ∷ fs) some h =
     let rest = blocks-rise ring (f.0 + 1) high fs some h.1 in
     let here = RiseFrom-lower (block ring (f.0 + 1)) (block ring f.0) (blocks_of ring fs) (block-le ring f.0 (f.0 + 1) some (omega arith)) rest in
-    RiseFrom-lower (block ring f.0) (block ring low) (with_block (block ring f.0) (blocks_of ring fs)) (block-le ring low f.0 some h.0) (RiseFrom-with (block ring f.0) (blocks_of ring fs) here)
+    RiseFrom-lower (block ring f.0) (block ring low) (with_block (block ring f.0) (blocks_of ring fs))
+    (block-le ring low f.0 some h.0) (RiseFrom-with (block ring f.0) (blocks_of ring fs) here)
 
 -- ---- the blocks of numbers
 
@@ -69,15 +71,19 @@ among-with b c (d ∷ bs) h = go (eqb c d) refl h
     go false is k = k
 
 -- a block of frames is that of some number of them
-block-number : (ring : Ring) (b : ℕ) (fs : List (ℕ × Picture)) → Among b (blocks_of ring fs) → (n : ℕ) × (Among n (numbers_of fs) × (block ring n ≡ b))
+block-number : (ring : Ring) (b : ℕ) (fs : List (ℕ × Picture)) → Among b (blocks_of ring fs) → (n : ℕ)
+    × (Among n (numbers_of fs) × (block ring n ≡ b))
 block-number ring b [] h = elim h [ ]
 block-number ring b (f ∷ fs) h = go (λ k. block-number ring b fs k) (with-among b (block ring f.0) (blocks_of ring fs) h)
   where
-    go : (Among b (blocks_of ring fs) → (n : ℕ) × (Among n (numbers_of fs) × (block ring n ≡ b))) → (block ring f.0 ≡ b) ⊎ Among b (blocks_of ring fs) → (n : ℕ) × (Among n (numbers_of (f ∷ fs)) × (block ring n ≡ b))
+    go : (Among b (blocks_of ring fs) → (n : ℕ) × (Among n (numbers_of fs) × (block ring n ≡ b)))
+        → (block ring f.0 ≡ b) ⊎ Among b (blocks_of ring fs) → (n : ℕ)
+        × (Among n (numbers_of (f ∷ fs)) × (block ring n ≡ b))
     go rest (inl is) = (f.0, (inl refl, is))
     go rest (inr k) = let x = rest k in (x.0, (inr x.1.0, x.1.1))
 
-number-block : (ring : Ring) (n : ℕ) (fs : List (ℕ × Picture)) → Among n (numbers_of fs) → Among (block ring n) (blocks_of ring fs)
+number-block : (ring : Ring) (n : ℕ) (fs : List (ℕ × Picture)) → Among n (numbers_of fs)
+    → Among (block ring n) (blocks_of ring fs)
 number-block ring n [] h = elim h [ ]
 number-block ring n (f ∷ fs) (inl is) = among-with (block ring n) (block ring f.0) (blocks_of ring fs) (inl (ap (block ring) is))
 number-block ring n (f ∷ fs) (inr rest) = among-with (block ring n) (block ring f.0) (blocks_of ring fs) (inr (number-block ring n fs rest))
@@ -93,12 +99,14 @@ front-more b c bs =
     ap (λ (k : ℕ). take k (b ∷ c ∷ bs)) e
 
 -- one of those before the last is below another
-pub front-below : (low b : ℕ) (bs : List ℕ) → RiseFrom low bs → Among b (front bs) → Among b bs × ((c : ℕ) × (Among c bs × (b < c)))
+pub front-below : (low b : ℕ) (bs : List ℕ) → RiseFrom low bs → Among b (front bs) → Among b bs
+    × ((c : ℕ) × (Among c bs × (b < c)))
 front-below low b [] h e = elim e [ ]
 front-below low b (c ∷ []) h e = elim e [ ]
 front-below low b (c ∷ d ∷ bs) h e = go (λ k. front-below (c + 1) b (d ∷ bs) h.1 k) (subst (Among b) (front-more c d bs) e)
   where
-    go : (Among b (front (d ∷ bs)) → Among b (d ∷ bs) × ((x : ℕ) × (Among x (d ∷ bs) × (b < x)))) → (c ≡ b) ⊎ Among b (front (d ∷ bs)) → Among b (c ∷ d ∷ bs) × ((x : ℕ) × (Among x (c ∷ d ∷ bs) × (b < x)))
+    go : (Among b (front (d ∷ bs)) → Among b (d ∷ bs) × ((x : ℕ) × (Among x (d ∷ bs) × (b < x)))) → (c ≡ b)
+        ⊎ Among b (front (d ∷ bs)) → Among b (c ∷ d ∷ bs) × ((x : ℕ) × (Among x (c ∷ d ∷ bs) × (b < x)))
     go rest (inl is) = (inl is, (d, (inr (inl refl), omega (arith, is, h.1.0))))
     go rest (inr k) = let x = rest k in (inr x.0, (x.1.0, (inr x.1.1.0, x.1.1.1)))
 
@@ -127,7 +135,8 @@ pub find-first : (p : ℕ → Bool) (low b : ℕ) (bs : List ℕ) → RiseFrom l
 find-first p low b [] h e = absurd cc
 find-first p low b (c ∷ bs) h e = go (p c) refl (λ k. find-first p (c + 1) b bs h.1 k) e
   where
-    go : (t : Bool) → p c ≡ t → (find p bs ≡ Some b → FirstOf p bs b) → cond t (Some c) (find p bs) ≡ Some b → FirstOf p (c ∷ bs) b
+    go : (t : Bool) → p c ≡ t → (find p bs ≡ Some b → FirstOf p bs b) → cond t (Some c) (find p bs) ≡ Some b
+        → FirstOf p (c ∷ bs) b
     go true is rest k =
         let same : c ≡ b = cc in
         record { there = inl same; passes = sym (ap p same) ∙ is; least = λ d at pd. from same d at }
@@ -147,7 +156,8 @@ pub find-none : (p : ℕ → Bool) (b : ℕ) (bs : List ℕ) → find p bs ≡ N
 find-none p b [] e at pb = elim at [ ]
 find-none p b (c ∷ bs) e at pb = go (p c) refl (λ k m. find-none p b bs k m pb) e at
   where
-    go : (t : Bool) → p c ≡ t → (find p bs ≡ None → Among b bs → ⊥) → cond t (Some c) (find p bs) ≡ None → (c ≡ b) ⊎ Among b bs → ⊥
+    go : (t : Bool) → p c ≡ t → (find p bs ≡ None → Among b bs → ⊥) → cond t (Some c) (find p bs) ≡ None → (c ≡ b)
+        ⊎ Among b bs → ⊥
     go true is rest k at = absurd cc
     go false is rest k (inl e) = clash (p b) pb (sym (ap p e) ∙ is)
     go false is rest k (inr m) = rest k m
@@ -155,7 +165,8 @@ find-none p b (c ∷ bs) e at pb = go (p c) refl (λ k m. find-none p b bs k m p
 -- ---- clips
 
 -- a clip that has no number of a block doesn't meet it
-unmet : (ring : Ring) (b : ℕ) (s : Span) → 1 ≤ ring.slots → ((n : ℕ) → s.from ≤ n → n ≤ s.to → block ring n ≡ b → ⊥) → meets ring b (Some s) ≡ false
+unmet : (ring : Ring) (b : ℕ) (s : Span) → 1 ≤ ring.slots → ((n : ℕ) → s.from ≤ n → n ≤ s.to → block ring n ≡ b → ⊥)
+    → meets ring b (Some s) ≡ false
 unmet ring b s some none = untrue (meets ring b (Some s)) (λ e. apart e)
   where
     apart : (leb s.from s.to && leb (s.from / ring.slots) b && leb b (s.to / ring.slots)) ≡ true → ⊥
@@ -164,7 +175,8 @@ unmet ring b s some none = untrue (meets ring b (Some s)) (λ e. apart e)
         let m = both (leb s.from s.to) (leb (s.from / ring.slots) b) k.0 in
         pick (at_most s.from s.to m.0) (at_most (s.from / ring.slots) b m.1) (at_most b (s.to / ring.slots) k.1) (cases_lt (s.from / ring.slots) b)
       where
-        pick : s.from ≤ s.to → s.from / ring.slots ≤ b → b ≤ s.to / ring.slots → (s.from / ring.slots < b) ⊎ (b ≤ s.from / ring.slots) → ⊥
+        pick : s.from ≤ s.to → s.from / ring.slots ≤ b → b ≤ s.to / ring.slots → (s.from / ring.slots < b)
+            ⊎ (b ≤ s.from / ring.slots) → ⊥
         pick order low high (inr same) = none s.from (omega arith) order (omega (arith, low, same))
         pick order low high (inl below) =
             let first : s.from < b * ring.slots = (div-lt_iff_lt-mul some).0 below in
@@ -172,7 +184,9 @@ unmet ring b s some none = untrue (meets ring b (Some s)) (λ e. apart e)
             none (b * ring.slots) (omega (arith, first)) last (mul-div_cancel b some)
 
 -- no clip meets a block where no number of a clip has it
-free-test : (ring : Ring) (r : Recording) (b : ℕ) → 1 ≤ ring.slots → ((s : Span) → Contains r.clips (Some s) → (n : ℕ) → s.from ≤ n → n ≤ s.to → block ring n ≡ b → ⊥) → is_locked ring r b ≡ false
+free-test : (ring : Ring) (r : Recording) (b : ℕ) → 1 ≤ ring.slots
+    → ((s : Span) → Contains r.clips (Some s) → (n : ℕ) → s.from ≤ n → n ≤ s.to → block ring n ≡ b → ⊥)
+    → is_locked ring r b ≡ false
 free-test ring r b some free = each-none (meets ring b) r.clips (λ c at. go c at)
   where
     go : (c : Option Span) → Contains r.clips c → meets ring b c ≡ false
@@ -182,7 +196,8 @@ free-test ring r b some free = each-none (meets ring b) r.clips (λ c at. go c a
 -- ---- the newest
 
 -- where a number is held, there is a newest
-newest : (low high n : ℕ) (fs : List (ℕ × Picture)) → RiseBetween low high fs → Among n (numbers_of fs) → (m : ℕ) × (Among m (numbers_of fs) × ((k : ℕ) → Among k (numbers_of fs) → k ≤ m))
+newest : (low high n : ℕ) (fs : List (ℕ × Picture)) → RiseBetween low high fs → Among n (numbers_of fs) → (m : ℕ)
+    × (Among m (numbers_of fs) × ((k : ℕ) → Among k (numbers_of fs) → k ≤ m))
 newest low high n [] h e = elim e [ ]
 newest low high n (f ∷ []) h e = (f.0, (inl refl, λ k at. last k at))
   where
@@ -193,14 +208,16 @@ newest low high n (f ∷ g ∷ fs) h e =
     let x = newest (f.0 + 1) high g.0 (g ∷ fs) h.1 (inl refl) in
     (x.0, (inr x.1.0, λ k at. last x.0 x.1.0 x.1.1 k at))
   where
-    last : (m : ℕ) → Among m (numbers_of (g ∷ fs)) → ((k : ℕ) → Among k (numbers_of (g ∷ fs)) → k ≤ m) → (k : ℕ) → (f.0 ≡ k) ⊎ Among k (numbers_of (g ∷ fs)) → k ≤ m
+    last : (m : ℕ) → Among m (numbers_of (g ∷ fs)) → ((k : ℕ) → Among k (numbers_of (g ∷ fs)) → k ≤ m) → (k : ℕ)
+        → (f.0 ≡ k) ⊎ Among k (numbers_of (g ∷ fs)) → k ≤ m
     last m there all k (inl is) = let l = among-range (f.0 + 1) high m (g ∷ fs) h.1 there in omega (arith, is, l.0)
     last m there all k (inr at) = all k at
 
 -- ---- the two together
 
 -- a block that may go is an older one that no clip meets
-may_go-older : (ring : Ring) (r : Recording) (b : ℕ) → 1 ≤ ring.slots → IsWellFormed r → MayGo ring r b → Among b (older_blocks ring r) × (is_locked ring r b ≡ false)
+may_go-older : (ring : Ring) (r : Recording) (b : ℕ) → 1 ≤ ring.slots → IsWellFormed r → MayGo ring r b
+    → Among b (older_blocks ring r) × (is_locked ring r b ≡ false)
 may_go-older ring r b some w m =
     let n = m.held.0 in
     let at = held-among n r.frames m.held.1.0 in
@@ -209,8 +226,11 @@ may_go-older ring r b some w m =
     let apart = m.older last.0 (record { held = among-held last.0 r.frames last.1.0; greatest = λ k e. last.1.1 k (held-among k r.frames e) }) in
     let le = block-le ring n last.0 some (last.1.1 n at) in
     let below : b < block ring last.0 = strictly b (block ring last.0) (omega (arith, le, m.held.1.1)) (λ e. apart (sym e)) in
-    let here : Among b (blocks_of ring r.frames) = subst (λ (c : ℕ). Among c (blocks_of ring r.frames)) m.held.1.1 (number-block ring n r.frames at) in
-    (below-front (block ring 0) b (block ring last.0) (blocks_of ring r.frames) blocks here (number-block ring last.0 r.frames last.1.0) below, free-test ring r b some m.unlocked)
+    let here : Among b (blocks_of ring r.frames) = subst (λ (c : ℕ). Among c (blocks_of ring r.frames)) m.held.1.1 (number-block ring n r.frames at) in (
+      below-front (block ring 0) b (block ring last.0) (blocks_of ring r.frames) blocks here
+          (number-block ring last.0 r.frames last.1.0) below,
+      free-test ring r b some m.unlocked,
+    )
   where
     strictly : (m n : ℕ) → m ≤ n → (m ≡ n → ⊥) → m < n
     strictly m n l apart = go (cases_lt m n)
@@ -219,7 +239,8 @@ may_go-older ring r b some w m =
         go (inl k) = k
         go (inr k) = absurd (apart (omega (arith, l, k)))
 
-older-may_go : (ring : Ring) (r : Recording) (b : ℕ) → 1 ≤ ring.slots → IsWellFormed r → Among b (older_blocks ring r) → is_locked ring r b ≡ false → MayGo ring r b
+older-may_go : (ring : Ring) (r : Recording) (b : ℕ) → 1 ≤ ring.slots → IsWellFormed r → Among b (older_blocks ring r)
+    → is_locked ring r b ≡ false → MayGo ring r b
 older-may_go ring r b some w at free =
     let blocks = blocks-rise ring 0 r.next r.frames some w.rising in
     let x = front-below (block ring 0) b (blocks_of ring r.frames) blocks at in
@@ -228,14 +249,17 @@ older-may_go ring r b some w at free =
     record {
       held = (n.0, (among-held n.0 r.frames n.1.0, n.1.1));
       older = λ k new is. above k new (c.0) (among-held c.0 r.frames c.1.0) c.1.1 x.1.1.1 is;
-      unlocked = λ s stands k low high is. differ (block ring k) b (outside_clip ring b k s some (none-each (meets ring b) r.clips (Some s) free stands) low high) is;
+      unlocked = λ s stands k low high is. differ (block ring k) b
+          (outside_clip ring b k s some (none-each (meets ring b) r.clips (Some s) free stands) low high) is;
     }
   where
-    above : (k : ℕ) → IsNewest r k → (m : ℕ) → IsTrue (holds r m) → {c : ℕ} → block ring m ≡ c → b < c → block ring k ≡ b → ⊥
+    above : (k : ℕ) → IsNewest r k → (m : ℕ) → IsTrue (holds r m) → {c : ℕ} → block ring m ≡ c → b < c
+        → block ring k ≡ b → ⊥
     above k new m held e l is = absurd (omega (arith, e, l, is, block-le ring m k some (new.greatest m held)))
 
 -- the victim is the least block that may go
-pub victim-is : (ring : Ring) (r : Recording) (b : ℕ) → 1 ≤ ring.slots → IsWellFormed r → victim ring r ≡ Some b ↔ IsVictim ring r b
+pub victim-is : (ring : Ring) (r : Recording) (b : ℕ) → 1 ≤ ring.slots → IsWellFormed r
+    → victim ring r ≡ Some b ↔ IsVictim ring r b
 victim-is ring r b some w = (to, from)
   where
     rises : RiseFrom (block ring 0) (older_blocks ring r)
@@ -264,7 +288,8 @@ victim-is ring r b some w = (to, from)
             ap (λ (m : ℕ). Some m) (omega (arith, low, high))
 
 -- and where there is none, no block may go
-pub victim-none : (ring : Ring) (r : Recording) → 1 ≤ ring.slots → IsWellFormed r → victim ring r ≡ None → (b : ℕ) → MayGo ring r b → ⊥
+pub victim-none : (ring : Ring) (r : Recording) → 1 ≤ ring.slots → IsWellFormed r → victim ring r ≡ None → (b : ℕ)
+    → MayGo ring r b → ⊥
 victim-none ring r some w e b m =
     let k = may_go-older ring r b some w m in
     find-none (λ c. not (is_locked ring r c)) b (older_blocks ring r) e k.0 (ap not k.1)
@@ -284,9 +309,15 @@ is_candidate ring clips top b = not (eqb b top) && not (list_any (meets ring b) 
 abbrev pub first_candidate : Ring → List (Option Span) → ℕ → List (ℕ × Picture) → Option ℕ
 first_candidate ring clips top fs = find (is_candidate ring clips top) (map (λ f. block ring f.0) fs)
 
-last_block-above : (ring : Ring) (low high : ℕ) (f : ℕ × Picture) (fs : List (ℕ × Picture)) → 1 ≤ ring.slots → RiseBetween low high (f ∷ fs) → block ring low ≤ last_block ring f fs
+last_block-above : (ring : Ring) (low high : ℕ) (f : ℕ × Picture) (fs : List (ℕ × Picture)) → 1 ≤ ring.slots
+    → RiseBetween low high (f ∷ fs) → block ring low ≤ last_block ring f fs
 last_block-above ring low high f [] some h = block-le ring low f.0 some h.0
-last_block-above ring low high f (g ∷ fs) some h = omega (arith, block-le ring low (f.0 + 1) some (omega (arith, h.0)), last_block-above ring (f.0 + 1) high g fs some h.1)
+last_block-above ring low high f (g ∷ fs) some h =
+    omega (
+      arith,
+      block-le ring low (f.0 + 1) some (omega (arith, h.0)),
+      last_block-above ring (f.0 + 1) high g fs some h.1,
+    )
 
 pub with-head : (x : ℕ) (bs : List ℕ) → (rest : List ℕ) × (with_block x bs ≡ x ∷ rest)
 with-head x [] = ([], refl)
@@ -303,12 +334,14 @@ nothing t o b e = sym (ap (λ (s : Bool). cond s (Some b) o) e)
 passed_first : (p : ℕ → Bool) (b : ℕ) (bs : List ℕ) → p b ≡ true → find p (b ∷ bs) ≡ Some b
 passed_first p b bs e = ap (λ (t : Bool). cond t (Some b) (find p bs)) e
 
-pub victim-first : (ring : Ring) (clips : List (Option Span)) (low high : ℕ) (f : ℕ × Picture) (fs : List (ℕ × Picture)) → 1 ≤ ring.slots → RiseBetween low high (f ∷ fs)
+pub victim-first : (ring : Ring) (clips : List (Option Span)) (low high : ℕ) (f : ℕ × Picture)
+    (fs : List (ℕ × Picture)) → 1 ≤ ring.slots → RiseBetween low high (f ∷ fs)
     → find (λ b. not (list_any (meets ring b) clips)) (front (blocks_of ring (f ∷ fs))) ≡ first_candidate ring clips (last_block ring f fs) (f ∷ fs)
 victim-first ring clips low high f [] some h =
     let b = block ring f.0 in
     nothing (is_candidate ring clips b b) None b (ap (λ (t : Bool). not t && not (list_any (meets ring b) clips)) (equal_test b b refl))
-victim-first ring clips low high f (g ∷ fs) some h = go (eqb (block ring f.0) (block ring g.0)) refl (with-head (block ring g.0) (blocks_of ring fs)) (victim-first ring clips (f.0 + 1) high g fs some h.1)
+victim-first ring clips low high f (g ∷ fs) some h = go (eqb (block ring f.0) (block ring g.0)) refl
+    (with-head (block ring g.0) (blocks_of ring fs)) (victim-first ring clips (f.0 + 1) high g fs some h.1)
   where
     later : Option ℕ
     later = first_candidate ring clips (last_block ring g fs) (g ∷ fs)
@@ -319,24 +352,36 @@ victim-first ring clips low high f (g ∷ fs) some h = go (eqb (block ring f.0) 
         between : block ring f.0 ≡ last_block ring g fs → block ring f.0 ≡ block ring g.0
         between is = omega (arith, is, block-le ring f.0 g.0 some (omega (arith, h.1.0)), last_block-above ring g.0 high g fs some (omega arith, h.1.1))
 
-    go : (t : Bool) → eqb (block ring f.0) (block ring g.0) ≡ t → (rest : List ℕ) × (blocks_of ring (g ∷ fs) ≡ block ring g.0 ∷ rest) → find (λ b. not (list_any (meets ring b) clips)) (front (blocks_of ring (g ∷ fs))) ≡ later
-        → find (λ b. not (list_any (meets ring b) clips)) (front (blocks_of ring (f ∷ g ∷ fs))) ≡ cond (is_candidate ring clips (last_block ring g fs) (block ring f.0)) (Some (block ring f.0)) later
+    go : (t : Bool) → eqb (block ring f.0) (block ring g.0) ≡ t → (rest : List ℕ)
+        × (blocks_of ring (g ∷ fs) ≡ block ring g.0 ∷ rest) → find (λ b. not (list_any (meets ring b) clips))
+        (front (blocks_of ring (g ∷ fs))) ≡ later
+        → find (λ b. not (list_any (meets ring b) clips)) (front (blocks_of ring (f ∷ g ∷ fs))) ≡ cond
+        (is_candidate ring clips (last_block ring g fs) (block ring f.0)) (Some (block ring f.0)) later
     go true is (rest, e) ih =
-        let head : with_block (block ring f.0) (blocks_of ring (g ∷ fs)) ≡ blocks_of ring (g ∷ fs) = ap (with_block (block ring f.0)) e ∙ ap (λ (t : Bool). cond t (block ring g.0 ∷ rest) (block ring f.0 ∷ block ring g.0 ∷ rest)) is ∙ sym e in
-        ap (λ (bs : List ℕ). find (λ b. not (list_any (meets ring b) clips)) (front bs)) head ∙ ih ∙ again (is_candidate ring clips (last_block ring g fs) (block ring f.0)) refl
+        let head : with_block (block ring f.0) (blocks_of ring (g ∷ fs)) ≡ blocks_of ring (g ∷ fs) =
+        ap (with_block (block ring f.0)) e
+        ∙ ap (λ (t : Bool). cond t (block ring g.0 ∷ rest) (block ring f.0 ∷ block ring g.0 ∷ rest)) is ∙ sym e in
+        ap (λ (bs : List ℕ). find (λ b. not (list_any (meets ring b) clips)) (front bs)) head ∙ ih
+        ∙ again (is_candidate ring clips (last_block ring g fs) (block ring f.0)) refl
       where
         same : block ring f.0 ≡ block ring g.0
         same = equal (block ring f.0) (block ring g.0) is
 
-        again : (t : Bool) → is_candidate ring clips (last_block ring g fs) (block ring f.0) ≡ t → later ≡ cond t (Some (block ring f.0)) later
+        again : (t : Bool) → is_candidate ring clips (last_block ring g fs) (block ring f.0) ≡ t
+            → later ≡ cond t (Some (block ring f.0)) later
         again true e =
-            passed_first (is_candidate ring clips (last_block ring g fs)) (block ring g.0) (map (λ k. block ring k.0) fs) (sym (ap (is_candidate ring clips (last_block ring g fs)) same) ∙ e) ∙ ap (λ (b : ℕ). Some b) (sym same)
+            passed_first (is_candidate ring clips (last_block ring g fs)) (block ring g.0)
+            (map (λ k. block ring k.0) fs) (sym (ap (is_candidate ring clips (last_block ring g fs)) same) ∙ e)
+            ∙ ap (λ (b : ℕ). Some b) (sym same)
         again false e = refl
     go false is (rest, e) ih =
-        let head : with_block (block ring f.0) (blocks_of ring (g ∷ fs)) ≡ block ring f.0 ∷ block ring g.0 ∷ rest = ap (with_block (block ring f.0)) e ∙ ap (λ (t : Bool). cond t (block ring g.0 ∷ rest) (block ring f.0 ∷ block ring g.0 ∷ rest)) is in
+        let head : with_block (block ring f.0) (blocks_of ring (g ∷ fs)) ≡ block ring f.0 ∷ block ring g.0 ∷ rest =
+        ap (with_block (block ring f.0)) e
+        ∙ ap (λ (t : Bool). cond t (block ring g.0 ∷ rest) (block ring f.0 ∷ block ring g.0 ∷ rest)) is in
         let apart = below is in
         ap (λ (bs : List ℕ). find (λ b. not (list_any (meets ring b) clips)) (front bs)) head
         ∙ ap (find (λ b. not (list_any (meets ring b) clips))) (front-more (block ring f.0) (block ring g.0) rest)
-        ∙ ap (λ (bs : List ℕ). cond (not (list_any (meets ring (block ring f.0)) clips)) (Some (block ring f.0)) (find (λ b. not (list_any (meets ring b) clips)) (front bs))) (sym e)
+        ∙ ap (λ (bs : List ℕ). cond (not (list_any (meets ring (block ring f.0)) clips)) (Some (block ring f.0))
+        (find (λ b. not (list_any (meets ring b) clips)) (front bs))) (sym e)
         ∙ ap (λ (o : Option ℕ). cond (not (list_any (meets ring (block ring f.0)) clips)) (Some (block ring f.0)) o) ih
         ∙ ap (λ (t : Bool). cond (not t && not (list_any (meets ring (block ring f.0)) clips)) (Some (block ring f.0)) later) (sym apart)

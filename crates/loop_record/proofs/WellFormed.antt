@@ -11,7 +11,8 @@ use Rattle.loop_record.proofs.Retired.{under-filter, outside_clip, found}
 use Rattle.loop_record.proofs.Rising.{RiseBetween-append, RiseBetween-filter, all_range-each, none-each}
 
 -- a clip that stands after another was put in its place is that one, or stood before
-set-contains : (cs : List (Option Span)) (id : ℕ) (c : Option Span) (s : Span) → Contains (set cs id c) (Some s) → (c ≡ Some s) ⊎ Contains cs (Some s)
+set-contains : (cs : List (Option Span)) (id : ℕ) (c : Option Span) (s : Span) → Contains (set cs id c) (Some s)
+    → (c ≡ Some s) ⊎ Contains cs (Some s)
 set-contains [] id c s h = inr h
 set-contains (d ∷ cs) zero c s (zero, l, is) = inl is
 set-contains (d ∷ cs) zero c s (suc i, l, is) = inr (suc i, l, is)
@@ -29,7 +30,8 @@ whole_of r s order all =
     record { some = le; each = λ n low high. all_range-each (holds r) s.from (s.to + 1 - s.from) n all low (omega (arith, le, high)) }
 
 -- a step that may be made leaves a well-formed recording
-pub after-well_formed : (ring : Ring) (r : Recording) (step : Step) → 1 ≤ ring.slots → IsWellFormed r → IsTrue (is_legal ring r step) → IsWellFormed (after_step ring r step)
+pub after-well_formed : (ring : Ring) (r : Recording) (step : Step) → 1 ≤ ring.slots → IsWellFormed r
+    → IsTrue (is_legal ring r step) → IsWellFormed (after_step ring r step)
 after-well_formed ring r (store p) some w legal = record {
   rising = RiseBetween-append 0 r.next (r.next + 1) r.frames ((r.next, p) ∷ []) w.rising (omega arith, omega arith);
   clips = λ s c. record { some = (w.clips s c).some; each = λ n low high. under-append r.frames ((r.next, p) ∷ []) n ((w.clips s c).each n low high) };
@@ -43,7 +45,10 @@ after-well_formed ring r (recycle b) some w legal =
       rising = RiseBetween-filter (λ f. not (eqb (block ring f.0) b)) 0 r.next r.frames w.rising;
       clips = λ s c. record {
         some = (w.clips s c).some;
-        each = λ n low high. ap is_some (under-filter ring b n r.frames (outside_clip ring b n s some (none-each (meets ring b) r.clips (Some s) free c) low high)) ∙ (w.clips s c).each n low high;
+        each = λ n low high. ap is_some
+            (under-filter ring b n r.frames
+            (outside_clip ring b n s some (none-each (meets ring b) r.clips (Some s) free c) low high))
+            ∙ (w.clips s c).each n low high;
       };
       ids = w.ids;
     }
@@ -67,7 +72,12 @@ after-well_formed ring r (lock s) some w legal =
     go : (t : Span) → IsWhole r s → ((let o : Option Span = Some s in o) ≡ Some t) ⊎ Contains r.clips (Some t) → IsWhole (after_step ring r (lock s)) t
     go t new (inl is) =
         let e = same_span s t is in
-        record { some = omega (arith, new.some, ap (λ (x : Span). x.from) e, ap (λ (x : Span). x.to) e); each = λ n low high. new.each n (omega (arith, low, ap (λ (x : Span). x.from) e)) (omega (arith, high, ap (λ (x : Span). x.to) e)) }
+        record {
+          some = omega (arith, new.some, ap (λ (x : Span). x.from) e, ap (λ (x : Span). x.to) e);
+          each =
+              λ n low high. new.each n (omega (arith, low, ap (λ (x : Span). x.from) e))
+              (omega (arith, high, ap (λ (x : Span). x.to) e));
+        }
     go t new (inr c) = record { some = (w.clips t c).some; each = (w.clips t c).each }
 after-well_formed ring r (unlock id) some w legal = record {
   rising = w.rising;
@@ -87,7 +97,8 @@ stores-legal ring r [] = tt
 stores-legal ring r (p ∷ ps) = (refl, stores-legal ring (after_step ring r (store p)) ps)
 
 -- the steps of an append may be made, one after the other
-pub steps-legal : (ring : Ring) (r : Recording) (group : List Picture) (list : List Step) → steps ring r group ≡ Some list → AreLegal ring r list
+pub steps-legal : (ring : Ring) (r : Recording) (group : List Picture) (list : List Step)
+    → steps ring r group ≡ Some list → AreLegal ring r list
 steps-legal ring r group list e = spent (eqb r.next (last_number ring)) e
   where
     these : List Step → Option (List Step)
@@ -99,19 +110,22 @@ steps-legal ring r group list e = spent (eqb r.next (last_number ring)) e
     that : (b : ℕ) → is_that (Some b) b ≡ true
     that b = equal_test b b refl
 
-    first : (t : Bool) (v : Option ℕ) → victim ring r ≡ v → stores_after (recycling_first t v) group ≡ Some list → AreLegal ring r list
+    first : (t : Bool) (v : Option ℕ) → victim ring r ≡ v → stores_after (recycling_first t v) group ≡ Some list
+        → AreLegal ring r list
     first false v is e = subst (AreLegal ring r) (same_list (map store group) list e) (stores-legal ring r group)
     first true None is e = absurd cc
     first true (Some b) is e =
         let legal : IsTrue (is_legal ring r (recycle b)) = ap (λ (o : Option ℕ). is_that o b) is ∙ that b in
         subst (AreLegal ring r) (same_list (recycle b ∷ map store group) list e) (legal, stores-legal ring (after_step ring r (recycle b)) group)
 
-    spent : (t : Bool) → cond t None (stores_after (recycling_first (needs_recycling ring r) (victim ring r)) group) ≡ Some list → AreLegal ring r list
+    spent : (t : Bool) → cond t None (stores_after (recycling_first (needs_recycling ring r) (victim ring r)) group) ≡
+        Some list → AreLegal ring r list
     spent true e = absurd cc
     spent false e = first (needs_recycling ring r) (victim ring r) refl e
 
 -- after steps that may be made, one after the other, a recording is well formed
-pub plain-well_formed : (ring : Ring) (r : Recording) (list : List Step) → 1 ≤ ring.slots → IsWellFormed r → AreLegal ring r list → IsWellFormed (plain ring r list)
+pub plain-well_formed : (ring : Ring) (r : Recording) (list : List Step) → 1 ≤ ring.slots → IsWellFormed r
+    → AreLegal ring r list → IsWellFormed (plain ring r list)
 plain-well_formed ring r [] some w legal = w
 plain-well_formed ring r (s ∷ ss) some w legal = plain-well_formed ring (after_step ring r s) ss some (after-well_formed ring r s some w legal.0) legal.1
 

@@ -29,7 +29,9 @@ module _ (camera : ℕ) (history : List Entry) (number : ℕ) where
   floor-behind floor r same = ap (λ b. if b then r.place + 1 else floor) (eq-eqb r.camera camera same)
 
   -- each receipt of the camera has its place at the floor or behind
-  over-floor : (floor : ℕ) (rs : List Receipt) (b : ℕ) (s : Receipt) → EachIn (floor_after camera) (IsPlaced camera history number) floor rs → slice_get rs b ≡ Some s → s.camera ≡ camera → floor ≤ s.place
+  over-floor : (floor : ℕ) (rs : List Receipt) (b : ℕ) (s : Receipt)
+      → EachIn (floor_after camera) (IsPlaced camera history number) floor rs → slice_get rs b ≡ Some s
+      → s.camera ≡ camera → floor ≤ s.place
   over-floor floor [] b s placed there same = absurd (none-some s there)
   over-floor floor (x ∷ xs) zero s placed there same = let is : x ≡ s = same_Some x s there in
       (subst (λ (y : Receipt). IsPlaced camera history number floor y) is placed.0 same).0
@@ -39,7 +41,9 @@ module _ (camera : ℕ) (history : List Entry) (number : ℕ) where
       omega (arith, up, over)
 
   -- the place of a later one is behind
-  later-behind : (floor : ℕ) (rs : List Receipt) (a b : ℕ) (r s : Receipt) → EachIn (floor_after camera) (IsPlaced camera history number) floor rs → slice_get rs a ≡ Some r → slice_get rs b ≡ Some s → r.camera ≡ camera → s.camera ≡ camera → a < b → r.place < s.place
+  later-behind : (floor : ℕ) (rs : List Receipt) (a b : ℕ) (r s : Receipt)
+      → EachIn (floor_after camera) (IsPlaced camera history number) floor rs → slice_get rs a ≡ Some r
+      → slice_get rs b ≡ Some s → r.camera ≡ camera → s.camera ≡ camera → a < b → r.place < s.place
   later-behind floor [] a b r s placed at_r at_s of_r of_s less = absurd (none-some r at_r)
   later-behind floor (x ∷ xs) a zero r s placed at_r at_s of_r of_s less = absurd (omega (arith, less))
   later-behind floor (x ∷ xs) zero (suc b) r s placed at_r at_s of_r of_s less =
@@ -52,21 +56,26 @@ module _ (camera : ℕ) (history : List Entry) (number : ℕ) where
       later-behind (floor_after camera floor x) xs a b r s placed.1 at_r at_s of_r of_s (omega (arith, less))
 
   -- a receipt of the camera is in the history
-  stands-in : (floor : ℕ) (rs : List Receipt) (a : ℕ) (r : Receipt) → EachIn (floor_after camera) (IsPlaced camera history number) floor rs → slice_get rs a ≡ Some r → r.camera ≡ camera → slice_get history r.place ≡ Some (entry number r.call)
+  stands-in : (floor : ℕ) (rs : List Receipt) (a : ℕ) (r : Receipt)
+      → EachIn (floor_after camera) (IsPlaced camera history number) floor rs → slice_get rs a ≡ Some r
+      → r.camera ≡ camera → slice_get history r.place ≡ Some (entry number r.call)
   stands-in floor [] a r placed there same = absurd (none-some r there)
   stands-in floor (x ∷ xs) zero r placed there same =
       (subst (λ (y : Receipt). IsPlaced camera history number floor y) (same_Some x r there) placed.0 same).1
   stands-in floor (x ∷ xs) (suc a) r placed there same = stands-in (floor_after camera floor x) xs a r placed.1 there same
 
   -- so one place in a pass is one receipt
-  same-place : (rs : List Receipt) (a b : ℕ) (r s : Receipt) → EachIn (floor_after camera) (IsPlaced camera history number) 0 rs → slice_get rs a ≡ Some r → slice_get rs b ≡ Some s → r.camera ≡ camera → s.camera ≡ camera → r.place ≡ s.place → a ≡ b
+  same-place : (rs : List Receipt) (a b : ℕ) (r s : Receipt)
+      → EachIn (floor_after camera) (IsPlaced camera history number) 0 rs → slice_get rs a ≡ Some r
+      → slice_get rs b ≡ Some s → r.camera ≡ camera → s.camera ≡ camera → r.place ≡ s.place → a ≡ b
   same-place rs a b r s placed at_r at_s of_r of_s same =
       let before : a < b → r.place < s.place = later-behind 0 rs a b r s placed at_r at_s of_r of_s in
       let behind : b < a → s.place < r.place = later-behind 0 rs b a s r placed at_s at_r of_s of_r in
       grind (arith, before, behind, same)
 
 -- receipts of one place name one entry, and with it one pass
-pub tied-apart : {A : Type 0} (camera : ℕ) (history : List Entry) (passes : List (Pass A)) → IsTied camera history passes → DifferInNumber passes → NoTwoShare camera passes
+pub tied-apart : {A : Type 0} (camera : ℕ) (history : List Entry) (passes : List (Pass A))
+    → IsTied camera history passes → DifferInNumber passes → NoTwoShare camera passes
 tied-apart {A} camera history passes tied differ = λ i j a b r s one other of_r of_s same.
     let placed_r : ArePlaced camera history one.pass = all-read (ArePlaced camera history) passes i one.pass tied.places one.there in
     let placed_s : ArePlaced camera history other.pass = all-read (ArePlaced camera history) passes j other.pass tied.places other.there in

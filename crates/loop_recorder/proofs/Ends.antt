@@ -20,7 +20,8 @@ module _ {D A B : Type 0} (medium : D → Medium) (one : Outline A) (other : Out
     frames = λ r stands. sym same.frames ∙ tells.frames r stands;
   }
 
-  faithful-same : (history : List Entry) (desk : SeenDesk D) → IsFaithful medium one history desk → IsFaithful medium other history desk
+  faithful-same : (history : List Entry) (desk : SeenDesk D) → IsFaithful medium one history desk
+      → IsFaithful medium other history desk
   faithful-same history desk faithful =
       let kept = faithful.kept in
       record {
@@ -31,7 +32,9 @@ module _ {D A B : Type 0} (medium : D → Medium) (one : Outline A) (other : Out
       }
 
 -- a camera that is faithful and tied
-pub ends-at : {D A : Type 0} (medium : D → Medium) (outlines : List (Outline A)) (cameras : List (EndedCamera D A)) (passes : List (Pass A)) (k : ℕ) → All (IsFaithfulCamera medium) cameras → EndsTied outlines cameras passes k → EndsAt medium outlines cameras passes k
+pub ends-at : {D A : Type 0} (medium : D → Medium) (outlines : List (Outline A)) (cameras : List (EndedCamera D A))
+    (passes : List (Pass A)) (k : ℕ) → All (IsFaithfulCamera medium) cameras → EndsTied outlines cameras passes k
+    → EndsAt medium outlines cameras passes k
 ends-at {D} {A} medium outlines cameras passes k all tied = λ e o at_e at_o.
     let here = tied e o at_e at_o in
     let there : IsFaithfulCamera medium e = all-read (IsFaithfulCamera medium) cameras k e all at_e in

@@ -14,11 +14,13 @@ use Rattle.loop_record.proofs.Fields.{moved_number}
 use Rattle.loop_record.proofs.Framing.{SameWithin, SameWithin-part, prefix_range, prefix_range-le, map_range, slot_within, same_open, same_number, same_slot}
 
 -- an image with the same bytes outside a segment shows what stands in the segment
-pub shows : (g : Geometry) (j : ℕ) (part : Option Segment) (old new : List ℕ) → SameOutside (segment_at g j) (segment_size g) old new → segment_in g new j ≡ part → ShowsSegment g j part old new
+pub shows : (g : Geometry) (j : ℕ) (part : Option Segment) (old new : List ℕ) → SameOutside (segment_at g j)
+    (segment_size g) old new → segment_in g new j ≡ part → ShowsSegment g j part old new
 shows g j part old new s is = record { outside = record { size = s.size; before = s.before; behind = s.behind }; holds = is }
 
 -- where both places are what they are meant to be
-pub torn_at : (a b a' b' n n' : ℕ) (first old c : List ℕ) → a ≡ a' → b ≡ b' → n ≡ n' → TornInTurn a first b n old c → TornInTurn a' first b' n' old c
+pub torn_at : (a b a' b' n n' : ℕ) (first old c : List ℕ) → a ≡ a' → b ≡ b' → n ≡ n' → TornInTurn a first b n old c
+    → TornInTurn a' first b' n' old c
 torn_at a b a' b' n n' first old c e f h (inl torn) = inl (subst (λ (k : ℕ). SameOutside k (length first) old c) e torn)
 torn_at a b a' b' n n' first old c e f h (inr torn) =
     let one = subst (λ (k : ℕ). SameOutside b n (with_bytes_at k first old) c) e torn in
@@ -28,14 +30,18 @@ torn_at a b a' b' n n' first old c e f h (inr torn) =
 -- ---- a segment's bytes
 
 -- a segment but for its gate
-pub same_but_gate : (g : Geometry) (a b : List ℕ) (j : ℕ) → g.slots ≤ 256 → SameWithin (segment_at g j + 1) (segment_at g j + segment_size g) a b → is_open a (segment_at g j) ≡ is_open b (segment_at g j) → segment_in g a j ≡ segment_in g b j
+pub same_but_gate : (g : Geometry) (a b : List ℕ) (j : ℕ) → g.slots ≤ 256 → SameWithin (segment_at g j + 1)
+    (segment_at g j + segment_size g) a b → is_open a (segment_at g j) ≡ is_open b (segment_at g j)
+    → segment_in g a j ≡ segment_in g b j
 same_but_gate g a b j few s gate =
     let at = segment_at g j in
-    let part : (low high : ℕ) → at + 1 ≤ low → high ≤ at + segment_size g → SameWithin low high a b = λ low high. SameWithin-part (at + 1) (at + segment_size g) low high a b s in
+    let part : (low high : ℕ) → at + 1 ≤ low → high ≤ at + segment_size g → SameWithin low high a b =
+    λ low high. SameWithin-part (at + 1) (at + segment_size g) low high a b s in
     let block = same_number 8 (at + 8) a b (part (at + 8) (at + 8 + 8) (omega arith) (omega arith)) in
     let whole : whole_frames g a j ≡ whole_frames g b j = prefix_range (λ i. is_open a (gate_at g j i)) (λ i. is_open b (gate_at g j i)) 0 g.slots (λ i l h.
     same_open a b (gate_at g j i) (part (gate_at g j i) (gate_at g j i + 1) (omega arith) (omega (arith, few, h)))) in
-    let slots : map (λ i. slot_in (frame_bytes g) a (slot_at g j i)) (range_with_len 0 (whole_frames g b j)) ≡ map (λ i. slot_in (frame_bytes g) b (slot_at g j i)) (range_with_len 0 (whole_frames g b j)) =
+    let slots : map (λ i. slot_in (frame_bytes g) a (slot_at g j i)) (range_with_len 0 (whole_frames g b j)) ≡ map
+    (λ i. slot_in (frame_bytes g) b (slot_at g j i)) (range_with_len 0 (whole_frames g b j)) =
     map_range (λ i. slot_in (frame_bytes g) a (slot_at g j i)) (λ i. slot_in (frame_bytes g) b (slot_at g j i)) 0 (whole_frames g b j) (λ i l h.
     let few' = prefix_range-le (λ i. is_open b (gate_at g j i)) 0 g.slots in
     let end = slot_within g j i (omega (arith, h, few')) in
@@ -65,25 +71,29 @@ pub prefix_open : (p : ℕ → Bool) (lo n i : ℕ) → i < prefix_len p (range_
 prefix_open p lo zero i l = absurd (omega (arith, l))
 prefix_open p lo (suc n) i l = go (p lo) refl i l (λ k. prefix_open p (lo + 1) n k)
   where
-    go : (t : Bool) → p lo ≡ t → (i : ℕ) → i < cond t (1 + prefix_len p (range_with_len (lo + 1) n)) 0 → ((k : ℕ) → k < prefix_len p (range_with_len (lo + 1) n) → p (lo + 1 + k) ≡ true) → p (lo + i) ≡ true
+    go : (t : Bool) → p lo ≡ t → (i : ℕ) → i < cond t (1 + prefix_len p (range_with_len (lo + 1) n)) 0
+        → ((k : ℕ) → k < prefix_len p (range_with_len (lo + 1) n) → p (lo + 1 + k) ≡ true) → p (lo + i) ≡ true
     go false e i l rest = absurd (omega (arith, l))
     go true e zero l rest = ap p (omega arith) ∙ e
     go true e (suc i) l rest = ap p (omega arith) ∙ rest i (omega (arith, l))
 
 -- ---- bytes at another place
 
-moved_slice : (n p q : ℕ) (a b : List ℕ) → p + n ≤ length a → q + n ≤ length b → ((k : ℕ) → k < n → get_or a (p + k) 0 ≡ get_or b (q + k) 0) → slice_range a p (p + n) ≡ slice_range b q (q + n)
+moved_slice : (n p q : ℕ) (a b : List ℕ) → p + n ≤ length a → q + n ≤ length b
+    → ((k : ℕ) → k < n → get_or a (p + k) 0 ≡ get_or b (q + k) 0) → slice_range a p (p + n) ≡ slice_range b q (q + n)
 moved_slice n p q a b fa fb same =
     let sa : p + n - p ≡ n = omega arith in
     let sb : q + n - q ≡ n = omega arith in
-    let size : length (take n (drop p a)) ≡ length (take n (drop q b)) = omega (arith, fa, fb, length-take n (drop p a), length-take n (drop q b), length-drop p a, length-drop q b) in
+    let size : length (take n (drop p a)) ≡ length (take n (drop q b)) =
+    omega (arith, fa, fb, length-take n (drop p a), length-take n (drop q b), length-drop p a, length-drop q b) in
     ap (λ (k : ℕ). take k (drop p a)) sa
     ∙ ext_get_or 0 (take n (drop p a)) (take n (drop q b)) size (λ i h.
     let low : i < n = omega (arith, h, length-take n (drop p a)) in
     get_or-take n (drop p a) i 0 low ∙ get_or-drop p a i 0 ∙ same i low ∙ sym (get_or-drop q b i 0) ∙ sym (get_or-take n (drop q b) i 0 low))
     ∙ sym (ap (λ (k : ℕ). take k (drop q b)) sb)
 
-pub moved_slot : (n p q : ℕ) (a b : List ℕ) → p + (32 + n) ≤ length a → q + (32 + n) ≤ length b → ((k : ℕ) → k < 32 + n → get_or a (p + k) 0 ≡ get_or b (q + k) 0) → slot_in n a p ≡ slot_in n b q
+pub moved_slot : (n p q : ℕ) (a b : List ℕ) → p + (32 + n) ≤ length a → q + (32 + n) ≤ length b
+    → ((k : ℕ) → k < 32 + n → get_or a (p + k) 0 ≡ get_or b (q + k) 0) → slot_in n a p ≡ slot_in n b q
 moved_slot n p q a b fa fb same =
     let at : (i k : ℕ) → i + k < 32 + n → get_or a (p + i + k) 0 ≡ get_or b (q + i + k) 0 = λ i k l.
     let l' : p + i + k ≡ p + (i + k) = omega arith in

@@ -20,22 +20,28 @@ use Rattle.loop_ring.proofs.Held.{or_true, sorted, is_held, held-any, any-held_b
 
 -- ---- the blocks of the headers
 
-among-headers : (b : ℕ) (hs : List (Option SegmentHead)) → Among b (filter_map held_block hs) → list_any (is_held b) hs ≡ true
+among-headers : (b : ℕ) (hs : List (Option SegmentHead)) → Among b (filter_map held_block hs)
+    → list_any (is_held b) hs ≡ true
 among-headers b [] e = elim e [ ]
 among-headers b (None ∷ hs) e = among-headers b hs e
 among-headers b (Some h ∷ hs) e = go (ltb 0 h.frames) refl (λ k. among-headers b hs k) e
   where
-    go : (t : Bool) → ltb 0 h.frames ≡ t → (Among b (filter_map held_block hs) → list_any (is_held b) hs ≡ true) → Among b (cons_option (cond t (Some h.block) None) (filter_map held_block hs)) → ((eqb h.block b && ltb 0 h.frames) || list_any (is_held b) hs) ≡ true
+    go : (t : Bool) → ltb 0 h.frames ≡ t → (Among b (filter_map held_block hs) → list_any (is_held b) hs ≡ true)
+        → Among b (cons_option (cond t (Some h.block) None) (filter_map held_block hs))
+        → ((eqb h.block b && ltb 0 h.frames) || list_any (is_held b) hs) ≡ true
     go true is rest (inl same) = let block = equal_test h.block b same in λ i. (block i && is i) || list_any (is_held b) hs
     go true is rest (inr k) = or_true (eqb h.block b && ltb 0 h.frames) _ (rest k)
     go false is rest k = or_true (eqb h.block b && ltb 0 h.frames) _ (rest k)
 
-headers-among : (b : ℕ) (hs : List (Option SegmentHead)) → list_any (is_held b) hs ≡ true → Among b (filter_map held_block hs)
+headers-among : (b : ℕ) (hs : List (Option SegmentHead)) → list_any (is_held b) hs ≡ true
+    → Among b (filter_map held_block hs)
 headers-among b [] e = absurd cc
 headers-among b (None ∷ hs) e = headers-among b hs e
 headers-among b (Some h ∷ hs) e = go (ltb 0 h.frames) (eqb h.block b) refl (λ k. headers-among b hs k) e
   where
-    go : (t c : Bool) → eqb h.block b ≡ c → (list_any (is_held b) hs ≡ true → Among b (filter_map held_block hs)) → ((c && t) || list_any (is_held b) hs) ≡ true → Among b (cons_option (cond t (Some h.block) None) (filter_map held_block hs))
+    go : (t c : Bool) → eqb h.block b ≡ c → (list_any (is_held b) hs ≡ true → Among b (filter_map held_block hs))
+        → ((c && t) || list_any (is_held b) hs) ≡ true
+        → Among b (cons_option (cond t (Some h.block) None) (filter_map held_block hs))
     go true true is rest k = inl (equal h.block b is)
     go true false is rest k = inr (rest k)
     go false true is rest k = rest k
@@ -144,7 +150,8 @@ among-filter : (p : ℕ → Bool) (b : ℕ) (xs : List ℕ) → Among b (filter 
 among-filter p b [] e = elim e [ ]
 among-filter p b (x ∷ xs) e = go (p x) refl (λ k. among-filter p b xs k) e
   where
-    go : (t : Bool) → p x ≡ t → (Among b (filter p xs) → Among b xs × (p b ≡ true)) → Among b (cond t (x ∷ filter p xs) (filter p xs)) → Among b (x ∷ xs) × (p b ≡ true)
+    go : (t : Bool) → p x ≡ t → (Among b (filter p xs) → Among b xs × (p b ≡ true))
+        → Among b (cond t (x ∷ filter p xs) (filter p xs)) → Among b (x ∷ xs) × (p b ≡ true)
     go true is rest (inl same) = (inl same, sym (ap p same) ∙ is)
     go true is rest (inr k) = let y = rest k in (inr y.0, y.1)
     go false is rest k = let y = rest k in (inr y.0, y.1)
@@ -153,7 +160,8 @@ filter-among : (p : ℕ → Bool) (b : ℕ) (xs : List ℕ) → Among b xs → p
 filter-among p b [] e passes = elim e [ ]
 filter-among p b (x ∷ xs) e passes = go (p x) refl (λ k. filter-among p b xs k passes) e
   where
-    go : (t : Bool) → p x ≡ t → (Among b xs → Among b (filter p xs)) → (x ≡ b) ⊎ Among b xs → Among b (cond t (x ∷ filter p xs) (filter p xs))
+    go : (t : Bool) → p x ≡ t → (Among b xs → Among b (filter p xs)) → (x ≡ b) ⊎ Among b xs
+        → Among b (cond t (x ∷ filter p xs) (filter p xs))
     go true is rest (inl same) = inl same
     go true is rest (inr k) = inr (rest k)
     go false is rest (inl same) = absurd (clash (p b) passes (sym (ap p same) ∙ is))
@@ -162,15 +170,22 @@ filter-among p b (x ∷ xs) e passes = go (p x) refl (λ k. filter-among p b xs 
 -- ---- the victim
 
 -- the blocks that may go are those of all held ones that pass
-going-are : (ring : Ring) (clips : List (Option Span)) (newest : ℕ) (hs : List (Option SegmentHead)) → filter_map (going_block ring clips newest) hs ≡ filter (is_going ring clips newest) (filter_map held_block hs)
+going-are : (ring : Ring) (clips : List (Option Span)) (newest : ℕ) (hs : List (Option SegmentHead))
+    → filter_map (going_block ring clips newest) hs ≡ filter (is_going ring clips newest) (filter_map held_block hs)
 going-are ring clips newest [] = refl
 going-are ring clips newest (None ∷ hs) = going-are ring clips newest hs
 going-are ring clips newest (Some h ∷ hs) = go (ltb 0 h.frames) (is_going ring clips newest h.block) refl (going-are ring clips newest hs)
   where
-    go : (t u : Bool) → is_going ring clips newest h.block ≡ u → filter_map (going_block ring clips newest) hs ≡ filter (is_going ring clips newest) (filter_map held_block hs)
-        → cons_option (cond (t && u) (Some h.block) None) (filter_map (going_block ring clips newest) hs) ≡ filter (is_going ring clips newest) (cons_option (cond t (Some h.block) None) (filter_map held_block hs))
-    go true true is ih = ap (λ (bs : List ℕ). h.block ∷ bs) ih ∙ sym (ap (λ (t : Bool). cond t (h.block ∷ filter (is_going ring clips newest) (filter_map held_block hs)) (filter (is_going ring clips newest) (filter_map held_block hs))) is)
-    go true false is ih = ih ∙ sym (ap (λ (t : Bool). cond t (h.block ∷ filter (is_going ring clips newest) (filter_map held_block hs)) (filter (is_going ring clips newest) (filter_map held_block hs))) is)
+    go : (t u : Bool) → is_going ring clips newest h.block ≡ u
+        → filter_map (going_block ring clips newest) hs ≡ filter (is_going ring clips newest) (filter_map held_block hs)
+        → cons_option (cond (t && u) (Some h.block) None) (filter_map (going_block ring clips newest) hs) ≡ filter
+        (is_going ring clips newest) (cons_option (cond t (Some h.block) None) (filter_map held_block hs))
+    go true true is ih = ap (λ (bs : List ℕ). h.block ∷ bs) ih
+        ∙ sym (ap (λ (t : Bool). cond t (h.block ∷ filter (is_going ring clips newest) (filter_map held_block hs))
+        (filter (is_going ring clips newest) (filter_map held_block hs))) is)
+    go true false is ih = ih ∙ sym
+        (ap (λ (t : Bool). cond t (h.block ∷ filter (is_going ring clips newest) (filter_map held_block hs))
+        (filter (is_going ring clips newest) (filter_map held_block hs))) is)
     go false u is ih = ih
 
 -- what is known of the blocks of an image's headers
@@ -189,7 +204,9 @@ blocks g r image e = record {
 }
 
 -- an older block that no clip meets is one that may go
-going-older : (g : Geometry) (r : Recording) (image : List ℕ) (newest b : ℕ) → Blocks g r image → Greatest (filter_map held_block (heads_of g image)) newest → Among b (older_blocks (ring_of g) r) → is_locked (ring_of g) r b ≡ false
+going-older : (g : Geometry) (r : Recording) (image : List ℕ) (newest b : ℕ) → Blocks g r image
+    → Greatest (filter_map held_block (heads_of g image)) newest → Among b (older_blocks (ring_of g) r)
+    → is_locked (ring_of g) r b ≡ false
     → Among b (filter (is_going (ring_of g) r.clips newest) (filter_map held_block (heads_of g image)))
 going-older g r image newest b k top at free =
     let x = front-below k.low b (held_blocks (ring_of g) r) k.rises at in
@@ -198,8 +215,10 @@ going-older g r image newest b k top at free =
     let passes : is_going (ring_of g) r.clips newest b ≡ true = λ i. not (apart i) && not (free i) in
     filter-among (is_going (ring_of g) r.clips newest) b (filter_map held_block (heads_of g image)) (k.from b x.0) passes
 
-older-going : (g : Geometry) (r : Recording) (image : List ℕ) (newest b : ℕ) → Blocks g r image → Greatest (filter_map held_block (heads_of g image)) newest
-    → Among b (filter (is_going (ring_of g) r.clips newest) (filter_map held_block (heads_of g image))) → Among b (older_blocks (ring_of g) r) × (is_locked (ring_of g) r b ≡ false)
+older-going : (g : Geometry) (r : Recording) (image : List ℕ) (newest b : ℕ) → Blocks g r image
+    → Greatest (filter_map held_block (heads_of g image)) newest
+    → Among b (filter (is_going (ring_of g) r.clips newest) (filter_map held_block (heads_of g image)))
+    → Among b (older_blocks (ring_of g) r) × (is_locked (ring_of g) r b ≡ false)
 older-going g r image newest b k top at =
     let x = among-filter (is_going (ring_of g) r.clips newest) b (filter_map held_block (heads_of g image)) at in
     let y = both (not (eqb b newest)) (not (is_locked (ring_of g) r b)) x.1 in
@@ -213,7 +232,8 @@ older-going g r image newest b k top at =
         go (inl k) = k
         go (inr k) = absurd (apart (omega (arith, l, k)))
 
-oldest-is : (g : Geometry) (r : Recording) (image : List ℕ) (newest : ℕ) → Blocks g r image → Greatest (filter_map held_block (heads_of g image)) newest
+oldest-is : (g : Geometry) (r : Recording) (image : List ℕ) (newest : ℕ) → Blocks g r image
+    → Greatest (filter_map held_block (heads_of g image)) newest
     → reduce min (filter (is_going (ring_of g) r.clips newest) (filter_map held_block (heads_of g image))) ≡ victim (ring_of g) r
 oldest-is g r image newest k top = go (reduce min ys) refl (victim ring r) refl
   where
@@ -226,8 +246,10 @@ oldest-is g r image newest k top = go (reduce min ys) refl (victim ring r) refl
     free : ℕ → Bool
     free c = not (is_locked (ring_of g) r c)
 
-    first : (c : ℕ) → victim (ring_of g) r ≡ Some c → FirstOf (λ c. not (is_locked (ring_of g) r c)) (older_blocks (ring_of g) r) c
-    first c e = find-first (λ c. not (is_locked (ring_of g) r c)) k.low c (older_blocks (ring_of g) r) (RiseFrom-front k.low (held_blocks (ring_of g) r) k.rises) e
+    first : (c : ℕ) → victim (ring_of g) r ≡ Some c → FirstOf (λ c. not (is_locked (ring_of g) r c))
+        (older_blocks (ring_of g) r) c
+    first c e = find-first (λ c. not (is_locked (ring_of g) r c)) k.low c (older_blocks (ring_of g) r)
+        (RiseFrom-front k.low (held_blocks (ring_of g) r) k.rises) e
 
     go : (o : Option ℕ) → reduce min ys ≡ o → (v : Option ℕ) → victim (ring_of g) r ≡ v → o ≡ v
     go None e None f = refl
@@ -246,15 +268,22 @@ oldest-is g r image newest k top = go (reduce min ys) refl (victim ring r) refl
         ap (λ (n : ℕ). Some n) (omega (arith, low, high))
 
 -- the least of the blocks that may go is the victim
-victim-oldest : (g : Geometry) (r : Recording) (image : List ℕ) (heads : List (Option SegmentHead)) (clips : List (Option Span)) (newest : ℕ) (result : Option ℕ) → Holds g r image → heads ≡ heads_of g image → clips ≡ r.clips
-    → Some newest ≡ reduce max (filter_map held_block heads) → result ≡ reduce min (filter_map (going_block (ring_of g) clips newest) heads) → result ≡ victim (ring_of g) r
+victim-oldest : (g : Geometry) (r : Recording) (image : List ℕ) (heads : List (Option SegmentHead))
+    (clips : List (Option Span)) (newest : ℕ) (result : Option ℕ) → Holds g r image → heads ≡ heads_of g image
+    → clips ≡ r.clips
+    → Some newest ≡ reduce max (filter_map held_block heads)
+    → result ≡ reduce min (filter_map (going_block (ring_of g) clips newest) heads) → result ≡ victim (ring_of g) r
 victim-oldest g r image heads clips newest result e is same top chosen =
     let xs = filter_map held_block (heads_of g image) in
-    chosen ∙ (λ i. reduce min (filter_map (going_block (ring_of g) (same i) newest) (is i))) ∙ ap (reduce min) (going-are (ring_of g) r.clips newest (heads_of g image))
-    ∙ oldest-is g r image newest (blocks g r image e) (greatest xs newest (ap (λ (hs : List (Option SegmentHead)). reduce max (filter_map held_block hs)) (sym is) ∙ sym top))
+    chosen ∙ (λ i. reduce min (filter_map (going_block (ring_of g) (same i) newest) (is i)))
+    ∙ ap (reduce min) (going-are (ring_of g) r.clips newest (heads_of g image))
+    ∙ oldest-is g r image newest (blocks g r image e)
+    (greatest xs newest (ap (λ (hs : List (Option SegmentHead)). reduce max (filter_map held_block hs)) (sym is)
+    ∙ sym top))
 
 -- where no frame is held, there is no victim
-victim-nothing : (g : Geometry) (r : Recording) (image : List ℕ) (heads : List (Option SegmentHead)) → Holds g r image → heads ≡ heads_of g image → None ≡ reduce max (filter_map held_block heads) → None ≡ victim (ring_of g) r
+victim-nothing : (g : Geometry) (r : Recording) (image : List ℕ) (heads : List (Option SegmentHead)) → Holds g r image
+    → heads ≡ heads_of g image → None ≡ reduce max (filter_map held_block heads) → None ≡ victim (ring_of g) r
 victim-nothing g r image heads e is none = go (victim (ring_of g) r) refl
   where
     k : Blocks g r image
@@ -263,22 +292,31 @@ victim-nothing g r image heads e is none = go (victim (ring_of g) r) refl
     go : (v : Option ℕ) → victim (ring_of g) r ≡ v → None ≡ v
     go None f = refl
     go (Some c) f =
-        let x = find-first (λ b. not (is_locked (ring_of g) r b)) k.low c (older_blocks (ring_of g) r) (RiseFrom-front k.low (held_blocks (ring_of g) r) k.rises) f in
+        let x = find-first (λ b. not (is_locked (ring_of g) r b)) k.low c (older_blocks (ring_of g) r)
+        (RiseFrom-front k.low (held_blocks (ring_of g) r) k.rises) f in
         let y = front-below k.low c (held_blocks (ring_of g) r) k.rises x.there in
-        absurd (none-greatest (filter_map held_block (heads_of g image)) c (ap (λ (hs : List (Option SegmentHead)). reduce max (filter_map held_block hs)) (sym is) ∙ sym none) (k.from c y.0))
+        absurd (none-greatest (filter_map held_block (heads_of g image)) c
+        (ap (λ (hs : List (Option SegmentHead)). reduce max (filter_map held_block hs)) (sym is) ∙ sym none)
+        (k.from c y.0))
 
 -- what the headers and the clips say of the block that goes is the victim
-pub victim-first : (g : Geometry) (r : Recording) (image : List ℕ) (heads : List (Option SegmentHead)) (clips : List (Option Span)) → Holds g r image → heads ≡ heads_of g image → clips ≡ r.clips → going_first (ring_of g) clips heads ≡ victim (ring_of g) r
+pub victim-first : (g : Geometry) (r : Recording) (image : List ℕ) (heads : List (Option SegmentHead))
+    (clips : List (Option Span)) → Holds g r image → heads ≡ heads_of g image → clips ≡ r.clips
+    → going_first (ring_of g) clips heads ≡ victim (ring_of g) r
 victim-first g r image heads clips e is same = go (reduce max (filter_map held_block heads)) refl
   where
-    go : (newest : Option ℕ) → newest ≡ reduce max (filter_map held_block heads) → going_first (ring_of g) clips heads ≡ victim (ring_of g) r
+    go : (newest : Option ℕ) → newest ≡ reduce max (filter_map held_block heads)
+        → going_first (ring_of g) clips heads ≡ victim (ring_of g) r
     go None none = ap (least_going (ring_of g) clips heads) (sym none) ∙ victim-nothing g r image heads e is none
-    go (Some newest) top = ap (least_going (ring_of g) clips heads) (sym top) ∙ victim-oldest g r image heads clips newest (reduce min (filter_map (going_block (ring_of g) clips newest) heads)) e is same top refl
+    go (Some newest) top = ap (least_going (ring_of g) clips heads) (sym top)
+        ∙ victim-oldest g r image heads clips newest
+        (reduce min (filter_map (going_block (ring_of g) clips newest) heads)) e is same top refl
 
 -- ---- its segment
 
 -- the block of a header is found at a place that holds it
-place-found : (heads : List (Option SegmentHead)) (b : ℕ) (found : Option ℕ) → list_any (is_held b) heads ≡ true → found ≡ position (is_of b) heads → IsPlaceOf heads (Some b) found
+place-found : (heads : List (Option SegmentHead)) (b : ℕ) (found : Option ℕ) → list_any (is_held b) heads ≡ true
+    → found ≡ position (is_of b) heads → IsPlaceOf heads (Some b) found
 place-found heads b found held is = subst (IsPlaceOf heads (Some b)) (sym is) (go (position (is_of b) heads) refl)
   where
     of-held : (o : Option SegmentHead) → is_held b o ≡ true → is_of b o ≡ true
@@ -290,7 +328,8 @@ place-found heads b found held is = subst (IsPlaceOf heads (Some b)) (sym is) (g
         let k = any-index (is_held b) heads held in
         list_any_at (is_of b) heads k.0 None k.1.0 (of-held (get_or heads k.0 None) k.1.1)
 
-    place : (j : ℕ) (o : Option SegmentHead) → get_or heads j None ≡ o → is_of b o ≡ true → (h : SegmentHead) × ((get_or heads j None ≡ Some h) × (Some b ≡ Some h.block))
+    place : (j : ℕ) (o : Option SegmentHead) → get_or heads j None ≡ o → is_of b o ≡ true → (h : SegmentHead)
+        × ((get_or heads j None ≡ Some h) × (Some b ≡ Some h.block))
     place j None at e = absurd cc
     place j (Some h) at e = (h, (at, ap (λ (n : ℕ). Some n) (sym (equal h.block b e))))
 
@@ -299,13 +338,17 @@ place-found heads b found held is = subst (IsPlaceOf heads (Some b)) (sym is) (g
     go (Some j) e = let k = place j (get_or heads j None) refl (position-Some (is_of b) heads j None e).1 in (k.0, k.1.0, k.1.1)
 
 -- the victim is the block of some header
-victim-held : (g : Geometry) (r : Recording) (image : List ℕ) (heads : List (Option SegmentHead)) (b : ℕ) → Holds g r image → heads ≡ heads_of g image → victim (ring_of g) r ≡ Some b → list_any (is_held b) heads ≡ true
+victim-held : (g : Geometry) (r : Recording) (image : List ℕ) (heads : List (Option SegmentHead)) (b : ℕ)
+    → Holds g r image → heads ≡ heads_of g image → victim (ring_of g) r ≡ Some b → list_any (is_held b) heads ≡ true
 victim-held g r image heads b e is chosen =
     let k = blocks g r image e in
-    let x = find-first (λ c. not (is_locked (ring_of g) r c)) k.low b (older_blocks (ring_of g) r) (RiseFrom-front k.low (held_blocks (ring_of g) r) k.rises) chosen in
+    let x = find-first (λ c. not (is_locked (ring_of g) r c)) k.low b (older_blocks (ring_of g) r)
+    (RiseFrom-front k.low (held_blocks (ring_of g) r) k.rises) chosen in
     ap (list_any (is_held b)) is ∙ held-any g r image b e (front-below k.low b (held_blocks (ring_of g) r) k.rises x.there).0
 
 -- the victim's segment
-pub victim-placed : (g : Geometry) (r : Recording) (image : List ℕ) (heads : List (Option SegmentHead)) (b : ℕ) (found : Option ℕ) → Holds g r image → heads ≡ heads_of g image → Some b ≡ victim (ring_of g) r → found ≡ position (is_of b) heads → IsPlaceOf heads (victim (ring_of g) r) found
+pub victim-placed : (g : Geometry) (r : Recording) (image : List ℕ) (heads : List (Option SegmentHead)) (b : ℕ)
+    (found : Option ℕ) → Holds g r image → heads ≡ heads_of g image → Some b ≡ victim (ring_of g) r
+    → found ≡ position (is_of b) heads → IsPlaceOf heads (victim (ring_of g) r) found
 victim-placed g r image heads b found e is chosen place =
     subst (λ (v : Option ℕ). IsPlaceOf heads v found) chosen (place-found heads b found (victim-held g r image heads b e is (sym chosen)) place)

@@ -25,12 +25,20 @@ pub record IsMapped (f : Option SegmentHead → ℕ → ℕ) (heads : List (Opti
   pub done : (k : ℕ) → k < i → get_or new k 0 ≡ f (get_or heads k None) (get_or old k 0)
   pub left : (k : ℕ) → i ≤ k → get_or new k 0 ≡ get_or old k 0
 
-pub mapped-none : (f : Option SegmentHead → ℕ → ℕ) (heads : List (Option SegmentHead)) (old : List ℕ) → IsMapped f heads old old 0
+pub mapped-none : (f : Option SegmentHead → ℕ → ℕ) (heads : List (Option SegmentHead)) (old : List ℕ)
+    → IsMapped f heads old old 0
 mapped-none f heads old = record { done = λ k l. absurd (omega (arith, l)); left = λ k l. refl }
 
 -- one more, which is changed
-pub mapped-set : (f : Option SegmentHead → ℕ → ℕ) (heads : List (Option SegmentHead)) (old mid : List ℕ) (i y : ℕ) → i < length mid → IsMapped f heads old mid i → y ≡ f (get_or heads i None) (get_or mid i 0) → IsMapped f heads old (set mid i y) (i + 1)
-mapped-set f heads old mid i y inside m is = record { done = done; left = λ k l. get_or-set_other mid i k y 0 (λ e. omega (arith, l, e)) ∙ m.left k (omega (arith, l)) }
+pub mapped-set : (f : Option SegmentHead → ℕ → ℕ) (heads : List (Option SegmentHead)) (old mid : List ℕ) (i y : ℕ)
+    → i < length mid → IsMapped f heads old mid i → y ≡ f (get_or heads i None) (get_or mid i 0)
+    → IsMapped f heads old (set mid i y) (i + 1)
+mapped-set f heads old mid i y inside m is =
+    record {
+      done = done;
+      left = λ k l. get_or-set_other mid i k y 0 (λ e. omega (arith, l, e))
+          ∙ m.left k (omega (arith, l));
+    }
   where
     done : (k : ℕ) → k < i + 1 → get_or (set mid i y) k 0 ≡ f (get_or heads k None) (get_or old k 0)
     done k l = go (cases_lt k i)
@@ -39,10 +47,14 @@ mapped-set f heads old mid i y inside m is = record { done = done; left = λ k l
         go (inl less) = get_or-set_other mid i k y 0 (λ e. omega (arith, less, e)) ∙ m.done k less
         go (inr more) =
             let same : k ≡ i = omega (arith, l, more) in
-            ap (λ (n : ℕ). get_or (set mid i y) n 0) same ∙ get_or-set_same mid i y 0 inside ∙ is ∙ ap (f (get_or heads i None)) (m.left i (omega arith)) ∙ ap (λ (n : ℕ). f (get_or heads n None) (get_or old n 0)) (sym same)
+            ap (λ (n : ℕ). get_or (set mid i y) n 0) same ∙ get_or-set_same mid i y 0 inside ∙ is
+            ∙ ap (f (get_or heads i None)) (m.left i (omega arith))
+            ∙ ap (λ (n : ℕ). f (get_or heads n None) (get_or old n 0)) (sym same)
 
 -- one more, which stays
-pub mapped-same : (f : Option SegmentHead → ℕ → ℕ) (heads : List (Option SegmentHead)) (old mid : List ℕ) (i : ℕ) → IsMapped f heads old mid i → get_or mid i 0 ≡ f (get_or heads i None) (get_or mid i 0) → IsMapped f heads old mid (i + 1)
+pub mapped-same : (f : Option SegmentHead → ℕ → ℕ) (heads : List (Option SegmentHead)) (old mid : List ℕ) (i : ℕ)
+    → IsMapped f heads old mid i → get_or mid i 0 ≡ f (get_or heads i None) (get_or mid i 0)
+    → IsMapped f heads old mid (i + 1)
 mapped-same f heads old mid i m is = record { done = done; left = λ k l. m.left k (omega (arith, l)) }
   where
     done : (k : ℕ) → k < i + 1 → get_or mid k 0 ≡ f (get_or heads k None) (get_or old k 0)
@@ -52,11 +64,15 @@ mapped-same f heads old mid i m is = record { done = done; left = λ k l. m.left
         go (inl less) = m.done k less
         go (inr more) =
             let same : k ≡ i = omega (arith, l, more) in
-            ap (λ (n : ℕ). get_or mid n 0) same ∙ is ∙ ap (f (get_or heads i None)) (m.left i (omega arith)) ∙ ap (λ (n : ℕ). f (get_or heads n None) (get_or old n 0)) (sym same)
+            ap (λ (n : ℕ). get_or mid n 0) same ∙ is ∙ ap (f (get_or heads i None)) (m.left i (omega arith))
+            ∙ ap (λ (n : ℕ). f (get_or heads n None) (get_or old n 0)) (sym same)
 
 -- all of them
-pub mapped-all : (f : Option SegmentHead → ℕ → ℕ) (heads : List (Option SegmentHead)) (old new : List ℕ) (i : ℕ) → IsMapped f heads old new i → length heads ≤ i → length old ≡ length heads → length new ≡ length old → new ≡ map (λ x. f x.0 x.1) (zip heads old)
-mapped-all f heads old new i m all counted same = ext_get_or 0 new (map (λ x. f x.0 x.1) (zip heads old)) (omega (arith, counted, same, length-map (zip heads old) (λ (x : Option SegmentHead × ℕ). f x.0 x.1), long)) at
+pub mapped-all : (f : Option SegmentHead → ℕ → ℕ) (heads : List (Option SegmentHead)) (old new : List ℕ) (i : ℕ)
+    → IsMapped f heads old new i → length heads ≤ i → length old ≡ length heads → length new ≡ length old
+    → new ≡ map (λ x. f x.0 x.1) (zip heads old)
+mapped-all f heads old new i m all counted same = ext_get_or 0 new (map (λ x. f x.0 x.1) (zip heads old))
+    (omega (arith, counted, same, length-map (zip heads old) (λ (x : Option SegmentHead × ℕ). f x.0 x.1), long)) at
   where
     long : length (zip heads old) ≡ length heads
     long = omega (arith, counted, length-zip heads old)
@@ -64,28 +80,40 @@ mapped-all f heads old new i m all counted same = ext_get_or 0 new (map (λ x. f
     at : (k : ℕ) → k < length new → get_or new k 0 ≡ get_or (map (λ x. f x.0 x.1) (zip heads old)) k 0
     at k l =
         let inside : k < length heads = omega (arith, l, counted, same) in
-        m.done k (omega (arith, inside, all)) ∙ sym (ap (λ (x : Option SegmentHead × ℕ). f x.0 x.1) (get_or-zip heads old k (None, 0) inside (omega (arith, inside, counted)))) ∙ sym (get_or-map (λ (x : Option SegmentHead × ℕ). f x.0 x.1) (zip heads old) k (None, 0) 0 (omega (arith, inside, long)))
+        m.done k (omega (arith, inside, all))
+        ∙ sym (ap (λ (x : Option SegmentHead × ℕ). f x.0 x.1)
+        (get_or-zip heads old k (None, 0) inside (omega (arith, inside, counted))))
+        ∙ sym (get_or-map (λ (x : Option SegmentHead × ℕ). f x.0 x.1) (zip heads old) k (None, 0) 0
+        (omega (arith, inside, long)))
 
 -- a segment that the clip doesn't meet keeps its count
-pub more-same : (ring : Ring) (span : Span) (h : Option SegmentHead) (n : ℕ) (t : Bool) → t ≡ meets_head ring (Some span) h → t ≡ false → n ≡ with_one ring span h n
+pub more-same : (ring : Ring) (span : Span) (h : Option SegmentHead) (n : ℕ) (t : Bool)
+    → t ≡ meets_head ring (Some span) h → t ≡ false → n ≡ with_one ring span h n
 more-same ring span h n t is not-so = ap (λ (b : Bool). cond b (n + 1) n) (sym not-so ∙ is)
 
-pub more-met : (ring : Ring) (span : Span) (h : Option SegmentHead) (n : ℕ) (t : Bool) → t ≡ meets_head ring (Some span) h → t ≡ true → n + 1 ≡ with_one ring span h n
+pub more-met : (ring : Ring) (span : Span) (h : Option SegmentHead) (n : ℕ) (t : Bool)
+    → t ≡ meets_head ring (Some span) h → t ≡ true → n + 1 ≡ with_one ring span h n
 more-met ring span h n t is so = ap (λ (b : Bool). cond b (n + 1) n) (sym so ∙ is)
 
-pub less-same : (ring : Ring) (span : Span) (h : Option SegmentHead) (n : ℕ) (t : Bool) → t ≡ meets_head ring (Some span) h → t ≡ false → n ≡ without_one ring span h n
+pub less-same : (ring : Ring) (span : Span) (h : Option SegmentHead) (n : ℕ) (t : Bool)
+    → t ≡ meets_head ring (Some span) h → t ≡ false → n ≡ without_one ring span h n
 less-same ring span h n t is not-so = ap (λ (b : Bool). cond b (n - 1) n) (sym not-so ∙ is)
 
-pub less-met : (ring : Ring) (span : Span) (h : Option SegmentHead) (n : ℕ) (t : Bool) → t ≡ meets_head ring (Some span) h → t ≡ true → n - 1 ≡ without_one ring span h n
+pub less-met : (ring : Ring) (span : Span) (h : Option SegmentHead) (n : ℕ) (t : Bool)
+    → t ≡ meets_head ring (Some span) h → t ≡ true → n - 1 ≡ without_one ring span h n
 less-met ring span h n t is so = ap (λ (b : Bool). cond b (n - 1) n) (sym so ∙ is)
 
 -- the counts of one segment more
-pub counts-more : (ring : Ring) (clips : List (Option Span)) (heads : List (Option SegmentHead)) (i n : ℕ) (items : List ℕ) → items ≡ clip_counts ring clips (take i heads) → i < length heads → n ≡ clips_on ring clips (get_or heads i None) → push items n ≡ clip_counts ring clips (take (i + 1) heads)
+pub counts-more : (ring : Ring) (clips : List (Option Span)) (heads : List (Option SegmentHead)) (i n : ℕ)
+    (items : List ℕ) → items ≡ clip_counts ring clips (take i heads) → i < length heads
+    → n ≡ clips_on ring clips (get_or heads i None) → push items n ≡ clip_counts ring clips (take (i + 1) heads)
 counts-more ring clips heads i n items are l is =
-    (λ k. are k ++ is k ∷ []) ∙ sym (map-append (clips_on ring clips) (take i heads) (get_or heads i None ∷ [])) ∙ ap (map (clips_on ring clips)) (sym (take_more heads i None l))
+    (λ k. are k ++ is k ∷ []) ∙ sym (map-append (clips_on ring clips) (take i heads) (get_or heads i None ∷ []))
+    ∙ ap (map (clips_on ring clips)) (sym (take_more heads i None l))
 
 -- where no clip stands, none meets a segment
-pub counts-empty : (ring : Ring) (clips : List (Option Span)) (h : Option SegmentHead) → list_any is_some clips ≡ false → 0 ≡ clips_on ring clips h
+pub counts-empty : (ring : Ring) (clips : List (Option Span)) (h : Option SegmentHead)
+    → list_any is_some clips ≡ false → 0 ≡ clips_on ring clips h
 counts-empty ring clips None none = refl
 counts-empty ring clips (Some h) none = go clips none
   where
@@ -96,57 +124,75 @@ counts-empty ring clips (Some h) none = go clips none
 
 -- ---- a clip more, and a clip less
 
-pub counts-length : (ring : Ring) (clips : List (Option Span)) (heads : List (Option SegmentHead)) → length (clip_counts ring clips heads) ≡ length heads
+pub counts-length : (ring : Ring) (clips : List (Option Span)) (heads : List (Option SegmentHead))
+    → length (clip_counts ring clips heads) ≡ length heads
 counts-length ring clips heads = length-map heads (clips_on ring clips)
 
 -- what a map over the headers and what is made of them is
-map-zip : (f : Option SegmentHead → ℕ) (g : Option SegmentHead → ℕ → ℕ) (h : Option SegmentHead → ℕ) (heads : List (Option SegmentHead)) → ((o : Option SegmentHead) → g o (f o) ≡ h o) → map (λ x. g x.0 x.1) (zip heads (map f heads)) ≡ map h heads
+map-zip : (f : Option SegmentHead → ℕ) (g : Option SegmentHead → ℕ → ℕ) (h : Option SegmentHead → ℕ)
+    (heads : List (Option SegmentHead)) → ((o : Option SegmentHead) → g o (f o) ≡ h o)
+    → map (λ x. g x.0 x.1) (zip heads (map f heads)) ≡ map h heads
 map-zip f g h [] same = refl
 map-zip f g h (o ∷ heads) same = λ i. same o i ∷ map-zip f g h heads same i
 
-count-set : (p : Option Span → Bool) (clips : List (Option Span)) (id : ℕ) (c : Option Span) → id < length clips → count_by p (set clips id c) + mark (p (get_or clips id None)) ≡ count_by p clips + mark (p c)
+count-set : (p : Option Span → Bool) (clips : List (Option Span)) (id : ℕ) (c : Option Span) → id < length clips
+    → count_by p (set clips id c) + mark (p (get_or clips id None)) ≡ count_by p clips + mark (p c)
 count-set p clips id c l = sum_by-set (λ x. mark (p x)) clips id c None l
 
 -- a clip under an id that was free
-pub counts-locked : (ring : Ring) (clips : List (Option Span)) (heads : List (Option SegmentHead)) (id : ℕ) (span : Span) → id < length clips → get_or clips id None ≡ None
+pub counts-locked : (ring : Ring) (clips : List (Option Span)) (heads : List (Option SegmentHead)) (id : ℕ)
+    (span : Span) → id < length clips → get_or clips id None ≡ None
     → map (λ x. with_one ring span x.0 x.1) (zip heads (clip_counts ring clips heads)) ≡ clip_counts ring (set clips id (Some span)) heads
 counts-locked ring clips heads id span l free = map-zip (clips_on ring clips) (with_one ring span) (clips_on ring (set clips id (Some span))) heads one
   where
-    one : (o : Option SegmentHead) → with_one ring span o (clips_on ring clips o) ≡ clips_on ring (set clips id (Some span)) o
+    one : (o : Option SegmentHead) → with_one ring span o (clips_on ring clips o) ≡ clips_on ring
+        (set clips id (Some span)) o
     one None = refl
     one (Some h) = go (meets ring h.block (Some span)) refl
       where
         none : mark (meets ring h.block (get_or clips id None)) ≡ 0
         none = ap (λ (c : Option Span). mark (meets ring h.block c)) free
 
-        go : (t : Bool) → meets ring h.block (Some span) ≡ t → cond t (count_by (meets ring h.block) clips + 1) (count_by (meets ring h.block) clips) ≡ count_by (meets ring h.block) (set clips id (Some span))
-        go true is = let mine : mark (meets ring h.block (Some span)) ≡ 1 = ap mark is in omega (arith, mine, none, count-set (meets ring h.block) clips id (Some span) l)
-        go false is = let mine : mark (meets ring h.block (Some span)) ≡ 0 = ap mark is in omega (arith, mine, none, count-set (meets ring h.block) clips id (Some span) l)
+        go : (t : Bool) → meets ring h.block (Some span) ≡ t → cond t (count_by (meets ring h.block) clips + 1)
+            (count_by (meets ring h.block) clips) ≡ count_by (meets ring h.block) (set clips id (Some span))
+        go true is = let mine : mark (meets ring h.block (Some span)) ≡ 1 = ap mark is in
+            omega (arith, mine, none, count-set (meets ring h.block) clips id (Some span) l)
+        go false is = let mine : mark (meets ring h.block (Some span)) ≡ 0 = ap mark is in
+            omega (arith, mine, none, count-set (meets ring h.block) clips id (Some span) l)
 
 -- an id whose clip goes
-pub counts-unlocked : (ring : Ring) (clips : List (Option Span)) (heads : List (Option SegmentHead)) (id : ℕ) (span : Span) → id < length clips → get_or clips id None ≡ Some span
+pub counts-unlocked : (ring : Ring) (clips : List (Option Span)) (heads : List (Option SegmentHead)) (id : ℕ)
+    (span : Span) → id < length clips → get_or clips id None ≡ Some span
     → map (λ x. without_one ring span x.0 x.1) (zip heads (clip_counts ring clips heads)) ≡ clip_counts ring (set clips id None) heads
 counts-unlocked ring clips heads id span l taken = map-zip (clips_on ring clips) (without_one ring span) (clips_on ring (set clips id None)) heads one
   where
-    one : (o : Option SegmentHead) → without_one ring span o (clips_on ring clips o) ≡ clips_on ring (set clips id None) o
+    one : (o : Option SegmentHead) → without_one ring span o (clips_on ring clips o) ≡ clips_on ring
+        (set clips id None) o
     one None = refl
     one (Some h) = go (meets ring h.block (Some span)) refl
       where
         same : mark (meets ring h.block (get_or clips id None)) ≡ mark (meets ring h.block (Some span))
         same = ap (λ (c : Option Span). mark (meets ring h.block c)) taken
 
-        go : (t : Bool) → meets ring h.block (Some span) ≡ t → cond t (count_by (meets ring h.block) clips - 1) (count_by (meets ring h.block) clips) ≡ count_by (meets ring h.block) (set clips id None)
-        go true is = let mine : mark (meets ring h.block (Some span)) ≡ 1 = ap mark is in omega (arith, mine, same, count-set (meets ring h.block) clips id None l)
-        go false is = let mine : mark (meets ring h.block (Some span)) ≡ 0 = ap mark is in omega (arith, mine, same, count-set (meets ring h.block) clips id None l)
+        go : (t : Bool) → meets ring h.block (Some span) ≡ t → cond t (count_by (meets ring h.block) clips - 1)
+            (count_by (meets ring h.block) clips) ≡ count_by (meets ring h.block) (set clips id None)
+        go true is = let mine : mark (meets ring h.block (Some span)) ≡ 1 = ap mark is in
+            omega (arith, mine, same, count-set (meets ring h.block) clips id None l)
+        go false is = let mine : mark (meets ring h.block (Some span)) ≡ 0 = ap mark is in
+            omega (arith, mine, same, count-set (meets ring h.block) clips id None l)
 
 -- where an id is free, fewer clips than there are ids meet any segment
-pub counts-few : (ring : Ring) (clips : List (Option Span)) (heads : List (Option SegmentHead)) (id : ℕ) → id < length clips → get_or clips id None ≡ None → All (λ n. n < length clips) (clip_counts ring clips heads)
-counts-few ring clips heads id l free = λ k d inside. few (get_or heads k None) (get_or (clip_counts ring clips heads) k d) (get_or-map (clips_on ring clips) heads k None d (omega (arith, inside, counts-length ring clips heads)))
+pub counts-few : (ring : Ring) (clips : List (Option Span)) (heads : List (Option SegmentHead)) (id : ℕ)
+    → id < length clips → get_or clips id None ≡ None → All (λ n. n < length clips) (clip_counts ring clips heads)
+counts-few ring clips heads id l free = λ k d inside. few (get_or heads k None)
+    (get_or (clip_counts ring clips heads) k d)
+    (get_or-map (clips_on ring clips) heads k None d (omega (arith, inside, counts-length ring clips heads)))
   where
     lower : (p : Option Span → Bool) → p None ≡ false → count_by p clips < length clips
     lower p never = below p clips id l (ap p free ∙ never)
       where
-        below : (p : Option Span → Bool) (xs : List (Option Span)) (k : ℕ) → k < length xs → p (get_or xs k None) ≡ false → count_by p xs < length xs
+        below : (p : Option Span → Bool) (xs : List (Option Span)) (k : ℕ) → k < length xs
+            → p (get_or xs k None) ≡ false → count_by p xs < length xs
         below p [] k l never = absurd (omega (arith, l))
         below p (x ∷ xs) zero l never =
             let none : mark (p x) ≡ 0 = ap mark never in
@@ -164,18 +210,22 @@ counts-few ring clips heads id l free = λ k d inside. few (get_or heads k None)
     few (Some h) n is = omega (arith, is, lower (meets ring h.block) refl)
 
 -- closed segments are met by none
-pub counts-closed : (ring : Ring) (clips : List (Option Span)) (n : ℕ) → replicate n 0 ≡ clip_counts ring clips (replicate n None)
+pub counts-closed : (ring : Ring) (clips : List (Option Span)) (n : ℕ) → replicate n 0 ≡ clip_counts ring clips
+    (replicate n None)
 counts-closed ring clips zero = refl
 counts-closed ring clips (suc n) = ap (λ (l : List ℕ). 0 ∷ l) (counts-closed ring clips n)
 
 -- the counts once a segment's header is another one
-pub counts-set : (ring : Ring) (clips : List (Option Span)) (heads : List (Option SegmentHead)) (j : ℕ) (h : Option SegmentHead) → set (clip_counts ring clips heads) j (clips_on ring clips h) ≡ clip_counts ring clips (set heads j h)
+pub counts-set : (ring : Ring) (clips : List (Option Span)) (heads : List (Option SegmentHead)) (j : ℕ)
+    (h : Option SegmentHead) → set (clip_counts ring clips heads) j (clips_on ring clips h) ≡ clip_counts ring clips
+    (set heads j h)
 counts-set ring clips [] j h = refl
 counts-set ring clips (o ∷ heads) zero h = refl
 counts-set ring clips (o ∷ heads) (suc j) h = ap (λ (l : List ℕ). clips_on ring clips o ∷ l) (counts-set ring clips heads j h)
 
 -- and where it holds the same block
-pub counts-grown : (ring : Ring) (clips : List (Option Span)) (heads : List (Option SegmentHead)) (j frames : ℕ) → clip_counts ring clips heads ≡ clip_counts ring clips (set heads j (grown frames (get_or heads j None)))
+pub counts-grown : (ring : Ring) (clips : List (Option Span)) (heads : List (Option SegmentHead)) (j frames : ℕ)
+    → clip_counts ring clips heads ≡ clip_counts ring clips (set heads j (grown frames (get_or heads j None)))
 counts-grown ring clips [] j frames = refl
 counts-grown ring clips (None ∷ heads) zero frames = refl
 counts-grown ring clips (Some h ∷ heads) zero frames = refl
@@ -194,35 +244,48 @@ none-any p (c ∷ clips) = go (p c) refl (none-any p clips)
     none : (n m : ℕ) → n ≡ m → eqb n 0 ≡ eqb m 0
     none n m is = ap (λ (k : ℕ). eqb k 0) is
 
-    go : (t : Bool) → p c ≡ t → eqb (count_by p clips) 0 ≡ not (list_any p clips) → eqb (count_by p (c ∷ clips)) 0 ≡ not (p c || list_any p clips)
-    go true is rest = some (count_by p (c ∷ clips)) (count_by p clips) (sum_by-cons (λ x. mark (p x)) c clips ∙ ap (λ (b : Bool). mark b + count_by p clips) is) ∙ sym (ap (λ (b : Bool). not (b || list_any p clips)) is)
-    go false is rest = let nothing : mark (p c) ≡ 0 = ap mark is in none (count_by p (c ∷ clips)) (count_by p clips) (omega (arith, nothing, sum_by-cons (λ x. mark (p x)) c clips)) ∙ rest ∙ sym (ap (λ (b : Bool). not (b || list_any p clips)) is)
+    go : (t : Bool) → p c ≡ t → eqb (count_by p clips) 0 ≡ not (list_any p clips)
+        → eqb (count_by p (c ∷ clips)) 0 ≡ not (p c || list_any p clips)
+    go true is rest = some (count_by p (c ∷ clips)) (count_by p clips) (sum_by-cons (λ x. mark (p x)) c clips
+        ∙ ap (λ (b : Bool). mark b + count_by p clips) is) ∙ sym (ap (λ (b : Bool). not (b || list_any p clips)) is)
+    go false is rest = let nothing : mark (p c) ≡ 0 = ap mark is in none (count_by p (c ∷ clips)) (count_by p clips)
+        (omega (arith, nothing, sum_by-cons (λ x. mark (p x)) c clips)) ∙ rest
+        ∙ sym (ap (λ (b : Bool). not (b || list_any p clips)) is)
 
 -- by the counts of some clips the block goes that goes by the clips
-pub free-first : (ring : Ring) (clips : List (Option Span)) (s : Segments) → s.clips ≡ clip_counts ring clips s.heads → going_free s ≡ going_first ring clips s.heads
+pub free-first : (ring : Ring) (clips : List (Option Span)) (s : Segments) → s.clips ≡ clip_counts ring clips s.heads
+    → going_free s ≡ going_first ring clips s.heads
 free-first ring clips s counted = go (reduce max (filter_map held_block s.heads))
   where
-    one : (newest : ℕ) (o : Option SegmentHead) → free_block newest o (clips_on ring clips o) ≡ going_block ring clips newest o
+    one : (newest : ℕ) (o : Option SegmentHead) → free_block newest o (clips_on ring clips o) ≡ going_block ring clips
+        newest o
     one newest None = refl
     one newest (Some h) =
-        let each : (a b n m : Bool) → n ≡ m → cond ((a && b) && n) (Some h.block) None ≡ cond (a && (b && m)) (Some h.block) None = λ a b n m is. pick a b n m is in
-        each (ltb 0 h.frames) (not (eqb h.block newest)) (eqb (count_by (meets ring h.block) clips) 0) (not (list_any (meets ring h.block) clips)) (none-any (meets ring h.block) clips)
+        let each : (a b n m : Bool) → n ≡ m → cond ((a && b) && n) (Some h.block) None ≡ cond (a && (b && m))
+        (Some h.block) None = λ a b n m is. pick a b n m is in
+        each (ltb 0 h.frames) (not (eqb h.block newest)) (eqb (count_by (meets ring h.block) clips) 0)
+        (not (list_any (meets ring h.block) clips)) (none-any (meets ring h.block) clips)
       where
-        pick : (a b n m : Bool) → n ≡ m → cond ((a && b) && n) (Some h.block) None ≡ cond (a && (b && m)) (Some h.block) None
+        pick : (a b n m : Bool) → n ≡ m → cond ((a && b) && n) (Some h.block) None ≡ cond (a && (b && m))
+            (Some h.block) None
         pick true true n m is = ap (λ (t : Bool). cond t (Some h.block) None) is
         pick true false n m is = refl
         pick false b n m is = refl
 
-    blocks : (newest : ℕ) (heads : List (Option SegmentHead)) → filter_map (λ x. free_block newest x.0 x.1) (zip heads (clip_counts ring clips heads)) ≡ filter_map (going_block ring clips newest) heads
+    blocks : (newest : ℕ) (heads : List (Option SegmentHead)) → filter_map (λ x. free_block newest x.0 x.1)
+        (zip heads (clip_counts ring clips heads)) ≡ filter_map (going_block ring clips newest) heads
     blocks newest [] = refl
     blocks newest (o ∷ heads) = λ i. cons_option (one newest o i) (blocks newest heads i)
 
     go : (o : Option ℕ) → least_free s o ≡ least_going ring clips s.heads o
     go None = refl
-    go (Some newest) = ap (λ (cs : List ℕ). reduce min (filter_map (λ x. free_block newest x.0 x.1) (zip s.heads cs))) counted ∙ ap (reduce min) (blocks newest s.heads)
+    go (Some newest) = ap (λ (cs : List ℕ). reduce min (filter_map (λ x. free_block newest x.0 x.1) (zip s.heads cs)))
+        counted ∙ ap (reduce min) (blocks newest s.heads)
 
 -- and where these are the headers and the clips of a recording, that block is the victim
-pub free-victim : (g : Geometry) (r : Recording) (image : List ℕ) (s : Segments) → Holds g r image → s.heads ≡ heads_of g image → s.clips ≡ clip_counts (ring_of g) r.clips s.heads → going_free s ≡ victim (ring_of g) r
+pub free-victim : (g : Geometry) (r : Recording) (image : List ℕ) (s : Segments) → Holds g r image
+    → s.heads ≡ heads_of g image → s.clips ≡ clip_counts (ring_of g) r.clips s.heads
+    → going_free s ≡ victim (ring_of g) r
 free-victim g r image s held is counted = free-first (ring_of g) r.clips s counted ∙ victim-first g r image s.heads r.clips held is refl
 
 -- ---- a block that grows
@@ -242,12 +305,15 @@ grown-is (Some h) frames some more =
       has = lit;
     }
 
-held-set : (heads : List (Option SegmentHead)) (j : ℕ) (h : Option SegmentHead) → held_block h ≡ held_block (get_or heads j None) → filter_map held_block (set heads j h) ≡ filter_map held_block heads
+held-set : (heads : List (Option SegmentHead)) (j : ℕ) (h : Option SegmentHead)
+    → held_block h ≡ held_block (get_or heads j None) → filter_map held_block (set heads j h) ≡ filter_map held_block
+    heads
 held-set [] j h e = refl
 held-set (o ∷ heads) zero h e = ap (λ b. cons_option b (filter_map held_block heads)) e
 held-set (o ∷ heads) (suc j) h e = ap (cons_option (held_block o)) (held-set heads j h e)
 
-free-set : (newest : ℕ) (heads : List (Option SegmentHead)) (clips : List ℕ) (j : ℕ) (h : Option SegmentHead) → ((count : ℕ) → free_block newest h count ≡ free_block newest (get_or heads j None) count)
+free-set : (newest : ℕ) (heads : List (Option SegmentHead)) (clips : List ℕ) (j : ℕ) (h : Option SegmentHead)
+    → ((count : ℕ) → free_block newest h count ≡ free_block newest (get_or heads j None) count)
     → filter_map (λ x. free_block newest x.0 x.1) (zip (set heads j h) clips) ≡ filter_map (λ x. free_block newest x.0 x.1) (zip heads clips)
 free-set newest [] clips j h e = refl
 free-set newest (o ∷ heads) [] zero h e = refl
@@ -256,22 +322,29 @@ free-set newest (o ∷ heads) (c ∷ clips) zero h e = ap (λ b. cons_option b (
 free-set newest (o ∷ heads) (c ∷ clips) (suc j) h e = ap (cons_option (free_block newest o c)) (free-set newest heads clips j h e)
 
 -- the same block goes
-pub grown-goes : (s : Segments) (j frames : ℕ) → has_frame (get_or s.heads j None) ≡ true → 0 < frames → going_free (record s { heads = set s.heads j (grown frames (get_or s.heads j None)) }) ≡ going_free s
+pub grown-goes : (s : Segments) (j frames : ℕ) → has_frame (get_or s.heads j None) ≡ true → 0 < frames
+    → going_free (record s { heads = set s.heads j (grown frames (get_or s.heads j None)) }) ≡ going_free s
 grown-goes s j frames some more =
     let k = grown-is (get_or s.heads j None) frames some more in
-    ap (λ (bs : List ℕ). least_free (record s { heads = set s.heads j (grown frames (get_or s.heads j None)) }) (reduce max bs)) (held-set s.heads j (grown frames (get_or s.heads j None)) k.held) ∙ go k (reduce max (filter_map held_block s.heads))
+    ap (λ (bs : List ℕ). least_free (record s { heads = set s.heads j (grown frames (get_or s.heads j None)) })
+    (reduce max bs)) (held-set s.heads j (grown frames (get_or s.heads j None)) k.held)
+    ∙ go k (reduce max (filter_map held_block s.heads))
   where
-    go : IsGrown (get_or s.heads j None) (grown frames (get_or s.heads j None)) → (o : Option ℕ) → least_free (record s { heads = set s.heads j (grown frames (get_or s.heads j None)) }) o ≡ least_free s o
+    go : IsGrown (get_or s.heads j None) (grown frames (get_or s.heads j None)) → (o : Option ℕ)
+        → least_free (record s { heads = set s.heads j (grown frames (get_or s.heads j None)) }) o ≡ least_free s o
     go k None = refl
     go k (Some newest) = ap (reduce min) (free-set newest s.heads s.clips j (grown frames (get_or s.heads j None)) (k.free newest))
 
 -- and as many have a frame
-pub grown-held : (heads : List (Option SegmentHead)) (j frames : ℕ) → has_frame (get_or heads j None) ≡ true → 0 < frames → count_by has_frame heads ≡ count_by has_frame (set heads j (grown frames (get_or heads j None)))
+pub grown-held : (heads : List (Option SegmentHead)) (j frames : ℕ) → has_frame (get_or heads j None) ≡ true
+    → 0 < frames → count_by has_frame heads ≡ count_by has_frame (set heads j (grown frames (get_or heads j None)))
 grown-held heads j frames some more = go (cases_lt j (length heads))
   where
-    go : (j < length heads) ⊎ (length heads ≤ j) → count_by has_frame heads ≡ count_by has_frame (set heads j (grown frames (get_or heads j None)))
+    go : (j < length heads) ⊎ (length heads ≤ j) → count_by has_frame heads ≡ count_by has_frame
+        (set heads j (grown frames (get_or heads j None)))
     go (inl l) =
-        let same : mark (has_frame (grown frames (get_or heads j None))) ≡ mark (has_frame (get_or heads j None)) = ap mark (grown-is (get_or heads j None) frames some more).has in
+        let same : mark (has_frame (grown frames (get_or heads j None))) ≡ mark (has_frame (get_or heads j None)) =
+        ap mark (grown-is (get_or heads j None) frames some more).has in
         let sums = sum_by-set (λ (o : Option SegmentHead). mark (has_frame o)) heads j (grown frames (get_or heads j None)) None l in
         omega (arith, same, sums)
     go (inr past) = ap (count_by has_frame) (sym (past-set heads j (grown frames (get_or heads j None)) past))
@@ -284,21 +357,40 @@ grown-held heads j frames some more = go (cases_lt j (length heads))
 -- ---- how many segments have a frame
 
 -- once one segment is another one
-pub held-changed : (heads : List (Option SegmentHead)) (j held : ℕ) (new : Option SegmentHead) → j < length heads → held ≡ count_by has_frame heads → held + count_by has_frame (new ∷ []) ≡ count_by has_frame (set heads j new) + count_by has_frame (get_or heads j None ∷ [])
+pub held-changed : (heads : List (Option SegmentHead)) (j held : ℕ) (new : Option SegmentHead) → j < length heads
+    → held ≡ count_by has_frame heads → held + count_by has_frame (new ∷ []) ≡ count_by has_frame
+    (set heads j new) + count_by has_frame (get_or heads j None ∷ [])
 held-changed heads j held new l is =
     let sums = sum_by-set (λ (o : Option SegmentHead). mark (has_frame o)) heads j new None l in
-    omega (arith, is, sums, sum_by-cons (λ (o : Option SegmentHead). mark (has_frame o)) new [], sum_by-cons (λ (o : Option SegmentHead). mark (has_frame o)) (get_or heads j None) [])
+    omega (
+      arith,
+      is,
+      sums,
+      sum_by-cons (λ (o : Option SegmentHead). mark (has_frame o)) new [],
+      sum_by-cons (λ (o : Option SegmentHead). mark (has_frame o)) (get_or heads j None) [],
+    )
 
-pub held-some : (heads : List (Option SegmentHead)) (j held : ℕ) → j < length heads → held ≡ count_by has_frame heads → count_by has_frame (get_or heads j None ∷ []) ≤ held
+pub held-some : (heads : List (Option SegmentHead)) (j held : ℕ) → j < length heads → held ≡ count_by has_frame heads
+    → count_by has_frame (get_or heads j None ∷ []) ≤ held
 held-some heads j held l is =
     let sums = sum_by-set (λ (o : Option SegmentHead). mark (has_frame o)) heads j None None l in
     omega (arith, is, sums, sum_by-cons (λ (o : Option SegmentHead). mark (has_frame o)) (get_or heads j None) [])
 
-pub held-few : (heads : List (Option SegmentHead)) (j held limit : ℕ) (new : Option SegmentHead) → j < length heads → length heads < limit → held ≡ count_by has_frame heads → held + count_by has_frame (new ∷ []) < limit + count_by has_frame (get_or heads j None ∷ [])
-held-few heads j held limit new l few is = omega (arith, few, held-changed heads j held new l is, count_by-le-length has_frame (set heads j new), length-set heads j new)
+pub held-few : (heads : List (Option SegmentHead)) (j held limit : ℕ) (new : Option SegmentHead) → j < length heads
+    → length heads < limit → held ≡ count_by has_frame heads
+    → held + count_by has_frame (new ∷ []) < limit + count_by has_frame (get_or heads j None ∷ [])
+held-few heads j held limit new l few is =
+    omega (
+      arith,
+      few,
+      held-changed heads j held new l is,
+      count_by-le-length has_frame (set heads j new),
+      length-set heads j new,
+    )
 
 -- a segment with a frame is one of them
-pub held-inside : (heads : List (Option SegmentHead)) (j : ℕ) → has_frame (get_or heads j None) ≡ true → j < length heads
+pub held-inside : (heads : List (Option SegmentHead)) (j : ℕ) → has_frame (get_or heads j None) ≡ true
+    → j < length heads
 held-inside [] j some = absurd cc
 held-inside (o ∷ heads) zero some = omega arith
 held-inside (o ∷ heads) (suc j) some = let rest = held-inside heads j some in omega (arith, rest)

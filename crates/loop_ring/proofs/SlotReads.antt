@@ -31,7 +31,8 @@ pub stays-settled : (old new : Medium) → Stays old new → IsSettled old → I
 stays-settled old new stays settled = λ c left. settled c (stays.images c left) ∙ sym stays.bytes
 
 -- the first 32 bytes of a slot have its head
-slot_head-front : (n at number : ℕ) (image : List ℕ) → slot_head n number (slot_in n (piece at 32 image) 0) ≡ slot_head n number (slot_in n image at)
+slot_head-front : (n at number : ℕ) (image : List ℕ)
+    → slot_head n number (slot_in n (piece at 32 image) 0) ≡ slot_head n number (slot_in n image at)
 slot_head-front n at number image =
     let field : (k m : ℕ) → k + m ≤ 32 → little_from (0 + k) m (piece at 32 image) ≡ little_from (at + k) m image = λ k m l.
     let first : 0 + k ≡ k = omega arith in
@@ -42,16 +43,21 @@ slot_head-front n at number image =
     let flags = field 12 4 (omega arith) in
     let timestamp = field 16 8 (omega arith) in
     let size = field 24 4 (omega arith) in
-    λ i. cond (eqb (number' i) number && eqb (size i) n) (Ok (record { number = number; sequence = sequence i; flags = flags i; timestamp = timestamp i })) (Err SlotHead)
+    λ i. cond (eqb (number' i) number && eqb (size i) n)
+    (Ok (record { number = number; sequence = sequence i; flags = flags i; timestamp = timestamp i }))
+    (Err SlotHead)
 
 -- what is decoded from the first read is what the slot says
-pub head_read : (g : Geometry) (j i number at n : ℕ) (image head : List ℕ) (said : Result FrameHead Damage) → at ≡ slot_at g j i → n ≡ frame_bytes g → head ≡ piece at 32 image → said ≡ slot_head n number (slot_in n head 0)
+pub head_read : (g : Geometry) (j i number at n : ℕ) (image head : List ℕ) (said : Result FrameHead Damage)
+    → at ≡ slot_at g j i → n ≡ frame_bytes g → head ≡ piece at 32 image → said ≡ slot_head n number (slot_in n head 0)
     → slot_head (frame_bytes g) number (slot_of g image j i) ≡ said
 head_read g j i number at n image head said at_is n_is read decoded =
-    sym (decoded ∙ ap (λ (bytes : List ℕ). slot_head n number (slot_in n bytes 0)) read ∙ slot_head-front n at number image ∙ (λ x. slot_head (n_is x) number (slot_in (n_is x) image (at_is x))))
+    sym (decoded ∙ ap (λ (bytes : List ℕ). slot_head n number (slot_in n bytes 0)) read
+    ∙ slot_head-front n at number image ∙ (λ x. slot_head (n_is x) number (slot_in (n_is x) image (at_is x))))
 
 -- a part of a slot's pixels is the part of the image that lies there
-part_of : (g : Geometry) (j i at m : ℕ) (image : List ℕ) → at + m ≤ frame_bytes g → piece at m (slot_of g image j i).picture.bytes ≡ piece (slot_at g j i + 32 + at) m image
+part_of : (g : Geometry) (j i at m : ℕ) (image : List ℕ) → at + m ≤ frame_bytes g
+    → piece at m (slot_of g image j i).picture.bytes ≡ piece (slot_at g j i + 32 + at) m image
 part_of g j i at m image within =
     let here : ℕ = slot_at g j i + 32 in
     let n : ℕ = frame_bytes g in
@@ -62,22 +68,29 @@ part_of g j i at m image within =
     ∙ ap (take m) (drop-drop at here image)
 
 -- the second read gives a part of the pixels
-pub part_read : (g : Geometry) (j i place from at m : ℕ) (image mid out : List ℕ) → place ≡ slot_at g j i → from ≡ at → at + m ≤ frame_bytes g → mid ≡ image → m ≡ length out → out ≡ piece (place + 32 + from) m mid
+pub part_read : (g : Geometry) (j i place from at m : ℕ) (image mid out : List ℕ) → place ≡ slot_at g j i → from ≡ at
+    → at + m ≤ frame_bytes g → mid ≡ image → m ≡ length out → out ≡ piece (place + 32 + from) m mid
     → out ≡ piece at (length out) (slot_of g image j i).picture.bytes
 part_read g j i place from at m image mid out place_is from_is within same count read =
-    read ∙ (λ x. piece (place_is x + 32 + from_is x) m (same x)) ∙ sym (part_of g j i at m image within) ∙ ap (λ (k : ℕ). piece at k (slot_of g image j i).picture.bytes) count
+    read ∙ (λ x. piece (place_is x + 32 + from_is x) m (same x)) ∙ sym (part_of g j i at m image within)
+    ∙ ap (λ (k : ℕ). piece at k (slot_of g image j i).picture.bytes) count
 
 -- the part of all of a slot's pixels
-pub whole_part : (g : Geometry) (j i number : ℕ) (image out : List ℕ) (result : Result FrameHead SlotFault) → length out ≡ frame_bytes g → AnswersPart (frame_bytes g) number (slot_of g image j i) 0 result out → AnswersSlot (frame_bytes g) number (slot_of g image j i) result out
+pub whole_part : (g : Geometry) (j i number : ℕ) (image out : List ℕ) (result : Result FrameHead SlotFault)
+    → length out ≡ frame_bytes g → AnswersPart (frame_bytes g) number (slot_of g image j i) 0 result out
+    → AnswersSlot (frame_bytes g) number (slot_of g image j i) result out
 whole_part g j i number image out (Err fault) size said = (said.0, tt)
 whole_part g j i number image out (Ok head) size said =
     let count : slot_at g j i + 32 + frame_bytes g - (slot_at g j i + 32) ≡ frame_bytes g = omega arith in
     let all = drop (slot_at g j i + 32) image in (
       said.0,
-      said.1 ∙ ap (λ (k : ℕ). take k (slot_of g image j i).picture.bytes) size ∙ ap (λ (k : ℕ). take (frame_bytes g) (take k all)) count ∙ take-take (frame_bytes g) (frame_bytes g) all (omega arith) ∙ ap (λ (k : ℕ). take k all) (sym count),
+      said.1 ∙ ap (λ (k : ℕ). take k (slot_of g image j i).picture.bytes) size
+          ∙ ap (λ (k : ℕ). take (frame_bytes g) (take k all)) count ∙ take-take (frame_bytes g) (frame_bytes g) all
+          (omega arith) ∙ ap (λ (k : ℕ). take k all) (sym count),
     )
 
 -- a damaged head is answered as such
-pub answers_damage : (said : Result FrameHead Damage) (damage : Damage) (answer : Result FrameHead SlotFault) → said ≡ Err damage → IsErrAnd answer (λ made. made ≡ Damaged damage) → AnswersHead said answer
+pub answers_damage : (said : Result FrameHead Damage) (damage : Damage) (answer : Result FrameHead SlotFault)
+    → said ≡ Err damage → IsErrAnd answer (λ made. made ≡ Damaged damage) → AnswersHead said answer
 answers_damage said damage (Ok head) is made = absurd made
 answers_damage said damage (Err fault) is made = subst (λ (x : SlotFault). AnswersHead said (Err x)) (sym made) is

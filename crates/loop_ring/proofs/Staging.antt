@@ -17,12 +17,15 @@ use Rattle.loop_ring.proofs.Bytes.{moved_slot}
 pub take-slots_of : (n k number : ℕ) (ps : List Picture) → take k (slots_of n number ps) ≡ slots_of n number (take k ps)
 take-slots_of n zero number ps = refl
 take-slots_of n (suc k) number [] = refl
-take-slots_of n (suc k) number (p ∷ ps) = ap (λ (slots : List Slot). record { number = number; size = n; picture = p } ∷ slots) (take-slots_of n k (number + 1) ps)
+take-slots_of n (suc k) number (p ∷ ps) = ap (λ (slots : List Slot). record { number = number; size = n; picture = p }
+    ∷ slots) (take-slots_of n k (number + 1) ps)
 
 -- bytes that hold the slots of frames hold those of a beginning of them
-pub slots-beginning : (n number k count : ℕ) (bytes : List ℕ) (ps : List Picture) → k ≤ count → slots_in n bytes count ≡ slots_of n number ps → slots_in n bytes k ≡ slots_of n number (take k ps)
+pub slots-beginning : (n number k count : ℕ) (bytes : List ℕ) (ps : List Picture) → k ≤ count
+    → slots_in n bytes count ≡ slots_of n number ps → slots_in n bytes k ≡ slots_of n number (take k ps)
 slots-beginning n number k count bytes ps le are =
-    sym (take-map-range_with_len (λ i. slot_in n bytes (i * (32 + n))) 0 count k le) ∙ ap (λ (slots : List Slot). take k slots) are ∙ take-slots_of n k number ps
+    sym (take-map-range_with_len (λ i. slot_in n bytes (i * (32 + n))) 0 count k le)
+    ∙ ap (λ (slots : List Slot). take k slots) are ∙ take-slots_of n k number ps
 
 -- ---- one slot
 
@@ -30,7 +33,8 @@ slot-length : (number : ℕ) (p : Picture) → length (slot_bytes number p) ≡ 
 slot-length number p = omega arith
 
 -- bytes that are the slot of a frame hold that slot
-pub slot_staged : (n number : ℕ) (p : Picture) (out : List ℕ) → FitsSlot number p → length p.bytes ≡ n → length out ≡ 32 + n → out ≡ slot_bytes number p → slots_in n out 1 ≡ slots_of n number (p ∷ [])
+pub slot_staged : (n number : ℕ) (p : Picture) (out : List ℕ) → FitsSlot number p → length p.bytes ≡ n
+    → length out ≡ 32 + n → out ≡ slot_bytes number p → slots_in n out 1 ≡ slots_of n number (p ∷ [])
 slot_staged n number p out fits size long is =
     let first : 0 * (32 + n) ≡ 0 = omega arith in
     let count : 0 + 32 + n - 0 ≡ 32 + n = omega arith in
@@ -46,16 +50,19 @@ slot_end n i k l =
     omega (arith, le, split)
 
 -- slots with another behind them
-pub slots-appended : (n i : ℕ) (before out : List ℕ) (s : Slot) → length before ≡ i * (32 + n) → length out ≡ 32 + n → slots_in n out 1 ≡ s ∷ [] → slots_in n (before ++ out) (i + 1) ≡ slots_in n before i ++ s ∷ []
+pub slots-appended : (n i : ℕ) (before out : List ℕ) (s : Slot) → length before ≡ i * (32 + n) → length out ≡ 32 + n
+    → slots_in n out 1 ≡ s ∷ [] → slots_in n (before ++ out) (i + 1) ≡ slots_in n before i ++ s ∷ []
 slots-appended n i before out s size long is =
     let new = before ++ out in
     let all : length new ≡ i * (32 + n) + (32 + n) = omega (arith, length-append before out, size, long) in
     let front : map (λ k. slot_in n new (k * (32 + n))) (range_with_len 0 i) ≡ map (λ k. slot_in n before (k * (32 + n))) (range_with_len 0 i) =
     map_range (λ k. slot_in n new (k * (32 + n))) (λ k. slot_in n before (k * (32 + n))) 0 i (λ k low high.
     let end = slot_end n k i (omega (arith, high)) in
-    moved_slot n (k * (32 + n)) (k * (32 + n)) new before (omega (arith, all, end)) (omega (arith, size, end)) (λ x l. get_or_append_left before out 0 (k * (32 + n) + x) (omega (arith, l, end, size)))) in
+    moved_slot n (k * (32 + n)) (k * (32 + n)) new before (omega (arith, all, end)) (omega (arith, size, end))
+    (λ x l. get_or_append_left before out 0 (k * (32 + n) + x) (omega (arith, l, end, size)))) in
     let first : 0 * (32 + n) ≡ 0 = omega arith in
-    let there : slot_in n new (i * (32 + n)) ≡ slot_in n out (0 * (32 + n)) = moved_slot n (i * (32 + n)) (0 * (32 + n)) new out (omega (arith, all)) (omega (arith, long, first)) (λ k l.
+    let there : slot_in n new (i * (32 + n)) ≡ slot_in n out (0 * (32 + n)) =
+    moved_slot n (i * (32 + n)) (0 * (32 + n)) new out (omega (arith, all)) (omega (arith, long, first)) (λ k l.
     let at : i * (32 + n) + k ≡ length before + k = omega (arith, size) in
     let same : k ≡ 0 * (32 + n) + k = omega (arith, first) in
     ap (λ (x : ℕ). get_or new x 0) at ∙ get_or-append-add before out k 0 ∙ ap (λ (x : ℕ). get_or out x 0) same) in
@@ -64,14 +71,17 @@ slots-appended n i before out s size long is =
 
 -- ---- a group that gains a frame
 
-slots_of-behind : (n number : ℕ) (ps qs : List Picture) → slots_of n number (ps ++ qs) ≡ slots_of n number ps ++ slots_of n (number + length ps) qs
+slots_of-behind : (n number : ℕ) (ps qs : List Picture) → slots_of n number (ps ++ qs) ≡ slots_of n number ps
+    ++ slots_of n (number + length ps) qs
 slots_of-behind n number [] qs = let e : number ≡ number + 0 = omega arith in ap (λ (k : ℕ). slots_of n k qs) e
 slots_of-behind n number (p ∷ ps) qs =
     let e : number + 1 + length ps ≡ number + length (p ∷ ps) = omega arith in
-    ap (λ (ss : List Slot). record { number = number; size = n; picture = p } ∷ ss) (slots_of-behind n (number + 1) ps qs ∙ ap (λ (k : ℕ). slots_of n (number + 1) ps ++ slots_of n k qs) e)
+    ap (λ (ss : List Slot). record { number = number; size = n; picture = p } ∷ ss)
+    (slots_of-behind n (number + 1) ps qs ∙ ap (λ (k : ℕ). slots_of n (number + 1) ps ++ slots_of n k qs) e)
 
 pub frames-length : (n count : ℕ) (bytes : List ℕ) → length (frames_in n bytes count) ≡ count
-frames-length n count bytes = length-map (slots_in n bytes count) (λ s. s.picture) ∙ length-map (range_with_len 0 count) (λ i. slot_in n bytes (i * (32 + n))) ∙ length-range_with_len 0 count
+frames-length n count bytes = length-map (slots_in n bytes count) (λ s. s.picture)
+    ∙ length-map (range_with_len 0 count) (λ i. slot_in n bytes (i * (32 + n))) ∙ length-range_with_len 0 count
 
 -- the slot of one more frame, behind those of the group
 pub record Gains (n first count : ℕ) (old new : List ℕ) (p : Picture) : Type 0 where
@@ -81,26 +91,39 @@ pub record Gains (n first count : ℕ) (old new : List ℕ) (p : Picture) : Type
   pub slots : slots_in n old count ≡ slots_of n first (frames_in n old count)
   pub behind : new ≡ old ++ slot_bytes (first + count) p
 
-gained-slots : (n first count : ℕ) (old new : List ℕ) (p : Picture) → Gains n first count old new p → slots_in n new (count + 1) ≡ slots_in n old count ++ record { number = first + count; size = n; picture = p } ∷ []
+gained-slots : (n first count : ℕ) (old new : List ℕ) (p : Picture) → Gains n first count old new p
+    → slots_in n new (count + 1) ≡ slots_in n old count ++ record { number = first + count; size = n; picture = p } ∷ []
 gained-slots n first count old new p gains =
     let out = slot_bytes (first + count) p in
     let long : length out ≡ 32 + n = slot-length (first + count) p ∙ (λ i. 32 + gains.size i) in
     let slot = slot_staged n (first + count) p out gains.fits gains.size long refl in
-    ap (λ (b : List ℕ). slots_in n b (count + 1)) gains.behind ∙ slots-appended n count old out (record { number = first + count; size = n; picture = p }) gains.long long slot
+    ap (λ (b : List ℕ). slots_in n b (count + 1)) gains.behind ∙ slots-appended n count old out
+    (record { number = first + count; size = n; picture = p }) gains.long long slot
 
-pub gained-frames : (n first count : ℕ) (old new : List ℕ) (p : Picture) → Gains n first count old new p → frames_in n new (count + 1) ≡ frames_in n old count ++ p ∷ []
+pub gained-frames : (n first count : ℕ) (old new : List ℕ) (p : Picture) → Gains n first count old new p
+    → frames_in n new (count + 1) ≡ frames_in n old count ++ p ∷ []
 gained-frames n first count old new p gains =
     let s : Slot = record { number = first + count; size = n; picture = p } in
     ap (λ (ss : List Slot). map (λ t. t.picture) ss) (gained-slots n first count old new p gains) ∙ map-append (λ t. t.picture) (slots_in n old count) (s ∷ [])
 
-pub gained-kept : (n limit first count room room' : ℕ) (old new : List ℕ) (p : Picture) → Gains n first count old new p → IsGrouped n limit first count old room → count < limit → room ≤ room' → IsGrouped n limit first (count + 1) new room'
+pub gained-kept : (n limit first count room room' : ℕ) (old new : List ℕ) (p : Picture)
+    → Gains n first count old new p → IsGrouped n limit first count old room → count < limit → room ≤ room'
+    → IsGrouped n limit first (count + 1) new room'
 gained-kept n limit first count room room' old new p gains kept l more = record {
   few = omega (arith, l);
   most = kept.most;
   fits = kept.fits;
   long =
       let split : (count + 1) * (32 + n) ≡ count * (32 + n) + (32 + n) = omega (arith, add-mul count 1 (32 + n)) in
-      omega (arith, split, ap (λ (b : List ℕ). length b) gains.behind, length-append old (slot_bytes (first + count) p), slot-length (first + count) p, gains.size, gains.long);
+      omega (
+        arith,
+        split,
+        ap (λ (b : List ℕ). length b) gains.behind,
+        length-append old (slot_bytes (first + count) p),
+        slot-length (first + count) p,
+        gains.size,
+        gains.long,
+      );
   slots =
       let many : first + length (frames_in n old count) ≡ first + count = (λ i. first + frames-length n count old i) in
       gained-slots n first count old new p gains
@@ -112,7 +135,8 @@ gained-kept n limit first count room room' old new p gains kept l more = record 
 }
 
 -- there is memory for one more slot
-pub slot-room : (n count limit size len room : ℕ) → count < limit → size ≡ n → len ≡ count * (32 + n) → limit * (32 + n) ≤ room → len + (32 + size) ≤ room
+pub slot-room : (n count limit size len room : ℕ) → count < limit → size ≡ n → len ≡ count * (32 + n)
+    → limit * (32 + n) ≤ room → len + (32 + size) ≤ room
 slot-room n count limit size len room l same long fits =
     let le : (count + 1) * (32 + n) ≤ limit * (32 + n) = mul-le-mul_right (32 + n) (omega (arith, l)) in
     let split : (count + 1) * (32 + n) ≡ count * (32 + n) + (32 + n) = omega (arith, add-mul count 1 (32 + n)) in

@@ -9,7 +9,8 @@ strip_more b x [] other = grind (arith, common_steps, other)
 strip_more b x (y ∷ ys) other = grind (arith, common_steps, other)
 
 -- Where the bytes up to a limit begin with a line that is shorter than it, they begin with the line with which all begin.
-pub line_within : (b n : ℕ) (xs : List ℕ) → length (strip_last b (take_through b (take n xs))) < n → take_through b (take n xs) ≡ take_through b xs
+pub line_within : (b n : ℕ) (xs : List ℕ) → length (strip_last b (take_through b (take n xs))) < n
+    → take_through b (take n xs) ≡ take_through b xs
 line_within b zero xs short = absurd (omega (arith, short))
 line_within b (suc n) [] short = refl
 line_within b (suc n) (x ∷ xs) short =
@@ -21,12 +22,14 @@ line_within b (suc n) (x ∷ xs) short =
 
 -- what is read up to a limit, with the line's end taken off, is the first line of all that is left, where it is shorter than the limit
 pub first_read : (limit : ℕ) (seen known : Option (List ℕ)) (old got line : List ℕ) → seen ≡ known → old ≡ []
-    → IfSome (option_map (take limit) seen) (λ xs. got ≡ old ++ take_through 10 xs) → line ≡ strip_last 10 got → length line < limit → IfSome known (λ left. line ≡ first_piece 10 left)
+    → IfSome (option_map (take limit) seen) (λ xs. got ≡ old ++ take_through 10 xs) → line ≡ strip_last 10 got
+    → length line < limit → IfSome known (λ left. line ≡ first_piece 10 left)
 first_read limit None known old got line same none read is short = subst (λ (o : Option (List ℕ)). IfSome o (λ left. line ≡ first_piece 10 left)) same tt
 first_read limit (Some left) known old got line same none read is short =
     let all : got ≡ take_through 10 (take limit left) = read ∙ ap (λ (l : List ℕ). l ++ take_through 10 (take limit left)) none in
     let line_is : line ≡ strip_last 10 (take_through 10 (take limit left)) = is ∙ ap (strip_last 10) all in
-    let first : line ≡ first_piece 10 left = line_is ∙ ap (strip_last 10) (line_within 10 limit left (subst (λ (l : List ℕ). length l < limit) line_is short)) in
+    let first : line ≡ first_piece 10 left = line_is
+    ∙ ap (strip_last 10) (line_within 10 limit left (subst (λ (l : List ℕ). length l < limit) line_is short)) in
     subst (λ (o : Option (List ℕ)). IfSome o (λ left. line ≡ first_piece 10 left)) same first
 
 take_none : (limit : ℕ) → take {A = ℕ} limit [] ≡ []

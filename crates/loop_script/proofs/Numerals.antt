@@ -21,7 +21,8 @@ pub number-other : (limit : ℕ) (word : List ℕ) → list_all is_ascii_digit w
 number-other limit word other = grind (arith, common_steps)
 
 -- at most 20 digits, as `parse` reads them
-pub number-parsed : {E : Type 0} (word : List ℕ) (r : Result ℕ E) → length word ≤ 20 → list_all is_ascii_digit word ≡ true → ParsesUnsigned 64 10 word r → result_ok r ≡ number_below (2 ^ 64) word
+pub number-parsed : {E : Type 0} (word : List ℕ) (r : Result ℕ E) → length word ≤ 20
+    → list_all is_ascii_digit word ≡ true → ParsesUnsigned 64 10 word r → result_ok r ≡ number_below (2 ^ 64) word
 number-parsed {E} word (Ok x) short digits parses =
     let h = parse_digits own {E = E} 64 word (Ok x) parses digits in
     grind (arith, common_steps, h.0.0, h.0.1, h.1, short, digits)

@@ -10,7 +10,8 @@ use Rattle.loop_store.specs.Faults.{is_disk}
 use Rattle.loop_store.specs.Opened.{IsRefusedOpen}
 
 -- want of memory, where no call of the disk failed
-pub refused_for_memory : (g : Geometry) (r : Recording) (image : List ℕ) (fault : StoreFault) → Holds g r image → IsRefusedOpen image fault → is_disk fault ≡ false → fault ≡ NoMemory
+pub refused_for_memory : (g : Geometry) (r : Recording) (image : List ℕ) (fault : StoreFault) → Holds g r image
+    → IsRefusedOpen image fault → is_disk fault ≡ false → fault ≡ NoMemory
 refused_for_memory g r image NoMemory holds refused fine = refl
 refused_for_memory g r image (Disk f) holds refused fine = absurd cc
 refused_for_memory g r image NotFormatted holds refused fine = absurd cc

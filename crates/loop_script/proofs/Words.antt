@@ -10,7 +10,9 @@ use Rattle.std.proofs.lemmas.Grind.{common_steps}
 use Rattle.loop_script.specs.Script.{behind, geometry_said, lock_said, said, words}
 
 -- a line with a space: its first word, and the words behind that space
-pub words-parted : (line word rest : List ℕ) → word ≡ before_first (λ b. b == 32) line → rest ≡ after_first (λ b. b == 32) line → position_or_len (λ b. b == 32) line < length line → words line ≡ word ∷ words rest
+pub words-parted : (line word rest : List ℕ) → word ≡ before_first (λ b. b == 32) line
+    → rest ≡ after_first (λ b. b == 32) line → position_or_len (λ b. b == 32) line < length line → words line ≡ word
+    ∷ words rest
 words-parted line word rest w r inside = rw (w, r) (slice_split_first (λ b. b == 32) line 0 inside)
 
 other-byte : (b : ℕ) → b ≢ 32 → (b == 32) ≡ false
@@ -31,19 +33,23 @@ words-some (b ∷ line) =
     ]
 
 -- a name and more words than a number can't be read, but for a geometry and a lock
-pub said-long : (name argument rest : List ℕ) → bytes_eq name (codes "format") ≡ false → bytes_eq name (codes "lock") ≡ false → said (name ∷ argument ∷ words rest) ≡ None
+pub said-long : (name argument rest : List ℕ) → bytes_eq name (codes "format") ≡ false
+    → bytes_eq name (codes "lock") ≡ false → said (name ∷ argument ∷ words rest) ≡ None
 said-long name argument rest other also = let some = words-some rest in rw (some.2, other, also) refl
 
 -- a lock's two numbers
-pub said-lock : (name argument rest : List ℕ) → bytes_eq name (codes "format") ≡ false → bytes_eq name (codes "lock") ≡ true → said (name ∷ argument ∷ words rest) ≡ lock_said argument (words rest)
+pub said-lock : (name argument rest : List ℕ) → bytes_eq name (codes "format") ≡ false
+    → bytes_eq name (codes "lock") ≡ true → said (name ∷ argument ∷ words rest) ≡ lock_said argument (words rest)
 said-lock name argument rest other is = let some = words-some rest in rw (some.2, other, is) refl
 
 -- more than one word behind the first number name no lock
-pub lock-long : (from to : List ℕ) (rest : Option (Bor (List ℕ))) → is_some rest ≡ true → lock_said from (to ∷ behind rest) ≡ None
+pub lock-long : (from to : List ℕ) (rest : Option (Bor (List ℕ))) → is_some rest ≡ true
+    → lock_said from (to ∷ behind rest) ≡ None
 lock-long from to None there = absurd (false≢true there)
 lock-long from to (Some rest) there = let some = words-some rest.now in rw some.2 refl
 
 -- more than six words name no geometry
-pub geometry-long : (a b c d e f : List ℕ) (rest : Option (Bor (List ℕ))) → is_some rest ≡ true → geometry_said (a ∷ b ∷ c ∷ d ∷ e ∷ f ∷ behind rest) ≡ None
+pub geometry-long : (a b c d e f : List ℕ) (rest : Option (Bor (List ℕ))) → is_some rest ≡ true
+    → geometry_said (a ∷ b ∷ c ∷ d ∷ e ∷ f ∷ behind rest) ≡ None
 geometry-long a b c d e f None there = absurd (false≢true there)
 geometry-long a b c d e f (Some rest) there = let some = words-some rest.now in rw some.2 refl

@@ -20,33 +20,42 @@ missing-same r t span same = λ i. find (λ n. not (holds-same r t n same i)) (r
 pub free-same : (r t : Recording) → IsSame r t → free_id r ≡ free_id t
 free-same r t same = ap first_free same.clips
 
-pub span-same : (r t : Recording) (span : Span) → IsSame r t → first_of (span_checks r span) ≡ first_of (span_checks t span)
-span-same r t span same = λ i. first_of (due (ltb span.to span.from) ClipEmpty ∷ option_map ClipNotHeld (missing-same r t span same i) ∷ due (eqb (free-same r t same i) 64) ClipTableFull ∷ [])
+pub span-same : (r t : Recording) (span : Span) → IsSame r t → first_of (span_checks r span) ≡ first_of
+    (span_checks t span)
+span-same r t span same = λ i. first_of (due (ltb span.to span.from) ClipEmpty
+    ∷ option_map ClipNotHeld (missing-same r t span same i) ∷ due (eqb (free-same r t same i) 64) ClipTableFull ∷ [])
 
 pub clip-same : (r t : Recording) (id : ℕ) → IsSame r t → clip_of r id ≡ clip_of t id
 clip-same r t id same = ap (λ (cs : List (Option Span)). get_or cs id None) same.clips
 
-pub locked-same : (ring : Ring) (r t : Recording) (span : Span) → IsSame r t → IsSame (after_step ring r (lock span)) (after_step ring t (lock span))
+pub locked-same : (ring : Ring) (r t : Recording) (span : Span) → IsSame r t → IsSame (after_step ring r (lock span))
+    (after_step ring t (lock span))
 locked-same ring r t span same = clips-same r t _ _ same (λ i. set (same.clips i) (free-same r t same i) (Some span))
 
-pub unlocked-same : (ring : Ring) (r t : Recording) (id : ℕ) → IsSame r t → IsSame (after_step ring r (unlock id)) (after_step ring t (unlock id))
+pub unlocked-same : (ring : Ring) (r t : Recording) (id : ℕ) → IsSame r t → IsSame (after_step ring r (unlock id))
+    (after_step ring t (unlock id))
 unlocked-same ring r t id same = clips-same r t _ _ same (ap (λ (cs : List (Option Span)). set cs id None) same.clips)
 
 -- ---- an append
 
-pub place-same : (g : Geometry) (r t : Recording) → IsSame r t → recycling_first (needs_recycling (ring_of g) r) (victim (ring_of g) r) ≡ recycling_first (needs_recycling (ring_of g) t) (victim (ring_of g) t)
+pub place-same : (g : Geometry) (r t : Recording) → IsSame r t → recycling_first (needs_recycling (ring_of g) r)
+    (victim (ring_of g) r) ≡ recycling_first (needs_recycling (ring_of g) t) (victim (ring_of g) t)
 place-same g r t same = let needs = needs-same (ring_of g) r t same in let goes = victim-same (ring_of g) r t same in λ i. recycling_first (needs i) (goes i)
 
-pub refuses-same : (g : Geometry) (r t : Recording) (fault : StoreFault) → IsSame r t → RefusesPlace g r fault → RefusesPlace g t fault
+pub refuses-same : (g : Geometry) (r t : Recording) (fault : StoreFault) → IsSame r t → RefusesPlace g r fault
+    → RefusesPlace g t fault
 refuses-same g r t fault same (inl x) = inl (x.0, sym same.next ∙ x.1)
 refuses-same g r t fault same (inr x) = inr (x.0, (λ spent. x.1.0 (same.next ∙ spent), sym (place-same g r t same) ∙ x.1.1))
 
-before-steps : (ring : Ring) (r t : Recording) (recycles : Bool) (v : Option ℕ) → IsSame r t → IsSame (plain ring r (steps_or_none (recycling_first recycles v))) (plain ring t (steps_or_none (recycling_first recycles v)))
+before-steps : (ring : Ring) (r t : Recording) (recycles : Bool) (v : Option ℕ) → IsSame r t
+    → IsSame (plain ring r (steps_or_none (recycling_first recycles v)))
+    (plain ring t (steps_or_none (recycling_first recycles v)))
 before-steps ring r t false v same = same
 before-steps ring r t true None same = same
 before-steps ring r t true (Some b) same = recycled-same ring r t b same
 
-before-same : (g : Geometry) (r t : Recording) → IsSame r t → IsSame (plain (ring_of g) r (steps_before g r)) (plain (ring_of g) t (steps_before g t))
+before-same : (g : Geometry) (r t : Recording) → IsSame r t → IsSame (plain (ring_of g) r (steps_before g r))
+    (plain (ring_of g) t (steps_before g t))
 before-same g r t same =
     subst (λ (o : Option (List Step)). IsSame (plain (ring_of g) r (steps_before g r)) (plain (ring_of g) t (steps_or_none o))) (place-same g r t same)
     (before-steps (ring_of g) r t (needs_recycling (ring_of g) r) (victim (ring_of g) r) same)

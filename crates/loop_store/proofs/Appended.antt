@@ -32,18 +32,22 @@ use Rattle.loop_store.proofs.Regrown.{Regrown, known-drawn, regrown}
 
 -- ---- the steps
 
-steps-from : (o : Option (List Step)) (ps : List Picture) → o ≢ None → steps_or_none o ++ map store ps ≡ steps_or_none (stores_after o ps)
+steps-from : (o : Option (List Step)) (ps : List Picture) → o ≢ None → steps_or_none o ++ map store ps ≡ steps_or_none
+    (stores_after o ps)
 steps-from None ps some = absurd (some refl)
 steps-from (Some first) ps some = refl
 
 -- where a place was found, an append makes these steps
-pub steps-are : (g : Geometry) (r : Recording) (ps : List Picture) → r.next ≢ last_number (ring_of g) → recycling_first (needs_recycling (ring_of g) r) (victim (ring_of g) r) ≢ None → steps_before g r ++ map store ps ≡ steps_or_none (steps (ring_of g) r ps)
+pub steps-are : (g : Geometry) (r : Recording) (ps : List Picture) → r.next ≢ last_number (ring_of g)
+    → recycling_first (needs_recycling (ring_of g) r) (victim (ring_of g) r) ≢ None → steps_before g r
+    ++ map store ps ≡ steps_or_none (steps (ring_of g) r ps)
 steps-are g r ps unspent some =
     let apart : eqb r.next (last_number (ring_of g)) ≡ false = differ_test r.next (last_number (ring_of g)) unspent in
     let o = recycling_first (needs_recycling (ring_of g) r) (victim (ring_of g) r) in
     steps-from o ps some ∙ (λ i. steps_or_none (cond (sym apart i) None (stores_after o ps)))
 
-pub steps-some : (g : Geometry) (r : Recording) (ps : List Picture) → r.next ≢ last_number (ring_of g) → recycling_first (needs_recycling (ring_of g) r) (victim (ring_of g) r) ≢ None → steps (ring_of g) r ps ≢ None
+pub steps-some : (g : Geometry) (r : Recording) (ps : List Picture) → r.next ≢ last_number (ring_of g)
+    → recycling_first (needs_recycling (ring_of g) r) (victim (ring_of g) r) ≢ None → steps (ring_of g) r ps ≢ None
 steps-some g r ps unspent some none =
     let apart : eqb r.next (last_number (ring_of g)) ≡ false = differ_test r.next (last_number (ring_of g)) unspent in
     let o = recycling_first (needs_recycling (ring_of g) r) (victim (ring_of g) r) in
@@ -54,12 +58,14 @@ steps-some g r ps unspent some none =
     go (Some first) some e = absurd cc
 
 -- where the numbers are spent, it has none
-pub steps-spent : (g : Geometry) (r : Recording) (ps : List Picture) → r.next ≡ last_number (ring_of g) → steps (ring_of g) r ps ≡ None
+pub steps-spent : (g : Geometry) (r : Recording) (ps : List Picture) → r.next ≡ last_number (ring_of g)
+    → steps (ring_of g) r ps ≡ None
 steps-spent g r ps spent =
     let same : eqb r.next (last_number (ring_of g)) ≡ true = equal_test r.next (last_number (ring_of g)) spent in
     λ i. cond (same i) None (stores_after (recycling_first (needs_recycling (ring_of g) r) (victim (ring_of g) r)) ps)
 
-steps-none : (g : Geometry) (r : Recording) (ps : List Picture) → recycling_first (needs_recycling (ring_of g) r) (victim (ring_of g) r) ≡ None → steps (ring_of g) r ps ≡ None
+steps-none : (g : Geometry) (r : Recording) (ps : List Picture) → recycling_first (needs_recycling (ring_of g) r)
+    (victim (ring_of g) r) ≡ None → steps (ring_of g) r ps ≡ None
 steps-none g r ps none = (λ i. cond (eqb r.next (last_number (ring_of g))) None (stores_after (none i) ps)) ∙ either (eqb r.next (last_number (ring_of g)))
   where
     either : (b : Bool) → cond {A = Option (List Step)} b None None ≡ None
@@ -68,13 +74,15 @@ steps-none g r ps none = (λ i. cond (eqb r.next (last_number (ring_of g))) None
 
 -- ---- what stays and what grows
 
-before-clips : (ring : Ring) (r : Recording) (recycling : Bool) (v : Option ℕ) → (plain ring r (steps_or_none (recycling_first recycling v))).clips ≡ r.clips
+before-clips : (ring : Ring) (r : Recording) (recycling : Bool) (v : Option ℕ)
+    → (plain ring r (steps_or_none (recycling_first recycling v))).clips ≡ r.clips
 before-clips ring r false v = refl
 before-clips ring r true None = refl
 before-clips ring r true (Some b) = refl
 
 -- an append takes as many numbers as it has frames
-pub appended-next : (g : Geometry) (r : Recording) (ps : List Picture) → (plain (ring_of g) r (steps_before g r ++ map store ps)).next ≡ r.next + length ps
+pub appended-next : (g : Geometry) (r : Recording) (ps : List Picture)
+    → (plain (ring_of g) r (steps_before g r ++ map store ps)).next ≡ r.next + length ps
 appended-next g r ps =
     let ring = ring_of g in
     let mid = plain ring r (steps_before g r) in
@@ -82,7 +90,8 @@ appended-next g r ps =
     ∙ ap (λ (n : ℕ). n + length ps) (before-next g r)
 
 -- and leaves the clips
-pub appended-clips : (g : Geometry) (r : Recording) (ps : List Picture) → (plain (ring_of g) r (steps_before g r ++ map store ps)).clips ≡ r.clips
+pub appended-clips : (g : Geometry) (r : Recording) (ps : List Picture)
+    → (plain (ring_of g) r (steps_before g r ++ map store ps)).clips ≡ r.clips
 appended-clips g r ps =
     let ring = ring_of g in
     let mid = plain ring r (steps_before g r) in
@@ -92,10 +101,12 @@ appended-clips g r ps =
 -- ---- numbers
 
 -- a block below the last number's ends at most there
-below-last : (slots next : ℕ) → 1 ≤ slots → next < slots * (2 ^ 62 / slots) → (next / slots + 1) * slots ≤ slots * (2 ^ 62 / slots)
+below-last : (slots next : ℕ) → 1 ≤ slots → next < slots * (2 ^ 62 / slots) → (next / slots + 1) * slots ≤ slots *
+    (2 ^ 62 / slots)
 below-last slots next some below = go (cases_lt (next / slots) (2 ^ 62 / slots))
   where
-    go : (next / slots < 2 ^ 62 / slots) ⊎ (2 ^ 62 / slots ≤ next / slots) → (next / slots + 1) * slots ≤ slots * (2 ^ 62 / slots)
+    go : (next / slots < 2 ^ 62 / slots) ⊎ (2 ^ 62 / slots ≤ next / slots) → (next / slots + 1) * slots ≤ slots *
+        (2 ^ 62 / slots)
     go (inl l) =
         let le : (next / slots + 1) * slots ≤ 2 ^ 62 / slots * slots = mul-le-mul_right slots (omega (arith, l)) in
         omega (arith, le, mul_comm (2 ^ 62 / slots) slots)
@@ -104,7 +115,8 @@ below-last slots next some below = go (cases_lt (next / slots) (2 ^ 62 / slots))
         absurd (omega (arith, below, most, div-add-mod' next slots, mul_comm (2 ^ 62 / slots) slots))
 
 -- a group that fits into its block leaves the next number at most the last
-pub appended-few : (g : Geometry) (next count : ℕ) → 1 ≤ g.slots → next ≤ last_number (ring_of g) → next ≢ last_number (ring_of g) → next % g.slots + count ≤ g.slots → next + count ≤ last_number (ring_of g)
+pub appended-few : (g : Geometry) (next count : ℕ) → 1 ≤ g.slots → next ≤ last_number (ring_of g)
+    → next ≢ last_number (ring_of g) → next % g.slots + count ≤ g.slots → next + count ≤ last_number (ring_of g)
 appended-few g next count some most unspent room =
     let below : next < last_number (ring_of g) = omega (arith, most, unspent) in
     let end = below-last g.slots next some below in
@@ -115,7 +127,8 @@ pub one-fits : (g : Geometry) (next : ℕ) → 1 ≤ g.slots → next % g.slots 
 one-fits g next some = let l : next % g.slots < g.slots = mod-lt next (omega (arith, some)) in omega (arith, l)
 
 -- and its block isn't too high
-pub appended-low : (g : Geometry) (next : ℕ) → 1 ≤ g.slots → next ≤ last_number (ring_of g) → next ≢ last_number (ring_of g) → is_too_high g (next / g.slots) ≡ false
+pub appended-low : (g : Geometry) (next : ℕ) → 1 ≤ g.slots → next ≤ last_number (ring_of g)
+    → next ≢ last_number (ring_of g) → is_too_high g (next / g.slots) ≡ false
 appended-low g next some most unspent =
     let below : next < last_number (ring_of g) = omega (arith, most, unspent) in
     let end = below-last g.slots next some below in
@@ -124,7 +137,8 @@ appended-low g next some most unspent =
 -- ---- places
 
 -- where there is a place, an append has steps
-pub place-some : (g : Geometry) (r : Recording) (image : List ℕ) (place : Place) → IsPlaceAt g r image place → recycling_first (needs_recycling (ring_of g) r) (victim (ring_of g) r) ≢ None
+pub place-some : (g : Geometry) (r : Recording) (image : List ℕ) (place : Place) → IsPlaceAt g r image place
+    → recycling_first (needs_recycling (ring_of g) r) (victim (ring_of g) r) ≢ None
 place-some g r image place at none = go place at
   where
     by : (b : Bool) (v : Option ℕ) → b ≡ false → recycling_first b v ≡ None → ⊥
@@ -142,8 +156,10 @@ place-some g r image place at none = go place at
     go (Victim j) at = gone (needs_recycling (ring_of g) r) (victim (ring_of g) r) at.0 at.1.0 none
 
 -- the place is there for the recording that the image holds
-pub place-known : {A : Type 0} (index : Index A) (image : List ℕ) (place : Place) → IsRecovered index image → HasNoneStray index.ring.geometry image
-    → ((r : Recording) (c : List ℕ) → IsIndexOf index r c → (r.next ≢ last_number (ring_of index.ring.geometry)) × IsPlaceAt index.ring.geometry r c place) → IsKnown index.ring.geometry index.next place image
+pub place-known : {A : Type 0} (index : Index A) (image : List ℕ) (place : Place) → IsRecovered index image
+    → HasNoneStray index.ring.geometry image
+    → ((r : Recording) (c : List ℕ) → IsIndexOf index r c → (r.next ≢ last_number (ring_of index.ring.geometry))
+    × IsPlaceAt index.ring.geometry r c place) → IsKnown index.ring.geometry index.next place image
 place-known index image place was clean at = record {
   recording = was.recording;
   held = was.known.held;
@@ -155,7 +171,8 @@ place-known index image place was clean at = record {
 -- ---- refusals
 
 -- where there is no place, an append has no steps
-pub place-none : (g : Geometry) (r : Recording) (ps : List Picture) → recycling_first (needs_recycling (ring_of g) r) (victim (ring_of g) r) ≡ None → steps (ring_of g) r ps ≡ None
+pub place-none : (g : Geometry) (r : Recording) (ps : List Picture) → recycling_first (needs_recycling (ring_of g) r)
+    (victim (ring_of g) r) ≡ None → steps (ring_of g) r ps ≡ None
 place-none g r ps none = steps-none g r ps none
 
 -- ---- the store
@@ -166,30 +183,41 @@ pub record Grew {D : Type 0} (medium : D → Medium) (g : Geometry) (old new : D
   pub count : n ≡ length ps
   pub grown : (medium old).honest → IsGrownAt g next n j (medium old).bytes (medium new).bytes
   pub settled : (medium old).honest → IsSettled (medium new)
-  pub stored : (r : Recording) → r.next ≡ next → (medium old).honest → Holds g r (medium old).bytes → Holds g (plain (ring_of g) r (steps_before g r ++ map store ps)) (medium new).bytes
+  pub stored : (r : Recording) → r.next ≡ next → (medium old).honest → Holds g r (medium old).bytes
+      → Holds g (plain (ring_of g) r (steps_before g r ++ map store ps)) (medium new).bytes
 
 pub noted-at : {A : Type 0} (old new : Index A) (i j n : ℕ) → i ≡ j → IsNoted old new i n → IsNoted old new j n
 noted-at old new i j n at noted = subst (λ (k : ℕ). IsNoted old new k n) at noted
 
 -- it says all of the recording with the steps of the append
-grown-known : {D A : Type 0} (medium : D → Medium) (old new : D) (was now : Index A) (n j : ℕ) (ps : List Picture) (r : Recording) → IsNoted was now j n → Grew medium was.ring.geometry old new was.next n j ps → (medium old).honest → IsIndexOf was r (medium old).bytes
+grown-known : {D A : Type 0} (medium : D → Medium) (old new : D) (was now : Index A) (n j : ℕ) (ps : List Picture)
+    (r : Recording) → IsNoted was now j n → Grew medium was.ring.geometry old new was.next n j ps
+    → (medium old).honest → IsIndexOf was r (medium old).bytes
     → IsIndexOf now (plain (ring_of was.ring.geometry) r (steps_before was.ring.geometry r ++ map store ps)) (medium new).bytes
 grown-known medium old new was now n j ps r noted grew honest known =
     let g = was.ring.geometry in
     let t = plain (ring_of g) r (steps_before g r ++ map store ps) in record {
-      held = subst (λ (h : Geometry). Holds h t (medium new).bytes) (sym (ap (λ (x : LoopRing). x.geometry) noted.ring)) (grew.stored r (sym known.next_is) honest known.held);
+      held = subst (λ (h : Geometry). Holds h t (medium new).bytes)
+          (sym (ap (λ (x : LoopRing). x.geometry) noted.ring)) (grew.stored r (sym known.next_is) honest known.held);
       next_is = noted.next ∙ (λ i. known.next_is i + grew.count i) ∙ sym (appended-next g r ps);
-      heads_are = noted.heads ∙ ap (λ (l : List (Option SegmentHead)). set l j (Some (head_after g was.next n))) known.heads_are ∙ sym (grew.grown honest).heads ∙ ap (λ (h : Geometry). heads_of h (medium new).bytes) (sym (ap (λ (x : LoopRing). x.geometry) noted.ring));
+      heads_are = noted.heads ∙ ap (λ (l : List (Option SegmentHead)). set l j (Some (head_after g was.next n)))
+          known.heads_are ∙ sym (grew.grown honest).heads ∙ ap (λ (h : Geometry). heads_of h (medium new).bytes)
+          (sym (ap (λ (x : LoopRing). x.geometry) noted.ring));
       clips_are = noted.clips ∙ known.clips_are ∙ sym (appended-clips g r ps);
     }
 
-grown-index : {A : Type 0} (was now : Index A) (n j : ℕ) → IsNoted was now j n → IsIndex was → 1 ≤ was.ring.geometry.slots → was.next ≢ last_number (ring_of was.ring.geometry) → was.next % was.ring.geometry.slots + n ≤ was.ring.geometry.slots → IsIndex now
+grown-index : {A : Type 0} (was now : Index A) (n j : ℕ) → IsNoted was now j n → IsIndex was
+    → 1 ≤ was.ring.geometry.slots → was.next ≢ last_number (ring_of was.ring.geometry)
+    → was.next % was.ring.geometry.slots + n ≤ was.ring.geometry.slots → IsIndex now
 grown-index was now n j noted whole some unspent room =
     let g = was.ring.geometry in
     let same : now.ring.geometry ≡ g = ap (λ (x : LoopRing). x.geometry) noted.ring in
     let few : was.next + n ≤ last_number (ring_of g) = appended-few g was.next n some whole.few unspent room in
-    let within : All (IsHeadIn g) (set was.table.heads j (Some (head_after g was.next n))) = All-set (IsHeadIn g) was.table.heads j (Some (head_after g was.next n)) (room, appended-low g was.next some whole.few unspent) whole.within in record {
-      count = ap length noted.heads ∙ length-set was.table.heads j (Some (head_after g was.next n)) ∙ whole.count ∙ ap (λ (h : Geometry). h.segments) (sym same);
+    let within : All (IsHeadIn g) (set was.table.heads j (Some (head_after g was.next n))) =
+    All-set (IsHeadIn g) was.table.heads j (Some (head_after g was.next n))
+    (room, appended-low g was.next some whole.few unspent) whole.within in record {
+      count = ap length noted.heads ∙ length-set was.table.heads j (Some (head_after g was.next n)) ∙ whole.count
+          ∙ ap (λ (h : Geometry). h.segments) (sym same);
       within = subst (λ (h : Geometry). All (IsHeadIn h) now.table.heads) (sym same) (subst (All (IsHeadIn g)) (sym noted.heads) within);
       few = subst (λ (h : Geometry). now.next ≤ last_number (ring_of h)) (sym same) (subst (λ (k : ℕ). k ≤ last_number (ring_of g)) (sym noted.next) few);
       counted = noted.counted ∙ (λ i. clip_counts (ring_of (sym same i)) (sym noted.clips i) now.table.heads);
@@ -198,7 +226,8 @@ grown-index was now n j noted whole some unspent room =
 -- what is known of the place of an append, whatever the disk
 pub record IsPlaced {A : Type 0} (was : Index A) (place : Place) (n : ℕ) : Type 0 where
   pub within : place_segment place < was.ring.geometry.segments
-  pub at : (r : Recording) (image : List ℕ) → IsIndexOf was r image → (r.next ≢ last_number (ring_of was.ring.geometry)) × IsPlaceAt was.ring.geometry r image place
+  pub at : (r : Recording) (image : List ℕ) → IsIndexOf was r image
+      → (r.next ≢ last_number (ring_of was.ring.geometry)) × IsPlaceAt was.ring.geometry r image place
   pub unspent : was.next ≢ last_number (ring_of was.ring.geometry)
   pub room : was.next % was.ring.geometry.slots + n ≤ was.ring.geometry.slots
 
@@ -206,9 +235,12 @@ pub record IsPlaced {A : Type 0} (was : Index A) (place : Place) (n : ℕ) : Typ
 pub record HasGrown {A : Type 0} (was now : Index A) (r : Recording) (n : ℕ) : Type 0 where
   pub pictures : List Picture
   pub size : length pictures ≡ n
-  pub known : IsIndexOf now (plain (ring_of was.ring.geometry) r (steps_before was.ring.geometry r ++ map store pictures)) (drawn_image now.ring.geometry now.table.heads now.clips)
+  pub known : IsIndexOf now (plain (ring_of was.ring.geometry) r (steps_before was.ring.geometry r
+      ++ map store pictures)) (drawn_image now.ring.geometry now.table.heads now.clips)
 
-pub has-grown : {A : Type 0} (was now : Index A) (place : Place) (n : ℕ) → (known : IsRecovered was (drawn_image was.ring.geometry was.table.heads was.clips)) → IsIndex was → IsNoted was now (place_segment place) n → IsPlaced was place n → HasGrown was now known.recording n
+pub has-grown : {A : Type 0} (was now : Index A) (place : Place) (n : ℕ)
+    → (known : IsRecovered was (drawn_image was.ring.geometry was.table.heads was.clips)) → IsIndex was
+    → IsNoted was now (place_segment place) n → IsPlaced was place n → HasGrown was now known.recording n
 has-grown was now place n known whole noted placed =
     let g = was.ring.geometry in
     let j = place_segment place in
@@ -219,15 +251,22 @@ has-grown was now place n known whole noted placed =
     let next = known.known.next_is in
     let is = placed.at r (drawn_image g heads was.clips) known.known in
     let drawn_on : Regrown g (set heads j (Some (head_after g r.next n))) was.clips r (steps_before g r) n =
-    regrown g heads was.clips r place n was.ring.good whole.count whole.within placed.within known.known.held is.1 (subst (λ (k : ℕ). IsHeadIn g (Some (head_after g k n))) next head) in
-    let back : Regrown g (set heads j (Some (head_after g was.next n))) was.clips r (steps_before g r) n = subst (λ (k : ℕ). Regrown g (set heads j (Some (head_after g k n))) was.clips r (steps_before g r) n) (sym next) drawn_on in
+    regrown g heads was.clips r place n was.ring.good whole.count whole.within placed.within known.known.held is.1
+    (subst (λ (k : ℕ). IsHeadIn g (Some (head_after g k n))) next head) in
+    let back : Regrown g (set heads j (Some (head_after g was.next n))) was.clips r (steps_before g r) n =
+    subst (λ (k : ℕ). Regrown g (set heads j (Some (head_after g k n))) was.clips r (steps_before g r) n)
+    (sym next) drawn_on in
     let t = plain (ring_of g) r (steps_before g r ++ map store back.pictures) in
-    let all = known-drawn now g (set heads j (Some (head_after g was.next n))) was.clips t was.ring.good (length-set heads j (Some (head_after g was.next n)) ∙ whole.count)
-    (All-set (IsHeadIn g) heads j (Some (head_after g was.next n)) head whole.within) back.held (ap (λ (x : LoopRing). x.geometry) noted.ring) noted.heads noted.clips
+    let all = known-drawn now g (set heads j (Some (head_after g was.next n))) was.clips t was.ring.good
+    (length-set heads j (Some (head_after g was.next n)) ∙ whole.count)
+    (All-set (IsHeadIn g) heads j (Some (head_after g was.next n)) head whole.within) back.held
+    (ap (λ (x : LoopRing). x.geometry) noted.ring) noted.heads noted.clips
     (noted.next ∙ (λ i. next i + sym back.size i) ∙ sym (appended-next g r back.pictures)) (known.known.clips_are ∙ sym (appended-clips g r back.pictures)) in
     record { pictures = back.pictures; size = back.size; known = all }
 
-pub kept-grown : {D A : Type 0} (medium : D → Medium) (old new : D) (was now : Index A) (place : Place) (n j : ℕ) (ps : List Picture) (must : Bool) → IsKept medium old was must → must ≡ false → j ≡ place_segment place → IsPlaced was place n → IsNoted was now j n → (medium new).size ≡ (medium old).size
+pub kept-grown : {D A : Type 0} (medium : D → Medium) (old new : D) (was now : Index A) (place : Place) (n j : ℕ)
+    (ps : List Picture) (must : Bool) → IsKept medium old was must → must ≡ false → j ≡ place_segment place
+    → IsPlaced was place n → IsNoted was now j n → (medium new).size ≡ (medium old).size
     → Grew medium was.ring.geometry old new was.next n j ps → IsKept medium new now must
 kept-grown medium old new was now place n j ps must kept fine at placed noted size grew = record {
   fits = record {
@@ -257,8 +296,11 @@ kept-grown medium old new was now place n j ps must kept fine at placed noted si
         }
 
 -- each recording that the store told of before, with the steps of the append
-pub told-grown : {D A : Type 0} (medium : D → Medium) (old new : D) (was now : Index A) (place : Place) (n j : ℕ) (ps : List Picture) (must : Bool) (r : Recording) → (kept : IsKept medium old was must) → Tells (seen_with old was must) r → j ≡ place_segment place
-    → IsPlaced was place n → IsNoted was now j n → n ≡ length ps → Tells (seen_with new now must) (plain (ring_of was.ring.geometry) r (steps_or_none (steps (ring_of was.ring.geometry) r ps)))
+pub told-grown : {D A : Type 0} (medium : D → Medium) (old new : D) (was now : Index A) (place : Place) (n j : ℕ)
+    (ps : List Picture) (must : Bool) (r : Recording) → (kept : IsKept medium old was must)
+    → Tells (seen_with old was must) r → j ≡ place_segment place
+    → IsPlaced was place n → IsNoted was now j n → n ≡ length ps → Tells (seen_with new now must)
+    (plain (ring_of was.ring.geometry) r (steps_or_none (steps (ring_of was.ring.geometry) r ps)))
 told-grown medium old new was now place n j ps must r kept told_before at placed noted count =
     let g = was.ring.geometry in
     let some = (limits g was.ring.good).slots.0 in
@@ -266,16 +308,26 @@ told-grown medium old new was now place n j ps must r kept told_before at placed
     let same = alike-by medium old was must r kept told_before in
     let grown = has-grown was now place n kept.known kept.fits.whole (noted-at was now j (place_segment place) n at noted) placed in
     let is = placed.at r0 (drawn_image g was.table.heads was.clips) kept.known.known in
-    let steps_are : steps_before g r ++ map store ps ≡ steps_or_none (steps (ring_of g) r ps) = steps-are g r ps (λ spent. is.0 (same.next ∙ spent)) (λ none. place-some g r0 (drawn_image g was.table.heads was.clips) place is.1 (place-same g r0 r same ∙ none)) in
+    let steps_are : steps_before g r ++ map store ps ≡ steps_or_none (steps (ring_of g) r ps) =
+    steps-are g r ps (λ spent. is.0 (same.next ∙ spent))
+    (λ none. place-some g r0 (drawn_image g was.table.heads was.clips) place is.1 (place-same g r0 r same ∙ none))
+    in
     let slots : 1 ≤ now.ring.geometry.slots = subst (λ (h : Geometry). 1 ≤ h.slots) (sym (ap (λ (x : LoopRing). x.geometry) noted.ring)) some in
     let t0 = plain (ring_of g) r0 (steps_before g r0 ++ map store grown.pictures) in
-    let told : Tells (seen_with new now must) t0 = told-by new now must t0 (drawn_image now.ring.geometry now.table.heads now.clips) slots (grown-index was now n j noted kept.fits.whole some placed.unspent placed.room).within grown.known in
+    let told : Tells (seen_with new now must) t0 =
+    told-by new now must t0 (drawn_image now.ring.geometry now.table.heads now.clips) slots
+    (grown-index was now n j noted kept.fits.whole some placed.unspent placed.room).within grown.known in
     subst (λ (l : List Step). Tells (seen_with new now must) (plain (ring_of g) r l)) steps_are
-    (same-tells (seen_with new now must) t0 (plain (ring_of g) r (steps_before g r ++ map store ps)) told (appended-same g r0 r grown.pictures ps same (grown.size ∙ count)))
+    (same-tells (seen_with new now must) t0 (plain (ring_of g) r (steps_before g r ++ map store ps)) told
+    (appended-same g r0 r grown.pictures ps same (grown.size ∙ count)))
 
 -- it stands for that one, and where the disk is honest the disk holds it
-pub stands-grown : {D A : Type 0} (medium : D → Medium) (old new : D) (was now : Index A) (place : Place) (n j : ℕ) (ps : List Picture) (must : Bool) (r : Recording) → (kept : IsKept medium old was must) → must ≡ false → StandsFor medium (seen_with old was must) r → j ≡ place_segment place
-    → IsPlaced was place n → IsNoted was now j n → Grew medium was.ring.geometry old new was.next n j ps → StandsFor medium (seen_with new now must) (plain (ring_of was.ring.geometry) r (steps_or_none (steps (ring_of was.ring.geometry) r ps)))
+pub stands-grown : {D A : Type 0} (medium : D → Medium) (old new : D) (was now : Index A) (place : Place) (n j : ℕ)
+    (ps : List Picture) (must : Bool) (r : Recording) → (kept : IsKept medium old was must) → must ≡ false
+    → StandsFor medium (seen_with old was must) r → j ≡ place_segment place
+    → IsPlaced was place n → IsNoted was now j n → Grew medium was.ring.geometry old new was.next n j ps
+    → StandsFor medium (seen_with new now must)
+    (plain (ring_of was.ring.geometry) r (steps_or_none (steps (ring_of was.ring.geometry) r ps)))
 stands-grown medium old new was now place n j ps must r kept fine stands at placed noted grew =
     let g = was.ring.geometry in
     let t : Recording = plain (ring_of g) r (steps_or_none (steps (ring_of g) r ps)) in record {
@@ -285,7 +337,10 @@ stands-grown medium old new was now place n j ps must r kept fine stands at plac
           let back = grew.back there in
           let known = known-by medium old was must r kept stands fine back in
           let is = placed.at r (medium old).bytes known in
-          let same : steps_before g r ++ map store ps ≡ steps_or_none (steps (ring_of g) r ps) = steps-are g r ps is.0 (place-some g r (medium old).bytes place is.1) in
-          let after : IsIndexOf now t (medium new).bytes = subst (λ (l : List Step). IsIndexOf now (plain (ring_of g) r l) (medium new).bytes) same (grown-known medium old new was now n j ps r noted grew back known) in
+          let same : steps_before g r ++ map store ps ≡ steps_or_none (steps (ring_of g) r ps) =
+          steps-are g r ps is.0 (place-some g r (medium old).bytes place is.1) in
+          let after : IsIndexOf now t (medium new).bytes =
+          subst (λ (l : List Step). IsIndexOf now (plain (ring_of g) r l) (medium new).bytes) same
+          (grown-known medium old new was now n j ps r noted grew back known) in
           after.held;
     }

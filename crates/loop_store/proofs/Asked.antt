@@ -10,7 +10,8 @@ use Rattle.loop_store.specs.Held.{HoldsFrom}
 use Rattle.loop_store.specs.Seen.{HasFailed, Seen, StandsFor, Tells}
 
 -- all of some steps, with none behind them
-pub holds-all : (g : Geometry) (r : Recording) (steps more : List Step) (image : List ℕ) → Holds g (plain (ring_of g) r steps) image → HoldsFrom g r (length steps) (steps ++ more) image
+pub holds-all : (g : Geometry) (r : Recording) (steps more : List Step) (image : List ℕ)
+    → Holds g (plain (ring_of g) r steps) image → HoldsFrom g r (length steps) (steps ++ more) image
 holds-all g r steps more image held = record {
   count = length steps;
   enough = omega arith;
@@ -21,9 +22,18 @@ holds-all g r steps more image held = record {
 -- a store after a failed call tells what it told, and stands for what it stood for
 pub failed-told : {D : Type 0} (old new : Seen D) (r : Recording) → HasFailed old new → Tells old r → Tells new r
 failed-told {D} old new r failed told =
-    subst (λ (s : Seen D). Tells s r) (sym failed) (record { formed = told.formed; next_is = told.next_is; numbers_are = told.numbers_are; count_is = told.count_is; clips_are = told.clips_are })
+    subst (λ (s : Seen D). Tells s r) (sym failed)
+    (record {
+      formed = told.formed;
+      next_is = told.next_is;
+      numbers_are = told.numbers_are;
+      count_is =
+          told.count_is;
+      clips_are = told.clips_are;
+    })
 
-pub failed-stands : {D : Type 0} (medium : D → Medium) (old new : Seen D) (r : Recording) → HasFailed old new → StandsFor medium old r → StandsFor medium new r
+pub failed-stands : {D : Type 0} (medium : D → Medium) (old new : Seen D) (r : Recording) → HasFailed old new
+    → StandsFor medium old r → StandsFor medium new r
 failed-stands {D} medium old new r failed stands = record {
   told = failed-told old new r failed stands.told;
   settled = λ fine now. absurd (clash new.must_reopen (ap (λ (s : Seen D). s.must_reopen) failed) fine);

@@ -10,11 +10,13 @@ use Rattle.loop_store.specs.Calls.{AnswersDue, AreAnswered, Call, IsAnswered, An
 
 -- ---- which is the first
 
-pub passed : (b : Bool) (fault : StoreFault) (more : List (Option StoreFault)) → b ≡ false → first_of (due b fault ∷ more) ≡ first_of more
+pub passed : (b : Bool) (fault : StoreFault) (more : List (Option StoreFault)) → b ≡ false
+    → first_of (due b fault ∷ more) ≡ first_of more
 passed true fault more e = absurd cc
 passed false fault more e = refl
 
-pub failed : (b : Bool) (fault : StoreFault) (more : List (Option StoreFault)) → b ≡ true → first_of (due b fault ∷ more) ≡ Some fault
+pub failed : (b : Bool) (fault : StoreFault) (more : List (Option StoreFault)) → b ≡ true
+    → first_of (due b fault ∷ more) ≡ Some fault
 failed true fault more e = refl
 failed false fault more e = absurd cc
 
@@ -22,16 +24,19 @@ pub skipped : (o : Option StoreFault) (more : List (Option StoreFault)) → o �
 skipped None more e = refl
 skipped (Some fault) more e = absurd cc
 
-pub found : (o : Option StoreFault) (fault : StoreFault) (more : List (Option StoreFault)) → o ≡ Some fault → first_of (o ∷ more) ≡ Some fault
+pub found : (o : Option StoreFault) (fault : StoreFault) (more : List (Option StoreFault)) → o ≡ Some fault
+    → first_of (o ∷ more) ≡ Some fault
 found None fault more e = absurd cc
 found (Some other) fault more e = e
 
 -- where none is due, each check passes
-pub passes : (b : Bool) (fault : StoreFault) (more : List (Option StoreFault)) → first_of (due b fault ∷ more) ≡ None → (b ≡ false) × (first_of more ≡ None)
+pub passes : (b : Bool) (fault : StoreFault) (more : List (Option StoreFault)) → first_of (due b fault ∷ more) ≡ None
+    → (b ≡ false) × (first_of more ≡ None)
 passes true fault more e = absurd cc
 passes false fault more e = (refl, e)
 
-pub none-before : (o : Option StoreFault) (more : List (Option StoreFault)) → first_of (o ∷ more) ≡ None → (o ≡ None) × (first_of more ≡ None)
+pub none-before : (o : Option StoreFault) (more : List (Option StoreFault)) → first_of (o ∷ more) ≡ None → (o ≡ None)
+    × (first_of more ≡ None)
 none-before None more e = (refl, e)
 none-before (Some fault) more e = absurd cc
 
@@ -41,42 +46,51 @@ apart : (fault : StoreFault) → let x : Option StoreFault = Some fault in x ≡
 apart fault e = absurd cc
 
 -- what was answered without a refusal: no check is due
-pub due-none : (o : Option StoreFault) (c : Call) (Given : Type 0) → AnswersDue o c Given → fault_answered c ≡ None → (o ≡ None) × Given
+pub due-none : (o : Option StoreFault) (c : Call) (Given : Type 0) → AnswersDue o c Given → fault_answered c ≡ None
+    → (o ≡ None) × Given
 due-none None c Given said fine = (refl, said)
 due-none (Some fault) c Given said fine = absurd (apart fault (sym said ∙ fine))
 
 -- a refusal is the first that is due, or no check is
-pub due-some : (o : Option StoreFault) (c : Call) (Given : Type 0) → AnswersDue o c Given → (o ≡ fault_answered c) ⊎ ((o ≡ None) × Given)
+pub due-some : (o : Option StoreFault) (c : Call) (Given : Type 0) → AnswersDue o c Given → (o ≡ fault_answered c)
+    ⊎ ((o ≡ None) × Given)
 due-some None c Given said = inr (refl, said)
 due-some (Some fault) c Given said = inl (sym said)
 
 pub given : (o : Option StoreFault) (c : Call) (Given : Type 0) → o ≡ None → Given → AnswersDue o c Given
 given o c Given none is = subst (λ (x : Option StoreFault). AnswersDue x c Given) (sym none) is
 
-pub refused : (o : Option StoreFault) (c : Call) (Given : Type 0) (fault : StoreFault) → o ≡ Some fault → fault_answered c ≡ Some fault → AnswersDue o c Given
+pub refused : (o : Option StoreFault) (c : Call) (Given : Type 0) (fault : StoreFault) → o ≡ Some fault
+    → fault_answered c ≡ Some fault → AnswersDue o c Given
 refused o c Given fault first is = subst (λ (x : Option StoreFault). AnswersDue x c Given) (sym first) is
 
 -- ---- a store that must be reopened
 
 -- each call is refused so
-pub must-first : (g : Geometry) (s : StoreState) (c : Call) → s.must_reopen ≡ true → first_of (checks g s c) ≡ Some MustReopen
+pub must-first : (g : Geometry) (s : StoreState) (c : Call) → s.must_reopen ≡ true
+    → first_of (checks g s c) ≡ Some MustReopen
 must-first g s c must = failed s.must_reopen MustReopen (checks_on g s.recording c) must
 
-pub must-answer : (H : Type 0) (g : Geometry) (s : StoreState) (c : Call) → s.must_reopen ≡ true → IsAnswered H g s c → fault_answered c ≡ Some MustReopen
+pub must-answer : (H : Type 0) (g : Geometry) (s : StoreState) (c : Call) → s.must_reopen ≡ true → IsAnswered H g s c
+    → fault_answered c ≡ Some MustReopen
 must-answer H g s c must said = go (first_of (checks g s c)) (must-first g s c must) said
   where
-    go : (o : Option StoreFault) → o ≡ Some MustReopen → AnswersDue o c (AnswersOtherwise H s.recording c) → fault_answered c ≡ Some MustReopen
+    go : (o : Option StoreFault) → o ≡ Some MustReopen → AnswersDue o c (AnswersOtherwise H s.recording c)
+        → fault_answered c ≡ Some MustReopen
     go None e x = absurd cc
     go (Some fault) e x = x ∙ e
 
 -- where it needn't, the checks on what is recorded decide
-pub fine-first : (g : Geometry) (s : StoreState) (c : Call) → s.must_reopen ≡ false → first_of (checks g s c) ≡ first_of (checks_on g s.recording c)
+pub fine-first : (g : Geometry) (s : StoreState) (c : Call) → s.must_reopen ≡ false
+    → first_of (checks g s c) ≡ first_of (checks_on g s.recording c)
 fine-first g s c fine = passed s.must_reopen MustReopen (checks_on g s.recording c) fine
 
-pub answer-given : (H : Type 0) (g : Geometry) (s : StoreState) (c : Call) → s.must_reopen ≡ false → first_of (checks_on g s.recording c) ≡ None → AnswersOtherwise H s.recording c → IsAnswered H g s c
+pub answer-given : (H : Type 0) (g : Geometry) (s : StoreState) (c : Call) → s.must_reopen ≡ false
+    → first_of (checks_on g s.recording c) ≡ None → AnswersOtherwise H s.recording c → IsAnswered H g s c
 answer-given H g s c fine none is = given (first_of (checks g s c)) c (AnswersOtherwise H s.recording c) (fine-first g s c fine ∙ none) is
 
-pub answer-due : (H : Type 0) (g : Geometry) (s : StoreState) (c : Call) (fault : StoreFault) → s.must_reopen ≡ false → first_of (checks_on g s.recording c) ≡ Some fault → fault_answered c ≡ Some fault → IsAnswered H g s c
+pub answer-due : (H : Type 0) (g : Geometry) (s : StoreState) (c : Call) (fault : StoreFault) → s.must_reopen ≡ false
+    → first_of (checks_on g s.recording c) ≡ Some fault → fault_answered c ≡ Some fault → IsAnswered H g s c
 answer-due H g s c fault fine first is = refused (first_of (checks g s c)) c (AnswersOtherwise H s.recording c) fault (fine-first g s c fine ∙ first) is
 
 -- ---- honest disks
@@ -97,14 +111,17 @@ otherwise-as H K r (locked span (Err fault)) f x = x
 otherwise-as H K r (unlocked id (Err fault)) f x = x
 
 -- an answer of one disk is one of another that is honest only where the first is
-pub answered-as : (H K : Type 0) (g : Geometry) (s : StoreState) (c : Call) → (K → H) → IsAnswered H g s c → IsAnswered K g s c
+pub answered-as : (H K : Type 0) (g : Geometry) (s : StoreState) (c : Call) → (K → H) → IsAnswered H g s c
+    → IsAnswered K g s c
 answered-as H K g s c f said = go (first_of (checks g s c)) said
   where
-    go : (o : Option StoreFault) → AnswersDue o c (AnswersOtherwise H s.recording c) → AnswersDue o c (AnswersOtherwise K s.recording c)
+    go : (o : Option StoreFault) → AnswersDue o c (AnswersOtherwise H s.recording c)
+        → AnswersDue o c (AnswersOtherwise K s.recording c)
     go None x = otherwise-as H K s.recording c f x
     go (Some fault) x = x
 
-pub are-answered-as : (H K : Type 0) (g : Geometry) (s : StoreState) (calls : List Call) → (K → H) → AreAnswered H g s calls → AreAnswered K g s calls
+pub are-answered-as : (H K : Type 0) (g : Geometry) (s : StoreState) (calls : List Call) → (K → H)
+    → AreAnswered H g s calls → AreAnswered K g s calls
 are-answered-as H K g s [] f said = tt
 are-answered-as H K g s (c ∷ calls) f said = (answered-as H K g s c f said.0, are-answered-as H K g (after_store_call g s c) calls f said.1)
 

@@ -24,14 +24,17 @@ pub record IsSame {D E : Type 0} (medium : D → Medium) (other : E → Medium) 
   pub geometry : new.geometry ≡ old.geometry
   pub stands : Stands other new s
 
-pub opened-same : {D E : Type 0} (medium : D → Medium) (other : E → Medium) (old : Seen D) (new : Seen E) (image : List ℕ) (s : StoreState) → Stands medium old s → s.must_reopen ≡ false → (medium old.disk).honest → (medium old.disk).may_leave image → IsOpened other image new → new.must_reopen ≡ false
+pub opened-same : {D E : Type 0} (medium : D → Medium) (other : E → Medium) (old : Seen D) (new : Seen E)
+    (image : List ℕ) (s : StoreState) → Stands medium old s → s.must_reopen ≡ false → (medium old.disk).honest
+    → (medium old.disk).may_leave image → IsOpened other image new → new.must_reopen ≡ false
     → IsSame medium other old new s
 opened-same medium other old new image s stands fine honest left opened still =
     let kept : old.must_reopen ≡ false = stands.must_reopen ∙ fine in
     let same : image ≡ (medium old.disk).bytes = stands.recording.settled kept honest image left in
     let held : Holds old.geometry s.recording image = subst (λ (i : List ℕ). Holds old.geometry s.recording i) (sym same) (stands.recording.held kept honest) in
     let one : record { geometry = new.geometry; recording = opened.recording } ≡ record { geometry = old.geometry; recording = s.recording } =
-    ok-inj (record { geometry = new.geometry; recording = opened.recording }) (record { geometry = old.geometry; recording = s.recording }) (sym opened.held ∙ held) in
+    ok-inj (record { geometry = new.geometry; recording = opened.recording })
+    (record { geometry = old.geometry; recording = s.recording }) (sym opened.held ∙ held) in
     record {
       geometry = ap (λ (x : Contents). x.geometry) one;
       stands = record {
@@ -41,9 +44,15 @@ opened-same medium other old new image s stands fine honest left opened still =
     }
 
 -- a read of a held number
-pub read-held : (H : Type 0) (g : Geometry) (s : StoreState) (number : ℕ) (result : Result FrameHead StoreFault) (out : List ℕ) → H → s.must_reopen ≡ false → holds s.recording number ≡ true → IsAnswered H g s (was_read number (read_with result out)) → ReadsFrame s.recording number result out
-read-held H g s number (Ok h) out honest fine there said = (due-none (first_of (checks g s (was_read number (Ok (h, out))))) (was_read number (Ok (h, out))) (H → IsHeldFrame s.recording number h out) said refl).1 honest
-read-held H g s number (Err fault) out honest fine there said = go (due-some (first_of (checks g s (was_read number (Err fault)))) (was_read number (Err fault)) (AnswersOtherwise H s.recording (was_read number (Err fault))) said)
+pub read-held : (H : Type 0) (g : Geometry) (s : StoreState) (number : ℕ) (result : Result FrameHead StoreFault)
+    (out : List ℕ) → H → s.must_reopen ≡ false → holds s.recording number ≡ true
+    → IsAnswered H g s (was_read number (read_with result out)) → ReadsFrame s.recording number result out
+read-held H g s number (Ok h) out honest fine there said =
+    (due-none (first_of (checks g s (was_read number (Ok (h, out))))) (was_read number (Ok (h, out)))
+    (H → IsHeldFrame s.recording number h out) said refl).1 honest
+read-held H g s number (Err fault) out honest fine there said =
+    go (due-some (first_of (checks g s (was_read number (Err fault)))) (was_read number (Err fault))
+    (AnswersOtherwise H s.recording (was_read number (Err fault))) said)
   where
     none : first_of (checks g s (was_read number (Err fault))) ≡ None
     none = passed s.must_reopen MustReopen _ fine ∙ passed (not (holds s.recording number)) NotHeld [] (ap not there)
@@ -51,7 +60,9 @@ read-held H g s number (Err fault) out honest fine there said = go (due-some (fi
     apart : None ≡ Some fault → ⊥
     apart e = absurd cc
 
-    go : (first_of (checks g s (was_read number (Err fault))) ≡ Some fault) ⊎ ((first_of (checks g s (was_read number (Err fault))) ≡ None) × AnswersOtherwise H s.recording (was_read number (Err fault))) → (fault ≡ NoMemory) ⊎ (is_disk fault ≡ true)
+    go : (first_of (checks g s (was_read number (Err fault))) ≡ Some fault)
+        ⊎ ((first_of (checks g s (was_read number (Err fault))) ≡ None) × AnswersOtherwise H s.recording
+        (was_read number (Err fault))) → (fault ≡ NoMemory) ⊎ (is_disk fault ≡ true)
     go (inl e) = absurd (apart (sym none ∙ e))
     go (inr x) = failed x.1
       where

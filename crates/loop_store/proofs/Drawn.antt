@@ -47,15 +47,24 @@ abbrev pub Clips : Type 0
 Clips = List (Option Span)
 
 pub drawn-length : (g : Geometry) (heads : Heads) (clips : Clips) → length (drawn_image g heads clips) ≡ disk_size g
-drawn-length g heads clips = omega (arith, length-append (super_bytes g) (map (drawn_byte g heads clips) (range_with_len 512 (disk_size g - 512))), super-length g, length-map-range_with_len (drawn_byte g heads clips) 512 (disk_size g - 512))
+drawn-length g heads clips = omega (
+  arith,
+  length-append (super_bytes g) (map (drawn_byte g heads clips) (range_with_len 512 (disk_size g - 512))),
+  super-length g,
+  length-map-range_with_len (drawn_byte g heads clips) 512 (disk_size g - 512),
+)
 
-pub drawn-geometry : (g : Geometry) (heads : Heads) (clips : Clips) → IsTrue (is_good g) → geometry_in (drawn_image g heads clips) ≡ Ok g
+pub drawn-geometry : (g : Geometry) (heads : Heads) (clips : Clips) → IsTrue (is_good g)
+    → geometry_in (drawn_image g heads clips) ≡ Ok g
 drawn-geometry g heads clips good = geometry_in-super_bytes g (map (drawn_byte g heads clips) (range_with_len 512 (disk_size g - 512))) good
 
-pub byte-front : (g : Geometry) (heads : Heads) (clips : Clips) (k : ℕ) → k < 512 → get_or (drawn_image g heads clips) k 0 ≡ get_or (super_bytes g) k 0
-byte-front g heads clips k l = get_or_append_left (super_bytes g) (map (drawn_byte g heads clips) (range_with_len 512 (disk_size g - 512))) 0 k (omega (arith, l, super-length g))
+pub byte-front : (g : Geometry) (heads : Heads) (clips : Clips) (k : ℕ) → k < 512
+    → get_or (drawn_image g heads clips) k 0 ≡ get_or (super_bytes g) k 0
+byte-front g heads clips k l = get_or_append_left (super_bytes g)
+    (map (drawn_byte g heads clips) (range_with_len 512 (disk_size g - 512))) 0 k (omega (arith, l, super-length g))
 
-pub byte-behind : (g : Geometry) (heads : Heads) (clips : Clips) (k : ℕ) → 512 ≤ k → k < disk_size g → get_or (drawn_image g heads clips) k 0 ≡ drawn_byte g heads clips k
+pub byte-behind : (g : Geometry) (heads : Heads) (clips : Clips) (k : ℕ) → 512 ≤ k → k < disk_size g
+    → get_or (drawn_image g heads clips) k 0 ≡ drawn_byte g heads clips k
 byte-behind g heads clips k low high =
     get_or-append_right (super_bytes g) (map (drawn_byte g heads clips) (range_with_len 512 (disk_size g - 512))) 512 k 0 (super-length g) low
     ∙ get_or-map-range_with_len (drawn_byte g heads clips) 512 (disk_size g - 512) (k - 512) k 0 (omega (arith, low, high)) (omega (arith, low))
@@ -81,7 +90,8 @@ segment-end g j l =
     let split : (j + 1) * segment_size g ≡ j * segment_size g + segment_size g = omega (arith, add-mul j 1 (segment_size g)) in
     omega (arith, le, split)
 
-pub byte-segment : (g : Geometry) (heads : Heads) (clips : Clips) (j o : ℕ) → j < g.segments → o < segment_size g → get_or (drawn_image g heads clips) (segment_at g j + o) 0 ≡ segment_byte g (head_in heads j) o
+pub byte-segment : (g : Geometry) (heads : Heads) (clips : Clips) (j o : ℕ) → j < g.segments → o < segment_size g
+    → get_or (drawn_image g heads clips) (segment_at g j + o) 0 ≡ segment_byte g (head_in heads j) o
 byte-segment g heads clips j o l u =
     let k = segment_at g j + o in
     let place : k - 2560 ≡ j * segment_size g + o = omega arith in
@@ -92,10 +102,12 @@ byte-segment g heads clips j o l u =
     ∙ (λ i. segment_byte g (head_in heads (which i)) (where_in i))
 
 -- the bytes of a header that is open
-front_byte : (g : Geometry) (h : SegmentHead) (o : ℕ) → o < 256 → segment_byte g (Some h) o ≡ get_or (header_bytes h.block) o 0
+front_byte : (g : Geometry) (h : SegmentHead) (o : ℕ) → o < 256 → segment_byte g (Some h) o ≡ get_or
+    (header_bytes h.block) o 0
 front_byte g h o l = picked (ltb o 256) _ _ (below_test o 256 l)
 
-gate_byte : (g : Geometry) (h : SegmentHead) (i : ℕ) → i < 256 → segment_byte g (Some h) (256 + i) ≡ cond (ltb i h.frames) 0xA5 0
+gate_byte : (g : Geometry) (h : SegmentHead) (i : ℕ) → i < 256 → segment_byte g (Some h) (256 + i) ≡ cond
+    (ltb i h.frames) 0xA5 0
 gate_byte g h i l =
     let back : 256 + i - 256 ≡ i = omega arith in
     skipped (ltb (256 + i) 256) _ _ (not_below_test (256 + i) 256 (omega arith)) ∙ picked (ltb (256 + i) 512) _ _ (below_test (256 + i) 512 (omega (arith, l)))
@@ -107,10 +119,13 @@ slots_byte g h o =
     skipped (ltb (512 + o) 256) _ _ (not_below_test (512 + o) 256 (omega arith)) ∙ skipped (ltb (512 + o) 512) _ _ (not_below_test (512 + o) 512 (omega arith))
     ∙ ap (slot_byte g h.block) back
 
-pub closed-header : (g : Geometry) (heads : Heads) (clips : Clips) (j : ℕ) → j < g.segments → head_in heads j ≡ None → is_open (drawn_image g heads clips) (segment_at g j) ≡ false
+pub closed-header : (g : Geometry) (heads : Heads) (clips : Clips) (j : ℕ) → j < g.segments → head_in heads j ≡ None
+    → is_open (drawn_image g heads clips) (segment_at g j) ≡ false
 closed-header g heads clips j l none =
     let at : segment_at g j ≡ segment_at g j + 0 = omega arith in
-    ap (λ (k : ℕ). is_open (drawn_image g heads clips) k) at ∙ ap (λ (b : ℕ). eqb b 0xA5) (byte-segment g heads clips j 0 l (omega arith) ∙ ap (λ (o : Option SegmentHead). segment_byte g o 0) none)
+    ap (λ (k : ℕ). is_open (drawn_image g heads clips) k) at
+    ∙ ap (λ (b : ℕ). eqb b 0xA5) (byte-segment g heads clips j 0 l (omega arith)
+    ∙ ap (λ (o : Option SegmentHead). segment_byte g o 0) none)
 
 -- what is known of the header of an open segment
 pub record IsDrawn (g : Geometry) (image : List ℕ) (j : ℕ) (h : SegmentHead) : Type 0 where
@@ -118,7 +133,9 @@ pub record IsDrawn (g : Geometry) (image : List ℕ) (j : ℕ) (h : SegmentHead)
   pub block : little_from (segment_at g j + 8) 8 image ≡ h.block
   pub whole : whole_frames g image j ≡ h.frames
 
-pub open-header : (g : Geometry) (heads : Heads) (clips : Clips) (j : ℕ) (h : SegmentHead) → j < g.segments → head_in heads j ≡ Some h → g.slots ≤ 256 → h.frames ≤ g.slots → h.block < 2 ^ 64 → IsDrawn g (drawn_image g heads clips) j h
+pub open-header : (g : Geometry) (heads : Heads) (clips : Clips) (j : ℕ) (h : SegmentHead) → j < g.segments
+    → head_in heads j ≡ Some h → g.slots ≤ 256 → h.frames ≤ g.slots → h.block < 2 ^ 64
+    → IsDrawn g (drawn_image g heads clips) j h
 open-header g heads clips j h l is few fits low = record {
   gate = ap (λ (k : ℕ). is_open image k) at ∙ ap (λ (b : ℕ). eqb b 0xA5) (byte 0 (omega arith) ∙ front_byte g h 0 (omega arith));
   block =
@@ -126,7 +143,8 @@ open-header g heads clips j h l is few fits low = record {
       let there : segment_at g j + 8 + k ≡ segment_at g j + (8 + k) = omega arith in
       ap (λ (n : ℕ). get_or image n 0) there ∙ byte (8 + k) (omega (arith, u)) ∙ front_byte g h (8 + k) (omega (arith, u)))
       ∙ little_number-reads_back 8 h.block [] low;
-  whole = open_gates-are g.slots h.frames (segment_at g j + 256) image (λ i u. gate i (omega (arith, u, fits, few)) ∙ ap (λ (t : Bool). eqb (cond t 0xA5 0) 0xA5) (below_test i h.frames u)) fits (end (cases_lt h.frames g.slots));
+  whole = open_gates-are g.slots h.frames (segment_at g j + 256) image (λ i u. gate i (omega (arith, u, fits, few))
+      ∙ ap (λ (t : Bool). eqb (cond t 0xA5 0) 0xA5) (below_test i h.frames u)) fits (end (cases_lt h.frames g.slots));
 }
   where
     image : List ℕ
@@ -143,12 +161,14 @@ open-header g heads clips j h l is few fits low = record {
         let there : segment_at g j + 256 + i ≡ segment_at g j + (256 + i) = omega arith in
         ap (λ (k : ℕ). is_open image k) there ∙ ap (λ (b : ℕ). eqb b 0xA5) (byte (256 + i) (omega (arith, u)) ∙ gate_byte g h i u)
 
-    end : (h.frames < g.slots) ⊎ (g.slots ≤ h.frames) → (h.frames ≡ g.slots) ⊎ (is_open image (segment_at g j + 256 + h.frames) ≡ false)
+    end : (h.frames < g.slots) ⊎ (g.slots ≤ h.frames) → (h.frames ≡ g.slots)
+        ⊎ (is_open image (segment_at g j + 256 + h.frames) ≡ false)
     end (inl u) = inr (gate h.frames (omega (arith, u, few)) ∙ ap (λ (t : Bool). eqb (cond t 0xA5 0) 0xA5) (not_below_test h.frames h.frames (omega arith)))
     end (inr u) = inl (omega (arith, u, fits))
 
 -- a slot of it: its number and its length
-pub slot-right : (g : Geometry) (heads : Heads) (clips : Clips) (j i : ℕ) (h : SegmentHead) → j < g.segments → head_in heads j ≡ Some h → i < g.slots → frame_bytes g < 2 ^ 32 → h.block * g.slots + i < 2 ^ 64
+pub slot-right : (g : Geometry) (heads : Heads) (clips : Clips) (j i : ℕ) (h : SegmentHead) → j < g.segments
+    → head_in heads j ≡ Some h → i < g.slots → frame_bytes g < 2 ^ 32 → h.block * g.slots + i < 2 ^ 64
     → is_slot_of (frame_bytes g) (h.block * g.slots + i) (slot_in (frame_bytes g) (drawn_image g heads clips) (slot_at g j i)) ≡ true
 slot-right g heads clips j i h l is u small low = λ k. first k && second k
   where
@@ -172,7 +192,9 @@ slot-right g heads clips j i h l is u small low = λ k. first k && second k
         ∙ (λ k. get_or (slot_bytes (h.block * g.slots + which k) (blank g)) (where_in k) 0)
 
     number : little_from (slot_at g j i) 8 image ≡ h.block * g.slots + i
-    number = moved_number 8 (slot_at g j i) 0 image slot (λ k v. let zero_on : k ≡ 0 + k = omega arith in byte k (omega (arith, v)) ∙ ap (λ (n : ℕ). get_or slot n 0) zero_on) ∙ little_number-reads_back 8 (h.block * g.slots + i) [] low
+    number = moved_number 8 (slot_at g j i) 0 image slot (λ k v. let zero_on : k ≡ 0 + k = omega arith in
+        byte k (omega (arith, v)) ∙ ap (λ (n : ℕ). get_or slot n 0) zero_on)
+        ∙ little_number-reads_back 8 (h.block * g.slots + i) [] low
 
     size : little_from (slot_at g j i + 24) 4 image ≡ frame_bytes g
     size =
@@ -193,7 +215,9 @@ abbrev slot_of : Geometry → List ℕ → ℕ → ℕ → Slot
 slot_of g image j i = slot_in (frame_bytes g) image (slot_at g j i)
 
 -- slots that hold the frames from a number on
-pub hold-range : (n number lo count : ℕ) (f : ℕ → Slot) → ((i : ℕ) → i < count → is_slot_of n (number + i) (f (lo + i)) ≡ true) → hold_from n number (map f (range_with_len lo count)) ≡ true
+pub hold-range : (n number lo count : ℕ) (f : ℕ → Slot)
+    → ((i : ℕ) → i < count → is_slot_of n (number + i) (f (lo + i)) ≡ true)
+    → hold_from n number (map f (range_with_len lo count)) ≡ true
 hold-range n number lo zero f right = refl
 hold-range n number lo (suc count) f right =
     let at : number + 0 ≡ number = omega arith in
@@ -219,13 +243,20 @@ block-low b slots some l =
     let le : b * 1 ≤ b * slots = mul-le-mul_left b some in
     omega (arith, le, l, add-mul b 1 slots)
 
-pub segment-drawn : (g : Geometry) (heads : Heads) (clips : Clips) (j : ℕ) (h : SegmentHead) → IsTrue (is_good g) → j < g.segments → head_in heads j ≡ Some h → MayStand g (Some h) → IsDrawn g (drawn_image g heads clips) j h
+pub segment-drawn : (g : Geometry) (heads : Heads) (clips : Clips) (j : ℕ) (h : SegmentHead) → IsTrue (is_good g)
+    → j < g.segments → head_in heads j ≡ Some h → MayStand g (Some h) → IsDrawn g (drawn_image g heads clips) j h
 segment-drawn g heads clips j h good l is may =
     let m = limits g good in
     open-header g heads clips j h l is m.slots.1 may.0 (block-low h.block g.slots m.slots.0 may.1)
 
-pub header-drawn : (g : Geometry) (heads : Heads) (clips : Clips) (j : ℕ) (o : Option SegmentHead) → IsTrue (is_good g) → j < g.segments → head_in heads j ≡ o → MayStand g o → header_at g (drawn_image g heads clips) (segment_at g j) ≡ o
-header-drawn g heads clips j None good l is may = let gate = closed-header g heads clips j l is in λ i. cond (gate i) (Some (record { block = little_from (segment_at g j + 8) 8 (drawn_image g heads clips); frames = open_gates g.slots (drawn_image g heads clips) (segment_at g j + 256) })) None
+pub header-drawn : (g : Geometry) (heads : Heads) (clips : Clips) (j : ℕ) (o : Option SegmentHead)
+    → IsTrue (is_good g) → j < g.segments → head_in heads j ≡ o → MayStand g o
+    → header_at g (drawn_image g heads clips) (segment_at g j) ≡ o
+header-drawn g heads clips j None good l is may = let gate = closed-header g heads clips j l is in
+    λ i. cond (gate i) (Some (record {
+      block = little_from (segment_at g j + 8) 8 (drawn_image g heads clips);
+      frames = open_gates g.slots (drawn_image g heads clips) (segment_at g j + 256);
+    })) None
 header-drawn g heads clips j (Some h) good l is may =
     let d = segment-drawn g heads clips j h good l is may in
     λ i. cond (d.gate i) (Some (record { block = d.block i; frames = d.whole i })) None
@@ -234,18 +265,24 @@ header-drawn g heads clips j (Some h) good l is may =
 pub all-there : {X : Type 0} (xs : List (Option X)) → map (λ j. get_or xs j None) (range_with_len 0 (length xs)) ≡ xs
 all-there {X} xs = from 0 [] xs refl
   where
-    from : (n : ℕ) (xs ys : List (Option X)) → length xs ≡ n → map (λ j. get_or (xs ++ ys) j None) (range_with_len n (length ys)) ≡ ys
+    from : (n : ℕ) (xs ys : List (Option X)) → length xs ≡ n → map (λ j. get_or (xs ++ ys) j None)
+        (range_with_len n (length ys)) ≡ ys
     from n xs [] e = refl
     from n xs (y ∷ ys) e =
         let here : get_or (xs ++ y ∷ ys) n None ≡ y = ap (λ (j : ℕ). get_or (xs ++ y ∷ ys) j None) (sym e) ∙ get_or-append_seam xs y ys None in
         let grouped : (xs ++ y ∷ []) ++ ys ≡ xs ++ y ∷ ys = append_assoc xs (y ∷ []) ys in
         let rest = from (n + 1) (xs ++ y ∷ []) ys (omega (arith, length-append xs (y ∷ []), e)) in
-        let rest_is : map (λ j. get_or (xs ++ y ∷ ys) j None) (range_with_len (n + 1) (length ys)) ≡ ys = ap (λ (zs : List (Option X)). map (λ j. get_or zs j None) (range_with_len (n + 1) (length ys))) (sym grouped) ∙ rest in
+        let rest_is : map (λ j. get_or (xs ++ y ∷ ys) j None) (range_with_len (n + 1) (length ys)) ≡ ys =
+        ap (λ (zs : List (Option X)). map (λ j. get_or zs j None) (range_with_len (n + 1) (length ys)))
+        (sym grouped) ∙ rest in
         λ i. here i ∷ rest_is i
 
-pub heads-drawn : (g : Geometry) (heads : Heads) (clips : Clips) → IsTrue (is_good g) → length heads ≡ g.segments → AllStand g heads → heads_of g (drawn_image g heads clips) ≡ heads
+pub heads-drawn : (g : Geometry) (heads : Heads) (clips : Clips) → IsTrue (is_good g) → length heads ≡ g.segments
+    → AllStand g heads → heads_of g (drawn_image g heads clips) ≡ heads
 heads-drawn g heads clips good count all =
-    map_range (λ j. header_at g (drawn_image g heads clips) (segment_at g j)) (head_in heads) 0 g.segments (λ j low high. header-drawn g heads clips j (head_in heads j) good (omega (arith, high)) refl (all j (omega (arith, high))))
+    map_range (λ j. header_at g (drawn_image g heads clips) (segment_at g j)) (head_in heads) 0 g.segments
+    (λ j low high. header-drawn g heads clips j (head_in heads j) good (omega (arith, high)) refl
+    (all j (omega (arith, high))))
     ∙ ap (λ (n : ℕ). map (head_in heads) (range_with_len 0 n)) (sym count) ∙ all-there heads
 
 -- no segment has a bad slot
@@ -253,43 +290,57 @@ abbrev IsRight : Geometry → Option Segment → Type 0
 IsRight g None = Unit {0}
 IsRight g (Some s) = is_bad_slot g s ≡ false
 
-right-opened : (g : Geometry) (image : List ℕ) (lo n : ℕ) → ((j : ℕ) → lo ≤ j → j < lo + n → IsRight g (segment_in g image j)) → list_any (is_bad_slot g) (open_segments (map (segment_in g image) (range_with_len lo n))) ≡ false
+right-opened : (g : Geometry) (image : List ℕ) (lo n : ℕ)
+    → ((j : ℕ) → lo ≤ j → j < lo + n → IsRight g (segment_in g image j))
+    → list_any (is_bad_slot g) (open_segments (map (segment_in g image) (range_with_len lo n))) ≡ false
 right-opened g image lo zero all = refl
-right-opened g image lo (suc n) all = go (segment_in g image lo) (all lo (omega arith) (omega arith)) (right-opened g image (lo + 1) n (λ j low high. all j (omega (arith, low)) (omega (arith, high))))
+right-opened g image lo (suc n) all = go (segment_in g image lo) (all lo (omega arith) (omega arith))
+    (right-opened g image (lo + 1) n (λ j low high. all j (omega (arith, low)) (omega (arith, high))))
   where
-    go : (o : Option Segment) → IsRight g o → list_any (is_bad_slot g) (open_segments (map (segment_in g image) (range_with_len (lo + 1) n))) ≡ false → list_any (is_bad_slot g) (open_segments (o ∷ map (segment_in g image) (range_with_len (lo + 1) n))) ≡ false
+    go : (o : Option Segment) → IsRight g o
+        → list_any (is_bad_slot g) (open_segments (map (segment_in g image) (range_with_len (lo + 1) n))) ≡ false
+        → list_any (is_bad_slot g) (open_segments (o ∷ map (segment_in g image) (range_with_len (lo + 1) n))) ≡ false
     go None right rest = rest
     go (Some s) right rest = λ i. right i || rest i
 
 -- the slots of a segment from one on hold the frames of its block
-pub slots-drawn : (g : Geometry) (heads : Heads) (clips : Clips) (j first count : ℕ) (h : SegmentHead) → IsTrue (is_good g) → j < g.segments → head_in heads j ≡ Some h → MayStand g (Some h) → first + count ≤ g.slots
+pub slots-drawn : (g : Geometry) (heads : Heads) (clips : Clips) (j first count : ℕ) (h : SegmentHead)
+    → IsTrue (is_good g) → j < g.segments → head_in heads j ≡ Some h → MayStand g (Some h) → first + count ≤ g.slots
     → hold_from (frame_bytes g) (h.block * g.slots + first) (slots_from g (drawn_image g heads clips) j first count) ≡ true
 slots-drawn g heads clips j first count h good l is may room =
     let m = limits g good in
     hold-range (frame_bytes g) (h.block * g.slots + first) first count (slot_of g (drawn_image g heads clips) j) (λ i u.
     let at : h.block * g.slots + first + i ≡ h.block * g.slots + (first + i) = omega arith in
     ap (λ (n : ℕ). is_slot_of (frame_bytes g) n (slot_of g (drawn_image g heads clips) j (first + i))) at
-    ∙ slot-right g heads clips j (first + i) h l is (omega (arith, room, u)) (omega (arith, m.bytes.1)) (omega (arith, may.1, add-mul h.block 1 g.slots, room, u)))
+    ∙ slot-right g heads clips j (first + i) h l is (omega (arith, room, u)) (omega (arith, m.bytes.1))
+    (omega (arith, may.1, add-mul h.block 1 g.slots, room, u)))
 
-right-drawn : (g : Geometry) (heads : Heads) (clips : Clips) (j : ℕ) (o : Option SegmentHead) → IsTrue (is_good g) → j < g.segments → head_in heads j ≡ o → MayStand g o → IsRight g (segment_in g (drawn_image g heads clips) j)
+right-drawn : (g : Geometry) (heads : Heads) (clips : Clips) (j : ℕ) (o : Option SegmentHead) → IsTrue (is_good g)
+    → j < g.segments → head_in heads j ≡ o → MayStand g o → IsRight g (segment_in g (drawn_image g heads clips) j)
 right-drawn g heads clips j None good l is may = subst (IsRight g) (sym (closed_none g (drawn_image g heads clips) j (closed-header g heads clips j l is))) tt
 right-drawn g heads clips j (Some h) good l is may =
     let image = drawn_image g heads clips in
     let d = segment-drawn g heads clips j h good l is may in
     let hold = slots-drawn g heads clips j 0 h.frames h good l is may (omega (arith, may.0)) in
     let first : h.block * g.slots + 0 ≡ h.block * g.slots = omega arith in
-    let all : hold_from (frame_bytes g) (h.block * g.slots) (slots_from g image j 0 h.frames) ≡ true = ap (λ (n : ℕ). hold_from (frame_bytes g) n (slots_from g image j 0 h.frames)) (sym first) ∙ hold in
-    let there : segment_in g image j ≡ Some (record { block = h.block; slots = slots_from g image j 0 h.frames }) = λ i. cond (d.gate i) (Some (record { block = d.block i; slots = slots_from g image j 0 (d.whole i) })) None in
+    let all : hold_from (frame_bytes g) (h.block * g.slots) (slots_from g image j 0 h.frames) ≡ true =
+    ap (λ (n : ℕ). hold_from (frame_bytes g) n (slots_from g image j 0 h.frames)) (sym first) ∙ hold in
+    let there : segment_in g image j ≡ Some (record { block = h.block; slots = slots_from g image j 0 h.frames }) =
+    λ i. cond (d.gate i) (Some (record { block = d.block i; slots = slots_from g image j 0 (d.whole i) })) None in
     subst (IsRight g) (sym there) (ap not all)
 
-pub none-bad : (g : Geometry) (heads : Heads) (clips : Clips) → IsTrue (is_good g) → AllStand g heads → list_any (is_bad_slot g) (by_block (open_segments (parts_of g (drawn_image g heads clips)).segments)) ≡ false
+pub none-bad : (g : Geometry) (heads : Heads) (clips : Clips) → IsTrue (is_good g) → AllStand g heads
+    → list_any (is_bad_slot g) (by_block (open_segments (parts_of g (drawn_image g heads clips)).segments)) ≡ false
 none-bad g heads clips good all =
     any-by_block (is_bad_slot g) (open_segments (parts_of g (drawn_image g heads clips)).segments)
-    ∙ right-opened g (drawn_image g heads clips) 0 g.segments (λ j low high. right-drawn g heads clips j (head_in heads j) good (omega (arith, high)) refl (all j (omega (arith, high))))
+    ∙ right-opened g (drawn_image g heads clips) 0 g.segments
+    (λ j low high. right-drawn g heads clips j (head_in heads j) good (omega (arith, high)) refl
+    (all j (omega (arith, high))))
 
 -- ---- its clips
 
-pub byte-clip : (g : Geometry) (heads : Heads) (clips : Clips) (id o : ℕ) → id < 64 → o < 32 → get_or (drawn_image g heads clips) (clip_at id + o) 0 ≡ entry_byte (get_or clips id None) o
+pub byte-clip : (g : Geometry) (heads : Heads) (clips : Clips) (id o : ℕ) → id < 64 → o < 32
+    → get_or (drawn_image g heads clips) (clip_at id + o) 0 ≡ entry_byte (get_or clips id None) o
 byte-clip g heads clips id o l u =
     let k = clip_at id + o in
     let place : k - 512 ≡ id * 32 + o = omega arith in
@@ -299,17 +350,21 @@ byte-clip g heads clips id o l u =
     ∙ picked (ltb k 2560) _ _ (below_test k 2560 (omega (arith, l, u)))
     ∙ (λ i. entry_byte (get_or clips (which i) None) (where_in i))
 
-pub closed-entry : (g : Geometry) (heads : Heads) (clips : Clips) (id : ℕ) → id < 64 → get_or clips id None ≡ None → is_open (drawn_image g heads clips) (clip_at id) ≡ false
+pub closed-entry : (g : Geometry) (heads : Heads) (clips : Clips) (id : ℕ) → id < 64 → get_or clips id None ≡ None
+    → is_open (drawn_image g heads clips) (clip_at id) ≡ false
 closed-entry g heads clips id l none =
     let at : clip_at id ≡ clip_at id + 0 = omega arith in
-    ap (λ (k : ℕ). is_open (drawn_image g heads clips) k) at ∙ ap (λ (b : ℕ). eqb b 0xA5) (byte-clip g heads clips id 0 l (omega arith) ∙ ap (λ (o : Option Span). entry_byte o 0) none)
+    ap (λ (k : ℕ). is_open (drawn_image g heads clips) k) at
+    ∙ ap (λ (b : ℕ). eqb b 0xA5) (byte-clip g heads clips id 0 l (omega arith)
+    ∙ ap (λ (o : Option Span). entry_byte o 0) none)
 
 -- a clip whose numbers an entry takes
 abbrev pub FitsEntry : Option Span → Type 0
 FitsEntry None = Unit {0}
 FitsEntry (Some s) = (s.from < 2 ^ 64) × (s.to < 2 ^ 64)
 
-pub clip-drawn : (g : Geometry) (heads : Heads) (clips : Clips) (id : ℕ) (c : Option Span) → id < 64 → get_or clips id None ≡ c → FitsEntry c → clip_in (drawn_image g heads clips) id ≡ c
+pub clip-drawn : (g : Geometry) (heads : Heads) (clips : Clips) (id : ℕ) (c : Option Span) → id < 64
+    → get_or clips id None ≡ c → FitsEntry c → clip_in (drawn_image g heads clips) id ≡ c
 clip-drawn g heads clips id c l is fits = go c refl fits
   where
     image : List ℕ
@@ -325,15 +380,23 @@ clip-drawn g heads clips id c l is fits = go c refl fits
     gate = ap (λ (k : ℕ). is_open image k) at ∙ ap (λ (b : ℕ). eqb b 0xA5) (byte 0 (omega arith))
 
     go : (x : Option Span) → c ≡ x → FitsEntry x → clip_in image id ≡ x
-    go None e fits = let closed : is_open image (clip_at id) ≡ false = gate ∙ ap (λ (y : Option Span). eqb (entry_byte y 0) 0xA5) e in λ i. cond (closed i) (Some (record { from = little_from (clip_at id + 8) 8 image; to = little_from (clip_at id + 16) 8 image })) None
+    go None e fits = let closed : is_open image (clip_at id) ≡ false = gate
+        ∙ ap (λ (y : Option Span). eqb (entry_byte y 0) 0xA5) e in
+        λ i. cond (closed i) (Some (record {
+          from = little_from (clip_at id + 8) 8 image;
+          to =
+              little_from (clip_at id + 16) 8 image;
+        })) None
     go (Some s) e fits =
         let opens : is_open image (clip_at id) ≡ true = gate ∙ ap (λ (y : Option Span). eqb (entry_byte y 0) 0xA5) e in
         let from : little_from (clip_at id + 8) 8 image ≡ s.from =
         moved_number 8 (clip_at id + 8) 8 image (entry_bytes s) (λ k u.
         let there : clip_at id + 8 + k ≡ clip_at id + (8 + k) = omega arith in
-        ap (λ (n : ℕ). get_or image n 0) there ∙ byte (8 + k) (omega (arith, u)) ∙ ap (λ (y : Option Span). entry_byte y (8 + k)) e) ∙ little_number-reads_back 8 s.from [] fits.0 in
+        ap (λ (n : ℕ). get_or image n 0) there ∙ byte (8 + k) (omega (arith, u))
+        ∙ ap (λ (y : Option Span). entry_byte y (8 + k)) e) ∙ little_number-reads_back 8 s.from [] fits.0 in
         let to : little_from (clip_at id + 16) 8 image ≡ s.to =
         moved_number 8 (clip_at id + 16) 16 image (entry_bytes s) (λ k u.
         let there : clip_at id + 16 + k ≡ clip_at id + (16 + k) = omega arith in
-        ap (λ (n : ℕ). get_or image n 0) there ∙ byte (16 + k) (omega (arith, u)) ∙ ap (λ (y : Option Span). entry_byte y (16 + k)) e) ∙ little_number-reads_back 8 s.to [] fits.1 in
+        ap (λ (n : ℕ). get_or image n 0) there ∙ byte (16 + k) (omega (arith, u))
+        ∙ ap (λ (y : Option Span). entry_byte y (16 + k)) e) ∙ little_number-reads_back 8 s.to [] fits.1 in
         λ i. cond (opens i) (Some (record { from = from i; to = to i })) None

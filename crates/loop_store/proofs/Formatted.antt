@@ -39,7 +39,8 @@ super_length Ym16 g = refl
 super_length Ym24 g = refl
 
 -- what was laid out, with its gate open
-pub opened-fresh : (g : Geometry) (old c : List ℕ) → IsLaid g g.segments old → SameOutside 0 1 old c → is_open c 0 ≡ true → IsFreshImage g c
+pub opened-fresh : (g : Geometry) (old c : List ℕ) → IsLaid g g.segments old → SameOutside 0 1 old c
+    → is_open c 0 ≡ true → IsFreshImage g c
 opened-fresh g old c laid torn gate = record {
   size = torn.size ∙ laid.size;
   superblock = ext_get_or 0 (take 512 c) (super_bytes g) (omega (arith, length-take 512 c, torn.size, laid.size, super_size)) (λ i l.
@@ -73,27 +74,37 @@ opening-torn g old c good laid torn = go (is_open c 0) refl
     go true e = inr (reading-fresh g c good (opened-fresh g old c laid torn e))
     go false e = inl (closed-none c e)
 
-pub opening-moments : {T : Type 0} (g : Geometry) (old new : Medium) (r : Result T DiskFault) → IsTrue (is_good g) → IsSettled old → IsLaid g g.segments old.bytes → Stores 0 (165 ∷ []) old new r → LeavesOnly old new (NoneOrEmpty g)
+pub opening-moments : {T : Type 0} (g : Geometry) (old new : Medium) (r : Result T DiskFault) → IsTrue (is_good g)
+    → IsSettled old → IsLaid g g.segments old.bytes → Stores 0 (165 ∷ []) old new r → LeavesOnly old new (NoneOrEmpty g)
 opening-moments g old new r good settled laid stores = stored 0 (165 ∷ []) old new r (NoneOrEmpty g) settled stores (λ c torn. opening-torn g old.bytes c good laid torn)
 
-pub opening-fresh : {T : Type 0} (g : Geometry) (old new : Medium) (r : Result T DiskFault) → IsLaid g g.segments old.bytes → Stores 0 (165 ∷ []) old new r → OnOk r (IsFreshImage g new.bytes)
+pub opening-fresh : {T : Type 0} (g : Geometry) (old new : Medium) (r : Result T DiskFault)
+    → IsLaid g g.segments old.bytes → Stores 0 (165 ∷ []) old new r → OnOk r (IsFreshImage g new.bytes)
 opening-fresh g old new r laid stores =
     let fits : 0 + 1 ≤ length old.bytes = omega (arith, laid.size) in
     let gate : get_or (with_bytes_at 0 (165 ∷ []) old.bytes) 0 0 ≡ 165 = get_or-written_there 0 (165 ∷ []) old.bytes 0 (omega arith) (omega arith) in
-    on_ok_weaker r (λ (done : new.bytes ≡ with_bytes_at 0 (165 ∷ []) old.bytes). subst (λ (image : List ℕ). IsFreshImage g image) (sym done) (opened-fresh g old.bytes (with_bytes_at 0 (165 ∷ []) old.bytes) laid (written_outside 0 (165 ∷ []) old.bytes fits) (ap (λ (b : ℕ). eqb b 165) gate))) stores.done
+    on_ok_weaker r (λ (done : new.bytes ≡ with_bytes_at 0 (165 ∷ []) old.bytes). subst
+    (λ (image : List ℕ). IsFreshImage g image) (sym done)
+    (opened-fresh g old.bytes (with_bytes_at 0 (165 ∷ []) old.bytes) laid
+    (written_outside 0 (165 ∷ []) old.bytes fits) (ap (λ (b : ℕ). eqb b 165) gate))) stores.done
 
 -- ---- the whole
 
 -- a sync behind a closed gate
-pub sync-none : (g : Geometry) (old new : Medium) → IsSound old → LeavesClosed old → Stays old new → LeavesOnly old new (NoneOrEmpty g)
+pub sync-none : (g : Geometry) (old new : Medium) → IsSound old → LeavesClosed old → Stays old new
+    → LeavesOnly old new (NoneOrEmpty g)
 sync-none g old new sound closed stays =
-    goes_on old old new (NoneOrEmpty g) old.may_leave (started old (NoneOrEmpty g) sound (λ c left. inl (closed-none c (closed c left)))) stays.time (λ c left. inl (closed-none c (closed c left)))
+    goes_on old old new (NoneOrEmpty g) old.may_leave
+    (started old (NoneOrEmpty g) sound (λ c left. inl (closed-none c (closed c left)))) stays.time
+    (λ c left. inl (closed-none c (closed c left)))
 
 -- what closed the gate, and then a write behind it
-pub closed-on : (old mid new : Medium) → LeavesOnly old mid (WasOrClosed old) → LeavesOnly mid new IsClosed → LeavesOnly old new (WasOrClosed old)
+pub closed-on : (old mid new : Medium) → LeavesOnly old mid (WasOrClosed old) → LeavesOnly mid new IsClosed
+    → LeavesOnly old new (WasOrClosed old)
 closed-on old mid new first second = joined old mid new (WasOrClosed old) first (weaker mid new IsClosed (WasOrClosed old) second (λ c closed. inr closed))
 
-pub closed-or_empty : (g : Geometry) (old new : Medium) → LeavesOnly old new (WasOrClosed old) → LeavesOnly old new (WasOrEmpty g old)
+pub closed-or_empty : (g : Geometry) (old new : Medium) → LeavesOnly old new (WasOrClosed old)
+    → LeavesOnly old new (WasOrEmpty g old)
 closed-or_empty g old new run = weaker old new (WasOrClosed old) (WasOrEmpty g old) run go
   where
     go : (c : List ℕ) → WasOrClosed old c → WasOrEmpty g old c
@@ -101,5 +112,7 @@ closed-or_empty g old new run = weaker old new (WasOrClosed old) (WasOrEmpty g o
     go c (inr closed) = inr (inl (closed-none c closed))
 
 -- and then what opened it
-pub empty-on : (g : Geometry) (old mid new : Medium) → LeavesOnly old mid (WasOrClosed old) → LeavesOnly mid new (NoneOrEmpty g) → LeavesOnly old new (WasOrEmpty g old)
-empty-on g old mid new first second = joined old mid new (WasOrEmpty g old) (closed-or_empty g old mid first) (weaker mid new (NoneOrEmpty g) (WasOrEmpty g old) second (λ c none. inr none))
+pub empty-on : (g : Geometry) (old mid new : Medium) → LeavesOnly old mid (WasOrClosed old)
+    → LeavesOnly mid new (NoneOrEmpty g) → LeavesOnly old new (WasOrEmpty g old)
+empty-on g old mid new first second = joined old mid new (WasOrEmpty g old) (closed-or_empty g old mid first)
+    (weaker mid new (NoneOrEmpty g) (WasOrEmpty g old) second (λ c none. inr none))

@@ -22,13 +22,15 @@ use Rattle.loop_store.proofs.Looks.{stays-settled}
 -- ---- the gate is closed
 
 -- an image in which an open gate may have been torn: it was there before, or the gate is closed
-pub closing-torn : (m : Medium) (c : List ℕ) → IsSound m → is_open m.bytes 0 ≡ true → SameOutside 0 1 m.bytes c → WasOrClosed m c
+pub closing-torn : (m : Medium) (c : List ℕ) → IsSound m → is_open m.bytes 0 ≡ true → SameOutside 0 1 m.bytes c
+    → WasOrClosed m c
 closing-torn m c sound opened torn = go (is_open c 0) refl
   where
     place : (i : ℕ) → is_open c 0 ≡ true → (i < 1) ⊎ (1 ≤ i) → get_or c i 0 ≡ get_or m.bytes i 0
     place i e (inl l) =
         let first : i ≡ 0 = omega (arith, l) in
-        ap (λ (k : ℕ). get_or c k 0) first ∙ equal (get_or c 0 0) 165 e ∙ sym (equal (get_or m.bytes 0 0) 165 opened) ∙ ap (λ (k : ℕ). get_or m.bytes k 0) (sym first)
+        ap (λ (k : ℕ). get_or c k 0) first ∙ equal (get_or c 0 0) 165 e ∙ sym (equal (get_or m.bytes 0 0) 165 opened)
+        ∙ ap (λ (k : ℕ). get_or m.bytes k 0) (sym first)
     place i e (inr h) = torn.behind i (omega (arith, h))
 
     go : (t : Bool) → is_open c 0 ≡ t → WasOrClosed m c
@@ -38,7 +40,8 @@ closing-torn m c sound opened torn = go (is_open c 0) refl
     go false e = inr e
 
 -- a read, and then the gate's store
-pub closing : {T : Type 0} (old mid new : Medium) (r : Result T DiskFault) → IsSound old → IsSettled old → Stays old mid → is_open old.bytes 0 ≡ true → Stores 0 (0 ∷ []) mid new r → LeavesOnly old new (WasOrClosed old)
+pub closing : {T : Type 0} (old mid new : Medium) (r : Result T DiskFault) → IsSound old → IsSettled old
+    → Stays old mid → is_open old.bytes 0 ≡ true → Stores 0 (0 ∷ []) mid new r → LeavesOnly old new (WasOrClosed old)
 closing old mid new r sound settled stays opened stores =
     let P = WasOrClosed old in
     let before : LeavesOnly old mid P = goes_on old old mid P old.may_leave (started old P sound (λ c left. inl left)) stays.time (λ c left. inl left) in
@@ -46,11 +49,15 @@ closing old mid new r sound settled stays opened stores =
     closing-torn old c sound opened (subst (λ (image : List ℕ). SameOutside 0 1 image c) stays.bytes torn)))
 
 -- at Ok it is closed in each image that a crash may leave
-pub closing-done : {T : Type 0} (mid new : Medium) (r : Result T DiskFault) → Stores 0 (0 ∷ []) mid new r → OnOk r (LeavesClosed new)
-closing-done mid new r stores = both_ok r (λ (done : new.bytes ≡ with_bytes_at 0 (0 ∷ []) mid.bytes) (settled : IsSettled new) c left. ap (λ (image : List ℕ). is_open image 0) (settled c left ∙ done)) stores.done stores.settled
+pub closing-done : {T : Type 0} (mid new : Medium) (r : Result T DiskFault) → Stores 0 (0 ∷ []) mid new r
+    → OnOk r (LeavesClosed new)
+closing-done mid new r stores =
+    both_ok r (λ (done : new.bytes ≡ with_bytes_at 0 (0 ∷ []) mid.bytes) (settled : IsSettled new) c left. ap
+    (λ (image : List ℕ). is_open image 0) (settled c left ∙ done)) stores.done stores.settled
 
 -- and so it is where it was read as closed
-pub closed-read : (old mid : Medium) (gate : List ℕ) → IsSettled old → Stays old mid → gate ≡ piece 0 1 old.bytes → get_or gate 0 0 ≢ 165 → LeavesClosed mid
+pub closed-read : (old mid : Medium) (gate : List ℕ) → IsSettled old → Stays old mid → gate ≡ piece 0 1 old.bytes
+    → get_or gate 0 0 ≢ 165 → LeavesClosed mid
 closed-read old mid gate settled stays is shut c left =
     ap (λ (image : List ℕ). is_open image 0) (settled c (stays.images c left))
     ∙ differ_test (get_or old.bytes 0 0) 165 (λ e. shut (ap (λ (bytes : List ℕ). get_or bytes 0 0) is ∙ get_or-piece 0 1 old.bytes 0 (omega arith) ∙ e))
@@ -61,25 +68,40 @@ closed-read old mid gate settled stays is shut c left =
 pub closed-behind : (at n : ℕ) (m : Medium) (c : List ℕ) → 1 ≤ at → LeavesClosed m → TornAt at n m c → IsClosed c
 closed-behind at n m c behind closed torn = ap (λ (b : ℕ). eqb b 165) (torn.2.before 0 (omega (arith, behind))) ∙ closed torn.0 torn.1
 
-pub writing-closed : {T : Type 0} (at : ℕ) (bytes : List ℕ) (old new : Medium) (r : Result T DiskFault) → 1 ≤ at → IsSound old → LeavesClosed old → Writes at bytes old new r → LeavesOnly old new IsClosed
+pub writing-closed : {T : Type 0} (at : ℕ) (bytes : List ℕ) (old new : Medium) (r : Result T DiskFault) → 1 ≤ at
+    → IsSound old → LeavesClosed old → Writes at bytes old new r → LeavesOnly old new IsClosed
 writing-closed at bytes old new r behind sound closed writes =
-    goes_on old old new IsClosed (TornAt at (length bytes) old) (started old IsClosed sound closed) writes.time (λ c torn. closed-behind at (length bytes) old c behind closed torn)
+    goes_on old old new IsClosed (TornAt at (length bytes) old) (started old IsClosed sound closed) writes.time
+    (λ c torn. closed-behind at (length bytes) old c behind closed torn)
 
 -- ---- the bytes
 
 -- the superblock and the clip table
-pub laid-front : (g : Geometry) (bytes old : List ℕ) → length bytes ≡ 2559 → length old ≡ disk_size g → ((i : ℕ) → i < 511 → get_or bytes i 0 ≡ get_or (super_bytes g) (i + 1) 0) → ((i : ℕ) → 511 ≤ i → i < 2559 → get_or bytes i 0 ≡ 0)
+pub laid-front : (g : Geometry) (bytes old : List ℕ) → length bytes ≡ 2559 → length old ≡ disk_size g
+    → ((i : ℕ) → i < 511 → get_or bytes i 0 ≡ get_or (super_bytes g) (i + 1) 0)
+    → ((i : ℕ) → 511 ≤ i → i < 2559 → get_or bytes i 0 ≡ 0)
     → length (super_bytes g) ≡ 512 → IsLaid g 0 (with_bytes_at 1 bytes old)
 laid-front g bytes old long whole front rest super_size = record {
   size = length-written 1 bytes old (omega (arith, long, whole)) ∙ whole;
   superblock =
-      ext_get_or 0 _ _ (omega (arith, length-take 511 (drop 1 new), length-drop 1 new, length-written 1 bytes old (omega (arith, long, whole)), whole, length-drop 1 (super_bytes g), super_size)) (λ i l.
+      ext_get_or 0 _ _ (omega (
+        arith,
+        length-take 511 (drop 1 new),
+        length-drop 1 new,
+        length-written 1 bytes old (omega (arith, long, whole)),
+        whole,
+        length-drop 1 (super_bytes g),
+        super_size,
+      ))
+      (λ i l.
       let below : i < 511 = omega (arith, l, length-take 511 (drop 1 new)) in
       let at : 1 + i ≡ i + 1 = omega arith in
-      get_or-take 511 (drop 1 new) i 0 below ∙ get_or-drop 1 new i 0 ∙ there i (omega (arith, below)) ∙ front i below ∙ sym (get_or-drop 1 (super_bytes g) i 0 ∙ ap (λ (k : ℕ). get_or (super_bytes g) k 0) at));
+      get_or-take 511 (drop 1 new) i 0 below ∙ get_or-drop 1 new i 0 ∙ there i (omega (arith, below)) ∙ front i below
+      ∙ sym (get_or-drop 1 (super_bytes g) i 0 ∙ ap (λ (k : ℕ). get_or (super_bytes g) k 0) at));
   clips = λ id l.
       let at : 512 + id * 32 ≡ 1 + (511 + id * 32) = omega arith in
-      let none : get_or new (512 + id * 32) 0 ≡ 0 = ap (λ (k : ℕ). get_or new k 0) at ∙ there (511 + id * 32) (omega (arith, l)) ∙ rest (511 + id * 32) (omega arith) (omega (arith, l)) in
+      let none : get_or new (512 + id * 32) 0 ≡ 0 = ap (λ (k : ℕ). get_or new k 0) at
+      ∙ there (511 + id * 32) (omega (arith, l)) ∙ rest (511 + id * 32) (omega arith) (omega (arith, l)) in
       ap (λ (b : ℕ). eqb b 165) none;
   segments = λ j l. absurd (omega (arith, l));
 }
@@ -91,13 +113,22 @@ laid-front g bytes old long whole front rest super_size = record {
     there i l = get_or-written_there 1 bytes old i (omega (arith, whole)) (omega (arith, long, l))
 
 -- one header more
-pub laid-header : (g : Geometry) (count : ℕ) (old : List ℕ) → count < g.segments → IsLaid g count old → IsLaid g (count + 1) (with_bytes_at (segment_at g count) (replicate 512 0) old)
+pub laid-header : (g : Geometry) (count : ℕ) (old : List ℕ) → count < g.segments → IsLaid g count old
+    → IsLaid g (count + 1) (with_bytes_at (segment_at g count) (replicate 512 0) old)
 laid-header g count old below laid = record {
   size = length-written at zeros old fits ∙ laid.size;
   superblock =
-      ext_get_or 0 _ _ (omega (arith, length-take 511 (drop 1 new), length-drop 1 new, length-take 511 (drop 1 old), length-drop 1 old, length-written at zeros old fits)) (λ i l.
+      ext_get_or 0 _ _ (omega (
+        arith,
+        length-take 511 (drop 1 new),
+        length-drop 1 new,
+        length-take 511 (drop 1 old),
+        length-drop 1 old,
+        length-written at zeros old fits,
+      )) (λ i l.
       let within : i < 511 = omega (arith, l, length-take 511 (drop 1 new)) in
-      get_or-take 511 (drop 1 new) i 0 within ∙ get_or-drop 1 new i 0 ∙ before (1 + i) (omega (arith, within)) ∙ sym (get_or-take 511 (drop 1 old) i 0 within ∙ get_or-drop 1 old i 0)) ∙ laid.superblock;
+      get_or-take 511 (drop 1 new) i 0 within ∙ get_or-drop 1 new i 0 ∙ before (1 + i) (omega (arith, within))
+      ∙ sym (get_or-take 511 (drop 1 old) i 0 within ∙ get_or-drop 1 old i 0)) ∙ laid.superblock;
   clips = λ id l. ap (λ (b : ℕ). eqb b 165) (before (clip_at id) (omega (arith, l))) ∙ laid.clips id l;
   segments = λ j l. segment j (cases_lt j count) l;
 }
@@ -122,48 +153,70 @@ laid-header g count old below laid = record {
     segment j (inr l) h =
         let same : j ≡ count = omega (arith, l, h) in
         let here : at ≡ at + 0 = omega arith in
-        let none : get_or new at 0 ≡ 0 = ap (λ (k : ℕ). get_or new k 0) here ∙ get_or-written_there at zeros old 0 (omega (arith, fits)) (omega (arith, length-replicate {A = ℕ} 512 0)) ∙ get_or-replicate 512 0 0 0 (omega arith) in
+        let none : get_or new at 0 ≡ 0 = ap (λ (k : ℕ). get_or new k 0) here ∙ get_or-written_there at zeros old 0
+        (omega (arith, fits)) (omega (arith, length-replicate {A = ℕ} 512 0))
+        ∙ get_or-replicate 512 0 0 0 (omega arith) in
         ap (λ (k : ℕ). is_open new (segment_at g k)) same ∙ ap (λ (b : ℕ). eqb b 165) none
 
 -- a gate that was read as open
 pub gate-read : (image gate : List ℕ) → gate ≡ piece 0 1 image → get_or gate 0 0 ≡ 165 → is_open image 0 ≡ true
-gate-read image gate is opened = ap (λ (b : ℕ). eqb b 165) (sym (get_or-piece 0 1 image 0 (omega arith)) ∙ sym (ap (λ (bytes : List ℕ). get_or bytes 0 0) is) ∙ opened)
+gate-read image gate is opened = ap (λ (b : ℕ). eqb b 165) (sym (get_or-piece 0 1 image 0 (omega arith))
+    ∙ sym (ap (λ (bytes : List ℕ). get_or bytes 0 0) is) ∙ opened)
 
 -- the superblock at the front of zeros, but for its gate
-pub laid-super : (g : Geometry) (front old : List ℕ) → front ≡ super_bytes g ++ drop 512 (replicate 2560 0) → length front ≡ 2560 → length old ≡ disk_size g → IsLaid g 0 (with_bytes_at 1 (drop 1 front) old)
+pub laid-super : (g : Geometry) (front old : List ℕ) → front ≡ super_bytes g ++ drop 512 (replicate 2560 0)
+    → length front ≡ 2560 → length old ≡ disk_size g → IsLaid g 0 (with_bytes_at 1 (drop 1 front) old)
 laid-super g front old is long whole = laid-front g (drop 1 front) old (omega (arith, length-drop 1 front, long)) whole head rest super_size
   where
     zeros : List ℕ
     zeros = replicate 2560 0
 
     super_size : length (super_bytes g) ≡ 512
-    super_size = omega (arith, ap (λ (b : List ℕ). length b) is, long, length-append (super_bytes g) (drop 512 zeros), length-drop 512 zeros, length-replicate {A = ℕ} 2560 0)
+    super_size = omega (
+      arith,
+      ap (λ (b : List ℕ). length b) is,
+      long,
+      length-append (super_bytes g) (drop 512 zeros),
+      length-drop 512 zeros,
+      length-replicate {A = ℕ} 2560 0,
+    )
 
     head : (i : ℕ) → i < 511 → get_or (drop 1 front) i 0 ≡ get_or (super_bytes g) (i + 1) 0
     head i l =
         let at : 1 + i ≡ i + 1 = omega arith in
-        get_or-drop 1 front i 0 ∙ ap (λ (k : ℕ). get_or front k 0) at ∙ ap (λ (b : List ℕ). get_or b (i + 1) 0) is ∙ get_or_append_left (super_bytes g) (drop 512 zeros) 0 (i + 1) (omega (arith, l, super_size))
+        get_or-drop 1 front i 0 ∙ ap (λ (k : ℕ). get_or front k 0) at ∙ ap (λ (b : List ℕ). get_or b (i + 1) 0) is
+        ∙ get_or_append_left (super_bytes g) (drop 512 zeros) 0 (i + 1) (omega (arith, l, super_size))
 
     rest : (i : ℕ) → 511 ≤ i → i < 2559 → get_or (drop 1 front) i 0 ≡ 0
     rest i low high =
-        get_or-drop 1 front i 0 ∙ ap (λ (b : List ℕ). get_or b (1 + i) 0) is ∙ get_or-append_right (super_bytes g) (drop 512 zeros) 512 (1 + i) 0 super_size (omega (arith, low))
+        get_or-drop 1 front i 0 ∙ ap (λ (b : List ℕ). get_or b (1 + i) 0) is ∙ get_or-append_right (super_bytes g)
+        (drop 512 zeros) 512 (1 + i) 0 super_size (omega (arith, low))
         ∙ get_or-drop 512 zeros (1 + i - 512) 0 ∙ get_or-replicate 2560 (512 + (1 + i - 512)) 0 0 (omega (arith, low, high))
 
 -- ---- what the writes say
 
-pub front-laid : {T : Type 0} (g : Geometry) (front bytes : List ℕ) (old new : Medium) (r : Result T DiskFault) → front ≡ super_bytes g ++ drop 512 (replicate 2560 0) → length front ≡ 2560 → bytes ≡ drop 1 front → IsSound old → old.size ≡ disk_size g
+pub front-laid : {T : Type 0} (g : Geometry) (front bytes : List ℕ) (old new : Medium) (r : Result T DiskFault)
+    → front ≡ super_bytes g ++ drop 512 (replicate 2560 0) → length front ≡ 2560 → bytes ≡ drop 1 front → IsSound old
+    → old.size ≡ disk_size g
     → Writes 1 bytes old new r → OnOk r (IsLaid g 0 new.bytes)
 front-laid g front bytes old new r is long behind sound whole writes =
     on_ok_weaker r (λ (done : new.bytes ≡ with_bytes_at 1 bytes old.bytes).
-    subst (λ (image : List ℕ). IsLaid g 0 image) (sym (done ∙ (λ i. with_bytes_at 1 (behind i) old.bytes))) (laid-super g front old.bytes is long (sound.length_is ∙ whole))) writes.done
+    subst (λ (image : List ℕ). IsLaid g 0 image) (sym (done ∙ (λ i. with_bytes_at 1 (behind i) old.bytes)))
+    (laid-super g front old.bytes is long (sound.length_is ∙ whole))) writes.done
 
-pub header-laid : {T : Type 0} (g : Geometry) (at count : ℕ) (old new : Medium) (r : Result T DiskFault) → at ≡ segment_at g count → count < g.segments → IsLaid g count old.bytes → Writes at (replicate 512 0) old new r → OnOk r (IsLaid g (count + 1) new.bytes)
+pub header-laid : {T : Type 0} (g : Geometry) (at count : ℕ) (old new : Medium) (r : Result T DiskFault)
+    → at ≡ segment_at g count → count < g.segments → IsLaid g count old.bytes → Writes at (replicate 512 0) old new r
+    → OnOk r (IsLaid g (count + 1) new.bytes)
 header-laid g at count old new r is below laid writes =
     on_ok_weaker r (λ (done : new.bytes ≡ with_bytes_at at (replicate 512 0) old.bytes).
-    subst (λ (image : List ℕ). IsLaid g (count + 1) image) (sym (done ∙ (λ i. with_bytes_at (is i) (replicate 512 0) old.bytes))) (laid-header g count old.bytes below laid)) writes.done
+    subst (λ (image : List ℕ). IsLaid g (count + 1) image)
+    (sym (done ∙ (λ i. with_bytes_at (is i) (replicate 512 0) old.bytes)))
+    (laid-header g count old.bytes below laid)) writes.done
 
 -- a write behind the closed gate brings the disk to this
-pub brings-laid : {T : Type 0} (g : Geometry) (count : ℕ) (old new : Medium) (r : Result T DiskFault) → (old.honest → IsSound new) → (old.honest → LeavesOnly old new IsClosed) → (old.honest → OnOk r (IsLaid g count new.bytes)) → Called old new (failed_call r)
+pub brings-laid : {T : Type 0} (g : Geometry) (count : ℕ) (old new : Medium) (r : Result T DiskFault)
+    → (old.honest → IsSound new) → (old.honest → LeavesOnly old new IsClosed)
+    → (old.honest → OnOk r (IsLaid g count new.bytes)) → Called old new (failed_call r)
     → Brings IsClosed (IsLaidClosed g count) old new r
 brings-laid g count old new r sound moments laid called = record {
   moments = moments;

@@ -24,17 +24,20 @@ use Rattle.loop_store.proofs.Modelled.{fine-all, idle-all, recording-after}
 
 -- ---- the disk
 
-pub with_each-behind : (xs ys : List (Option DiskFault)) (before : Failures) → with_each (xs ++ ys) before ≡ with_each ys (with_each xs before)
+pub with_each-behind : (xs ys : List (Option DiskFault)) (before : Failures)
+    → with_each (xs ++ ys) before ≡ with_each ys (with_each xs before)
 with_each-behind [] ys before = refl
 with_each-behind (x ∷ xs) ys before = with_each-behind xs ys (with_failed x before)
 
 called-none : (m : Medium) → CalledEach m m []
 called-none m = record { size = refl; honest = (λ h. h, λ h. h); failures = refl }
 
-pub called-one : (old new : Medium) (failed : Option DiskFault) → Called old new failed → CalledEach old new (failed ∷ [])
+pub called-one : (old new : Medium) (failed : Option DiskFault) → Called old new failed
+    → CalledEach old new (failed ∷ [])
 called-one old new failed called = record { size = called.size; honest = called.honest; failures = called.failures }
 
-called-joined : (old mid new : Medium) (xs ys : List (Option DiskFault)) → CalledEach old mid xs → CalledEach mid new ys → CalledEach old new (xs ++ ys)
+called-joined : (old mid new : Medium) (xs ys : List (Option DiskFault)) → CalledEach old mid xs
+    → CalledEach mid new ys → CalledEach old new (xs ++ ys)
 called-joined old mid new xs ys first second = record {
   size = second.size ∙ first.size;
   honest = (λ h. second.honest.0 (first.honest.0 h), λ h. first.honest.1 (second.honest.1 h));
@@ -43,10 +46,17 @@ called-joined old mid new xs ys first second = record {
 
 -- nothing was called
 pub stays-still : (m : Medium) → Stays m m
-stays-still m = record { bytes = refl; images = λ c left. left; time = record { later = omega arith; nothing_else = λ t c le left. inl left }; keeps = λ t c le left. left }
+stays-still m = record {
+  bytes = refl;
+  images = λ c left. left;
+  time =
+      record { later = omega arith; nothing_else = λ t c le left. inl left };
+  keeps = λ t c le left. left;
+}
 
 -- so it is of each of two lists
-all-both : (p : Call → Bool) (xs ys : List Call) → list_all p (xs ++ ys) ≡ true → (list_all p xs ≡ true) × (list_all p ys ≡ true)
+all-both : (p : Call → Bool) (xs ys : List Call) → list_all p (xs ++ ys) ≡ true → (list_all p xs ≡ true)
+    × (list_all p ys ≡ true)
 all-both p [] ys all = (refl, all)
 all-both p (x ∷ xs) ys all =
     let k = both (p x) (list_all p (xs ++ ys)) all in
@@ -56,7 +66,8 @@ all-both p (x ∷ xs) ys all =
 -- ---- a store that must be reopened
 
 -- each call of it is refused
-all-refused : (H : Type 0) (g : Geometry) (s : StoreState) (calls : List Call) → s.must_reopen ≡ true → AreAnswered H g s calls → list_all was_refused calls ≡ true
+all-refused : (H : Type 0) (g : Geometry) (s : StoreState) (calls : List Call) → s.must_reopen ≡ true
+    → AreAnswered H g s calls → list_all was_refused calls ≡ true
 all-refused H g s [] must said = refl
 all-refused H g s (c ∷ calls) must said =
     let early = ap is_early (must-answer H g s c must said.0) in
@@ -75,11 +86,13 @@ pub state-told : {D : Type 0} (store : Seen D) (one : TellsOne store) → TellsS
 state-told store one = record { recording = one.1; must_reopen = refl }
 
 -- a store tells what the state says for which it stands
-pub told-of : {D : Type 0} (medium : D → Medium) (store : Seen D) (s : StoreState) → Stands medium store s → TellsState store s
+pub told-of : {D : Type 0} (medium : D → Medium) (store : Seen D) (s : StoreState) → Stands medium store s
+    → TellsState store s
 told-of medium store s stands = record { recording = stands.recording.told; must_reopen = stands.must_reopen }
 
 -- and so nothing is moved
-pub idle : {D : Type 0} (medium : D → Medium) (old new : Seen D) (calls : List Call) → Goes medium old new calls → old.must_reopen ≡ true → new ≡ old
+pub idle : {D : Type 0} (medium : D → Medium) (old new : Seen D) (calls : List Call) → Goes medium old new calls
+    → old.must_reopen ≡ true → new ≡ old
 idle medium old new calls goes must =
     let s = state-of old goes.one in
     goes.unmoved (all-refused (Held medium old s) old.geometry s calls must (goes.answers s (state-told old goes.one)))
@@ -87,7 +100,8 @@ idle medium old new calls goes must =
 -- ---- calls
 
 -- no call
-pub goes-none : {D : Type 0} (medium : D → Medium) (store : Seen D) → TellsOne store → ((medium store.disk).honest → IsSound (medium store.disk)) → Goes medium store store []
+pub goes-none : {D : Type 0} (medium : D → Medium) (store : Seen D) → TellsOne store
+    → ((medium store.disk).honest → IsSound (medium store.disk)) → Goes medium store store []
 goes-none medium store one sound = record {
   one = one;
   answers = λ s told. tt;
@@ -105,7 +119,8 @@ goes-none medium store one sound = record {
 -- One call, by what it says of its own steps.
 pub record GoesOnce {D : Type 0} (medium : D → Medium) (old new : Seen D) (c : Call) : Type 0 where
   pub one : TellsOne old
-  pub answers : (s : StoreState) → TellsState old s → IsAnswered ((medium old.disk).honest × Stands medium old s) old.geometry s c
+  pub answers : (s : StoreState) → TellsState old s → IsAnswered ((medium old.disk).honest × Stands medium old s)
+      old.geometry s c
   pub tells : (s : StoreState) → TellsState old s → TellsState new (after_store_call old.geometry s c)
   pub stands : (s : StoreState) → Stands medium old s → Stands medium new (after_store_call old.geometry s c)
   pub leaves : (s : StoreState) → Stands medium old s → (medium old.disk).honest → s.must_reopen ≡ false
@@ -115,7 +130,8 @@ pub record GoesOnce {D : Type 0} (medium : D → Medium) (old new : Seen D) (c :
   pub geometry : new.geometry ≡ old.geometry
   pub called : Called (medium old.disk) (medium new.disk) (failed_for c)
 
-pub goes-once : {D : Type 0} (medium : D → Medium) (old new : Seen D) (c : Call) → GoesOnce medium old new c → Goes medium old new (c ∷ [])
+pub goes-once : {D : Type 0} (medium : D → Medium) (old new : Seen D) (c : Call) → GoesOnce medium old new c
+    → Goes medium old new (c ∷ [])
 goes-once medium old new c one = record {
   one = one.one;
   answers = λ s told. (one.answers s told, tt);
@@ -123,7 +139,9 @@ goes-once medium old new c one = record {
   stands = one.stands;
   leaves = λ s stands now fine.
       let g = old.geometry in
-      leaves-same g s.recording (made_by g s c) (made_by g s c ++ []) (begun_by g s c) (begun_by g s c ++ []) (medium old.disk) (medium new.disk) (sym (append-nil (made_by g s c))) (sym (append-nil (begun_by g s c))) (one.leaves s stands now fine);
+      leaves-same g s.recording (made_by g s c) (made_by g s c ++ []) (begun_by g s c) (begun_by g s c ++ [])
+      (medium old.disk) (medium new.disk) (sym (append-nil (made_by g s c))) (sym (append-nil (begun_by g s c)))
+      (one.leaves s stands now fine);
   looks = λ all now. one.looks (both (is_look c) true all).0 now;
   unmoved = λ all. one.unmoved (both (was_refused c) true all).0;
   geometry = one.geometry;
@@ -131,7 +149,8 @@ goes-once medium old new c one = record {
 }
 
 -- Calls, and calls behind them.
-pub goes-joined : {D : Type 0} (medium : D → Medium) (old mid new : Seen D) (xs ys : List Call) → Goes medium old mid xs → Goes medium mid new ys → Goes medium old new (xs ++ ys)
+pub goes-joined : {D : Type 0} (medium : D → Medium) (old mid new : Seen D) (xs ys : List Call)
+    → Goes medium old mid xs → Goes medium mid new ys → Goes medium old new (xs ++ ys)
 goes-joined {D} medium old mid new xs ys first second = record {
   one = first.one;
   answers = λ s told. each-behind (after_store_call g) (IsAnswered (Held medium old s) g) s xs ys (first.answers s told) (later s told);
@@ -142,9 +161,13 @@ goes-joined {D} medium old mid new xs ys first second = record {
       subst (λ (t : StoreState). Stands medium new t) (sym (after-behind (after_store_call g) s xs ys))
       (subst (λ (h : Geometry). Stands medium new (after_calls h (mid_state s) ys)) first.geometry (second.stands (mid_state s) (first.stands s stands)));
   leaves = λ s stands now fine.
-      leaves-same g s.recording (made_in g s xs ++ made_in g (mid_state s) ys) (made_in g s (xs ++ ys)) (begun_in g s xs ++ begun_in g (mid_state s) ys) (begun_in g s (xs ++ ys)) (medium old.disk) (medium new.disk)
-      (sym (told-behind (after_store_call g) (made_by g) s xs ys)) (sym (told-behind (after_store_call g) (begun_by g) s xs ys)) (go s stands now fine (mid_state s).must_reopen refl);
-  looks = λ all now. let k = all-both is_look xs ys all in stays_on (medium old.disk) (medium mid.disk) (medium new.disk) (first.looks k.0 now) (second.looks k.1 (first.called.honest.0 now));
+      leaves-same g s.recording (made_in g s xs ++ made_in g (mid_state s) ys) (made_in g s (xs ++ ys))
+      (begun_in g s xs ++ begun_in g (mid_state s) ys) (begun_in g s (xs ++ ys)) (medium old.disk) (medium new.disk)
+      (sym (told-behind (after_store_call g) (made_by g) s xs ys))
+      (sym (told-behind (after_store_call g) (begun_by g) s xs ys))
+      (go s stands now fine (mid_state s).must_reopen refl);
+  looks = λ all now. let k = all-both is_look xs ys all in stays_on (medium old.disk) (medium mid.disk)
+      (medium new.disk) (first.looks k.0 now) (second.looks k.1 (first.called.honest.0 now));
   unmoved = λ all. let k = all-both was_refused xs ys all in second.unmoved k.1 ∙ first.unmoved k.0;
   geometry = second.geometry ∙ first.geometry;
   called =
@@ -161,22 +184,39 @@ goes-joined {D} medium old mid new xs ys first second = record {
     later : (s : StoreState) → TellsState old s → AreAnswered (Held medium old s) g (mid_state s) ys
     later s told =
         are-answered-as (Held medium mid (mid_state s)) (Held medium old s) g (mid_state s) ys (λ held. (first.called.honest.0 held.0, first.stands s held.1))
-        (subst (λ (h : Geometry). AreAnswered (Held medium mid (mid_state s)) h (mid_state s) ys) first.geometry (second.answers (mid_state s) (first.tells s told)))
+        (subst (λ (h : Geometry). AreAnswered (Held medium mid (mid_state s)) h (mid_state s) ys) first.geometry
+        (second.answers (mid_state s) (first.tells s told)))
 
-    go : (s : StoreState) → Stands medium old s → (medium old.disk).honest → s.must_reopen ≡ false → (b : Bool) → (mid_state s).must_reopen ≡ b
-        → LeavesSteps g s.recording (made_in g s xs ++ made_in g (mid_state s) ys) (begun_in g s xs ++ begun_in g (mid_state s) ys) (medium old.disk) (medium new.disk)
+    go : (s : StoreState) → Stands medium old s → (medium old.disk).honest → s.must_reopen ≡ false → (b : Bool)
+        → (mid_state s).must_reopen ≡ b
+        → LeavesSteps g s.recording (made_in g s xs ++ made_in g (mid_state s) ys)
+        (begun_in g s xs ++ begun_in g (mid_state s) ys) (medium old.disk) (medium new.disk)
     go s stands now fine true must =
         let none = idle-all (Held medium old s) g (mid_state s) ys must (later s (told-of medium old s stands)) in
         let there = first.stands s stands in
         let same : new ≡ mid = idle medium mid new ys second (there.must_reopen ∙ must) in
-        subst (λ (t : Seen D). LeavesSteps g s.recording (made_in g s xs ++ made_in g (mid_state s) ys) (begun_in g s xs ++ begun_in g (mid_state s) ys) (medium old.disk) (medium t.disk)) (sym same)
-        (leaves-same g s.recording (made_in g s xs) (made_in g s xs ++ made_in g (mid_state s) ys) (begun_in g s xs) (begun_in g s xs ++ begun_in g (mid_state s) ys) (medium old.disk) (medium mid.disk)
-        (sym (ap (λ l. made_in g s xs ++ l) none.made ∙ append-nil (made_in g s xs))) (sym (ap (λ l. begun_in g s xs ++ l) none.begun ∙ append-nil (begun_in g s xs))) (first.leaves s stands now fine))
+        subst (λ (t : Seen D). LeavesSteps g s.recording (made_in g s xs ++ made_in g (mid_state s) ys)
+        (begun_in g s xs ++ begun_in g (mid_state s) ys) (medium old.disk) (medium t.disk)) (sym same)
+        (leaves-same g s.recording (made_in g s xs) (made_in g s xs ++ made_in g (mid_state s) ys) (begun_in g s xs)
+        (begun_in g s xs ++ begun_in g (mid_state s) ys) (medium old.disk) (medium mid.disk)
+        (sym (ap (λ l. made_in g s xs ++ l) none.made ∙ append-nil (made_in g s xs)))
+        (sym (ap (λ l. begun_in g s xs ++ l) none.begun ∙ append-nil (begun_in g s xs)))
+        (first.leaves s stands now fine))
     go s stands now fine false still =
         let none = (fine-all g s xs still).none in
-        let one : LeavesSteps g s.recording (made_in g s xs) [] (medium old.disk) (medium mid.disk) = subst (λ l. LeavesSteps g s.recording (made_in g s xs) l (medium old.disk) (medium mid.disk)) none (first.leaves s stands now fine) in
-        let two : LeavesSteps g (plain (ring_of g) s.recording (made_in g s xs)) (made_in g (mid_state s) ys) (begun_in g (mid_state s) ys) (medium mid.disk) (medium new.disk) =
-        subst (λ (r : Recording). LeavesSteps g r (made_in g (mid_state s) ys) (begun_in g (mid_state s) ys) (medium mid.disk) (medium new.disk)) (recording-after g s xs)
-        (subst (λ (h : Geometry). LeavesSteps h (mid_state s).recording (made_in h (mid_state s) ys) (begun_in h (mid_state s) ys) (medium mid.disk) (medium new.disk)) first.geometry (second.leaves (mid_state s) (first.stands s stands) (first.called.honest.0 now) still)) in
-        leaves-same g s.recording (made_in g s xs ++ made_in g (mid_state s) ys) (made_in g s xs ++ made_in g (mid_state s) ys) (begun_in g (mid_state s) ys) (begun_in g s xs ++ begun_in g (mid_state s) ys) (medium old.disk) (medium new.disk) refl
-        (sym (ap (λ l. l ++ begun_in g (mid_state s) ys) none)) (leaves-joined g s.recording (made_in g s xs) (made_in g (mid_state s) ys) (begun_in g (mid_state s) ys) (medium old.disk) (medium mid.disk) (medium new.disk) one two)
+        let one : LeavesSteps g s.recording (made_in g s xs) [] (medium old.disk) (medium mid.disk) =
+        subst (λ l. LeavesSteps g s.recording (made_in g s xs) l (medium old.disk) (medium mid.disk)) none
+        (first.leaves s stands now fine) in
+        let two : LeavesSteps g (plain (ring_of g) s.recording (made_in g s xs)) (made_in g (mid_state s) ys)
+        (begun_in g (mid_state s) ys) (medium mid.disk) (medium new.disk) =
+        subst (λ (r : Recording). LeavesSteps g r (made_in g (mid_state s) ys) (begun_in g (mid_state s) ys)
+        (medium mid.disk) (medium new.disk)) (recording-after g s xs)
+        (subst (λ (h : Geometry). LeavesSteps h (mid_state s).recording (made_in h (mid_state s) ys)
+        (begun_in h (mid_state s) ys) (medium mid.disk) (medium new.disk)) first.geometry
+        (second.leaves (mid_state s) (first.stands s stands) (first.called.honest.0 now) still)) in
+        leaves-same g s.recording (made_in g s xs ++ made_in g (mid_state s) ys)
+        (made_in g s xs ++ made_in g (mid_state s) ys) (begun_in g (mid_state s) ys)
+        (begun_in g s xs ++ begun_in g (mid_state s) ys) (medium old.disk) (medium new.disk) refl
+        (sym (ap (λ l. l ++ begun_in g (mid_state s) ys) none))
+        (leaves-joined g s.recording (made_in g s xs) (made_in g (mid_state s) ys) (begun_in g (mid_state s) ys)
+        (medium old.disk) (medium mid.disk) (medium new.disk) one two)

@@ -19,7 +19,8 @@ abbrev total : List Segment → ℕ
 total [] = 0
 total (s ∷ ss) = length s.slots + total ss
 
-heads-total : (slots : ℕ) (ps : List (Option Segment)) → length (numbers_under slots (map head_of ps)) ≡ total (open_segments ps)
+heads-total : (slots : ℕ) (ps : List (Option Segment)) → length (numbers_under slots (map head_of ps)) ≡ total
+    (open_segments ps)
 heads-total slots [] = refl
 heads-total slots (None ∷ ps) = heads-total slots ps
 heads-total slots (Some s ∷ ps) =
@@ -30,7 +31,8 @@ heads-total slots (Some s ∷ ps) =
 frames-total : (g : Geometry) (ss : List Segment) → length (all_frames g ss) ≡ total ss
 frames-total g [] = refl
 frames-total g (s ∷ ss) =
-    let count : length (frames_of g s) ≡ length s.slots = length-enumerate_from (s.block * g.slots) (map (λ t. t.picture) s.slots) ∙ length-map s.slots (λ t. t.picture) in
+    let count : length (frames_of g s) ≡ length s.slots = length-enumerate_from (s.block * g.slots)
+    (map (λ t. t.picture) s.slots) ∙ length-map s.slots (λ t. t.picture) in
     length-append (frames_of g s) (all_frames g ss) ∙ (λ i. count i + frames-total g ss i)
 
 swapped : (a b c d : ℕ) → d ≡ a + c → b + d ≡ a + (b + c)
@@ -40,7 +42,8 @@ total-in_place : (s : Segment) (ss : List Segment) → total (in_place s ss) ≡
 total-in_place s [] = refl
 total-in_place s (t ∷ ts) = go (leb s.block t.block) (total-in_place s ts)
   where
-    go : (c : Bool) → total (in_place s ts) ≡ length s.slots + total ts → total (cond c (s ∷ t ∷ ts) (t ∷ in_place s ts)) ≡ length s.slots + (length t.slots + total ts)
+    go : (c : Bool) → total (in_place s ts) ≡ length s.slots + total ts
+        → total (cond c (s ∷ t ∷ ts) (t ∷ in_place s ts)) ≡ length s.slots + (length t.slots + total ts)
     go true h = refl
     go false h = swapped (length s.slots) (length t.slots) (total ts) (total (in_place s ts)) h
 
@@ -49,7 +52,8 @@ total-by_block [] = refl
 total-by_block (s ∷ ss) = total-in_place s (by_block ss) ∙ ap (λ n. length s.slots + n) (total-by_block ss)
 
 -- the headers name as many numbers as the recording has frames
-pub count-held : (g : Geometry) (r : Recording) (image : List ℕ) → Holds g r image → length (numbers_under g.slots (heads_of g image)) ≡ length r.frames
+pub count-held : (g : Geometry) (r : Recording) (image : List ℕ) → Holds g r image
+    → length (numbers_under g.slots (heads_of g image)) ≡ length r.frames
 count-held g r image e =
     let ps = (parts_of g image).segments in
     let s = sorted g r image e in
@@ -59,7 +63,8 @@ count-held g r image e =
 
 -- ---- one header after another
 
-under-append : (slots : ℕ) (a b : List (Option SegmentHead)) → length (numbers_under slots (a ++ b)) ≡ length (numbers_under slots a) + length (numbers_under slots b)
+under-append : (slots : ℕ) (a b : List (Option SegmentHead)) → length (numbers_under slots (a ++ b)) ≡ length
+    (numbers_under slots a) + length (numbers_under slots b)
 under-append slots [] b = nothing (length (numbers_under slots b))
   where
     nothing : (n : ℕ) → n ≡ 0 + n
@@ -83,11 +88,16 @@ one-header slots head =
     nothing : (n : ℕ) → n + 0 ≡ n
     nothing n = omega arith
 
-pub count-more : (slots i count more : ℕ) (heads : List (Option SegmentHead)) → i < length heads → count ≡ length (numbers_under slots (take i heads)) → more ≡ length (numbers_under slots (get_or heads i None ∷ [])) → count + more ≡ length (numbers_under slots (take (i + 1) heads))
+pub count-more : (slots i count more : ℕ) (heads : List (Option SegmentHead)) → i < length heads
+    → count ≡ length (numbers_under slots (take i heads))
+    → more ≡ length (numbers_under slots (get_or heads i None ∷ []))
+    → count + more ≡ length (numbers_under slots (take (i + 1) heads))
 count-more slots i count more heads inside was one =
-    (λ k. was k + one k) ∙ sym (under-append slots (take i heads) (get_or heads i None ∷ [])) ∙ ap (λ (l : List (Option SegmentHead)). length (numbers_under slots l)) (sym (take_more heads i None inside))
+    (λ k. was k + one k) ∙ sym (under-append slots (take i heads) (get_or heads i None ∷ []))
+    ∙ ap (λ (l : List (Option SegmentHead)). length (numbers_under slots l)) (sym (take_more heads i None inside))
 
-pub fits-more : (i size count more : ℕ) → i < size → size ≤ 64 → count ≤ i * 4294967296 → more < 4294967296 → count + more < 18446744073709551616
+pub fits-more : (i size count more : ℕ) → i < size → size ≤ 64 → count ≤ i * 4294967296 → more < 4294967296
+    → count + more < 18446744073709551616
 fits-more i size count more inside few was one = omega arith
 
 pub few-more : (i count more : ℕ) → count ≤ i * 4294967296 → more < 4294967296 → count + more ≤ (i + 1) * 4294967296

@@ -29,14 +29,17 @@ use Rattle.loop_store.proofs.Same.{IsSame, count-same, formed-same, held-same, h
 pub stays-settled : (old new : Medium) → Stays old new → IsSettled old → IsSettled new
 stays-settled old new stays settled = λ c left. settled c (stays.images c left) ∙ sym stays.bytes
 
-looked-present : {A : Type 0} (index : Index A) (old new : Medium) → Stays old new → IsPresent index old → IsPresent index new
+looked-present : {A : Type 0} (index : Index A) (old new : Medium) → Stays old new → IsPresent index old
+    → IsPresent index new
 looked-present index old new stays present = record {
   recorded = subst (λ (image : List ℕ). IsRecovered index image) (sym stays.bytes) present.recorded;
   settled = stays-settled old new stays present.settled;
   unstray = subst (λ (image : List ℕ). HasNoneStray index.ring.geometry image) (sym stays.bytes) present.unstray;
 }
 
-pub looked-kept : {D A : Type 0} (medium : D → Medium) (old new : D) (index : Index A) (must_reopen : Bool) → IsKept medium old index must_reopen → (medium new).size ≡ (medium old).size → ((medium new).honest → (medium old).honest)
+pub looked-kept : {D A : Type 0} (medium : D → Medium) (old new : D) (index : Index A) (must_reopen : Bool)
+    → IsKept medium old index must_reopen → (medium new).size ≡ (medium old).size
+    → ((medium new).honest → (medium old).honest)
     → ((medium old).honest → Stays (medium old) (medium new)) → IsKept medium new index must_reopen
 looked-kept medium old new index must_reopen kept size back stays = record {
   fits = subst (IsFitting index) (sym size) kept.fits;
@@ -45,9 +48,18 @@ looked-kept medium old new index must_reopen kept size back stays = record {
 }
 
 pub looked-told : {D : Type 0} (old : Seen D) (disk : D) (r : Recording) → Tells old r → Tells (record old { disk = disk }) r
-looked-told old disk r told = record { formed = told.formed; next_is = told.next_is; numbers_are = told.numbers_are; count_is = told.count_is; clips_are = told.clips_are }
+looked-told old disk r told = record {
+  formed = told.formed;
+  next_is = told.next_is;
+  numbers_are = told.numbers_are;
+  count_is = told.count_is;
+  clips_are = told.clips_are;
+}
 
-pub looked-stands : {D : Type 0} (medium : D → Medium) (old : Seen D) (disk : D) (r : Recording) → StandsFor medium old r → ((medium disk).honest → (medium old.disk).honest) → ((medium old.disk).honest → Stays (medium old.disk) (medium disk)) → StandsFor medium (record old { disk = disk }) r
+pub looked-stands : {D : Type 0} (medium : D → Medium) (old : Seen D) (disk : D) (r : Recording)
+    → StandsFor medium old r → ((medium disk).honest → (medium old.disk).honest)
+    → ((medium old.disk).honest → Stays (medium old.disk) (medium disk))
+    → StandsFor medium (record old { disk = disk }) r
 looked-stands medium old disk r stands back stays = record {
   told = looked-told old disk r stands.told;
   settled = λ fine now. stays-settled (medium old.disk) (medium disk) (stays (back now)) (stands.settled fine (back now));
@@ -55,36 +67,49 @@ looked-stands medium old disk r stands back stays = record {
 }
 
 -- a number whose frame a segment has is held
-pub there-held : (g : Geometry) (r : Recording) (image : List ℕ) (heads : List (Option SegmentHead)) (j n : ℕ) → Holds g r image → heads ≡ heads_of g image → j < g.segments → has_number g.slots n (get_or heads j None) ≡ true → holds r n ≡ true
+pub there-held : (g : Geometry) (r : Recording) (image : List ℕ) (heads : List (Option SegmentHead)) (j n : ℕ)
+    → Holds g r image → heads ≡ heads_of g image → j < g.segments → has_number g.slots n (get_or heads j None) ≡ true
+    → holds r n ≡ true
 there-held g r image heads j n held same l has =
-    let at : has_number g.slots n (get_or (heads_of g image) j None) ≡ true = subst (λ (hs : List (Option SegmentHead)). has_number g.slots n (get_or hs j None) ≡ true) same has in
+    let at : has_number g.slots n (get_or (heads_of g image) j None) ≡ true =
+    subst (λ (hs : List (Option SegmentHead)). has_number g.slots n (get_or hs j None) ≡ true) same has in
     ap (λ (o : Option Picture). is_some o) (held-slot g r image j n held l at).held
 
 -- what a store tells is what its index says of an image
-pub told-by : {D A : Type 0} (disk : D) (index : Index A) (must_reopen : Bool) (r : Recording) (image : List ℕ) → 1 ≤ index.ring.geometry.slots → All (IsHeadIn index.ring.geometry) index.table.heads → IsIndexOf index r image
+pub told-by : {D A : Type 0} (disk : D) (index : Index A) (must_reopen : Bool) (r : Recording) (image : List ℕ)
+    → 1 ≤ index.ring.geometry.slots → All (IsHeadIn index.ring.geometry) index.table.heads → IsIndexOf index r image
     → Tells (seen_with disk index must_reopen) r
 told-by disk index must_reopen r image some within known = record {
   formed = reading-well_formed index.ring.geometry r image known.held;
   next_is = known.next_is;
-  numbers_are = λ n. among-under index.ring.geometry n index.table.heads some within ∙ ap (list_any (has_number index.ring.geometry.slots n)) known.heads_are ∙ held-number index.ring.geometry r image n known.held;
-  count_is = ap (λ (hs : List (Option SegmentHead)). length (numbers_under index.ring.geometry.slots hs)) known.heads_are ∙ count-held index.ring.geometry r image known.held;
+  numbers_are = λ n. among-under index.ring.geometry n index.table.heads some within
+      ∙ ap (list_any (has_number index.ring.geometry.slots n)) known.heads_are
+      ∙ held-number index.ring.geometry r image n known.held;
+  count_is = ap (λ (hs : List (Option SegmentHead)). length (numbers_under index.ring.geometry.slots hs))
+      known.heads_are ∙ count-held index.ring.geometry r image known.held;
   clips_are = known.clips_are;
 }
 
 -- what the store tells of the frames that are made up
-pub told-drawn : {D A : Type 0} (medium : D → Medium) (disk : D) (index : Index A) (must_reopen : Bool) → (kept : IsKept medium disk index must_reopen) → Tells (seen_with disk index must_reopen) kept.known.recording
+pub told-drawn : {D A : Type 0} (medium : D → Medium) (disk : D) (index : Index A) (must_reopen : Bool)
+    → (kept : IsKept medium disk index must_reopen) → Tells (seen_with disk index must_reopen) kept.known.recording
 told-drawn medium disk index must_reopen kept =
-    told-by disk index must_reopen kept.known.recording (drawn_image index.ring.geometry index.table.heads index.clips) (limits index.ring.geometry index.ring.good).slots.0 kept.fits.whole.within kept.known.known
+    told-by disk index must_reopen kept.known.recording
+    (drawn_image index.ring.geometry index.table.heads index.clips)
+    (limits index.ring.geometry index.ring.good).slots.0 kept.fits.whole.within kept.known.known
 
-pub one-kept : {D A : Type 0} (medium : D → Medium) (disk : D) (index : Index A) (must_reopen : Bool) → IsKept medium disk index must_reopen → TellsOne (seen_with disk index must_reopen)
+pub one-kept : {D A : Type 0} (medium : D → Medium) (disk : D) (index : Index A) (must_reopen : Bool)
+    → IsKept medium disk index must_reopen → TellsOne (seen_with disk index must_reopen)
 one-kept medium disk index must_reopen kept = (kept.known.recording, told-drawn medium disk index must_reopen kept)
 
-pub one-seen : {D A : Type 0} (medium : D → Medium) (disk : D) (index : Index A) (must_reopen : Bool) {s : Seen D} → IsKept medium disk index must_reopen → seen_with disk index must_reopen ≡ s → TellsOne s
+pub one-seen : {D A : Type 0} (medium : D → Medium) (disk : D) (index : Index A) (must_reopen : Bool) {s : Seen D}
+    → IsKept medium disk index must_reopen → seen_with disk index must_reopen ≡ s → TellsOne s
 one-seen medium disk index must_reopen kept is = subst TellsOne is (one-kept medium disk index must_reopen kept)
 
 -- each recording that it tells of has their numbers
 pub tells-same : {D : Type 0} (s : Seen D) (r t : Recording) → Tells s r → Tells s t → IsSame r t
-tells-same s r t a b = held-same r t a.formed b.formed (λ n. sym (a.numbers_are n) ∙ b.numbers_are n) (sym a.next_is ∙ b.next_is) (sym a.clips_are ∙ b.clips_are)
+tells-same s r t a b = held-same r t a.formed b.formed (λ n. sym (a.numbers_are n) ∙ b.numbers_are n)
+    (sym a.next_is ∙ b.next_is) (sym a.clips_are ∙ b.clips_are)
 
 pub same-tells : {D : Type 0} (s : Seen D) (r t : Recording) → Tells s r → IsSame r t → Tells s t
 same-tells s r t a same = record {
@@ -95,26 +120,39 @@ same-tells s r t a same = record {
   clips_are = a.clips_are ∙ same.clips;
 }
 
-pub alike-by : {D A : Type 0} (medium : D → Medium) (disk : D) (index : Index A) (must_reopen : Bool) (r : Recording) → (kept : IsKept medium disk index must_reopen) → Tells (seen_with disk index must_reopen) r → IsSame kept.known.recording r
-alike-by medium disk index must_reopen r kept told = tells-same (seen_with disk index must_reopen) kept.known.recording r (told-drawn medium disk index must_reopen kept) told
+pub alike-by : {D A : Type 0} (medium : D → Medium) (disk : D) (index : Index A) (must_reopen : Bool) (r : Recording)
+    → (kept : IsKept medium disk index must_reopen) → Tells (seen_with disk index must_reopen) r
+    → IsSame kept.known.recording r
+alike-by medium disk index must_reopen r kept told =
+    tells-same (seen_with disk index must_reopen) kept.known.recording r
+    (told-drawn medium disk index must_reopen kept) told
 
 -- a number whose frame a segment has is held by each of these
-pub there-alike : {D A : Type 0} (medium : D → Medium) (disk : D) (index : Index A) (must_reopen : Bool) (r : Recording) (n j : ℕ) → (kept : IsKept medium disk index must_reopen) → Tells (seen_with disk index must_reopen) r → j < index.ring.geometry.segments
+pub there-alike : {D A : Type 0} (medium : D → Medium) (disk : D) (index : Index A) (must_reopen : Bool)
+    (r : Recording) (n j : ℕ) → (kept : IsKept medium disk index must_reopen)
+    → Tells (seen_with disk index must_reopen) r → j < index.ring.geometry.segments
     → has_number index.ring.geometry.slots n (get_or index.table.heads j None) ≡ true → holds r n ≡ true
 there-alike medium disk index must_reopen r n j kept told l has =
     sym (holds-same kept.known.recording r n (alike-by medium disk index must_reopen r kept told))
-    ∙ there-held index.ring.geometry kept.known.recording (drawn_image index.ring.geometry index.table.heads index.clips) index.table.heads j n kept.known.known.held kept.known.known.heads_are l has
+    ∙ there-held index.ring.geometry kept.known.recording
+    (drawn_image index.ring.geometry index.table.heads index.clips) index.table.heads j n kept.known.known.held
+    kept.known.known.heads_are l has
 
 -- where the store needn't be reopened, its index says all of the recording that it stands for
-pub known-by : {D A : Type 0} (medium : D → Medium) (disk : D) (index : Index A) (must_reopen : Bool) (r : Recording) → IsKept medium disk index must_reopen → StandsFor medium (seen_with disk index must_reopen) r → must_reopen ≡ false → (medium disk).honest
+pub known-by : {D A : Type 0} (medium : D → Medium) (disk : D) (index : Index A) (must_reopen : Bool) (r : Recording)
+    → IsKept medium disk index must_reopen → StandsFor medium (seen_with disk index must_reopen) r
+    → must_reopen ≡ false → (medium disk).honest
     → IsIndexOf index r (medium disk).bytes
 known-by medium disk index must_reopen r kept stands fine now =
     let there = (kept.present fine now).recorded in
     let image = (medium disk).bytes in
-    subst (λ (t : Recording). IsIndexOf index t image) (one-recording index.ring.geometry there.recording r image there.known.held (stands.held fine now)) there.known
+    subst (λ (t : Recording). IsIndexOf index t image)
+    (one-recording index.ring.geometry there.recording r image there.known.held (stands.held fine now)) there.known
 
 -- after a failed call the index is as it was
-pub failed-kept : {D A : Type 0} (medium : D → Medium) (old new : D) (was now : Index A) (must : Bool) → IsKept medium old was must → now ≡ was → (medium new).size ≡ (medium old).size → ((medium new).honest → (medium old).honest) → IsKept medium new now true
+pub failed-kept : {D A : Type 0} (medium : D → Medium) (old new : D) (was now : Index A) (must : Bool)
+    → IsKept medium old was must → now ≡ was → (medium new).size ≡ (medium old).size
+    → ((medium new).honest → (medium old).honest) → IsKept medium new now true
 failed-kept medium old new was now must kept same size back = record {
   fits = subst (λ (i : Index _). IsFitting i (medium new).size) (sym same) (subst (IsFitting was) (sym size) kept.fits);
   known = subst (λ (i : Index _). IsRecovered i (drawn_image i.ring.geometry i.table.heads i.clips)) (sym same) kept.known;

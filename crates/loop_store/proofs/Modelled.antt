@@ -12,9 +12,11 @@ use Rattle.loop_store.specs.Steps.{if_answered, if_failed}
 use Rattle.loop_store.proofs.Checked.{must-answer}
 
 -- the recording after calls is the one after their steps
-pub recording-after : (g : Geometry) (s : StoreState) (calls : List Call) → (after_calls g s calls).recording ≡ plain (ring_of g) s.recording (made_in g s calls)
+pub recording-after : (g : Geometry) (s : StoreState) (calls : List Call) → (after_calls g s calls).recording ≡ plain
+    (ring_of g) s.recording (made_in g s calls)
 recording-after g s [] = refl
-recording-after g s (c ∷ calls) = recording-after g (after_store_call g s c) calls ∙ sym (plain-append (ring_of g) s.recording (made_by g s c) (made_in g (after_store_call g s c) calls))
+recording-after g s (c ∷ calls) = recording-after g (after_store_call g s c) calls
+    ∙ sym (plain-append (ring_of g) s.recording (made_by g s c) (made_in g (after_store_call g s c) calls))
 
 -- ---- what hasn't failed has begun nothing that it didn't make
 
@@ -37,7 +39,8 @@ pub record IsFine (g : Geometry) (s : StoreState) (calls : List Call) : Type 0 w
   pub before : s.must_reopen ≡ false
   pub none : begun_in g s calls ≡ []
 
-pub fine-all : (g : Geometry) (s : StoreState) (calls : List Call) → (after_calls g s calls).must_reopen ≡ false → IsFine g s calls
+pub fine-all : (g : Geometry) (s : StoreState) (calls : List Call) → (after_calls g s calls).must_reopen ≡ false
+    → IsFine g s calls
 fine-all g s [] fine = record { before = fine; none = refl }
 fine-all g s (c ∷ calls) fine =
     let rest = fine-all g (after_store_call g s c) calls fine in
@@ -52,12 +55,14 @@ pub record IsIdle (a b : List Step) : Type 0 where
   pub made : a ≡ []
   pub begun : b ≡ []
 
-idle-one : (H : Type 0) (g : Geometry) (s : StoreState) (c : Call) → s.must_reopen ≡ true → IsAnswered H g s c → IsIdle (made_by g s c) (begun_by g s c)
+idle-one : (H : Type 0) (g : Geometry) (s : StoreState) (c : Call) → s.must_reopen ≡ true → IsAnswered H g s c
+    → IsIdle (made_by g s c) (begun_by g s c)
 idle-one H g s c must said =
     let is = must-answer H g s c must said in
     record { made = ap (λ (o : Option StoreFault). if_answered o (steps_of g s c)) is; begun = ap (λ (o : Option StoreFault). if_failed o (steps_of g s c)) is }
 
-pub idle-all : (H : Type 0) (g : Geometry) (s : StoreState) (calls : List Call) → s.must_reopen ≡ true → AreAnswered H g s calls → IsIdle (made_in g s calls) (begun_in g s calls)
+pub idle-all : (H : Type 0) (g : Geometry) (s : StoreState) (calls : List Call) → s.must_reopen ≡ true
+    → AreAnswered H g s calls → IsIdle (made_in g s calls) (begun_in g s calls)
 idle-all H g s [] must said = record { made = refl; begun = refl }
 idle-all H g s (c ∷ calls) must said =
     let one = idle-one H g s c must said.0 in

@@ -25,7 +25,8 @@ use Rattle.loop_store.specs.Numbers.{is_among, numbers_under}
 use Rattle.loop_store.specs.Recovered.{IsHeadIn, IsIndexOf}
 use Rattle.loop_store.specs.Seen.{IsKept, StandsFor, Tells, seen_with}
 
-all-none : {X : Type 0} (f : ℕ → Option X) (lo n : ℕ) → ((j : ℕ) → j < lo + n → f j ≡ None) → map f (range_with_len lo n) ≡ replicate n None
+all-none : {X : Type 0} (f : ℕ → Option X) (lo n : ℕ) → ((j : ℕ) → j < lo + n → f j ≡ None)
+    → map f (range_with_len lo n) ≡ replicate n None
 all-none f lo zero none = refl
 all-none f lo (suc n) none = λ i. none lo (omega arith) i ∷ all-none f (lo + 1) n (λ j l. none j (omega (arith, l))) i
 
@@ -34,7 +35,12 @@ fresh-heads : (g : Geometry) (image : List ℕ) → IsFreshImage g image → hea
 fresh-heads g image fresh = all-none (λ j. header_at g image (segment_at g j)) 0 g.segments (λ j l. closed-head j (omega (arith, l)))
   where
     closed-head : (j : ℕ) → j < g.segments → header_at g image (segment_at g j) ≡ None
-    closed-head j l = λ i. cond (fresh.segments j l i) (Some (record { block = little_from (segment_at g j + 8) 8 image; frames = open_gates g.slots image (segment_at g j + 256) })) None
+    closed-head j l = λ i. cond (fresh.segments j l i)
+        (Some (record {
+          block = little_from (segment_at g j + 8) 8 image;
+          frames =
+              open_gates g.slots image (segment_at g j + 256);
+        })) None
 
 -- the index of what was just formatted
 pub record IsNew {A : Type 0} (index : Index A) (g : Geometry) : Type 0 where
@@ -44,7 +50,8 @@ pub record IsNew {A : Type 0} (index : Index A) (g : Geometry) : Type 0 where
   pub none : index.clips ≡ replicate 64 None
   pub counts : index.table.clips ≡ replicate g.segments 0
 
-fresh-known : {A : Type 0} (index : Index A) (g : Geometry) (image : List ℕ) → IsNew index g → IsTrue (is_good g) → IsFreshImage g image → IsIndexOf index empty image
+fresh-known : {A : Type 0} (index : Index A) (g : Geometry) (image : List ℕ) → IsNew index g → IsTrue (is_good g)
+    → IsFreshImage g image → IsIndexOf index empty image
 fresh-known index g image new good fresh = record {
   held = subst (λ (h : Geometry). Holds h empty image) (sym new.geometry) (reading-fresh g image good fresh);
   next_is = new.next;
@@ -53,7 +60,8 @@ fresh-known index g image new good fresh = record {
 }
 
 -- what it draws is the empty recording
-drawn-fresh : (g : Geometry) → IsTrue (is_good g) → IsFreshImage g (drawn_image g (replicate g.segments None) (replicate 64 None))
+drawn-fresh : (g : Geometry) → IsTrue (is_good g)
+    → IsFreshImage g (drawn_image g (replicate g.segments None) (replicate 64 None))
 drawn-fresh g good = record {
   size = drawn-length g (replicate g.segments None) (replicate 64 None);
   superblock = take_at (super_bytes g) _ 512 (super-length g);
@@ -61,13 +69,18 @@ drawn-fresh g good = record {
   segments = λ j l. closed-header g (replicate g.segments None) (replicate 64 None) j l (get_or-replicate g.segments j None None l);
 }
 
-drawn-new : {A : Type 0} (index : Index A) (g : Geometry) → IsNew index g → IsTrue (is_good g) → IsIndexOf index empty (drawn_image index.ring.geometry index.table.heads index.clips)
+drawn-new : {A : Type 0} (index : Index A) (g : Geometry) → IsNew index g → IsTrue (is_good g)
+    → IsIndexOf index empty (drawn_image index.ring.geometry index.table.heads index.clips)
 drawn-new index g new good =
-    known-drawn index g (replicate g.segments None) (replicate 64 None) empty good (let none : Option SegmentHead = None in length-replicate g.segments none) (All-replicate (IsHeadIn g) g.segments None tt) (reading-fresh g _ good (drawn-fresh g good))
+    known-drawn index g (replicate g.segments None) (replicate 64 None) empty good (let none : Option SegmentHead =
+    None in length-replicate g.segments none) (All-replicate (IsHeadIn g) g.segments None tt)
+    (reading-fresh g _ good (drawn-fresh g good))
     new.geometry new.closed new.none new.next refl
 
 -- the image of a disk that was formatted, with the memory of its store
-pub fresh-kept : {D A : Type 0} (medium : D → Medium) (g : Geometry) (disk : D) (index : Index A) → IsNew index g → IsTrue (is_good g) → (medium disk).size ≡ disk_size g → ((medium disk).honest → IsSettled (medium disk)) → ((medium disk).honest → IsFreshImage g (medium disk).bytes)
+pub fresh-kept : {D A : Type 0} (medium : D → Medium) (g : Geometry) (disk : D) (index : Index A) → IsNew index g
+    → IsTrue (is_good g) → (medium disk).size ≡ disk_size g → ((medium disk).honest → IsSettled (medium disk))
+    → ((medium disk).honest → IsFreshImage g (medium disk).bytes)
     → IsKept medium disk index false
 fresh-kept medium g disk index new good size settled fresh = record {
   fits = record {
@@ -76,14 +89,16 @@ fresh-kept medium g disk index new good size settled fresh = record {
       count = ap length new.closed ∙ length-replicate g.segments None ∙ ap (λ (h : Geometry). h.segments) (sym new.geometry);
       within = subst (All (IsHeadIn index.ring.geometry)) (sym new.closed) (All-replicate (IsHeadIn index.ring.geometry) g.segments None tt);
       few = omega (arith, new.next);
-      counted = new.counts ∙ counts-closed (ring_of index.ring.geometry) index.clips g.segments ∙ ap (clip_counts (ring_of index.ring.geometry) index.clips) (sym new.closed);
+      counted = new.counts ∙ counts-closed (ring_of index.ring.geometry) index.clips g.segments
+          ∙ ap (clip_counts (ring_of index.ring.geometry) index.clips) (sym new.closed);
     };
   };
   known = record { recording = empty; known = drawn-new index g new good };
   present = λ fine now. record {
     recorded = record { recording = empty; known = fresh-known index g (medium disk).bytes new good (fresh now) };
     settled = settled now;
-    unstray = subst (λ (h : Geometry). HasNoneStray h (medium disk).bytes) (sym new.geometry) (λ j l there. absurd (there (closed_none g (medium disk).bytes j ((fresh now).segments j l))));
+    unstray = subst (λ (h : Geometry). HasNoneStray h (medium disk).bytes) (sym new.geometry)
+        (λ j l there. absurd (there (closed_none g (medium disk).bytes j ((fresh now).segments j l))));
   };
 }
 
@@ -93,16 +108,20 @@ none-under slots zero = refl
 none-under slots (suc count) = none-under slots count
 
 -- what its store tells
-pub fresh-tells : {D A : Type 0} (g : Geometry) (disk : D) (index : Index A) → IsNew index g → Tells (seen_with disk index false) empty
+pub fresh-tells : {D A : Type 0} (g : Geometry) (disk : D) (index : Index A) → IsNew index g
+    → Tells (seen_with disk index false) empty
 fresh-tells g disk index new = record {
   formed = empty-well_formed;
   next_is = new.next;
-  numbers_are = λ n. ap (λ (ns : List ℕ). is_among ns n) (ap (numbers_under index.ring.geometry.slots) new.closed ∙ none-under index.ring.geometry.slots g.segments);
+  numbers_are = λ n. ap (λ (ns : List ℕ). is_among ns n) (ap (numbers_under index.ring.geometry.slots) new.closed
+      ∙ none-under index.ring.geometry.slots g.segments);
   count_is = ap length (ap (numbers_under index.ring.geometry.slots) new.closed ∙ none-under index.ring.geometry.slots g.segments);
   clips_are = new.none;
 }
 
-pub fresh-stands : {D A : Type 0} (medium : D → Medium) (g : Geometry) (disk : D) (index : Index A) → IsNew index g → IsTrue (is_good g) → ((medium disk).honest → IsSettled (medium disk)) → ((medium disk).honest → IsFreshImage g (medium disk).bytes)
+pub fresh-stands : {D A : Type 0} (medium : D → Medium) (g : Geometry) (disk : D) (index : Index A) → IsNew index g
+    → IsTrue (is_good g) → ((medium disk).honest → IsSettled (medium disk))
+    → ((medium disk).honest → IsFreshImage g (medium disk).bytes)
     → StandsFor medium (seen_with disk index false) empty
 fresh-stands medium g disk index new good settled fresh = record {
   told = fresh-tells g disk index new;

@@ -20,20 +20,25 @@ count_stored _ = 0
 none-more : (n : ℕ) → n ≡ n + 0
 none-more n = omega arith
 
-raised : (ring : Ring) (r : Recording) (group : List Picture) → (plain ring r (map store group)).next ≡ r.next + length group
+raised : (ring : Ring) (r : Recording) (group : List Picture)
+    → (plain ring r (map store group)).next ≡ r.next + length group
 raised ring r group = ap (λ (q : Recording). q.next) (plain-stores ring r group)
 
 -- the steps of an append raise it by the frames
-appended-raises : (ring : Ring) (r : Recording) (group : List Picture) → steps ring r group ≢ None → (plain ring r (steps_or_none (steps ring r group))).next ≡ r.next + length group
+appended-raises : (ring : Ring) (r : Recording) (group : List Picture) → steps ring r group ≢ None
+    → (plain ring r (steps_or_none (steps ring r group))).next ≡ r.next + length group
 appended-raises ring r group some = go (r.next == last_number ring) (needs_recycling ring r) (victim ring r) some
   where
-    go : (b n : Bool) (v : Option ℕ) → (if b then None else stores_after (recycling_first n v) group) ≢ None → (plain ring r (steps_or_none (if b then None else stores_after (recycling_first n v) group))).next ≡ r.next + length group
+    go : (b n : Bool) (v : Option ℕ) → (if b then None else stores_after (recycling_first n v) group) ≢ None
+        → (plain ring r (steps_or_none (if b then None else stores_after (recycling_first n v) group))).next ≡
+        r.next + length group
     go true n v some = absurd (some refl)
     go false false v some = raised ring r group
     go false true None some = absurd (some refl)
     go false true (Some b) some = raised ring (stepped ring r (recycle b)) group
 
-after-next : (H : Type 0) (g : Geometry) (s : StoreState) (c : Call) → IsAnswered H g s c → (after_store_call g s c).recording.next ≡ s.recording.next + count_stored c
+after-next : (H : Type 0) (g : Geometry) (s : StoreState) (c : Call) → IsAnswered H g s c
+    → (after_store_call g s c).recording.next ≡ s.recording.next + count_stored c
 after-next H g s (appended group (Ok number)) said = appended-raises (ring_of g) s.recording group (answered-some H g s group number said)
 after-next H g s (appended group (Err fault)) said = none-more s.recording.next
 after-next H g s (locked span (Ok id)) said = none-more s.recording.next
@@ -45,8 +50,10 @@ after-next H g s (was_read number (Err fault)) said = none-more s.recording.next
 after-next H g s (was_read_part number at (Ok bytes)) said = none-more s.recording.next
 after-next H g s (was_read_part number at (Err fault)) said = none-more s.recording.next
 
-pub next-one : {D : Type 0} {medium : D → Medium} (old new : Seen D) (c : Call) → Goes medium old new (c ∷ []) → new.next ≡ old.next + count_stored c
+pub next-one : {D : Type 0} {medium : D → Medium} (old new : Seen D) (c : Call) → Goes medium old new (c ∷ [])
+    → new.next ≡ old.next + count_stored c
 next-one old new c goes =
     let s = state-of old goes.one in
     let told = state-told old goes.one in
-    (goes.tells s told).recording.next_is ∙ after-next _ old.geometry s c (goes.answers s told).0 ∙ ap (λ (n : ℕ). n + count_stored c) (sym told.recording.next_is)
+    (goes.tells s told).recording.next_is ∙ after-next _ old.geometry s c (goes.answers s told).0
+    ∙ ap (λ (n : ℕ). n + count_stored c) (sym told.recording.next_is)

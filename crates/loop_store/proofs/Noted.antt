@@ -13,7 +13,8 @@ use Rattle.loop_store.specs.Recovered.{IsClipNoted, IsHeadIn, IsIndex}
 use Rattle.std.specs.List.{All}
 
 -- a segment with a frame of the block, once it has so many
-pub grown-head : (o : Option SegmentHead) (head : SegmentHead) → (is_of head.block o && has_frame o) ≡ true → grown head.frames o ≡ Some head
+pub grown-head : (o : Option SegmentHead) (head : SegmentHead) → (is_of head.block o && has_frame o) ≡ true
+    → grown head.frames o ≡ Some head
 grown-head None head there = absurd cc
 grown-head (Some h) head there =
     let t = both (eqb h.block head.block) (ltb 0 h.frames) there in
@@ -24,11 +25,13 @@ pub freed-same : (clips : List (Option Span)) (id : ℕ) → get_or clips id Non
 freed-same clips id free = ap (λ (c : Option Span). set clips id c) (sym free) ∙ set-get_or clips id None
 
 -- the index is one still
-pub clip-noted : {A : Type 0} (was now : Index A) (id : ℕ) (clip : Option Span) → IsClipNoted was now id clip → IsIndex was → IsIndex now
+pub clip-noted : {A : Type 0} (was now : Index A) (id : ℕ) (clip : Option Span) → IsClipNoted was now id clip
+    → IsIndex was → IsIndex now
 clip-noted was now id clip noted whole =
     let same : was.ring.geometry ≡ now.ring.geometry = ap (λ (x : LoopRing). x.geometry) (sym noted.ring) in record {
       count = ap length noted.heads ∙ whole.count ∙ ap (λ (h : Geometry). h.segments) same;
       within = subst (λ (h : Geometry). All (IsHeadIn h) now.table.heads) same (subst (All (IsHeadIn was.ring.geometry)) (sym noted.heads) whole.within);
-      few = subst (λ (h : Geometry). now.next ≤ last_number (ring_of h)) same (subst (λ (k : ℕ). k ≤ last_number (ring_of was.ring.geometry)) (sym noted.next) whole.few);
+      few = subst (λ (h : Geometry). now.next ≤ last_number (ring_of h)) same
+          (subst (λ (k : ℕ). k ≤ last_number (ring_of was.ring.geometry)) (sym noted.next) whole.few);
       counted = noted.counted ∙ (λ i. clip_counts (ring_of (same i)) now.clips (sym noted.heads i));
     }

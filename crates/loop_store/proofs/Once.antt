@@ -46,7 +46,8 @@ pub record IsQuiet (c : Call) : Type 0 where
   pub made_none : (g : Geometry) (s : StoreState) → made_by g s c ≡ []
   pub begun_none : (g : Geometry) (s : StoreState) → begun_by g s c ≡ []
 
-pub goes-refused : {D : Type 0} (medium : D → Medium) (s : Seen D) (c : Call) → TellsOne s → ((medium s.disk).honest → IsSound (medium s.disk)) → IsQuiet c
+pub goes-refused : {D : Type 0} (medium : D → Medium) (s : Seen D) (c : Call) → TellsOne s
+    → ((medium s.disk).honest → IsSound (medium s.disk)) → IsQuiet c
     → ((H : Type 0) (t : StoreState) → TellsState s t → IsAnswered H s.geometry t c) → Goes medium s s (c ∷ [])
 goes-refused {D} medium s c one sound quiet answers = goes-once medium s s c (record {
   one = one;
@@ -56,27 +57,36 @@ goes-refused {D} medium s c one sound quiet answers = goes-once medium s s c (re
     must_reopen = told.must_reopen ∙ sym (or-quiet t.must_reopen (has_failed c) quiet.unfailed);
   };
   stands = λ t stands. record {
-    recording = subst (λ (steps : List Step). StandsFor medium s (plain (ring_of s.geometry) t.recording steps)) (sym (quiet.made_none s.geometry t)) stands.recording;
+    recording = subst (λ (steps : List Step). StandsFor medium s (plain (ring_of s.geometry) t.recording steps))
+        (sym (quiet.made_none s.geometry t)) stands.recording;
     must_reopen = stands.must_reopen ∙ sym (or-quiet t.must_reopen (has_failed c) quiet.unfailed);
   };
   leaves = λ t stands now fine.
       let still : s.must_reopen ≡ false = stands.must_reopen ∙ fine in
-      leaves-same s.geometry t.recording [] (made_by s.geometry t c) [] (begun_by s.geometry t c) (medium s.disk) (medium s.disk) (sym (quiet.made_none s.geometry t)) (sym (quiet.begun_none s.geometry t))
+      leaves-same s.geometry t.recording [] (made_by s.geometry t c) [] (begun_by s.geometry t c) (medium s.disk)
+      (medium s.disk) (sym (quiet.made_none s.geometry t)) (sym (quiet.begun_none s.geometry t))
       (leaves-none s.geometry t.recording (medium s.disk) (sound now) (stands.recording.settled still now) (stands.recording.held still now));
   looks = λ look now. stays-still (medium s.disk);
   unmoved = λ early. refl;
   geometry = refl;
-  called = subst (λ (f : Option DiskFault). Called (medium s.disk) (medium s.disk) f) (sym quiet.none) (record { size = refl; honest = (λ h. h, λ h. h); failures = refl });
+  called = subst (λ (f : Option DiskFault). Called (medium s.disk) (medium s.disk) f) (sym quiet.none)
+      (record { size = refl; honest = (λ h. h, λ h. h); failures = refl });
 })
 
 -- where the store must be reopened, each call is refused so
-pub goes-must : {D : Type 0} (medium : D → Medium) (s : Seen D) (c : Call) → TellsOne s → ((medium s.disk).honest → IsSound (medium s.disk)) → s.must_reopen ≡ true → IsQuiet c → fault_answered c ≡ Some MustReopen → Goes medium s s (c ∷ [])
+pub goes-must : {D : Type 0} (medium : D → Medium) (s : Seen D) (c : Call) → TellsOne s
+    → ((medium s.disk).honest → IsSound (medium s.disk)) → s.must_reopen ≡ true → IsQuiet c
+    → fault_answered c ≡ Some MustReopen → Goes medium s s (c ∷ [])
 goes-must medium s c one sound must quiet is =
-    goes-refused medium s c one sound quiet (λ H t told. refused (first_of (checks s.geometry t c)) c (AnswersOtherwise H t.recording c) MustReopen (must-first s.geometry t c (sym told.must_reopen ∙ must)) is)
+    goes-refused medium s c one sound quiet
+    (λ H t told. refused (first_of (checks s.geometry t c)) c (AnswersOtherwise H t.recording c) MustReopen
+    (must-first s.geometry t c (sym told.must_reopen ∙ must)) is)
 
 -- ---- done
 
-done-leaves : (g : Geometry) (r : Recording) (steps : List Step) (old new : Medium) → LeavesOnly old new (HoldsSome g r steps) → IsSettled new → Holds g (plain (ring_of g) r steps) new.bytes → LeavesSteps g r steps [] old new
+done-leaves : (g : Geometry) (r : Recording) (steps : List Step) (old new : Medium)
+    → LeavesOnly old new (HoldsSome g r steps) → IsSettled new → Holds g (plain (ring_of g) r steps) new.bytes
+    → LeavesSteps g r steps [] old new
 done-leaves g r steps old new run settled held = record {
   moments = subst (λ (l : List Step). LeavesOnly old new (HoldsSome g r l)) (sym (append-nil steps)) run;
   now = λ c left. subst (λ (image : List ℕ). HoldsFrom g r (length steps) (steps ++ []) image) (sym (settled c left)) (holds-all g r steps [] new.bytes held);
@@ -95,28 +105,35 @@ pub record Done {D : Type 0} (medium : D → Medium) (old new : Seen D) (c : Cal
   pub made_all : (s : StoreState) → made_by old.geometry s c ≡ steps s.recording
   pub begun_none : (s : StoreState) → begun_by old.geometry s c ≡ []
   pub one : TellsOne old
-  pub answers : (s : StoreState) → TellsState old s → IsAnswered ((medium old.disk).honest × Stands medium old s) old.geometry s c
-  pub moments : (r : Recording) → StandsFor medium old r → (medium old.disk).honest → LeavesOnly (medium old.disk) (medium new.disk) (HoldsSome old.geometry r (steps r))
+  pub answers : (s : StoreState) → TellsState old s → IsAnswered ((medium old.disk).honest × Stands medium old s)
+      old.geometry s c
+  pub moments : (r : Recording) → StandsFor medium old r → (medium old.disk).honest → LeavesOnly (medium old.disk)
+      (medium new.disk) (HoldsSome old.geometry r (steps r))
   pub tells : (r : Recording) → Tells old r → Tells new (plain (ring_of old.geometry) r (steps r))
-  pub stands : (r : Recording) → StandsFor medium old r → StandsFor medium new (plain (ring_of old.geometry) r (steps r))
+  pub stands : (r : Recording) → StandsFor medium old r
+      → StandsFor medium new (plain (ring_of old.geometry) r (steps r))
 
-pub goes-done : {D : Type 0} (medium : D → Medium) (old new : Seen D) (c : Call) (steps : Recording → List Step) → Done medium old new c steps → Goes medium old new (c ∷ [])
+pub goes-done : {D : Type 0} (medium : D → Medium) (old new : Seen D) (c : Call) (steps : Recording → List Step)
+    → Done medium old new c steps → Goes medium old new (c ∷ [])
 goes-done {D} medium old new c steps done = goes-once medium old new c (record {
   one = done.one;
   answers = done.answers;
   tells = λ s told. record {
-    recording = subst (λ (l : List Step). Tells new (plain (ring_of old.geometry) s.recording l)) (sym (done.made_all s)) (done.tells s.recording told.recording);
+    recording = subst (λ (l : List Step). Tells new (plain (ring_of old.geometry) s.recording l))
+        (sym (done.made_all s)) (done.tells s.recording told.recording);
     must_reopen = done.still ∙ sym (or-quiet s.must_reopen (has_failed c) done.unfailed ∙ sym told.must_reopen ∙ done.fine);
   };
   stands = λ s stands. record {
-    recording = subst (λ (l : List Step). StandsFor medium new (plain (ring_of old.geometry) s.recording l)) (sym (done.made_all s)) (done.stands s.recording stands.recording);
+    recording = subst (λ (l : List Step). StandsFor medium new (plain (ring_of old.geometry) s.recording l))
+        (sym (done.made_all s)) (done.stands s.recording stands.recording);
     must_reopen = done.still ∙ sym (or-quiet s.must_reopen (has_failed c) done.unfailed ∙ sym stands.must_reopen ∙ done.fine);
   };
   leaves = λ s stands now fine.
       let r = s.recording in
       let later = done.stands r stands.recording in
       let there = done.called.honest.0 now in
-      leaves-same old.geometry r (steps r) (made_by old.geometry s c) [] (begun_by old.geometry s c) (medium old.disk) (medium new.disk) (sym (done.made_all s)) (sym (done.begun_none s))
+      leaves-same old.geometry r (steps r) (made_by old.geometry s c) [] (begun_by old.geometry s c) (medium old.disk)
+      (medium new.disk) (sym (done.made_all s)) (sym (done.begun_none s))
       (done-leaves old.geometry r (steps r) (medium old.disk) (medium new.disk) (done.moments r stands.recording now) (later.settled done.still there)
       (subst (λ (g : Geometry). Holds g (plain (ring_of old.geometry) r (steps r)) (medium new.disk).bytes) done.geometry (later.held done.still there)));
   looks = λ look now. absurd (clash (is_look c) look done.writes);
@@ -140,15 +157,19 @@ pub record Failed {D : Type 0} (medium : D → Medium) (old new : Seen D) (c : C
   pub made_none : (s : StoreState) → made_by old.geometry s c ≡ []
   pub begun_all : (s : StoreState) → begun_by old.geometry s c ≡ steps s.recording
   pub one : TellsOne old
-  pub answers : (s : StoreState) → TellsState old s → IsAnswered ((medium old.disk).honest × Stands medium old s) old.geometry s c
-  pub moments : (r : Recording) → StandsFor medium old r → (medium old.disk).honest → LeavesOnly (medium old.disk) (medium new.disk) (HoldsSome old.geometry r (steps r))
+  pub answers : (s : StoreState) → TellsState old s → IsAnswered ((medium old.disk).honest × Stands medium old s)
+      old.geometry s c
+  pub moments : (r : Recording) → StandsFor medium old r → (medium old.disk).honest → LeavesOnly (medium old.disk)
+      (medium new.disk) (HoldsSome old.geometry r (steps r))
 
-pub goes-failed : {D : Type 0} (medium : D → Medium) (old new : Seen D) (c : Call) (steps : Recording → List Step) (fault : DiskFault) → Failed medium old new c steps fault → Goes medium old new (c ∷ [])
+pub goes-failed : {D : Type 0} (medium : D → Medium) (old new : Seen D) (c : Call) (steps : Recording → List Step)
+    (fault : DiskFault) → Failed medium old new c steps fault → Goes medium old new (c ∷ [])
 goes-failed {D} medium old new c steps fault failed = goes-once medium old new c (record {
   one = failed.one;
   answers = failed.answers;
   tells = λ s told. record {
-    recording = subst (λ (l : List Step). Tells new (plain (ring_of old.geometry) s.recording l)) (sym (failed.made_none s)) (failed-told old new s.recording failed.failed told.recording);
+    recording = subst (λ (l : List Step). Tells new (plain (ring_of old.geometry) s.recording l))
+        (sym (failed.made_none s)) (failed-told old new s.recording failed.failed told.recording);
     must_reopen = ap (λ (x : Seen D). x.must_reopen) failed.failed ∙ sym (or-loud s.must_reopen (has_failed c) failed.has);
   };
   stands = λ s stands. record {
@@ -159,9 +180,12 @@ goes-failed {D} medium old new c steps fault failed = goes-once medium old new c
   };
   leaves = λ s stands now fine.
       let run = failed.moments s.recording stands.recording now in
-      leaves-same old.geometry s.recording [] (made_by old.geometry s c) (steps s.recording) (begun_by old.geometry s c) (medium old.disk) (medium new.disk) (sym (failed.made_none s)) (sym (failed.begun_all s)) (record {
+      leaves-same old.geometry s.recording [] (made_by old.geometry s c) (steps s.recording)
+      (begun_by old.geometry s c) (medium old.disk) (medium new.disk) (sym (failed.made_none s))
+      (sym (failed.begun_all s)) (record {
         moments = run;
-        now = each_now (medium old.disk) (medium new.disk) (HoldsSome old.geometry s.recording (steps s.recording)) (failed.sound (failed.called.honest.0 now)) run;
+        now = each_now (medium old.disk) (medium new.disk) (HoldsSome old.geometry s.recording (steps s.recording))
+            (failed.sound (failed.called.honest.0 now)) run;
       });
   looks = λ look now. absurd (clash (is_look c) look failed.writes);
   unmoved = λ early. absurd (clash (was_refused c) early failed.late);

@@ -26,7 +26,8 @@ use Rattle.loop_store.proofs.Regrown.{all-stand}
 
 -- ---- clips of which each number is held
 
-below : (g : Geometry) (fs : List Found) (n : ℕ) → 1 ≤ g.slots → AreIn g fs → list_any (found_number g n) fs ≡ true → n < 2 ^ 62
+below : (g : Geometry) (fs : List Found) (n : ℕ) → 1 ≤ g.slots → AreIn g fs → list_any (found_number g n) fs ≡ true
+    → n < 2 ^ 62
 below g [] n some within e = absurd cc
 below g (f ∷ fs) n some within e = go (found_number g n f) refl e (λ rest. below g fs n some within.1 rest)
   where
@@ -38,27 +39,33 @@ below g (f ∷ fs) n some within e = go (found_number g n f) refl e (λ rest. be
         let end : (f.block + 1) * g.slots ≤ 2 ^ 62 = not_below (2 ^ 62) ((f.block + 1) * g.slots) within.0.low in
         omega (arith, product, slot, end, within.0.few, div-add-mod' n g.slots, add-mul f.block 1 g.slots)
 
-    go : (t : Bool) → found_number g n f ≡ t → (t || list_any (found_number g n) fs) ≡ true → (list_any (found_number g n) fs ≡ true → n < 2 ^ 62) → n < 2 ^ 62
+    go : (t : Bool) → found_number g n f ≡ t → (t || list_any (found_number g n) fs) ≡ true
+        → (list_any (found_number g n) fs ≡ true → n < 2 ^ 62) → n < 2 ^ 62
     go true is e rest = here is
     go false is e rest = rest e
 
-fits-held : (g : Geometry) (fs : List Found) (c : Option Span) → 1 ≤ g.slots → AreIn g fs → lacks_number g fs c ≡ false → FitsEntry c
+fits-held : (g : Geometry) (fs : List Found) (c : Option Span) → 1 ≤ g.slots → AreIn g fs
+    → lacks_number g fs c ≡ false → FitsEntry c
 fits-held g fs None some within e = tt
 fits-held g fs (Some s) some within e =
     let k = neither (ltb s.to s.from) (not (list_all (λ n. list_any (found_number g n) fs) (range_with_len s.from (s.to + 1 - s.from)))) e in
     let order = not_below s.to s.from k.0 in
     let all = not_false (list_all (λ n. list_any (found_number g n) fs) (range_with_len s.from (s.to + 1 - s.from))) k.1 in
-    let top = below g fs s.to some within (all_range-each (λ n. list_any (found_number g n) fs) s.from (s.to + 1 - s.from) s.to all order (omega (arith, order))) in
+    let top = below g fs s.to some within (all_range-each (λ n. list_any (found_number g n) fs) s.from
+    (s.to + 1 - s.from) s.to all order (omega (arith, order))) in
     (omega (arith, order, top), omega (arith, top))
 
-fits-all : (g : Geometry) (fs : List Found) (clips : Clips) (id : ℕ) → 1 ≤ g.slots → AreIn g fs → list_any (lacks_number g fs) clips ≡ false → FitsEntry (get_or clips id None)
+fits-all : (g : Geometry) (fs : List Found) (clips : Clips) (id : ℕ) → 1 ≤ g.slots → AreIn g fs
+    → list_any (lacks_number g fs) clips ≡ false → FitsEntry (get_or clips id None)
 fits-all g fs [] id some within e = tt
 fits-all g fs (c ∷ clips) zero some within e = fits-held g fs c some within (neither (lacks_number g fs c) (list_any (lacks_number g fs) clips) e).0
 fits-all g fs (c ∷ clips) (suc id) some within e = fits-all g fs clips id some within (neither (lacks_number g fs c) (list_any (lacks_number g fs) clips) e).1
 
-clips-drawn : (g : Geometry) (heads : Heads) (clips : Clips) → length clips ≡ 64 → ((id : ℕ) → FitsEntry (get_or clips id None)) → clips_of (drawn_image g heads clips) ≡ clips
+clips-drawn : (g : Geometry) (heads : Heads) (clips : Clips) → length clips ≡ 64
+    → ((id : ℕ) → FitsEntry (get_or clips id None)) → clips_of (drawn_image g heads clips) ≡ clips
 clips-drawn g heads clips count fits =
-    map_range (clip_in (drawn_image g heads clips)) (λ id. get_or clips id None) 0 64 (λ id low high. clip-drawn g heads clips id (get_or clips id None) (omega (arith, high)) refl (fits id))
+    map_range (clip_in (drawn_image g heads clips)) (λ id. get_or clips id None) 0 64
+    (λ id low high. clip-drawn g heads clips id (get_or clips id None) (omega (arith, high)) refl (fits id))
     ∙ ap (λ (n : ℕ). map (λ id. get_or clips id None) (range_with_len 0 n)) (sym count) ∙ all-there clips
 
 -- ---- what was read
@@ -68,7 +75,8 @@ pub record IsChecked (g : Geometry) (heads : Heads) (clips : Clips) (fs xs : Lis
   pub good : IsTrue (is_good g)
   pub count : length heads ≡ g.segments
   pub stand : All (IsHeadIn g) heads
-  pub order : (image : List ℕ) → heads ≡ heads_of g image → segments_of g image fs ≡ by_block (open_segments (parts_of g image).segments)
+  pub order : (image : List ℕ) → heads ≡ heads_of g image → segments_of g image fs ≡ by_block
+      (open_segments (parts_of g image).segments)
   pub within : AreIn g fs
   pub same : xs ≡ fs
   pub single : (image : List ℕ) → repeats (segments_of g image xs) ≡ false
@@ -77,7 +85,9 @@ pub record IsChecked (g : Geometry) (heads : Heads) (clips : Clips) (fs xs : Lis
   pub held : list_any (lacks_number g xs) clips ≡ false
   pub next_is : (image : List ℕ) → next ≡ next_after g (segments_of g image xs)
 
-pub says-recording : {A : Type 0} (index : Index A) (g : Geometry) (heads : Heads) (clips : Clips) (fs xs : List Found) (next : ℕ) → IsOf index g heads clips next → IsChecked g heads clips fs xs next → SaysRecording index
+pub says-recording : {A : Type 0} (index : Index A) (g : Geometry) (heads : Heads) (clips : Clips)
+    (fs xs : List Found) (next : ℕ) → IsOf index g heads clips next → IsChecked g heads clips fs xs next
+    → SaysRecording index
 says-recording index g heads clips fs xs next is c =
     subst (λ (x : List ℕ). IsRecovered index x) (λ i. drawn_image (sym is.geometry i) (sym is.heads_are i) (sym is.clips_are i))
     (recovered index g image image image fs xs heads clips next is all refl right refl (sym clips_are, bad) (c.next_is image) (sym heads_are))
@@ -98,7 +108,14 @@ says-recording index g heads clips fs xs next is c =
     clips_are = clips-drawn g heads clips c.ids (λ id. fits-all g xs clips id some inside c.held)
 
     found : IsFoundIn g image fs xs
-    found = record { geometry = drawn-geometry g heads clips c.good; size = drawn-length g heads clips; are = c.order image (sym heads_are); within = c.within; same = c.same }
+    found = record {
+      geometry = drawn-geometry g heads clips c.good;
+      size = drawn-length g heads clips;
+      are =
+          c.order image (sym heads_are);
+      within = c.within;
+      same = c.same;
+    }
 
     all : AreFull g image fs xs
     all = record { found = found; single = c.single image; full = c.full image }

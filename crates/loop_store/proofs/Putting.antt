@@ -24,7 +24,8 @@ use Rattle.loop_store.proofs.Once.{goes-done, goes-failed, goes-refused}
 -- ---- the checks
 
 -- where the numbers are spent
-first-spent : (g : Geometry) (r : Recording) (ps : List Picture) (result : Result ℕ StoreFault) → r.next ≡ last_number (ring_of g) → first_of (checks_on g r (appended ps result)) ≡ Some NumbersSpent
+first-spent : (g : Geometry) (r : Recording) (ps : List Picture) (result : Result ℕ StoreFault)
+    → r.next ≡ last_number (ring_of g) → first_of (checks_on g r (appended ps result)) ≡ Some NumbersSpent
 first-spent g r ps result spent = failed (eqb r.next (last_number (ring_of g))) NumbersSpent _ (equal_test r.next (last_number (ring_of g)) spent)
 
 lacks : (recycles : Bool) (v : Option ℕ) → recycling_first recycles v ≡ None → (recycles && not (is_some v)) ≡ true
@@ -38,57 +39,81 @@ has true None e = absurd (e refl)
 has true (Some b) e = refl
 
 -- where a block has to go and none may
-first-locked : (g : Geometry) (r : Recording) (ps : List Picture) (result : Result ℕ StoreFault) → r.next ≢ last_number (ring_of g) → recycling_first (needs_recycling (ring_of g) r) (victim (ring_of g) r) ≡ None → first_of (checks_on g r (appended ps result)) ≡ Some AllLocked
+first-locked : (g : Geometry) (r : Recording) (ps : List Picture) (result : Result ℕ StoreFault)
+    → r.next ≢ last_number (ring_of g) → recycling_first (needs_recycling (ring_of g) r) (victim (ring_of g) r) ≡ None
+    → first_of (checks_on g r (appended ps result)) ≡ Some AllLocked
 first-locked g r ps result unspent none =
     passed (eqb r.next (last_number (ring_of g))) NumbersSpent _ (differ_test r.next (last_number (ring_of g)) unspent)
     ∙ failed (lacks_victim (ring_of g) r) AllLocked [] (lacks (needs_recycling (ring_of g) r) (victim (ring_of g) r) none)
 
 -- where there is a place
-first-none : (g : Geometry) (r : Recording) (ps : List Picture) (result : Result ℕ StoreFault) → r.next ≢ last_number (ring_of g) → recycling_first (needs_recycling (ring_of g) r) (victim (ring_of g) r) ≢ None → first_of (checks_on g r (appended ps result)) ≡ None
+first-none : (g : Geometry) (r : Recording) (ps : List Picture) (result : Result ℕ StoreFault)
+    → r.next ≢ last_number (ring_of g) → recycling_first (needs_recycling (ring_of g) r) (victim (ring_of g) r) ≢ None
+    → first_of (checks_on g r (appended ps result)) ≡ None
 first-none g r ps result unspent some =
     passed (eqb r.next (last_number (ring_of g))) NumbersSpent _ (differ_test r.next (last_number (ring_of g)) unspent)
     ∙ passed (lacks_victim (ring_of g) r) AllLocked [] (has (needs_recycling (ring_of g) r) (victim (ring_of g) r) some)
 
-some-first : (recycles : Bool) (v : Option ℕ) → (recycles && not (is_some v)) ≡ false → recycling_first recycles v ≢ None
+some-first : (recycles : Bool) (v : Option ℕ) → (recycles && not (is_some v)) ≡ false
+    → recycling_first recycles v ≢ None
 some-first false v e none = absurd cc
 some-first true None e none = absurd cc
 some-first true (Some b) e none = absurd cc
 
 -- a group that was appended has steps
-pub answered-some : (H : Type 0) (g : Geometry) (s : StoreState) (ps : List Picture) (number : ℕ) → IsAnswered H g s (appended ps (Ok number)) → steps (ring_of g) s.recording ps ≢ None
+pub answered-some : (H : Type 0) (g : Geometry) (s : StoreState) (ps : List Picture) (number : ℕ)
+    → IsAnswered H g s (appended ps (Ok number)) → steps (ring_of g) s.recording ps ≢ None
 answered-some H g s ps number said =
-    let none = (due-none (first_of (checks g s (appended ps (Ok number)))) (appended ps (Ok number)) (AnswersOtherwise H s.recording (appended ps (Ok number))) said refl).0 in
+    let none = (due-none (first_of (checks g s (appended ps (Ok number)))) (appended ps (Ok number))
+    (AnswersOtherwise H s.recording (appended ps (Ok number))) said refl).0 in
     let a = passes s.must_reopen MustReopen _ none in
     let b = passes (eqb s.recording.next (last_number (ring_of g))) NumbersSpent _ a.1 in
     let c = passes (lacks_victim (ring_of g) s.recording) AllLocked [] b.1 in
-    steps-some g s.recording ps (differ s.recording.next (last_number (ring_of g)) b.0) (some-first (needs_recycling (ring_of g) s.recording) (victim (ring_of g) s.recording) c.0)
+    steps-some g s.recording ps (differ s.recording.next (last_number (ring_of g)) b.0)
+    (some-first (needs_recycling (ring_of g) s.recording) (victim (ring_of g) s.recording) c.0)
 
 -- and its number is the next one
-pub answered-number : (H : Type 0) (g : Geometry) (s : StoreState) (ps : List Picture) (number : ℕ) → IsAnswered H g s (appended ps (Ok number)) → number ≡ s.recording.next
-answered-number H g s ps number said = (due-none (first_of (checks g s (appended ps (Ok number)))) (appended ps (Ok number)) (number ≡ s.recording.next) said refl).1
+pub answered-number : (H : Type 0) (g : Geometry) (s : StoreState) (ps : List Picture) (number : ℕ)
+    → IsAnswered H g s (appended ps (Ok number)) → number ≡ s.recording.next
+answered-number H g s ps number said =
+    (due-none (first_of (checks g s (appended ps (Ok number)))) (appended ps (Ok number))
+    (number ≡ s.recording.next) said refl).1
 
 -- and the store needn't be reopened
-pub answered-fine : (H : Type 0) (g : Geometry) (s : StoreState) (ps : List Picture) (number : ℕ) → IsAnswered H g s (appended ps (Ok number)) → s.must_reopen ≡ false
-answered-fine H g s ps number said = (passes s.must_reopen MustReopen _ (due-none (first_of (checks g s (appended ps (Ok number)))) (appended ps (Ok number)) (AnswersOtherwise H s.recording (appended ps (Ok number))) said refl).0).0
+pub answered-fine : (H : Type 0) (g : Geometry) (s : StoreState) (ps : List Picture) (number : ℕ)
+    → IsAnswered H g s (appended ps (Ok number)) → s.must_reopen ≡ false
+answered-fine H g s ps number said =
+    (passes s.must_reopen MustReopen _
+    (due-none (first_of (checks g s (appended ps (Ok number)))) (appended ps (Ok number))
+    (AnswersOtherwise H s.recording (appended ps (Ok number))) said refl).0).0
 
 -- and where a number is left, it is refused since no block may go, or the disk failed
-pub answered-refusal : (H : Type 0) (g : Geometry) (s : StoreState) (ps : List Picture) (fault : StoreFault) → s.must_reopen ≡ false → s.recording.next ≢ last_number (ring_of g) → IsAnswered H g s (appended ps (Err fault)) → (fault ≡ AllLocked) ⊎ (is_disk fault ≡ true)
-answered-refusal H g s ps fault fine unspent said = go (lacks_victim (ring_of g) s.recording) (subst (λ (o : Option StoreFault). AnswersDue o (appended ps (Err fault)) (is_write_fault fault ≡ true)) first said)
+pub answered-refusal : (H : Type 0) (g : Geometry) (s : StoreState) (ps : List Picture) (fault : StoreFault)
+    → s.must_reopen ≡ false → s.recording.next ≢ last_number (ring_of g) → IsAnswered H g s (appended ps (Err fault))
+    → (fault ≡ AllLocked) ⊎ (is_disk fault ≡ true)
+answered-refusal H g s ps fault fine unspent said = go (lacks_victim (ring_of g) s.recording)
+    (subst (λ (o : Option StoreFault). AnswersDue o (appended ps (Err fault)) (is_write_fault fault ≡ true)) first said)
   where
-    first : first_of (checks g s (appended ps (Err fault))) ≡ first_of (due (lacks_victim (ring_of g) s.recording) AllLocked ∷ [])
-    first = passed s.must_reopen MustReopen _ fine ∙ passed (eqb s.recording.next (last_number (ring_of g))) NumbersSpent _ (differ_test s.recording.next (last_number (ring_of g)) unspent)
+    first : first_of (checks g s (appended ps (Err fault))) ≡ first_of
+        (due (lacks_victim (ring_of g) s.recording) AllLocked ∷ [])
+    first = passed s.must_reopen MustReopen _ fine
+        ∙ passed (eqb s.recording.next (last_number (ring_of g))) NumbersSpent _
+        (differ_test s.recording.next (last_number (ring_of g)) unspent)
 
     same : (a b : StoreFault) → Some a ≡ Some b → a ≡ b
     same a b e = cc
 
-    go : (b : Bool) → AnswersDue (first_of (due b AllLocked ∷ [])) (appended ps (Err fault)) (is_write_fault fault ≡ true) → (fault ≡ AllLocked) ⊎ (is_disk fault ≡ true)
+    go : (b : Bool) → AnswersDue (first_of (due b AllLocked ∷ [])) (appended ps (Err fault))
+        (is_write_fault fault ≡ true) → (fault ≡ AllLocked) ⊎ (is_disk fault ≡ true)
     go true is = inl (same fault AllLocked is)
     go false is = inr (write-disk fault is)
 
 -- ---- refused before the disk was called
 
 -- where there is no place
-pub place-refused : {D : Type 0} (medium : D → Medium) (s : Seen D) (ps : List Picture) (fault : StoreFault) → TellsOne s → ((medium s.disk).honest → IsSound (medium s.disk)) → s.must_reopen ≡ false → (fault ≡ NumbersSpent) ⊎ (fault ≡ AllLocked)
+pub place-refused : {D : Type 0} (medium : D → Medium) (s : Seen D) (ps : List Picture) (fault : StoreFault)
+    → TellsOne s → ((medium s.disk).honest → IsSound (medium s.disk)) → s.must_reopen ≡ false → (fault ≡ NumbersSpent)
+    ⊎ (fault ≡ AllLocked)
     → ((r : Recording) → Tells s r → RefusesPlace s.geometry r fault) → Goes medium s s (appended ps (Err fault) ∷ [])
 place-refused {D} medium s ps fault one sound fine either known = goes-refused medium s (appended ps (Err fault)) one sound (record {
   early = early either;
@@ -113,9 +138,12 @@ place-refused {D} medium s ps fault one sound fine either known = goes-refused m
     none (inl e) = ap failed_by e
     none (inr e) = ap failed_by e
 
-    refuses : (H : Type 0) (t : StoreState) → t.must_reopen ≡ false → RefusesPlace s.geometry t.recording fault → IsAnswered H s.geometry t call
-    refuses H t still (inl x) = answer-due H s.geometry t call NumbersSpent still (first-spent s.geometry t.recording ps (Err fault) x.1) (ap (λ (f : StoreFault). Some f) x.0)
-    refuses H t still (inr x) = answer-due H s.geometry t call AllLocked still (first-locked s.geometry t.recording ps (Err fault) x.1.0 x.1.1) (ap (λ (f : StoreFault). Some f) x.0)
+    refuses : (H : Type 0) (t : StoreState) → t.must_reopen ≡ false → RefusesPlace s.geometry t.recording fault
+        → IsAnswered H s.geometry t call
+    refuses H t still (inl x) = answer-due H s.geometry t call NumbersSpent still
+        (first-spent s.geometry t.recording ps (Err fault) x.1) (ap (λ (f : StoreFault). Some f) x.0)
+    refuses H t still (inr x) = answer-due H s.geometry t call AllLocked still
+        (first-locked s.geometry t.recording ps (Err fault) x.1.0 x.1.1) (ap (λ (f : StoreFault). Some f) x.0)
 
     answers : (H : Type 0) (t : StoreState) → TellsState s t → IsAnswered H s.geometry t call
     answers H t told = refuses H t (sym told.must_reopen ∙ fine) (known t.recording told.recording)
@@ -127,7 +155,9 @@ pub record HasPlace (g : Geometry) (r : Recording) : Type 0 where
   pub unspent : r.next ≢ last_number (ring_of g)
   pub some : recycling_first (needs_recycling (ring_of g) r) (victim (ring_of g) r) ≢ None
 
-placed : (H : Type 0) (g : Geometry) (s : StoreState) (ps : List Picture) (result : Result ℕ StoreFault) → s.must_reopen ≡ false → HasPlace g s.recording → AnswersOtherwise H s.recording (appended ps result) → IsAnswered H g s (appended ps result)
+placed : (H : Type 0) (g : Geometry) (s : StoreState) (ps : List Picture) (result : Result ℕ StoreFault)
+    → s.must_reopen ≡ false → HasPlace g s.recording → AnswersOtherwise H s.recording (appended ps result)
+    → IsAnswered H g s (appended ps result)
 placed H g s ps result fine place is = answer-given H g s (appended ps result) fine (first-none g s.recording ps result place.unspent place.some) is
 
 -- what is known where the frames were stored
@@ -139,10 +169,13 @@ pub record Stored {D : Type 0} (medium : D → Medium) (old new : Seen D) (ps : 
   pub called : Called (medium old.disk) (medium new.disk) None
   pub place : (r : Recording) → Tells old r → HasPlace old.geometry r
   pub tells : (r : Recording) → Tells old r → Tells new (plain (ring_of old.geometry) r (steps_asked old.geometry r ps))
-  pub moments : (r : Recording) → StandsFor medium old r → (medium old.disk).honest → LeavesOnly (medium old.disk) (medium new.disk) (HoldsSome old.geometry r (steps_asked old.geometry r ps))
-  pub stands : (r : Recording) → StandsFor medium old r → StandsFor medium new (plain (ring_of old.geometry) r (steps_asked old.geometry r ps))
+  pub moments : (r : Recording) → StandsFor medium old r → (medium old.disk).honest → LeavesOnly (medium old.disk)
+      (medium new.disk) (HoldsSome old.geometry r (steps_asked old.geometry r ps))
+  pub stands : (r : Recording) → StandsFor medium old r
+      → StandsFor medium new (plain (ring_of old.geometry) r (steps_asked old.geometry r ps))
 
-pub put-stored : {D : Type 0} (medium : D → Medium) (old new : Seen D) (ps : List Picture) → Stored medium old new ps → Goes medium old new (appended ps (Ok old.next) ∷ [])
+pub put-stored : {D : Type 0} (medium : D → Medium) (old new : Seen D) (ps : List Picture) → Stored medium old new ps
+    → Goes medium old new (appended ps (Ok old.next) ∷ [])
 put-stored medium old new ps stored = goes-done medium old new (appended ps (Ok old.next)) (λ r. steps_asked old.geometry r ps) (record {
   writes = refl;
   late = refl;
@@ -155,7 +188,8 @@ put-stored medium old new ps stored = goes-done medium old new (appended ps (Ok 
   none = refl;
   made_all = λ s. refl;
   begun_none = λ s. refl;
-  answers = λ s told. placed ((medium old.disk).honest × Stands medium old s) old.geometry s ps (Ok old.next) (sym told.must_reopen ∙ stored.fine) (stored.place s.recording told.recording) told.recording.next_is;
+  answers = λ s told. placed ((medium old.disk).honest × Stands medium old s) old.geometry s ps (Ok old.next)
+      (sym told.must_reopen ∙ stored.fine) (stored.place s.recording told.recording) told.recording.next_is;
   moments = stored.moments;
   tells = stored.tells;
   stands = stored.stands;
@@ -172,9 +206,11 @@ pub record Failed {D : Type 0} (medium : D → Medium) (old new : Seen D) (ps : 
   pub called : Called (medium old.disk) (medium new.disk) (Some fault)
   pub sound : (medium new.disk).honest → IsSound (medium new.disk)
   pub place : (r : Recording) → Tells old r → HasPlace old.geometry r
-  pub moments : (r : Recording) → StandsFor medium old r → (medium old.disk).honest → LeavesOnly (medium old.disk) (medium new.disk) (HoldsSome old.geometry r (steps_asked old.geometry r ps))
+  pub moments : (r : Recording) → StandsFor medium old r → (medium old.disk).honest → LeavesOnly (medium old.disk)
+      (medium new.disk) (HoldsSome old.geometry r (steps_asked old.geometry r ps))
 
-pub put-failed : {D : Type 0} (medium : D → Medium) (old new : Seen D) (ps : List Picture) (fault : DiskFault) → Failed medium old new ps fault → Goes medium old new (appended ps (Err (Disk fault)) ∷ [])
+pub put-failed : {D : Type 0} (medium : D → Medium) (old new : Seen D) (ps : List Picture) (fault : DiskFault)
+    → Failed medium old new ps fault → Goes medium old new (appended ps (Err (Disk fault)) ∷ [])
 put-failed medium old new ps fault failed = goes-failed medium old new (appended ps (Err (Disk fault))) (λ r. steps_asked old.geometry r ps) fault (record {
   writes = refl;
   late = refl;
@@ -187,7 +223,8 @@ put-failed medium old new ps fault failed = goes-failed medium old new (appended
   some = refl;
   made_none = λ s. refl;
   begun_all = λ s. refl;
-  answers = λ s told. placed ((medium old.disk).honest × Stands medium old s) old.geometry s ps (Err (Disk fault)) (sym told.must_reopen ∙ failed.fine) (failed.place s.recording told.recording) failed.writes;
+  answers = λ s told. placed ((medium old.disk).honest × Stands medium old s) old.geometry s ps (Err (Disk fault))
+      (sym told.must_reopen ∙ failed.fine) (failed.place s.recording told.recording) failed.writes;
   moments = failed.moments;
 })
 

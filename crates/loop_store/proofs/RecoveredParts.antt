@@ -36,7 +36,9 @@ use Rattle.loop_store.specs.Recovered.{Finds, IsHeadIn, Recovers, clips_of, refu
 -- ---- refusals
 
 -- what was found where this was refused
-pub finds-err : {T : Type 0} (r : Result T StoreFault) (e : StoreFault) (P : T → Type 0) (Q : LayoutFault → Type 0) (old new : Medium) → (old.honest → Recovers (let s : Result T StoreFault = Err e in s) P Q) → (old.honest → Stays old new) → Called old new (failed_by e)
+pub finds-err : {T : Type 0} (r : Result T StoreFault) (e : StoreFault) (P : T → Type 0) (Q : LayoutFault → Type 0)
+    (old new : Medium) → (old.honest → Recovers (let s : Result T StoreFault = Err e in s) P Q)
+    → (old.honest → Stays old new) → Called old new (failed_by e)
     → IsErrAnd r (λ made. made ≡ e) → Finds P Q old new r
 finds-err (Ok x) e P Q old new said stays called made = absurd made
 finds-err (Err x) e P Q old new said stays called made = record {
@@ -46,19 +48,25 @@ finds-err (Err x) e P Q old new said stays called made = record {
 }
 
 -- a refusal of the layout is answered as it is
-recovers-refusal : {T : Type 0} (fault : LayoutFault) (P : T → Type 0) (Q : LayoutFault → Type 0) → Q fault → Recovers (let s : Result T StoreFault = Err (refusal fault) in s) P Q
+recovers-refusal : {T : Type 0} (fault : LayoutFault) (P : T → Type 0) (Q : LayoutFault → Type 0) → Q fault
+    → Recovers (let s : Result T StoreFault = Err (refusal fault) in s) P Q
 recovers-refusal LayoutFault.NotFormatted P Q q = q
 recovers-refusal (LayoutFault.Damaged d) P Q q = q
 
-refusal-called : (fault : LayoutFault) (old new : Medium) → Called old new None → Called old new (failed_by (refusal fault))
+refusal-called : (fault : LayoutFault) (old new : Medium) → Called old new None
+    → Called old new (failed_by (refusal fault))
 refusal-called LayoutFault.NotFormatted old new called = called
 refusal-called (LayoutFault.Damaged d) old new called = called
 
-pub finds-refusal : {T : Type 0} (r : Result T StoreFault) (fault : LayoutFault) (P : T → Type 0) (Q : LayoutFault → Type 0) (old new : Medium) → (old.honest → Q fault) → (old.honest → Stays old new) → Called old new None → IsErrAnd r (λ made. made ≡ refusal fault) → Finds P Q old new r
-finds-refusal r fault P Q old new q stays called made = finds-err r (refusal fault) P Q old new (λ honest. recovers-refusal fault P Q (q honest)) stays (refusal-called fault old new called) made
+pub finds-refusal : {T : Type 0} (r : Result T StoreFault) (fault : LayoutFault) (P : T → Type 0)
+    (Q : LayoutFault → Type 0) (old new : Medium) → (old.honest → Q fault) → (old.honest → Stays old new)
+    → Called old new None → IsErrAnd r (λ made. made ≡ refusal fault) → Finds P Q old new r
+finds-refusal r fault P Q old new q stays called made = finds-err r (refusal fault) P Q old new
+    (λ honest. recovers-refusal fault P Q (q honest)) stays (refusal-called fault old new called) made
 
 -- what a callee refused
-recovers-as : {T U : Type 0} (e : StoreFault) (P : T → Type 0) (P' : U → Type 0) (Q Q' : LayoutFault → Type 0) → ((f : LayoutFault) → Q f → Q' f)
+recovers-as : {T U : Type 0} (e : StoreFault) (P : T → Type 0) (P' : U → Type 0) (Q Q' : LayoutFault → Type 0)
+    → ((f : LayoutFault) → Q f → Q' f)
     → Recovers (let s : Result T StoreFault = Err e in s) P Q → Recovers (let s : Result U StoreFault = Err e in s) P' Q'
 recovers-as StoreFault.NoMemory P P' Q Q' h said = tt
 recovers-as (StoreFault.Disk fault) P P' Q Q' h said = tt
@@ -79,14 +87,18 @@ recovers-as StoreFault.HandFull P P' Q Q' h said = absurd said
 recovers-as StoreFault.HandEmpty P P' Q Q' h said = absurd said
 
 -- what was found where a callee refused, after reads
-pub finds-on : {T U : Type 0} (r : Result U StoreFault) (e : StoreFault) (P : T → Type 0) (P' : U → Type 0) (Q Q' : LayoutFault → Type 0) (old mid new : Medium) → (old.honest → (f : LayoutFault) → Q f → Q' f) → (old.honest → Stays old mid) → Called old mid None
+pub finds-on : {T U : Type 0} (r : Result U StoreFault) (e : StoreFault) (P : T → Type 0) (P' : U → Type 0)
+    (Q Q' : LayoutFault → Type 0) (old mid new : Medium) → (old.honest → (f : LayoutFault) → Q f → Q' f)
+    → (old.honest → Stays old mid) → Called old mid None
     → IsErrAnd r (λ made. made ≡ e) → Finds P Q mid new (let s : Result T StoreFault = Err e in s) → Finds P' Q' old new r
 finds-on {T} {U} r e P P' Q Q' old mid new h stays called made inner =
     finds-err r e P' Q' old new (λ honest. recovers-as {T = T} {U = U} e P P' Q Q' (h honest) (inner.found (called.honest.0 honest)))
     (λ honest. stays_on old mid new (stays honest) (inner.stays (called.honest.0 honest))) (called_on old mid new (failed_by e) called inner.called) made
 
 -- what was found after reads, of the bytes from before them
-pub finds-after : {T : Type 0} (r : Result T StoreFault) (P : List ℕ → T → Type 0) (Q : List ℕ → LayoutFault → Type 0) (old mid new : Medium) → (old.honest → Stays old mid) → Called old mid None → Finds (P mid.bytes) (Q mid.bytes) mid new r → Finds (P old.bytes) (Q old.bytes) old new r
+pub finds-after : {T : Type 0} (r : Result T StoreFault) (P : List ℕ → T → Type 0) (Q : List ℕ → LayoutFault → Type 0)
+    (old mid new : Medium) → (old.honest → Stays old mid) → Called old mid None
+    → Finds (P mid.bytes) (Q mid.bytes) mid new r → Finds (P old.bytes) (Q old.bytes) old new r
 finds-after r P Q old mid new stays called inner = record {
   found = λ honest. subst (λ (image : List ℕ). Recovers r (P image) (Q image)) (stays honest).bytes (inner.found (called.honest.0 honest));
   stays = λ honest. stays_on old mid new (stays honest) (inner.stays (called.honest.0 honest));
@@ -96,16 +108,20 @@ finds-after r P Q old mid new stays called inner = record {
 -- ---- the superblock
 
 -- what is decoded from the first 512 bytes is what the image says
-pub geometry-read : (image bytes : List ℕ) (said : Result Geometry LayoutFault) → 512 ≤ length image → bytes ≡ piece 0 512 image → said ≡ geometry_in bytes → said ≡ geometry_in image
+pub geometry-read : (image bytes : List ℕ) (said : Result Geometry LayoutFault) → 512 ≤ length image
+    → bytes ≡ piece 0 512 image → said ≡ geometry_in bytes → said ≡ geometry_in image
 geometry-read image bytes said room read is = is ∙ ap geometry_in read ∙ geometry_in-slice image room
 
-pub refused-read : (image bytes : List ℕ) (fault : LayoutFault) → 512 ≤ length image → bytes ≡ piece 0 512 image → (let r : Result Geometry LayoutFault = Err fault in r) ≡ geometry_in bytes → reading image ≡ Err fault
+pub refused-read : (image bytes : List ℕ) (fault : LayoutFault) → 512 ≤ length image → bytes ≡ piece 0 512 image
+    → (let r : Result Geometry LayoutFault = Err fault in r) ≡ geometry_in bytes → reading image ≡ Err fault
 refused-read image bytes fault room read is = reading-no_geometry image fault (geometry-read image bytes (Err fault) room read is)
 
 -- ---- headers
 
 -- what is decoded from a read of a header is what the image says
-pub head-read : (g : Geometry) (j at : ℕ) (image bytes : List ℕ) (said : Result (Option SegmentHead) Damage) → IsTrue (is_good g) → at ≡ segment_at g j → bytes ≡ piece at 512 image → said ≡ checked_header g (header_at g bytes 0)
+pub head-read : (g : Geometry) (j at : ℕ) (image bytes : List ℕ) (said : Result (Option SegmentHead) Damage)
+    → IsTrue (is_good g) → at ≡ segment_at g j → bytes ≡ piece at 512 image
+    → said ≡ checked_header g (header_at g bytes 0)
     → said ≡ checked_header g (header_at g image (segment_at g j))
 head-read g j at image bytes said good at_is read is =
     let count : 512 ≡ at + 512 - at = omega arith in
@@ -125,7 +141,9 @@ head-same g said (Some h) e = go (is_too_high g h.block) e
     go false e = cc
 
 -- and has no more frames than there are slots, and no block that is too high
-pub head-in : (g : Geometry) (bytes : List ℕ) (at : ℕ) (said : Option SegmentHead) → (let r : Result (Option SegmentHead) Damage = Ok said in r) ≡ checked_header g (header_at g bytes at) → IsHeadIn g said
+pub head-in : (g : Geometry) (bytes : List ℕ) (at : ℕ) (said : Option SegmentHead)
+    → (let r : Result (Option SegmentHead) Damage = Ok said in r) ≡ checked_header g (header_at g bytes at)
+    → IsHeadIn g said
 head-in g bytes at said e = gate (is_open bytes at) e
   where
     there : SegmentHead
@@ -134,7 +152,8 @@ head-in g bytes at said e = gate (is_open bytes at) e
     ok : Option SegmentHead → Result (Option SegmentHead) Damage
     ok x = Ok x
 
-    low : (t : Bool) → is_too_high g there.block ≡ t → ok said ≡ cond t (Err Damage.BlockTooHigh) (ok (Some there)) → IsHeadIn g said
+    low : (t : Bool) → is_too_high g there.block ≡ t → ok said ≡ cond t (Err Damage.BlockTooHigh) (ok (Some there))
+        → IsHeadIn g said
     low true up e = absurd cc
     low false up e =
         let same : said ≡ Some there = cc in
@@ -147,23 +166,28 @@ head-in g bytes at said e = gate (is_open bytes at) e
         subst (IsHeadIn g) (sym same) tt
 
 -- a header that is refused has a block that is too high
-pub head-high : (g : Geometry) (image : List ℕ) (j : ℕ) (d : Damage) → (let r : Result (Option SegmentHead) Damage = Err d in r) ≡ checked_header g (header_at g image (segment_at g j))
+pub head-high : (g : Geometry) (image : List ℕ) (j : ℕ) (d : Damage)
+    → (let r : Result (Option SegmentHead) Damage = Err d in r) ≡ checked_header g (header_at g image (segment_at g j))
     → (LayoutFault.Damaged d ≡ LayoutFault.Damaged Damage.BlockTooHigh) × IsSomeHigh g (segment_in g image j)
 head-high g image j d e =
     let k = found-high g image j d (ap (found_of j) e) in
     (ap (λ (x : Damage). LayoutFault.Damaged x) k.0, k.1)
 
 -- one more header that was read
-pub heads-more : (g : Geometry) (image mid : List ℕ) (n : ℕ) (said : Option SegmentHead) (heads new : List (Option SegmentHead)) → mid ≡ image → said ≡ header_at g mid (segment_at g n) → heads ≡ map (λ j. header_at g image (segment_at g j)) (range_with_len 0 n) → new ≡ heads ++ said ∷ []
+pub heads-more : (g : Geometry) (image mid : List ℕ) (n : ℕ) (said : Option SegmentHead)
+    (heads new : List (Option SegmentHead)) → mid ≡ image → said ≡ header_at g mid (segment_at g n)
+    → heads ≡ map (λ j. header_at g image (segment_at g j)) (range_with_len 0 n) → new ≡ heads ++ said ∷ []
     → new ≡ map (λ j. header_at g image (segment_at g j)) (range_with_len 0 (n + 1))
 heads-more g image mid n said heads new same is so_far pushed =
     let f = λ (j : ℕ). header_at g image (segment_at g j) in
     let at : 0 + n ≡ n = omega arith in
     pushed ∙ (λ i. so_far i ++ (is ∙ ap (λ (c : List ℕ). header_at g c (segment_at g n)) same) i ∷ [])
-    ∙ sym (ap (map f) (range_append 0 n 1) ∙ map-append f (range_with_len 0 n) (range_with_len (0 + n) 1) ∙ ap (λ (k : ℕ). map f (range_with_len 0 n) ++ f k ∷ []) at)
+    ∙ sym (ap (map f) (range_append 0 n 1) ∙ map-append f (range_with_len 0 n) (range_with_len (0 + n) 1)
+    ∙ ap (λ (k : ℕ). map f (range_with_len 0 n) ++ f k ∷ []) at)
 
 -- an open segment is what its header says, and its slots
-pub segment-said : (g : Geometry) (image : List ℕ) (j : ℕ) → segment_in g image j ≡ segment_said g image j (header_at g image (segment_at g j))
+pub segment-said : (g : Geometry) (image : List ℕ) (j : ℕ) → segment_in g image j ≡ segment_said g image j
+    (header_at g image (segment_at g j))
 segment-said g image j = go (is_open image (segment_at g j))
   where
     there : SegmentHead
@@ -179,7 +203,8 @@ segment-said g image j = go (is_open image (segment_at g j))
 -- ---- slots
 
 -- what is decoded from a read of a slot's head is what the image says
-pub slot-read : (g : Geometry) (j i number at n : ℕ) (image head : List ℕ) (said : Result FrameHead Damage) → at ≡ slot_at g j i → n ≡ frame_bytes g → head ≡ piece at 32 image → said ≡ slot_head n number (slot_in n head 0)
+pub slot-read : (g : Geometry) (j i number at n : ℕ) (image head : List ℕ) (said : Result FrameHead Damage)
+    → at ≡ slot_at g j i → n ≡ frame_bytes g → head ≡ piece at 32 image → said ≡ slot_head n number (slot_in n head 0)
     → said ≡ slot_head (frame_bytes g) number (slot_in (frame_bytes g) image (slot_at g j i))
 slot-read g j i number at n image head said at_is n_is read is = sym (head_read g j i number at n image head said at_is n_is read is)
 
@@ -189,18 +214,23 @@ slot-right n number s h e = go (is_slot_of n number s) refl e
     ok : FrameHead → Result FrameHead Damage
     ok x = Ok x
 
-    go : (t : Bool) → is_slot_of n number s ≡ t → ok h ≡ cond t (ok (head number s.picture)) (Err Damage.SlotHead) → is_slot_of n number s ≡ true
+    go : (t : Bool) → is_slot_of n number s ≡ t → ok h ≡ cond t (ok (head number s.picture)) (Err Damage.SlotHead)
+        → is_slot_of n number s ≡ true
     go true is e = is
     go false is e = absurd cc
 
 -- ---- loops
 
 -- a header that was refused, in an image that is as it was
-pub heads-wrong : (g : Geometry) (image mid : List ℕ) (j : ℕ) → j < g.segments → mid ≡ image → IsSomeHigh g (segment_in g mid j) → list_any (is_high g) (by_block (open_segments (parts_of g image).segments)) ≡ true
+pub heads-wrong : (g : Geometry) (image mid : List ℕ) (j : ℕ) → j < g.segments → mid ≡ image
+    → IsSomeHigh g (segment_in g mid j)
+    → list_any (is_high g) (by_block (open_segments (parts_of g image).segments)) ≡ true
 heads-wrong g image mid j l same high = some-high g image j l (subst (λ (c : List ℕ). IsSomeHigh g (segment_in g c j)) same high)
 
 -- one more segment in its place
-pub order-more : (g : Geometry) (image : List ℕ) (heads : List (Option SegmentHead)) (done : ℕ) (head d : Option SegmentHead) (old new : List Found) → heads ≡ heads_of g image → done < g.segments → head ≡ get_or heads (g.segments - 1 - done) d
+pub order-more : (g : Geometry) (image : List ℕ) (heads : List (Option SegmentHead)) (done : ℕ)
+    (head d : Option SegmentHead) (old new : List Found) → heads ≡ heads_of g image → done < g.segments
+    → head ≡ get_or heads (g.segments - 1 - done) d
     → segments_of g image new ≡ with_segment (segment_said g image (g.segments - 1 - done) head) (segments_of g image old)
     → segments_of g image old ≡ by_block (open_segments (map (segment_in g image) (range_with_len (g.segments - done) done)))
     → segments_of g image new ≡ by_block (open_segments (map (segment_in g image) (range_with_len (g.segments - (done + 1)) (done + 1))))
@@ -208,36 +238,53 @@ order-more g image heads done head d old new are l is placed so_far =
     let j = g.segments - 1 - done in
     let at : 0 + j ≡ j = omega arith in
     let f = λ (k : ℕ). header_at g image (segment_at g k) in
-    let said : head ≡ f j = is ∙ ap (λ (hs : List (Option SegmentHead)). get_or hs j d) are ∙ get_or-map_range f 0 g.segments j d (omega (arith, l)) ∙ ap f at in
+    let said : head ≡ f j = is ∙ ap (λ (hs : List (Option SegmentHead)). get_or hs j d) are
+    ∙ get_or-map_range f 0 g.segments j d (omega (arith, l)) ∙ ap f at in
     let there : segment_said g image j head ≡ segment_in g image j = ap (segment_said g image j) said ∙ sym (segment-said g image j) in
     placed ∙ (λ i. with_segment (there i) (so_far i)) ∙ sym (opened-more g image done l)
 
 -- at most one more than before
-pub order-count : (g : Geometry) (image : List ℕ) (o : Option Segment) (old new : List Found) (done : ℕ) → segments_of g image new ≡ with_segment o (segments_of g image old) → length old ≤ done → length new ≤ done + 1
-order-count g image o old new done placed few = omega (arith, length-map new (segment_of g image), length-map old (segment_of g image), ap (λ (ss : List Segment). length ss) placed, go o, few)
+pub order-count : (g : Geometry) (image : List ℕ) (o : Option Segment) (old new : List Found) (done : ℕ)
+    → segments_of g image new ≡ with_segment o (segments_of g image old) → length old ≤ done → length new ≤ done + 1
+order-count g image o old new done placed few =
+    omega (
+      arith,
+      length-map new (segment_of g image),
+      length-map old (segment_of g image),
+      ap (λ (ss : List Segment). length ss) placed,
+      go o,
+      few,
+    )
   where
     go : (o : Option Segment) → length (with_segment o (segments_of g image old)) ≤ length (segments_of g image old) + 1
     go None = omega arith
     go (Some s) = omega (arith, length-in_place s (segments_of g image old))
 
 -- a slot that was refused, in an image that is as it was
-pub slots-wrong : (g : Geometry) (image mid : List ℕ) (f : Found) (i number : ℕ) → mid ≡ image → number ≡ f.block * g.slots + i → i < f.frames → is_slot_of (frame_bytes g) number (slot_in (frame_bytes g) mid (slot_at g f.segment i)) ≡ false
+pub slots-wrong : (g : Geometry) (image mid : List ℕ) (f : Found) (i number : ℕ) → mid ≡ image
+    → number ≡ f.block * g.slots + i → i < f.frames → is_slot_of (frame_bytes g) number
+    (slot_in (frame_bytes g) mid (slot_at g f.segment i)) ≡ false
     → is_bad_slot g (segment_of g image f) ≡ true
 slots-wrong g image mid f i number same counted l fails =
     slots-bad g image f i l (sym (λ q. is_slot_of (frame_bytes g) (counted q) (slot_in (frame_bytes g) (same q) (slot_at g f.segment i))) ∙ fails)
 
 -- and one that holds its frame
-pub slots-right : (g : Geometry) (image mid : List ℕ) (j i first number : ℕ) → mid ≡ image → number ≡ first + i → hold_from (frame_bytes g) first (read_slots g image j i) ≡ true → is_slot_of (frame_bytes g) number (slot_in (frame_bytes g) mid (slot_at g j i)) ≡ true
+pub slots-right : (g : Geometry) (image mid : List ℕ) (j i first number : ℕ) → mid ≡ image → number ≡ first + i
+    → hold_from (frame_bytes g) first (read_slots g image j i) ≡ true → is_slot_of (frame_bytes g) number
+    (slot_in (frame_bytes g) mid (slot_at g j i)) ≡ true
     → hold_from (frame_bytes g) first (read_slots g image j (i + 1)) ≡ true
 slots-right g image mid j i first number same counted held one =
     slots-hold g image j i first held (sym (λ q. is_slot_of (frame_bytes g) (counted q) (slot_in (frame_bytes g) (same q) (slot_at g j i))) ∙ one)
 
 -- ---- the clip table
 
-pub table-bad : (g : Geometry) (image table : List ℕ) (fs : List Found) (t : Bool) → IsTrue (is_good g) → AreIn g fs → table ≡ piece 512 2048 image → list_any (lacks_number g fs) (table_clips table) ≡ t → some_bad_clip g image fs ≡ t
-table-bad g image table fs t good within read e = bad-lacks g image fs t (limits g good).slots.0 within (ap (λ (b : List ℕ). list_any (lacks_number g fs) (table_clips b)) (sym read) ∙ e)
+pub table-bad : (g : Geometry) (image table : List ℕ) (fs : List Found) (t : Bool) → IsTrue (is_good g) → AreIn g fs
+    → table ≡ piece 512 2048 image → list_any (lacks_number g fs) (table_clips table) ≡ t → some_bad_clip g image fs ≡ t
+table-bad g image table fs t good within read e = bad-lacks g image fs t (limits g good).slots.0 within
+    (ap (λ (b : List ℕ). list_any (lacks_number g fs) (table_clips b)) (sym read) ∙ e)
 
-pub table-read : (image table : List ℕ) (clips : List (Option Span)) → table ≡ piece 512 2048 image → clips ≡ table_clips table → clips ≡ clips_of image
+pub table-read : (image table : List ℕ) (clips : List (Option Span)) → table ≡ piece 512 2048 image
+    → clips ≡ table_clips table → clips ≡ clips_of image
 table-read image table clips read are = are ∙ ap table_clips read ∙ clips-table image
 
 pub table-length : (table : List ℕ) → length (table_clips table) ≡ 64

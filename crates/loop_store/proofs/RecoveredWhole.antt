@@ -18,26 +18,37 @@ use Rattle.loop_store.specs.declared.index.Index.{Index}
 use Rattle.loop_store.specs.Recovered.{IsFitting, IsHeadIn, IsOf, IsRecovered, clips_of, some_bad_clip}
 
 -- the segments that were found, in the order of their blocks
-pub found-by : (g : Geometry) (image : List ℕ) (fs xs : List Found) (heads : List (Option SegmentHead)) → geometry_in image ≡ Ok g → length image ≡ disk_size g → ((c : List ℕ) → heads ≡ heads_of g c → segments_of g c fs ≡ by_block (open_segments (parts_of g c).segments))
+pub found-by : (g : Geometry) (image : List ℕ) (fs xs : List Found) (heads : List (Option SegmentHead))
+    → geometry_in image ≡ Ok g → length image ≡ disk_size g
+    → ((c : List ℕ) → heads ≡ heads_of g c → segments_of g c fs ≡ by_block (open_segments (parts_of g c).segments))
     → heads ≡ heads_of g image → AreIn g fs → xs ≡ fs → IsFoundIn g image fs xs
-found-by g image fs xs heads geometry size order are within same = record { geometry = geometry; size = size; are = order image are; within = within; same = same }
+found-by g image fs xs heads geometry size order are within same =
+    record { geometry = geometry; size = size; are = order image are; within = within; same = same }
 
 -- the segments that were found, once none repeats a block and none but the last lacks a frame
-pub full : (g : Geometry) (image : List ℕ) (fs xs : List Found) (twice lacks : Bool) → IsFoundIn g image fs xs → twice ≡ repeats (segments_of g image xs) → twice ≡ false → lacks ≡ lacks_frame g (segments_of g image xs) → lacks ≡ false → AreFull g image fs xs
+pub full : (g : Geometry) (image : List ℕ) (fs xs : List Found) (twice lacks : Bool) → IsFoundIn g image fs xs
+    → twice ≡ repeats (segments_of g image xs) → twice ≡ false → lacks ≡ lacks_frame g (segments_of g image xs)
+    → lacks ≡ false → AreFull g image fs xs
 full g image fs xs twice lacks found is single is' whole = record { found = found; single = sym is ∙ single; full = sym is' ∙ whole }
 
 -- a header's refusal
-pub refused-head : (g : Geometry) (image : List ℕ) (fault : LayoutFault) → geometry_in image ≡ Ok g → length image ≡ disk_size g → (fault ≡ LayoutFault.Damaged Damage.BlockTooHigh) × (list_any (is_high g) (by_block (open_segments (parts_of g image).segments)) ≡ true) → reading image ≡ Err fault
+pub refused-head : (g : Geometry) (image : List ℕ) (fault : LayoutFault) → geometry_in image ≡ Ok g
+    → length image ≡ disk_size g → (fault ≡ LayoutFault.Damaged Damage.BlockTooHigh)
+    × (list_any (is_high g) (by_block (open_segments (parts_of g image).segments)) ≡ true) → reading image ≡ Err fault
 refused-head g image fault geometry size q = reading-high g image geometry size q.1 ∙ fault-of (sym q.0)
 
 -- a slot's refusal, in an image that is as it was
-pub refused-slot : (g : Geometry) (image mid : List ℕ) (fs xs : List Found) (fault : LayoutFault) → AreFull g image fs xs → mid ≡ image → (fault ≡ LayoutFault.Damaged Damage.SlotHead) × (list_any (is_bad_slot g) (segments_of g mid xs) ≡ true) → reading image ≡ Err fault
+pub refused-slot : (g : Geometry) (image mid : List ℕ) (fs xs : List Found) (fault : LayoutFault)
+    → AreFull g image fs xs → mid ≡ image → (fault ≡ LayoutFault.Damaged Damage.SlotHead)
+    × (list_any (is_bad_slot g) (segments_of g mid xs) ≡ true) → reading image ≡ Err fault
 refused-slot g image mid fs xs fault a same q =
     let bad = ap (λ (c : List ℕ). list_any (is_bad_slot g) (segments_of g c xs)) (sym same) ∙ q.1 in
-    reading-bad_slot g image (segments_of g image xs) (found-read g image fs xs a.found) (found-low g image fs xs a.found) a.single a.full bad ∙ fault-of (sym q.0)
+    reading-bad_slot g image (segments_of g image xs) (found-read g image fs xs a.found)
+    (found-low g image fs xs a.found) a.single a.full bad ∙ fault-of (sym q.0)
 
 -- a clip's refusal
-pub refused-clip : (g : Geometry) (image mid last : List ℕ) (fs xs : List Found) (fault : LayoutFault) → AreFull g image fs xs → mid ≡ image → list_any (is_bad_slot g) (segments_of g mid xs) ≡ false → last ≡ image
+pub refused-clip : (g : Geometry) (image mid last : List ℕ) (fs xs : List Found) (fault : LayoutFault)
+    → AreFull g image fs xs → mid ≡ image → list_any (is_bad_slot g) (segments_of g mid xs) ≡ false → last ≡ image
     → (fault ≡ LayoutFault.Damaged Damage.ClipRange) × (some_bad_clip g last xs ≡ true) → reading image ≡ Err fault
 refused-clip g image mid last fs xs fault a same right same' q =
     let sound = ap (λ (c : List ℕ). list_any (is_bad_slot g) (segments_of g c xs)) (sym same) ∙ right in
@@ -45,8 +56,12 @@ refused-clip g image mid last fs xs fault a same right same' q =
     read-bad_clip g image fs xs (all_frames g (segments_of g image xs)) Damage.ClipRange a sound refl refl bad ∙ fault-of (sym q.0)
 
 -- nothing is refused
-pub recovered : {A : Type 0} (index : Index A) (g : Geometry) (image mid last : List ℕ) (fs xs : List Found) (heads : List (Option SegmentHead)) (clips : List (Option Span)) (next : ℕ) → IsOf index g heads clips next → AreFull g image fs xs → mid ≡ image
-    → list_any (is_bad_slot g) (segments_of g mid xs) ≡ false → last ≡ image → (clips ≡ clips_of last) × (some_bad_clip g last xs ≡ false) → next ≡ next_after g (segments_of g image xs) → heads ≡ heads_of g image → IsRecovered index image
+pub recovered : {A : Type 0} (index : Index A) (g : Geometry) (image mid last : List ℕ) (fs xs : List Found)
+    (heads : List (Option SegmentHead)) (clips : List (Option Span)) (next : ℕ) → IsOf index g heads clips next
+    → AreFull g image fs xs → mid ≡ image
+    → list_any (is_bad_slot g) (segments_of g mid xs) ≡ false → last ≡ image → (clips ≡ clips_of last)
+    × (some_bad_clip g last xs ≡ false) → next ≡ next_after g (segments_of g image xs) → heads ≡ heads_of g image
+    → IsRecovered index image
 recovered index g image mid last fs xs heads clips next is a same right same' q after are =
     let sound = ap (λ (c : List ℕ). list_any (is_bad_slot g) (segments_of g c xs)) (sym same) ∙ right in
     let good = ap (λ (c : List ℕ). some_bad_clip g c xs) (sym same') ∙ q.1 in
@@ -55,7 +70,8 @@ recovered index g image mid last fs xs heads clips next is a same right same' q 
     record {
       recording = r;
       known = record {
-        held = subst (λ (h : Geometry). Holds h r image) (sym is.geometry) (read-all g image fs xs next frames clips a sound refl after (q.0 ∙ ap clips_of same') good);
+        held = subst (λ (h : Geometry). Holds h r image) (sym is.geometry)
+            (read-all g image fs xs next frames clips a sound refl after (q.0 ∙ ap clips_of same') good);
         next_is = is.next_is;
         heads_are = is.heads_are ∙ are ∙ ap (λ (h : Geometry). heads_of h image) (sym is.geometry);
         clips_are = is.clips_are;
@@ -63,14 +79,17 @@ recovered index g image mid last fs xs heads clips next is a same right same' q 
     }
 
 -- and it fits the disk
-pub fitting : {A : Type 0} (index : Index A) (g : Geometry) (heads : List (Option SegmentHead)) (clips : List (Option Span)) (next size : ℕ) → IsOf index g heads clips next → size ≡ disk_size g → length heads ≡ g.segments → All (IsHeadIn g) heads → next ≤ last_number (ring_of g)
+pub fitting : {A : Type 0} (index : Index A) (g : Geometry) (heads : List (Option SegmentHead))
+    (clips : List (Option Span)) (next size : ℕ) → IsOf index g heads clips next → size ≡ disk_size g
+    → length heads ≡ g.segments → All (IsHeadIn g) heads → next ≤ last_number (ring_of g)
     → IsFitting index size
 fitting index g heads clips next size is size_is count within few = record {
   size_is = size_is ∙ ap disk_size (sym is.geometry);
   whole = record {
     count = ap length is.heads_are ∙ count ∙ ap (λ (h : Geometry). h.segments) (sym is.geometry);
     within = subst (λ (h : Geometry). All (IsHeadIn h) index.table.heads) (sym is.geometry) (subst (All (IsHeadIn g)) (sym is.heads_are) within);
-    few = subst (λ (h : Geometry). index.next ≤ last_number (ring_of h)) (sym is.geometry) (subst (λ (n : ℕ). n ≤ last_number (ring_of g)) (sym is.next_is) few);
+    few = subst (λ (h : Geometry). index.next ≤ last_number (ring_of h)) (sym is.geometry)
+        (subst (λ (n : ℕ). n ≤ last_number (ring_of g)) (sym is.next_is) few);
     counted = is.counted ∙ (λ i. clip_counts (ring_of (sym is.geometry i)) (sym is.clips_are i) (sym is.heads_are i));
   };
 }

@@ -48,23 +48,31 @@ last-of g f some here =
     omega (arith, most, turned, split, here.few)
 
 -- no found segment has a number from the last on
-pub next-few : (g : Geometry) (image : List ℕ) (fs : List Found) → 1 ≤ g.slots → AreIn g fs → next_after g (segments_of g image fs) ≤ last_number (ring_of g)
+pub next-few : (g : Geometry) (image : List ℕ) (fs : List Found) → 1 ≤ g.slots → AreIn g fs
+    → next_after g (segments_of g image fs) ≤ last_number (ring_of g)
 next-few g image [] some within = omega arith
 next-few g image (f ∷ []) some within =
-    let count : length (map (λ i. slot_in (frame_bytes g) image (slot_at g f.segment i)) (range_with_len 0 f.frames)) ≡ f.frames = length-map (range_with_len 0 f.frames) (λ i. slot_in (frame_bytes g) image (slot_at g f.segment i)) ∙ length-range 0 f.frames in
+    let count : length (map (λ i. slot_in (frame_bytes g) image (slot_at g f.segment i))
+    (range_with_len 0 f.frames)) ≡ f.frames = length-map (range_with_len 0 f.frames)
+    (λ i. slot_in (frame_bytes g) image (slot_at g f.segment i)) ∙ length-range 0 f.frames in
     omega (arith, count, last-of g f some within.0)
 next-few g image (f ∷ h ∷ fs) some within = next-few g image (h ∷ fs) some within.1
 
 -- ---- segments that have all their frames
 
 -- a segment that lies before another has all its frames
-full-before : (g : Geometry) (lower higher : List Segment) (u h : Segment) → lacks_frame g (lower ++ u ∷ h ∷ higher) ≡ false → length u.slots ≡ g.slots
-full-before g [] higher u h e = equal (length u.slots) g.slots (not_false (eqb (length u.slots) g.slots) (neither (not (eqb (length u.slots) g.slots)) (lacks_frame g (h ∷ higher)) e).0)
+full-before : (g : Geometry) (lower higher : List Segment) (u h : Segment)
+    → lacks_frame g (lower ++ u ∷ h ∷ higher) ≡ false → length u.slots ≡ g.slots
+full-before g [] higher u h e = equal (length u.slots) g.slots
+    (not_false (eqb (length u.slots) g.slots)
+    (neither (not (eqb (length u.slots) g.slots)) (lacks_frame g (h ∷ higher)) e).0)
 full-before g (s ∷ []) higher u h e = full-before g [] higher u h (neither (not (eqb (length s.slots) g.slots)) (lacks_frame g (u ∷ h ∷ higher)) e).1
-full-before g (s ∷ t ∷ lower) higher u h e = full-before g (t ∷ lower) higher u h (neither (not (eqb (length s.slots) g.slots)) (lacks_frame g (t ∷ lower ++ u ∷ h ∷ higher)) e).1
+full-before g (s ∷ t ∷ lower) higher u h e = full-before g (t ∷ lower) higher u h
+    (neither (not (eqb (length s.slots) g.slots)) (lacks_frame g (t ∷ lower ++ u ∷ h ∷ higher)) e).1
 
 -- so has the last one, if the next number isn't of its block
-full-last : (g : Geometry) (u : Segment) (next : ℕ) → next ≡ u.block * g.slots + length u.slots → length u.slots ≤ g.slots → u.block ≢ next / g.slots → length u.slots ≡ g.slots
+full-last : (g : Geometry) (u : Segment) (next : ℕ) → next ≡ u.block * g.slots + length u.slots
+    → length u.slots ≤ g.slots → u.block ≢ next / g.slots → length u.slots ≡ g.slots
 full-last g u next is most apart = go (cases_lt (length u.slots) g.slots)
   where
     split : (u.block + 1) * g.slots ≡ u.block * g.slots + g.slots
@@ -74,11 +82,15 @@ full-last g u next is most apart = go (cases_lt (length u.slots) g.slots)
     go (inl l) = absurd (apart (sym (div-eq_of_lt-le g.slots (omega (arith, is)) (omega (arith, is, split, l)))))
     go (inr l) = omega (arith, l, most)
 
-full_of : (g : Geometry) (clips : List (Option Span)) (r : Recording) (u : Segment) (lower higher : List Segment) → recording_or_damage g (lower ++ u ∷ higher) clips ≡ Ok r → list_any (is_overfull g) (lower ++ u ∷ higher) ≡ false → u.block ≢ r.next / g.slots
+full_of : (g : Geometry) (clips : List (Option Span)) (r : Recording) (u : Segment) (lower higher : List Segment)
+    → recording_or_damage g (lower ++ u ∷ higher) clips ≡ Ok r
+    → list_any (is_overfull g) (lower ++ u ∷ higher) ≡ false → u.block ≢ r.next / g.slots
     → length u.slots ≡ g.slots
 full_of g clips r u lower (h ∷ hs) e fits apart = full-before g lower hs u h (shown_of g (lower ++ u ∷ h ∷ hs) clips r e).full
 full_of g clips r u lower [] e fits apart =
-    let next : r.next ≡ u.block * g.slots + length u.slots = sym (ap (λ (q : Recording). q.next) (shown_of g (lower ++ u ∷ []) clips r e).is) ∙ next_after-behind g lower u [] in
+    let next : r.next ≡ u.block * g.slots + length u.slots =
+    sym (ap (λ (q : Recording). q.next) (shown_of g (lower ++ u ∷ []) clips r e).is)
+    ∙ next_after-behind g lower u [] in
     full-last g u r.next next (not_below g.slots (length u.slots) (last-fits lower fits)) apart
   where
     last-fits : (ss : List Segment) → list_any (is_overfull g) (ss ++ u ∷ []) ≡ false → is_overfull g u ≡ false
@@ -86,7 +98,8 @@ full_of g clips r u lower [] e fits apart =
     last-fits (s ∷ ss) e = last-fits ss (neither (is_overfull g s) (list_any (is_overfull g) (ss ++ u ∷ [])) e).1
 
 -- an open segment that hasn't the block of the next number has all its frames
-pub full-other : (g : Geometry) (r : Recording) (image : List ℕ) (j : ℕ) (u : Segment) → Holds g r image → j < g.segments → segment_in g image j ≡ Some u → u.block ≢ r.next / g.slots → whole_frames g image j ≡ g.slots
+pub full-other : (g : Geometry) (r : Recording) (image : List ℕ) (j : ℕ) (u : Segment) → Holds g r image
+    → j < g.segments → segment_in g image j ≡ Some u → u.block ≢ r.next / g.slots → whole_frames g image j ≡ g.slots
 full-other g r image j u e l there apart =
     let ps = (parts_of g image).segments in
     let clips = (parts_of g image).clips in
@@ -107,10 +120,13 @@ full-stray g j image whole i low high = absurd (omega (arith, whole, low, high))
 -- ---- stray gates
 
 -- an open segment, by whether it has the block of the next number
-stray-by : (g : Geometry) (r : Recording) (image : List ℕ) (i : ℕ) → Holds g r image → i < g.segments → ((u : Segment) → segment_in g image i ≡ Some u → u.block ≡ r.next / g.slots → HasNoStray g i image) → segment_in g image i ≢ None → HasNoStray g i image
+stray-by : (g : Geometry) (r : Recording) (image : List ℕ) (i : ℕ) → Holds g r image → i < g.segments
+    → ((u : Segment) → segment_in g image i ≡ Some u → u.block ≡ r.next / g.slots → HasNoStray g i image)
+    → segment_in g image i ≢ None → HasNoStray g i image
 stray-by g r image i e l newest is_there = go (segment_in g image i) refl
   where
-    by : (u : Segment) → segment_in g image i ≡ Some u → (t : Bool) → eqb u.block (r.next / g.slots) ≡ t → HasNoStray g i image
+    by : (u : Segment) → segment_in g image i ≡ Some u → (t : Bool) → eqb u.block (r.next / g.slots) ≡ t
+        → HasNoStray g i image
     by u there true is = newest u there (equal u.block (r.next / g.slots) is)
     by u there false is = full-stray g i image (full-other g r image i u e l there (λ same. differ u.block (r.next / g.slots) is same))
 
@@ -119,17 +135,21 @@ stray-by g r image i e l newest is_there = go (segment_in g image i) refl
     go (Some u) there = by u there (eqb u.block (r.next / g.slots)) refl
 
 -- where no segment has the block of the next number, there is none
-pub unstray-missing : (g : Geometry) (r : Recording) (image : List ℕ) → Holds g r image → position (is_of (r.next / g.slots)) (heads_of g image) ≡ None → HasNoneStray g image
+pub unstray-missing : (g : Geometry) (r : Recording) (image : List ℕ) → Holds g r image
+    → position (is_of (r.next / g.slots)) (heads_of g image) ≡ None → HasNoneStray g image
 unstray-missing g r image e missing i l open_is = stray-by g r image i e l none open_is
   where
     none : (u : Segment) → segment_in g image i ≡ Some u → u.block ≡ r.next / g.slots → HasNoStray g i image
     none u there same =
         let b = r.next / g.slots in
         let here : is_of b (get_or (heads_of g image) i None) ≡ true = ap (is_of b) (head-there g image i l ∙ ap head_of there) ∙ equal_test u.block b same in
-        absurd (clash (list_any (is_of b) (heads_of g image)) (list_any_at (is_of b) (heads_of g image) i None (omega (arith, l, heads-length g image)) here) (position-none (is_of b) (heads_of g image) missing))
+        absurd (clash (list_any (is_of b) (heads_of g image))
+        (list_any_at (is_of b) (heads_of g image) i None (omega (arith, l, heads-length g image)) here)
+        (position-none (is_of b) (heads_of g image) missing))
 
 -- where the segment of that block has none, there is none
-pub unstray-found : (g : Geometry) (r : Recording) (image : List ℕ) (j : ℕ) → Holds g r image → position (is_of (r.next / g.slots)) (heads_of g image) ≡ Some j → HasNoStray g j image → HasNoneStray g image
+pub unstray-found : (g : Geometry) (r : Recording) (image : List ℕ) (j : ℕ) → Holds g r image
+    → position (is_of (r.next / g.slots)) (heads_of g image) ≡ Some j → HasNoStray g j image → HasNoneStray g image
 unstray-found g r image j e found clean i l open_is = stray-by g r image i e l same open_is
   where
     same : (u : Segment) → segment_in g image i ≡ Some u → u.block ≡ r.next / g.slots → HasNoStray g i image
@@ -142,7 +162,8 @@ unstray-found g r image j e found clean i l open_is = stray-by g r image i e l s
 -- ---- a segment that shows the same
 
 -- the headers say the same
-pub heads-same : (g : Geometry) (r : Recording) (j : ℕ) (old new : List ℕ) → Holds g r old → j < g.segments → ShowsSegment g j (segment_in g old j) old new → heads_of g new ≡ heads_of g old
+pub heads-same : (g : Geometry) (r : Recording) (j : ℕ) (old new : List ℕ) → Holds g r old → j < g.segments
+    → ShowsSegment g j (segment_in g old j) old new → heads_of g new ≡ heads_of g old
 heads-same g r j old new e l shows =
     let few = (limits g (geometry-good g old (reading-stages g r old e).geometry)).slots.1 in
     heads-shown g j (segment_in g old j) old new few l shows
@@ -150,7 +171,8 @@ heads-same g r j old new e l shows =
     ∙ set-get_or (heads_of g old) j None
 
 -- the image reads alike
-pub alike-same : (g : Geometry) (r : Recording) (j : ℕ) (old new : List ℕ) → Holds g r old → j < g.segments → ShowsSegment g j (segment_in g old j) old new → ReadsAlike old new
+pub alike-same : (g : Geometry) (r : Recording) (j : ℕ) (old new : List ℕ) → Holds g r old → j < g.segments
+    → ShowsSegment g j (segment_in g old j) old new → ReadsAlike old new
 alike-same g r j old new e l shows = reading-same g r old new j e l shows ∙ sym e
 
 -- ---- moments
@@ -161,36 +183,50 @@ stays-moments old new sound stays =
     goes_on old old new (WasOrReadsAlike old) old.may_leave (started old (WasOrReadsAlike old) sound (λ c left. inl left)) stays.time (λ c left. inl left)
 
 -- and then one that left only what reads alike
-pub moments-on : (old mid new : Medium) → IsSound old → Stays old mid → LeavesOnly mid new (ReadsAlike mid.bytes) → LeavesOnly old new (WasOrReadsAlike old)
+pub moments-on : (old mid new : Medium) → IsSound old → Stays old mid → LeavesOnly mid new (ReadsAlike mid.bytes)
+    → LeavesOnly old new (WasOrReadsAlike old)
 moments-on old mid new sound stays run =
     joined old mid new (WasOrReadsAlike old) (stays-moments old mid sound stays)
     (weaker mid new (ReadsAlike mid.bytes) (WasOrReadsAlike old) run (λ c alike. inr (alike ∙ ap reading stays.bytes)))
 
-pub alike-on : (old mid new : Medium) → IsSound new → Stays old mid → LeavesOnly mid new (ReadsAlike mid.bytes) → ReadsAlike old.bytes new.bytes
+pub alike-on : (old mid new : Medium) → IsSound new → Stays old mid → LeavesOnly mid new (ReadsAlike mid.bytes)
+    → ReadsAlike old.bytes new.bytes
 alike-on old mid new sound stays run = each_now mid new (ReadsAlike mid.bytes) sound run new.bytes sound.present ∙ ap reading stays.bytes
 
 -- ---- the segment of the next number
 
 -- where the index finds it, so does the image
-pub found-place : {A : Type 0} (index : Index A) (slots : ℕ) (image : List ℕ) (found result : Option ℕ) (told : IsRecovered index image) → slots ≡ index.ring.geometry.slots → found ≡ result → found ≡ position (is_of (index.next / slots)) index.table.heads
+pub found-place : {A : Type 0} (index : Index A) (slots : ℕ) (image : List ℕ) (found result : Option ℕ)
+    (told : IsRecovered index image) → slots ≡ index.ring.geometry.slots → found ≡ result
+    → found ≡ position (is_of (index.next / slots)) index.table.heads
     → position (is_of (told.recording.next / index.ring.geometry.slots)) (heads_of index.ring.geometry image) ≡ result
 found-place index slots image found result told same answered said =
-    found-of index.ring.geometry told.recording image index.table.heads index.next slots found result told.known.heads_are (sym told.known.next_is) same answered said
+    found-of index.ring.geometry told.recording image index.table.heads index.next slots found result
+    told.known.heads_are (sym told.known.next_is) same answered said
 
 -- the segment that was found has all the frames before the next number
-pub found-whole : {A : Type 0} (index : Index A) (slots j : ℕ) (image : List ℕ) (told : IsRecovered index image) → slots ≡ index.ring.geometry.slots
-    → position (is_of (told.recording.next / index.ring.geometry.slots)) (heads_of index.ring.geometry image) ≡ Some j → whole_frames index.ring.geometry image j ≡ index.next % slots
-found-whole index slots j image told same found = (newest-found index.ring.geometry told.recording image j told.known.held found).whole ∙ (λ i. sym told.known.next_is i % sym same i)
+pub found-whole : {A : Type 0} (index : Index A) (slots j : ℕ) (image : List ℕ) (told : IsRecovered index image)
+    → slots ≡ index.ring.geometry.slots
+    → position (is_of (told.recording.next / index.ring.geometry.slots)) (heads_of index.ring.geometry image) ≡ Some j
+    → whole_frames index.ring.geometry image j ≡ index.next % slots
+found-whole index slots j image told same found =
+    (newest-found index.ring.geometry told.recording image j told.known.held found).whole
+    ∙ (λ i. sym told.known.next_is i % sym same i)
 
 -- an image that shows that segment alike reads alike
-pub found-alike : {A : Type 0} (index : Index A) (j : ℕ) (old new : List ℕ) (told : IsRecovered index old) → position (is_of (told.recording.next / index.ring.geometry.slots)) (heads_of index.ring.geometry old) ≡ Some j
+pub found-alike : {A : Type 0} (index : Index A) (j : ℕ) (old new : List ℕ) (told : IsRecovered index old)
+    → position (is_of (told.recording.next / index.ring.geometry.slots)) (heads_of index.ring.geometry old) ≡ Some j
     → ShowsSegment index.ring.geometry j (segment_in index.ring.geometry old j) old new → ReadsAlike old new
 found-alike index j old new told found shows =
-    alike-same index.ring.geometry told.recording j old new told.known.held (newest-found index.ring.geometry told.recording old j told.known.held found).within shows
+    alike-same index.ring.geometry told.recording j old new told.known.held
+    (newest-found index.ring.geometry told.recording old j told.known.held found).within shows
 
 -- and with no stray gate in it, it is present
-pub found-present : {A : Type 0} (index : Index A) (j : ℕ) (old : List ℕ) (now : Medium) (told : IsRecovered index old) → position (is_of (told.recording.next / index.ring.geometry.slots)) (heads_of index.ring.geometry old) ≡ Some j
-    → ShowsSegment index.ring.geometry j (segment_in index.ring.geometry old j) old now.bytes → HasNoStray index.ring.geometry j now.bytes → IsSettled now → IsPresent index now
+pub found-present : {A : Type 0} (index : Index A) (j : ℕ) (old : List ℕ) (now : Medium)
+    (told : IsRecovered index old) → position (is_of (told.recording.next / index.ring.geometry.slots))
+    (heads_of index.ring.geometry old) ≡ Some j
+    → ShowsSegment index.ring.geometry j (segment_in index.ring.geometry old j) old now.bytes
+    → HasNoStray index.ring.geometry j now.bytes → IsSettled now → IsPresent index now
 found-present index j old now told found shows clean settled =
     let g = index.ring.geometry in
     let r = told.recording in
@@ -209,7 +245,9 @@ found-present index j old now told found shows clean settled =
 -- ---- the store
 
 -- a store whose disk holds a recording, and reads as an image did, was opened on that image
-pub present-opened : {D A : Type 0} (medium : D → Medium) (disk : D) (index : Index A) (before : List ℕ) → 1 ≤ index.ring.geometry.slots → All (IsHeadIn index.ring.geometry) index.table.heads → IsPresent index (medium disk) → ReadsAlike before (medium disk).bytes
+pub present-opened : {D A : Type 0} (medium : D → Medium) (disk : D) (index : Index A) (before : List ℕ)
+    → 1 ≤ index.ring.geometry.slots → All (IsHeadIn index.ring.geometry) index.table.heads
+    → IsPresent index (medium disk) → ReadsAlike before (medium disk).bytes
     → IsOpened medium before (seen_with disk index false)
 present-opened medium disk index before some within present alike =
     let r = present.recorded.recording in

@@ -41,18 +41,21 @@ one-recording g r s image e f = ap (λ (c : Contents). c.recording) (same_conten
 pub before-none : (g : Geometry) (r : Recording) → needs_recycling (ring_of g) r ≡ false → steps_before g r ≡ []
 before-none g r e = ap (λ (b : Bool). steps_or_none (recycling_first b (victim (ring_of g) r))) e
 
-pub before-one : (g : Geometry) (r : Recording) (b : ℕ) → needs_recycling (ring_of g) r ≡ true → victim (ring_of g) r ≡ Some b → steps_before g r ≡ recycle b ∷ []
+pub before-one : (g : Geometry) (r : Recording) (b : ℕ) → needs_recycling (ring_of g) r ≡ true
+    → victim (ring_of g) r ≡ Some b → steps_before g r ≡ recycle b ∷ []
 before-one g r b e v = λ i. steps_or_none (recycling_first (e i) (v i))
 
 -- ---- the other segments
 
 -- a change of one segment leaves the others as they were
-others : (g : Geometry) (i j : ℕ) (part : Option Segment) (old new : List ℕ) → (i ≡ j → ⊥) → ShowsSegment g j part old new → SameWithin (segment_at g i) (segment_at g i + segment_size g) new old
+others : (g : Geometry) (i j : ℕ) (part : Option Segment) (old new : List ℕ) → (i ≡ j → ⊥)
+    → ShowsSegment g j part old new → SameWithin (segment_at g i) (segment_at g i + segment_size g) new old
 others g i j part old new differ shows = go (cases_lt i j)
   where
     go : (i < j) ⊎ (j ≤ i) → SameWithin (segment_at g i) (segment_at g i + segment_size g) new old
     go (inl l) = within_before (segment_at g j) (segment_size g) (segment_at g i) (segment_at g i + segment_size g) old new shows.outside (apart g i j l)
-    go (inr l) = within_behind (segment_at g j) (segment_size g) (segment_at g i) (segment_at g i + segment_size g) old new shows.outside (apart g j i (strictly (λ (e : i ≡ j). differ e) l))
+    go (inr l) = within_behind (segment_at g j) (segment_size g) (segment_at g i) (segment_at g i + segment_size g)
+        old new shows.outside (apart g j i (strictly (λ (e : i ≡ j). differ e) l))
       where
         strictly : (i ≡ j → ⊥) → j ≤ i → j < i
         strictly d l = between (cases_lt j i)
@@ -61,14 +64,18 @@ others g i j part old new differ shows = go (cases_lt i j)
             between (inl a) = a
             between (inr a) = absurd (d (omega (arith, a, l)))
 
-stray-others : (g : Geometry) (i : ℕ) (old new : List ℕ) → g.slots ≤ 256 → SameWithin (segment_at g i) (segment_at g i + segment_size g) new old → HasNoStray g i old → HasNoStray g i new
+stray-others : (g : Geometry) (i : ℕ) (old new : List ℕ) → g.slots ≤ 256
+    → SameWithin (segment_at g i) (segment_at g i + segment_size g) new old → HasNoStray g i old → HasNoStray g i new
 stray-others g i old new few same none = λ k low below.
     let header : SameWithin (segment_at g i) (segment_at g i + 512) new old = record { size = same.size; bytes = λ x l u. same.bytes x l (omega (arith, u)) } in
     let whole = same_whole_frames g new old i few header in
-    same_open new old (gate_at g i k) (record { size = same.size; bytes = λ x l u. same.bytes x (omega (arith, l)) (omega (arith, u, below, few)) }) ∙ none k (omega (arith, low, whole)) below
+    same_open new old (gate_at g i k)
+    (record { size = same.size; bytes = λ x l u. same.bytes x (omega (arith, l)) (omega (arith, u, below, few)) })
+    ∙ none k (omega (arith, low, whole)) below
 
 -- so where the changed one has no stray gate, none has
-pub unstray-shown : (g : Geometry) (j : ℕ) (part : Option Segment) (old new : List ℕ) → g.slots ≤ 256 → ShowsSegment g j part old new → HasNoneStray g old → (part ≢ None → HasNoStray g j new) → HasNoneStray g new
+pub unstray-shown : (g : Geometry) (j : ℕ) (part : Option Segment) (old new : List ℕ) → g.slots ≤ 256
+    → ShowsSegment g j part old new → HasNoneStray g old → (part ≢ None → HasNoStray g j new) → HasNoneStray g new
 unstray-shown g j part old new few shows none here i within open_segments = go (cases_lt i j)
   where
     other : (i ≡ j → ⊥) → HasNoStray g i new
@@ -88,10 +95,15 @@ unstray-shown g j part old new few shows none here i within open_segments = go (
 
 -- ---- a block that begins
 
-pub begun-heads : (g : Geometry) (next j : ℕ) (old new : List ℕ) → g.slots ≤ 256 → j < g.segments → next % g.slots ≡ 0 → ShowsSegment g j (Some (empty_segment (next / g.slots))) old new → heads_of g new ≡ set (heads_of g old) j (Some (head_at g next))
-begun-heads g next j old new few l first shows = heads-shown g j (Some (empty_segment (next / g.slots))) old new few l shows ∙ (λ i. set (heads_of g old) j (Some (record { block = next / g.slots; frames = sym first i })))
+pub begun-heads : (g : Geometry) (next j : ℕ) (old new : List ℕ) → g.slots ≤ 256 → j < g.segments → next % g.slots ≡ 0
+    → ShowsSegment g j (Some (empty_segment (next / g.slots))) old new → heads_of g new ≡ set (heads_of g old) j
+    (Some (head_at g next))
+begun-heads g next j old new few l first shows = heads-shown g j (Some (empty_segment (next / g.slots))) old new few l
+    shows ∙ (λ i. set (heads_of g old) j (Some (record { block = next / g.slots; frames = sym first i })))
 
-pub closed-begun : (g : Geometry) (next j : ℕ) (old new : List ℕ) → g.slots ≤ 256 → j < g.segments → next % g.slots ≡ 0 → HasNoneStray g old → ShowsSegment g j (Some (empty_segment (next / g.slots))) old new → HasNoStray g j new → IsBegunAt g next j old new
+pub closed-begun : (g : Geometry) (next j : ℕ) (old new : List ℕ) → g.slots ≤ 256 → j < g.segments
+    → next % g.slots ≡ 0 → HasNoneStray g old → ShowsSegment g j (Some (empty_segment (next / g.slots))) old new
+    → HasNoStray g j new → IsBegunAt g next j old new
 closed-begun g next j old new few l first unstray shows stray = record {
   heads = begun-heads g next j old new few l first shows;
   unstray = unstray-shown g j (Some (empty_segment (next / g.slots))) old new few shows unstray (λ some. stray);
@@ -99,7 +111,8 @@ closed-begun g next j old new few l first unstray shows stray = record {
 
 -- ---- a block that is recycled
 
-any_without : (p : Segment → Bool) (ps : List (Option Segment)) (j : ℕ) → list_any p (open_segments ps) ≡ false → list_any p (open_segments (set ps j None)) ≡ false
+any_without : (p : Segment → Bool) (ps : List (Option Segment)) (j : ℕ) → list_any p (open_segments ps) ≡ false
+    → list_any p (open_segments (set ps j None)) ≡ false
 any_without p [] j e = e
 any_without p (None ∷ ps) zero e = e
 any_without p (Some s ∷ ps) zero e = (neither (p s) (list_any p (open_segments ps)) e).1
@@ -109,7 +122,8 @@ any_without p (Some s ∷ ps) (suc j) e =
     let rest = any_without p ps j k.1 in
     λ i. k.0 i || rest i
 
-pub retired-free : (g : Geometry) (next b j : ℕ) (old c : List ℕ) → g.slots ≤ 256 → j < g.segments → IsOldFor g next b j old → ShowsSegment g j None old c → IsFreeFor g next j c
+pub retired-free : (g : Geometry) (next b j : ℕ) (old c : List ℕ) → g.slots ≤ 256 → j < g.segments
+    → IsOldFor g next b j old → ShowsSegment g j None old c → IsFreeFor g next j c
 retired-free g next b j old c few l is shows =
     let parts = parts-shows g j None old c few l shows in
     let test = λ (s : Segment). eqb s.block (next / g.slots) in
@@ -119,27 +133,42 @@ retired-free g next b j old c few l is shows =
       low_enough = is.low_enough;
     }
 
-pub retired-held : (g : Geometry) (r : Recording) (b j : ℕ) (old c : List ℕ) → Holds g r old → j < g.segments → victim (ring_of g) r ≡ Some b → IsOldFor g r.next b j old → ShowsSegment g j None old c → Holds g (after_step (ring_of g) r (recycle b)) c
+pub retired-held : (g : Geometry) (r : Recording) (b j : ℕ) (old c : List ℕ) → Holds g r old → j < g.segments
+    → victim (ring_of g) r ≡ Some b → IsOldFor g r.next b j old → ShowsSegment g j None old c
+    → Holds g (after_step (ring_of g) r (recycle b)) c
 retired-held g r b j old c held l chosen is shows =
     let e = sym is.block_is in
     subst (λ (n : ℕ). Holds g (after_step (ring_of g) r (recycle n)) c) is.block_is
     (reading-retire g r old c j is.segment held l is.there (chosen ∙ (λ i. Some (e i))) shows)
 
-pub retired-held_or : (g : Geometry) (r : Recording) (b j : ℕ) (old c : List ℕ) → Holds g r old → j < g.segments → victim (ring_of g) r ≡ Some b → IsOldFor g r.next b j old → ShowsOrNot g j None old c → HoldsSome g r (recycle b ∷ []) c
-retired-held_or g r b j old c held l chosen is (inl same) = record { count = 0; enough = omega arith; few = omega arith; held = reading-same g r old c j held l same }
-retired-held_or g r b j old c held l chosen is (inr shows) = record { count = 1; enough = omega arith; few = omega arith; held = retired-held g r b j old c held l chosen is shows }
+pub retired-held_or : (g : Geometry) (r : Recording) (b j : ℕ) (old c : List ℕ) → Holds g r old → j < g.segments
+    → victim (ring_of g) r ≡ Some b → IsOldFor g r.next b j old → ShowsOrNot g j None old c
+    → HoldsSome g r (recycle b ∷ []) c
+retired-held_or g r b j old c held l chosen is (inl same) =
+    record { count = 0; enough = omega arith; few = omega arith; held = reading-same g r old c j held l same }
+retired-held_or g r b j old c held l chosen is (inr shows) =
+    record {
+      count = 1;
+      enough = omega arith;
+      few = omega arith;
+      held =
+          retired-held g r b j old c held l chosen is shows;
+    }
 
 set_again : {X : Type 0} (xs : List X) (j : ℕ) (x y : X) → set (set xs j x) j y ≡ set xs j y
 set_again [] j x y = refl
 set_again (z ∷ xs) zero x y = refl
 set_again (z ∷ xs) (suc j) x y = ap (λ ys. z ∷ ys) (set_again xs j x y)
 
-pub replaced-begun : (g : Geometry) (next j : ℕ) (old mid new : List ℕ) → g.slots ≤ 256 → j < g.segments → next % g.slots ≡ 0 → HasNoneStray g old → ShowsSegment g j None old mid → ShowsSegment g j (Some (empty_segment (next / g.slots))) mid new → HasNoStray g j new → IsBegunAt g next j old new
+pub replaced-begun : (g : Geometry) (next j : ℕ) (old mid new : List ℕ) → g.slots ≤ 256 → j < g.segments
+    → next % g.slots ≡ 0 → HasNoneStray g old → ShowsSegment g j None old mid
+    → ShowsSegment g j (Some (empty_segment (next / g.slots))) mid new → HasNoStray g j new → IsBegunAt g next j old new
 replaced-begun g next j old mid new few l first unstray gone shows stray = record {
   heads =
       begun-heads g next j mid new few l first shows ∙ ap (λ hs. set hs j (Some (head_at g next))) (heads-shown g j None old mid few l gone)
       ∙ set_again (heads_of g old) j None (Some (head_at g next));
-  unstray = unstray-shown g j (Some (empty_segment (next / g.slots))) mid new few shows (unstray-shown g j None old mid few gone unstray (λ some. absurd (some refl))) (λ some. stray);
+  unstray = unstray-shown g j (Some (empty_segment (next / g.slots))) mid new few shows
+      (unstray-shown g j None old mid few gone unstray (λ some. absurd (some refl))) (λ some. stray);
 }
 
 -- ---- what is known of a place
@@ -151,7 +180,8 @@ pub record Goes (g : Geometry) (r : Recording) (next j : ℕ) (image : List ℕ)
   pub is : IsOldFor g r.next block j image
   pub steps : steps_before g r ≡ recycle block ∷ []
 
-pub goes : (g : Geometry) (r : Recording) (next j : ℕ) (image : List ℕ) → IsKnown g next (Victim j) image → Holds g r image → Goes g r next j image
+pub goes : (g : Geometry) (r : Recording) (next j : ℕ) (image : List ℕ) → IsKnown g next (Victim j) image
+    → Holds g r image → Goes g r next j image
 goes g r next j image known held =
     let place = subst (λ (q : Recording). IsPlaceAt g q image (Victim j)) (one-recording g known.recording r image known.held held) known.is_place in
     record { block = place.0; chosen = place.1.0; is = place.1.1.0; steps = before-one g r place.0 place.1.1.1.1 place.1.0 }
@@ -165,7 +195,8 @@ pub record IsClosedFor (g : Geometry) (r : Recording) (next j : ℕ) (image : Li
   pub first : next % g.slots ≡ 0
   pub steps : steps_before g r ≡ []
 
-pub closed-for : (g : Geometry) (r : Recording) (next j : ℕ) (image : List ℕ) → IsKnown g next (Closed j) image → Holds g r image → r.next ≡ next → IsClosedFor g r next j image
+pub closed-for : (g : Geometry) (r : Recording) (next j : ℕ) (image : List ℕ) → IsKnown g next (Closed j) image
+    → Holds g r image → r.next ≡ next → IsClosedFor g r next j image
 closed-for g r next j image known held is =
     let place = subst (λ (q : Recording). IsPlaceAt g q image (Closed j)) (one-recording g known.recording r image known.held held) known.is_place in
     record {
@@ -180,14 +211,22 @@ pub record IsNewestFor (g : Geometry) (r : Recording) (next j : ℕ) (image : Li
   pub begun : IsBegunAt g next j image image
   pub steps : steps_before g r ≡ []
 
-pub newest-for : (g : Geometry) (r : Recording) (next j : ℕ) (image : List ℕ) → j < g.segments → IsKnown g next (Newest j) image → Holds g r image → r.next ≡ next → IsNewestFor g r next j image
+pub newest-for : (g : Geometry) (r : Recording) (next j : ℕ) (image : List ℕ) → j < g.segments
+    → IsKnown g next (Newest j) image → Holds g r image → r.next ≡ next → IsNewestFor g r next j image
 newest-for g r next j image l known held is =
     let place = subst (λ (q : Recording). IsPlaceAt g q image (Newest j)) (one-recording g known.recording r image known.held held) known.is_place in
     let at = place.0 in
     let stray = known.unstray j l (λ none. no_segment at.segment (sym at.there ∙ none)) in
     record {
-      newest = subst (λ (n : ℕ). IsNewestSegment g n j image) is (record { segment = at.segment; there = at.there; of_next = at.of_next; whole = at.whole; stray = stray });
-      begun = record { heads = sym (subst (λ (n : ℕ). set (heads_of g image) j (Some (head_at g n)) ≡ heads_of g image) is (ap (λ (o : Option SegmentHead). set (heads_of g image) j o) (sym at.head) ∙ set-get_or (heads_of g image) j None)); unstray = known.unstray };
+      newest = subst (λ (n : ℕ). IsNewestSegment g n j image) is
+          (record { segment = at.segment; there = at.there; of_next = at.of_next; whole = at.whole; stray = stray });
+      begun = record {
+        heads = sym (subst
+            (λ (n : ℕ). set (heads_of g image) j (Some (head_at g n)) ≡ heads_of g image) is
+            (ap (λ (o : Option SegmentHead). set (heads_of g image) j o) (sym at.head)
+            ∙ set-get_or (heads_of g image) j None));
+        unstray = known.unstray;
+      };
       steps = before-none g r place.1;
     }
   where
@@ -196,23 +235,34 @@ newest-for g r next j image l known held is =
 
 -- ---- a place that is one of these
 
-pub known-newest : (g : Geometry) (r : Recording) (next j : ℕ) (p : Place) (image : List ℕ) → p ≡ Newest j → place_segment p < g.segments → IsKnown g next p image → Holds g r image → r.next ≡ next → IsNewestFor g r next (place_segment p) image
+pub known-newest : (g : Geometry) (r : Recording) (next j : ℕ) (p : Place) (image : List ℕ) → p ≡ Newest j
+    → place_segment p < g.segments → IsKnown g next p image → Holds g r image → r.next ≡ next
+    → IsNewestFor g r next (place_segment p) image
 known-newest g r next j p image is l known held same =
     let e : place_segment p ≡ j = ap place_segment is in
-    subst (λ (k : ℕ). IsNewestFor g r next k image) (sym e) (newest-for g r next j image (subst (λ (k : ℕ). k < g.segments) e l) (subst (λ (q : Place). IsKnown g next q image) is known) held same)
+    subst (λ (k : ℕ). IsNewestFor g r next k image) (sym e)
+    (newest-for g r next j image (subst (λ (k : ℕ). k < g.segments) e l)
+    (subst (λ (q : Place). IsKnown g next q image) is known) held same)
 
-pub known-closed : (g : Geometry) (r : Recording) (next j : ℕ) (p : Place) (image : List ℕ) → p ≡ Closed j → IsKnown g next p image → Holds g r image → r.next ≡ next → IsClosedFor g r next j image
+pub known-closed : (g : Geometry) (r : Recording) (next j : ℕ) (p : Place) (image : List ℕ) → p ≡ Closed j
+    → IsKnown g next p image → Holds g r image → r.next ≡ next → IsClosedFor g r next j image
 known-closed g r next j p image is known held same = closed-for g r next j image (subst (λ (q : Place). IsKnown g next q image) is known) held same
 
-pub closed-at : (g : Geometry) (next j : ℕ) (p : Place) (old new : List ℕ) → g.slots ≤ 256 → p ≡ Closed j → place_segment p < g.segments → IsKnown g next p old → ShowsSegment g j (Some (empty_segment (next / g.slots))) old new → HasNoStray g j new → IsBegunAt g next (place_segment p) old new
+pub closed-at : (g : Geometry) (next j : ℕ) (p : Place) (old new : List ℕ) → g.slots ≤ 256 → p ≡ Closed j
+    → place_segment p < g.segments → IsKnown g next p old
+    → ShowsSegment g j (Some (empty_segment (next / g.slots))) old new → HasNoStray g j new
+    → IsBegunAt g next (place_segment p) old new
 closed-at g next j p old new few is l known shows stray =
     let e : place_segment p ≡ j = ap place_segment is in
     let c = known-closed g known.recording next j p old is known known.held known.next_is in
-    subst (λ (k : ℕ). IsBegunAt g next k old new) (sym e) (closed-begun g next j old new few (subst (λ (k : ℕ). k < g.segments) e l) c.first known.unstray shows stray)
+    subst (λ (k : ℕ). IsBegunAt g next k old new) (sym e)
+    (closed-begun g next j old new few (subst (λ (k : ℕ). k < g.segments) e l) c.first known.unstray shows stray)
 
 -- ---- frames that are stored there
 
-pub grown-at : (g : Geometry) (next j : ℕ) (ps : List Picture) (old mid new : List ℕ) → g.slots ≤ 256 → j < g.segments → IsBegunAt g next j old mid → ShowsFrames g j next ps mid new → HasNoStray g j new → IsGrownAt g next (length ps) j old new
+pub grown-at : (g : Geometry) (next j : ℕ) (ps : List Picture) (old mid new : List ℕ) → g.slots ≤ 256 → j < g.segments
+    → IsBegunAt g next j old mid → ShowsFrames g j next ps mid new → HasNoStray g j new
+    → IsGrownAt g next (length ps) j old new
 grown-at g next j ps old mid new few l empty_segment shows stray = record {
   heads =
       heads-committed g j next (head_at g next) ps mid new few l head shows
@@ -222,7 +272,8 @@ grown-at g next j ps old mid new few l empty_segment shows stray = record {
 }
   where
     head : get_or (heads_of g mid) j None ≡ Some (head_at g next)
-    head = ap (λ hs. get_or hs j None) empty_segment.heads ∙ get_or-set_same (heads_of g old) j (Some (head_at g next)) None (omega (arith, l, heads-length g old))
+    head = ap (λ hs. get_or hs j None) empty_segment.heads ∙ get_or-set_same (heads_of g old) j
+        (Some (head_at g next)) None (omega (arith, l, heads-length g old))
 
 -- a recycling leaves the next number
 pub before-next : (g : Geometry) (r : Recording) → (plain (ring_of g) r (steps_before g r)).next ≡ r.next
@@ -233,8 +284,11 @@ before-next g r = go (needs_recycling (ring_of g) r) (victim (ring_of g) r)
     go true None = refl
     go true (Some b) = refl
 
-pub grown-place : (g : Geometry) (next count k : ℕ) (p : Place) (ps : List Picture) (old mid new : List ℕ) → g.slots ≤ 256 → k ≡ place_segment p → place_segment p < g.segments → length ps ≡ count → IsBegunAt g next (place_segment p) old mid → ShowsFrames g k next ps mid new → HasNoStray g k new
+pub grown-place : (g : Geometry) (next count k : ℕ) (p : Place) (ps : List Picture) (old mid new : List ℕ)
+    → g.slots ≤ 256 → k ≡ place_segment p → place_segment p < g.segments → length ps ≡ count
+    → IsBegunAt g next (place_segment p) old mid → ShowsFrames g k next ps mid new → HasNoStray g k new
     → IsGrownAt g next count (place_segment p) old new
 grown-place g next count k p ps old mid new few at l many empty_segment shows stray =
     subst (λ (n : ℕ). IsGrownAt g next n (place_segment p) old new) many
-    (grown-at g next (place_segment p) ps old mid new few l empty_segment (subst (λ (j : ℕ). ShowsFrames g j next ps mid new) at shows) (subst (λ (j : ℕ). HasNoStray g j new) at stray))
+    (grown-at g next (place_segment p) ps old mid new few l empty_segment
+    (subst (λ (j : ℕ). ShowsFrames g j next ps mid new) at shows) (subst (λ (j : ℕ). HasNoStray g j new) at stray))

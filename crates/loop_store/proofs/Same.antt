@@ -35,7 +35,8 @@ unfolding is_there
 under-numbers n [] = refl
 under-numbers n (f ∷ fs) = go (eqb f.0 n) (under-numbers n fs)
   where
-    go : (t : Bool) → is_some (frame_under fs n) ≡ is_there n (numbers_of fs) → is_some (cond t (Some f.1) (frame_under fs n)) ≡ cond t true (is_there n (numbers_of fs))
+    go : (t : Bool) → is_some (frame_under fs n) ≡ is_there n (numbers_of fs)
+        → is_some (cond t (Some f.1) (frame_under fs n)) ≡ cond t true (is_there n (numbers_of fs))
     go true h = refl
     go false h = h
 
@@ -77,13 +78,17 @@ heads_same m n ms ns e = cc
 rests_same : (m n : ℕ) (ms ns : List ℕ) → (let x : List ℕ = m ∷ ms in x) ≡ n ∷ ns → ms ≡ ns
 rests_same m n ms ns e = cc
 
-rise-same : (low high : ℕ) (fs gs : List (ℕ × Picture)) → numbers_of fs ≡ numbers_of gs → RiseBetween low high fs → RiseBetween low high gs
+rise-same : (low high : ℕ) (fs gs : List (ℕ × Picture)) → numbers_of fs ≡ numbers_of gs → RiseBetween low high fs
+    → RiseBetween low high gs
 rise-same low high [] [] e h = h
 rise-same low high [] (g ∷ gs) e h = absurd cc
 rise-same low high (f ∷ fs) [] e h = absurd cc
 rise-same low high (f ∷ fs) (g ∷ gs) e h =
-    let first = heads_same f.0 g.0 (numbers_of fs) (numbers_of gs) e in
-    (omega (arith, first, h.0), subst (λ (n : ℕ). RiseBetween (n + 1) high gs) first (rise-same (f.0 + 1) high fs gs (rests_same f.0 g.0 (numbers_of fs) (numbers_of gs) e) h.1))
+    let first = heads_same f.0 g.0 (numbers_of fs) (numbers_of gs) e in (
+      omega (arith, first, h.0),
+      subst (λ (n : ℕ). RiseBetween (n + 1) high gs) first
+          (rise-same (f.0 + 1) high fs gs (rests_same f.0 g.0 (numbers_of fs) (numbers_of gs) e) h.1),
+    )
 
 pub formed-same : (r t : Recording) → IsSame r t → IsWellFormed r → IsWellFormed t
 formed-same r t same w = record {
@@ -96,7 +101,9 @@ formed-same r t same w = record {
 
 -- ---- numbers that are held alike are the same
 
-rising-same : (low high high' : ℕ) (fs gs : List (ℕ × Picture)) → RiseBetween low high fs → RiseBetween low high' gs → ((n : ℕ) → Among n (numbers_of fs) → Among n (numbers_of gs)) → ((n : ℕ) → Among n (numbers_of gs) → Among n (numbers_of fs))
+rising-same : (low high high' : ℕ) (fs gs : List (ℕ × Picture)) → RiseBetween low high fs → RiseBetween low high' gs
+    → ((n : ℕ) → Among n (numbers_of fs) → Among n (numbers_of gs))
+    → ((n : ℕ) → Among n (numbers_of gs) → Among n (numbers_of fs))
     → numbers_of fs ≡ numbers_of gs
 rising-same low high high' [] [] h k to from = refl
 rising-same low high high' [] (g ∷ gs) h k to from = elim (from g.0 (inl refl)) [ ]
@@ -136,7 +143,8 @@ rising-same low high high' (f ∷ fs) (g ∷ gs) h k to from =
         go (inl is) = absurd (omega (arith, is, first, (among-range (g.0 + 1) high' n gs k.1 at).0))
         go (inr behind) = behind
 
-pub held-same : (r t : Recording) → IsWellFormed r → IsWellFormed t → ((n : ℕ) → holds r n ≡ holds t n) → r.next ≡ t.next → r.clips ≡ t.clips → IsSame r t
+pub held-same : (r t : Recording) → IsWellFormed r → IsWellFormed t → ((n : ℕ) → holds r n ≡ holds t n)
+    → r.next ≡ t.next → r.clips ≡ t.clips → IsSame r t
 held-same r t w v same next clips = record {
   numbers = rising-same 0 r.next t.next r.frames t.frames w.rising v.rising
       (λ n at. held-among n t.frames (sym (same n) ∙ among-held n r.frames at))
@@ -151,11 +159,14 @@ numbers-kept : (p : ℕ → Bool) (fs : List (ℕ × Picture)) → numbers_of (f
 numbers-kept p [] = refl
 numbers-kept p (f ∷ fs) = go (p f.0) (numbers-kept p fs)
   where
-    go : (t : Bool) → numbers_of (filter (λ f. p f.0) fs) ≡ filter p (numbers_of fs) → numbers_of (cond t (f ∷ filter (λ f. p f.0) fs) (filter (λ f. p f.0) fs)) ≡ cond t (f.0 ∷ filter p (numbers_of fs)) (filter p (numbers_of fs))
+    go : (t : Bool) → numbers_of (filter (λ f. p f.0) fs) ≡ filter p (numbers_of fs)
+        → numbers_of (cond t (f ∷ filter (λ f. p f.0) fs) (filter (λ f. p f.0) fs)) ≡ cond t
+        (f.0 ∷ filter p (numbers_of fs)) (filter p (numbers_of fs))
     go true h = ap (λ (ns : List ℕ). f.0 ∷ ns) h
     go false h = h
 
-pub recycled-same : (ring : Ring) (r t : Recording) (b : ℕ) → IsSame r t → IsSame (after_step ring r (recycle b)) (after_step ring t (recycle b))
+pub recycled-same : (ring : Ring) (r t : Recording) (b : ℕ) → IsSame r t → IsSame (after_step ring r (recycle b))
+    (after_step ring t (recycle b))
 recycled-same ring r t b same =
     let p = λ (n : ℕ). not (eqb (block ring n) b) in record {
       numbers = numbers-kept p r.frames ∙ ap (filter p) same.numbers ∙ sym (numbers-kept p t.frames);
@@ -170,11 +181,14 @@ enumerated : (n : ℕ) (ps : List Picture) → numbers_of (enumerate_from n ps) 
 enumerated n [] = refl
 enumerated n (p ∷ ps) = ap (λ (ns : List ℕ). n ∷ ns) (enumerated (n + 1) ps)
 
-stored-numbers : (ring : Ring) (r : Recording) (ps : List Picture) → numbers_of (plain ring r (map store ps)).frames ≡ numbers_of r.frames ++ range_with_len r.next (length ps)
+stored-numbers : (ring : Ring) (r : Recording) (ps : List Picture)
+    → numbers_of (plain ring r (map store ps)).frames ≡ numbers_of r.frames ++ range_with_len r.next (length ps)
 stored-numbers ring r ps =
-    ap (λ (q : Recording). numbers_of q.frames) (plain-stores ring r ps) ∙ map-append (λ f. f.0) r.frames (enumerate_from r.next ps) ∙ ap (λ (ns : List ℕ). numbers_of r.frames ++ ns) (enumerated r.next ps)
+    ap (λ (q : Recording). numbers_of q.frames) (plain-stores ring r ps) ∙ map-append (λ f. f.0) r.frames
+    (enumerate_from r.next ps) ∙ ap (λ (ns : List ℕ). numbers_of r.frames ++ ns) (enumerated r.next ps)
 
-pub stored-same : (ring : Ring) (r t : Recording) (ps qs : List Picture) → IsSame r t → length ps ≡ length qs → IsSame (plain ring r (map store ps)) (plain ring t (map store qs))
+pub stored-same : (ring : Ring) (r t : Recording) (ps qs : List Picture) → IsSame r t → length ps ≡ length qs
+    → IsSame (plain ring r (map store ps)) (plain ring t (map store qs))
 stored-same ring r t ps qs same count = record {
   numbers = stored-numbers ring r ps ∙ (λ i. same.numbers i ++ range_with_len (same.next i) (count i)) ∙ sym (stored-numbers ring t qs);
   next = ap (λ (q : Recording). q.next) (plain-stores ring r ps) ∙ (λ i. same.next i + count i) ∙ sym (ap (λ (q : Recording). q.next) (plain-stores ring t qs));

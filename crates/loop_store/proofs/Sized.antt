@@ -15,7 +15,8 @@ use Rattle.loop_ring.proofs.Held.{held-number}
 use Rattle.loop_store.proofs.Looked.{held-slot}
 
 -- a frame of a recording that an image holds has the geometry's size
-pub sized : (g : Geometry) (r : Recording) (image : List ℕ) (n : ℕ) (p : Picture) → 1 ≤ g.slots → Holds g r image → frame_under r.frames n ≡ Some p → length p.bytes ≡ frame_bytes g
+pub sized : (g : Geometry) (r : Recording) (image : List ℕ) (n : ℕ) (p : Picture) → 1 ≤ g.slots → Holds g r image
+    → frame_under r.frames n ≡ Some p → length p.bytes ≡ frame_bytes g
 sized g r image n p some held there =
     let has : list_any (has_number g.slots n) (heads_of g image) ≡ true = held-number g r image n held ∙ ap (λ (o : Option Picture). is_some o) there in
     let k = any-index (has_number g.slots n) (heads_of g image) has in

@@ -9,7 +9,9 @@ use Rattle.loop_store.proofs.Looks.{told-drawn}
 use Rattle.loop_store.proofs.Reopened.{present-opened}
 
 -- whether its disk is honest or not, the store stands for some recording, where that is known
-pub stands-known : {D A : Type 0} (medium : D → Medium) (disk : D) (index : Index A) (b : Bool) → IsKept medium disk index b → (medium disk).honest ⊎ ((medium disk).honest → ⊥) → (r : Recording) × StandsFor medium (seen_with disk index b) r
+pub stands-known : {D A : Type 0} (medium : D → Medium) (disk : D) (index : Index A) (b : Bool)
+    → IsKept medium disk index b → (medium disk).honest ⊎ ((medium disk).honest → ⊥) → (r : Recording)
+    × StandsFor medium (seen_with disk index b) r
 stands-known medium disk index b kept (inr not_so) = (
   kept.known.recording,
   record {
@@ -27,5 +29,6 @@ stands-known medium disk index true kept (inl now) = (
   },
 )
 stands-known medium disk index false kept (inl now) =
-    let o = present-opened medium disk index (medium disk).bytes (limits index.ring.geometry index.ring.good).slots.0 kept.fits.whole.within (kept.present refl now) refl in
+    let o = present-opened medium disk index (medium disk).bytes (limits index.ring.geometry index.ring.good).slots.0
+    kept.fits.whole.within (kept.present refl now) refl in
     (o.recording, o.stands)

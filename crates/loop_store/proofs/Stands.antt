@@ -9,8 +9,11 @@ use Rattle.loop_store.specs.Held.{HoldsSome}
 use Rattle.loop_store.proofs.Grown.{held-some}
 
 -- nothing was called
-pub unmoved : (m : Medium) (g : Geometry) (r : Recording) → IsSound m → IsSettled m → Holds g r m.bytes → LeavesOnly m m (Holds g r)
+pub unmoved : (m : Medium) (g : Geometry) (r : Recording) → IsSound m → IsSettled m → Holds g r m.bytes
+    → LeavesOnly m m (Holds g r)
 unmoved m g r sound settled held = started m (Holds g r) sound (λ c left. subst (λ (image : List ℕ). Holds g r image) (sym (settled c left)) held)
 
-pub unmoved-some : (m : Medium) (g : Geometry) (r : Recording) (steps : List Step) → IsSound m → IsSettled m → Holds g r m.bytes → LeavesOnly m m (HoldsSome g r steps)
-unmoved-some m g r steps sound settled held = weaker m m (Holds g r) (HoldsSome g r steps) (unmoved m g r sound settled held) (λ c same. held-some g r steps c same)
+pub unmoved-some : (m : Medium) (g : Geometry) (r : Recording) (steps : List Step) → IsSound m → IsSettled m
+    → Holds g r m.bytes → LeavesOnly m m (HoldsSome g r steps)
+unmoved-some m g r steps sound settled held = weaker m m (Holds g r) (HoldsSome g r steps)
+    (unmoved m g r sound settled held) (λ c same. held-some g r steps c same)

@@ -43,20 +43,27 @@ ended_owner s e = absurd (cc)
 
 -- ---- what a call that isn't refused has found
 
-take_dequeued : (index : ℕ) (b : Body Plane) → take_refusal index b ≡ None → is_dequeued (state_at b.buffers index) ≡ true
+take_dequeued : (index : ℕ) (b : Body Plane) → take_refusal index b ≡ None
+    → is_dequeued (state_at b.buffers index) ≡ true
 take_dequeued index b e = let p : Passed (take_checks index b) = all_passed (take_checks index b) e in true_of (is_dequeued (state_at b.buffers index)) p.1.1.0
 
-copy_dequeued : (index plane at count : ℕ) (b : Body Plane) → copy_refusal index plane at count b ≡ None → is_dequeued (state_at b.buffers index) ≡ true
+copy_dequeued : (index plane at count : ℕ) (b : Body Plane) → copy_refusal index plane at count b ≡ None
+    → is_dequeued (state_at b.buffers index) ≡ true
 copy_dequeued index plane at count b e =
-    let p : Passed (copy_checks index plane at count (used_at b.buffers index plane) b) = all_passed (copy_checks index plane at count (used_at b.buffers index plane) b) e in true_of (is_dequeued (state_at b.buffers index)) p.1.1.0
+    let p : Passed (copy_checks index plane at count (used_at b.buffers index plane) b) =
+    all_passed (copy_checks index plane at count (used_at b.buffers index plane) b) e in
+    true_of (is_dequeued (state_at b.buffers index)) p.1.1.0
 
-pub first_is_ended : (s : QueueState) (i : ℕ) → first_ended s ≡ Some i → (is_ended (state_at s.body.buffers i) ≡ true) × (i < length s.body.buffers)
+pub first_is_ended : (s : QueueState) (i : ℕ) → first_ended s ≡ Some i → (is_ended (state_at s.body.buffers i) ≡ true)
+    × (i < length s.body.buffers)
 first_is_ended s i e = least_found s.end_number (λ k. is_ended (state_at s.body.buffers k)) (length s.body.buffers) i e
 
 for_owner : (s : QueueState) (event : Event) → MayHappen s event → ActsForOwner s.body.buffers event
-for_owner s (prepare_buf index kind given None) a = dequeued_owner (state_at s.body.buffers index) (prepare_dequeued index kind given s.body (not_refused (prepare_refusal index kind given s.body) a))
+for_owner s (prepare_buf index kind given None) a = dequeued_owner (state_at s.body.buffers index)
+    (prepare_dequeued index kind given s.body (not_refused (prepare_refusal index kind given s.body) a))
 for_owner s (prepare_buf index kind given (Some e)) a = tt
-for_owner s (qbuf index kind given None) a = idle_owner (state_at s.body.buffers index) (queue_idle index kind given s.body (not_refused (queue_refusal index kind given s.body) a))
+for_owner s (qbuf index kind given None) a = idle_owner (state_at s.body.buffers index)
+    (queue_idle index kind given s.body (not_refused (queue_refusal index kind given s.body) a))
 for_owner s (qbuf index kind given (Some e)) a = tt
 for_owner s (dqbuf (Ok d)) a = ended_owner (state_at s.body.buffers d.index) (first_is_ended s d.index a.1).0
 for_owner s (dqbuf (Err e)) a = tt
@@ -64,7 +71,8 @@ for_owner s (take_planes index (Ok set)) a = dequeued_owner (state_at s.body.buf
 for_owner s (take_planes index (Err e)) a = tt
 for_owner s (copy_plane index plane at count (Ok bytes)) a = dequeued_owner (state_at s.body.buffers index) (copy_dequeued index plane at count s.body a.0)
 for_owner s (copy_plane index plane at count (Err e)) a = tt
-for_owner s (complete index stamp bytes None) a = active_owner (state_at s.body.buffers index) (end_active index s.body (not_refused (end_refusal index s.body) a))
+for_owner s (complete index stamp bytes None) a = active_owner (state_at s.body.buffers index)
+    (end_active index s.body (not_refused (end_refusal index s.body) a))
 for_owner s (complete index stamp bytes (Some e)) a = tt
 for_owner s (fail index stamp None) a = active_owner (state_at s.body.buffers index) (end_active index s.body (not_refused (end_refusal index s.body) a))
 for_owner s (fail index stamp (Some e)) a = tt
@@ -92,31 +100,41 @@ none_queued true Done e = refl
 none_queued true Error e = refl
 
 -- once it is settled whether the device runs
-settled_states : (b : Body Plane) → (b.started ≡ true → b.streaming ≡ true) → (i : ℕ) → state_at (settle_device b).buffers i ≡ run_on (settle_device b).started (state_at b.buffers i)
+settled_states : (b : Body Plane) → (b.started ≡ true → b.streaming ≡ true) → (i : ℕ)
+    → state_at (settle_device b).buffers i ≡ run_on (settle_device b).started (state_at b.buffers i)
 settled_states b only i = by (device_runs b) refl
   where
-    by : (t : Bool) → device_runs b ≡ t → state_at (cond t (awake b) b).buffers i ≡ run_on (cond t (awake b) b).started (state_at b.buffers i)
+    by : (t : Bool) → device_runs b ≡ t → state_at (cond t (awake b) b).buffers i ≡ run_on
+        (cond t (awake b) b).started (state_at b.buffers i)
     by true e = state_at-map wake_buffer activate b.buffers i (λ x. refl) refl
-    by false e = left_off b.started (state_at b.buffers i) (not_yet b.streaming b.started (nat_le b.min_queued (count_by (λ x. is_queued x.state) b.buffers)) only e)
+    by false e = left_off b.started (state_at b.buffers i)
+        (not_yet b.streaming b.started (nat_le b.min_queued (count_by (λ x. is_queued x.state) b.buffers)) only e)
 
-streaming_states : (b : Body Plane) → InStep b → (i : ℕ) → state_at (body_streaming b).buffers i ≡ run_on (body_streaming b).started (state_at b.buffers i)
+streaming_states : (b : Body Plane) → InStep b → (i : ℕ) → state_at (body_streaming b).buffers i ≡ run_on
+    (body_streaming b).started (state_at b.buffers i)
 streaming_states b step i = by b.streaming refl
   where
     on : Body Plane
     on = record b { streaming = true }
 
-    by : (t : Bool) → b.streaming ≡ t → state_at (cond t b (settle_device on)).buffers i ≡ run_on (cond t b (settle_device on)).started (state_at b.buffers i)
+    by : (t : Bool) → b.streaming ≡ t → state_at (cond t b (settle_device on)).buffers i ≡ run_on
+        (cond t b (settle_device on)).started (state_at b.buffers i)
     by true e = none_queued b.started (state_at b.buffers i) (step.each i)
     by false e = settled_states on (λ h. refl) i
 
-turned : (s : QueueState) (event : Event) → InStep s.body → MayHappen s event → (i : ℕ) → state_at (after_event s event).body.buffers i ≡ turned_to event (after_event s event).body.started i (state_at s.body.buffers i)
+turned : (s : QueueState) (event : Event) → InStep s.body → MayHappen s event → (i : ℕ)
+    → state_at (after_event s event).body.buffers i ≡ turned_to event (after_event s event).body.started i
+    (state_at s.body.buffers i)
 turned s (prepare_buf index kind given None) step a i =
-    state_at-changed (prepared_with given) Prepared s.body.buffers index i (prepared_state given) (prepare_within index kind given s.body (not_refused (prepare_refusal index kind given s.body) a))
+    state_at-changed (prepared_with given) Prepared s.body.buffers index i (prepared_state given)
+    (prepare_within index kind given s.body (not_refused (prepare_refusal index kind given s.body) a))
 turned s (prepare_buf index kind given (Some e)) step a i = refl
 turned s (qbuf index kind given None) step a i =
     let b : Body Plane = with_buffer (queued_with given) index s.body in
     settled_states b step.only_streaming i
-    ∙ ap (run_on (settle_device b).started) (state_at-changed (queued_with given) Queued s.body.buffers index i (queued_state given) (queue_within index kind given s.body (not_refused (queue_refusal index kind given s.body) a)))
+    ∙ ap (run_on (settle_device b).started) (state_at-changed (queued_with given) Queued s.body.buffers index i
+    (queued_state given) (queue_within index kind given s.body
+    (not_refused (queue_refusal index kind given s.body) a)))
 turned s (qbuf index kind given (Some e)) step a i = refl
 turned s (dqbuf (Ok d)) step a i = state_at-changed (dequeued_from s.body.kind) Dequeued s.body.buffers d.index i (λ b. refl) (first_is_ended s d.index a.1).1
 turned s (dqbuf (Err e)) step a i = refl
@@ -125,9 +143,11 @@ turned s (streamon (Some e)) step a i = refl
 turned s streamoff step a i = state_at-map stop_buffer (λ t. Dequeued) s.body.buffers i (λ b. refl) refl
 turned s (reqbufs count kind sets (Ok g)) step a i = new_state (grants_or_none s.body.min_queued count) sets i
 turned s (reqbufs count kind sets (Err e)) step a i = refl
-turned s (complete index stamp bytes None) step a i = state_at-changed (completed_with s.body.shape stamp bytes) Done s.body.buffers index i (λ b. refl) (end_within index s.body (not_refused (end_refusal index s.body) a))
+turned s (complete index stamp bytes None) step a i = state_at-changed (completed_with s.body.shape stamp bytes) Done
+    s.body.buffers index i (λ b. refl) (end_within index s.body (not_refused (end_refusal index s.body) a))
 turned s (complete index stamp bytes (Some e)) step a i = refl
-turned s (fail index stamp None) step a i = state_at-changed (failed_with stamp) Error s.body.buffers index i (λ b. refl) (end_within index s.body (not_refused (end_refusal index s.body) a))
+turned s (fail index stamp None) step a i = state_at-changed (failed_with stamp) Error s.body.buffers index i
+    (λ b. refl) (end_within index s.body (not_refused (end_refusal index s.body) a))
 turned s (fail index stamp (Some e)) step a i = refl
 turned s (mmap index None) step a i = state_at-kept (mapped_as true) s.body.buffers index i (λ b. refl)
 turned s (mmap index (Some e)) step a i = refl

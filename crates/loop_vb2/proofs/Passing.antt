@@ -3,11 +3,13 @@ use Rattle.std.proofs.Common.{◌≡◌, Bool, true, false, not, cond, List, [],
 use Rattle.loop_vb2.specs.declared.reason.Reason.{Reason}
 use Rattle.loop_vb2.specs.Checks.{first_reason}
 
-pub passed_here : (test : Bool) (reason : Reason) (rest : Option Reason) → cond test (Some reason) rest ≡ None → test ≡ false
+pub passed_here : (test : Bool) (reason : Reason) (rest : Option Reason) → cond test (Some reason) rest ≡ None
+    → test ≡ false
 passed_here true reason rest e = absurd (cc)
 passed_here false reason rest e = refl
 
-pub passed_on : (test : Bool) (reason : Reason) (rest : Option Reason) → cond test (Some reason) rest ≡ None → rest ≡ None
+pub passed_on : (test : Bool) (reason : Reason) (rest : Option Reason) → cond test (Some reason) rest ≡ None
+    → rest ≡ None
 passed_on true reason rest e = absurd (cc)
 passed_on false reason rest e = e
 

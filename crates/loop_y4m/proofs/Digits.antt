@@ -15,7 +15,8 @@ use Rattle.std.proofs.lemmas.List.{take_at, drop_at}
 
 -- ---- digits
 
-digits_by : (same : Bool) (c d : ℕ) (ds : List ℕ) → eqb d c ≡ same → is_ascii_digit c ≡ false → is_ascii_digit d ≡ true → Lacks c ds → Lacks c (d ∷ ds)
+digits_by : (same : Bool) (c d : ℕ) (ds : List ℕ) → eqb d c ≡ same → is_ascii_digit c ≡ false
+    → is_ascii_digit d ≡ true → Lacks c ds → Lacks c (d ∷ ds)
 digits_by true c d ds is other digit rest = absurd (both_ways (is_ascii_digit c) other (rw (eqb-true d c is) at digit))
 digits_by false c d ds is other digit rest = rw is (omega (arith, rest))
 
@@ -48,7 +49,14 @@ side_decimal n some few = rw (number_decimal 16384 n few (omega (arith, few))) (
 
 pub rate_decimals : (n d : ℕ) → n < 2 ^ 32 → d < 2 ^ 32 → rate (decimal n ++ 58 ∷ decimal d) ≡ Some (n, d)
 rate_decimals n d small low =
-    let at : position_or_len is_colon (decimal n ++ 58 ∷ decimal d) ≡ length (decimal n) = behind 58 (decimal n) (58 ∷ decimal d) (decimal_lacks 58 n refl (omega (arith, small))) ∙ omega arith in
-    let front : before_first is_colon (decimal n ++ 58 ∷ decimal d) ≡ decimal n = ap (λ k. take k (decimal n ++ 58 ∷ decimal d)) at ∙ take_at (decimal n) (58 ∷ decimal d) (length (decimal n)) refl in
-    let back : after_first is_colon (decimal n ++ 58 ∷ decimal d) ≡ decimal d = ap (λ k. drop (k + 1) (decimal n ++ 58 ∷ decimal d)) at ∙ ap (drop (length (decimal n) + 1)) (sym (append_assoc (decimal n) (58 ∷ []) (decimal d))) ∙ drop_at (decimal n ++ 58 ∷ []) (decimal d) (length (decimal n) + 1) (length-append (decimal n) (58 ∷ [])) in
-    rw front (rw back (rw (number_decimal 4294967295 n (omega (arith, small)) (omega (arith, small))) (rw (number_decimal 4294967295 d (omega (arith, low)) (omega (arith, low))) refl)))
+    let at : position_or_len is_colon (decimal n ++ 58 ∷ decimal d) ≡ length (decimal n) =
+    behind 58 (decimal n) (58 ∷ decimal d) (decimal_lacks 58 n refl (omega (arith, small))) ∙ omega arith in
+    let front : before_first is_colon (decimal n ++ 58 ∷ decimal d) ≡ decimal n =
+    ap (λ k. take k (decimal n ++ 58 ∷ decimal d)) at ∙ take_at (decimal n) (58 ∷ decimal d)
+    (length (decimal n)) refl in
+    let back : after_first is_colon (decimal n ++ 58 ∷ decimal d) ≡ decimal d =
+    ap (λ k. drop (k + 1) (decimal n ++ 58 ∷ decimal d)) at ∙ ap (drop (length (decimal n) + 1))
+    (sym (append_assoc (decimal n) (58 ∷ []) (decimal d))) ∙ drop_at (decimal n ++ 58 ∷ []) (decimal d)
+    (length (decimal n) + 1) (length-append (decimal n) (58 ∷ [])) in
+    rw front (rw back (rw (number_decimal 4294967295 n (omega (arith, small)) (omega (arith, small)))
+    (rw (number_decimal 4294967295 d (omega (arith, low)) (omega (arith, low))) refl)))

@@ -16,7 +16,8 @@ equal : (xs ys : List ℕ) → bytes_eq xs ys ≡ true → xs ≡ ys
 equal xs ys is = (bytes_eq-Decides xs ys).0 is
 
 -- one that begins with other bytes
-another : (first rest : List ℕ) → length first ≡ 10 → bytes_eq first (codes "YUV4MPEG2 ") ≡ false → bytes_eq first (codes "YUV4MPEG2\n") ≡ false → header_line (first ++ rest) ≡ Err NotY4m
+another : (first rest : List ℕ) → length first ≡ 10 → bytes_eq first (codes "YUV4MPEG2 ") ≡ false
+    → bytes_eq first (codes "YUV4MPEG2\n") ≡ false → header_line (first ++ rest) ≡ Err NotY4m
 another first rest ten space newline = rw (take_at first rest 10 ten) (rw space (rw newline refl))
 
 -- a header without parameters
@@ -29,20 +30,35 @@ bare rest = line_at (codes "YUV4MPEG2") rest refl (omega arith)
 abbrev pub TenRead : List ℕ → Option (List ℕ) → List ℕ → Type 0
 TenRead bytes left first = (rest : List ℕ) × (bytes ≡ first ++ rest) × (left ≡ Some rest)
 
-pub bare_known : (known left : Option (List ℕ)) (first tail : List ℕ) → length first ≡ 10 → bytes_eq (take 10 (first ++ tail)) (codes "YUV4MPEG2\n") ≡ true → IfSome known (λ bytes. TenRead bytes left first) → IfSome known (λ bytes. LineIs (header_line bytes) (Ok 9) (first ++ tail) left)
+pub bare_known : (known left : Option (List ℕ)) (first tail : List ℕ) → length first ≡ 10
+    → bytes_eq (take 10 (first ++ tail)) (codes "YUV4MPEG2\n") ≡ true
+    → IfSome known (λ bytes. TenRead bytes left first)
+    → IfSome known (λ bytes. LineIs (header_line bytes) (Ok 9) (first ++ tail) left)
 bare_known None left first tail ten same filled = tt
 bare_known (Some bytes) left first tail ten same filled =
     let is : first ≡ codes "YUV4MPEG2\n" = equal first (codes "YUV4MPEG2\n") (rw (take_at first tail 10 ten) at same) in
     (filled.0, rw (filled.1) (rw is (bare filled.0)), filled.2)
 
-pub another_known : (known left : Option (List ℕ)) (first tail : List ℕ) → length first ≡ 10 → bytes_eq (take 10 (first ++ tail)) (codes "YUV4MPEG2 ") ≡ false → bytes_eq (take 10 (first ++ tail)) (codes "YUV4MPEG2\n") ≡ false → IfSome known (λ bytes. TenRead bytes left first) → IfSome known (λ bytes. header_line bytes ≡ Err NotY4m)
+pub another_known : (known left : Option (List ℕ)) (first tail : List ℕ) → length first ≡ 10
+    → bytes_eq (take 10 (first ++ tail)) (codes "YUV4MPEG2 ") ≡ false → bytes_eq (take 10 (first ++ tail))
+    (codes "YUV4MPEG2\n") ≡ false → IfSome known (λ bytes. TenRead bytes left first)
+    → IfSome known (λ bytes. header_line bytes ≡ Err NotY4m)
 another_known None left first tail ten space newline filled = tt
-another_known (Some bytes) left first tail ten space newline filled = rw (filled.1) (another first filled.0 ten (rw (take_at first tail 10 ten) at space) (rw (take_at first tail 10 ten) at newline))
+another_known (Some bytes) left first tail ten space newline filled =
+    rw (filled.1) (another first filled.0 ten (rw (take_at first tail 10 ten) at space)
+    (rw (take_at first tail 10 ten) at newline))
 
-spaced_from : (left new : Option (List ℕ)) (first tail buf rest : List ℕ) (result : Result ℕ Y4mFault) → length first ≡ 10 → first ≡ codes "YUV4MPEG2 " → left ≡ Some rest → IfSome left (λ xs. LineIs (line (take 10 (first ++ tail) ++ xs)) result buf new) → LineIs (header_line (first ++ rest)) result buf new
+spaced_from : (left new : Option (List ℕ)) (first tail buf rest : List ℕ) (result : Result ℕ Y4mFault)
+    → length first ≡ 10 → first ≡ codes "YUV4MPEG2 " → left ≡ Some rest
+    → IfSome left (λ xs. LineIs (line (take 10 (first ++ tail) ++ xs)) result buf new)
+    → LineIs (header_line (first ++ rest)) result buf new
 spaced_from left new first tail buf rest result ten is there read = rw is (rw is at (rw (take_at first tail 10 ten) at (rw there at read)))
 
-pub spaced_known : (known left new : Option (List ℕ)) (first tail buf : List ℕ) (result : Result ℕ Y4mFault) → length first ≡ 10 → bytes_eq (take 10 (first ++ tail)) (codes "YUV4MPEG2 ") ≡ true → IfSome known (λ bytes. TenRead bytes left first) → IfSome left (λ xs. LineIs (line (take 10 (first ++ tail) ++ xs)) result buf new) → IfSome known (λ bytes. LineIs (header_line bytes) result buf new)
+pub spaced_known : (known left new : Option (List ℕ)) (first tail buf : List ℕ) (result : Result ℕ Y4mFault)
+    → length first ≡ 10 → bytes_eq (take 10 (first ++ tail)) (codes "YUV4MPEG2 ") ≡ true
+    → IfSome known (λ bytes. TenRead bytes left first)
+    → IfSome left (λ xs. LineIs (line (take 10 (first ++ tail) ++ xs)) result buf new)
+    → IfSome known (λ bytes. LineIs (header_line bytes) result buf new)
 spaced_known None left new first tail buf result ten same filled read = tt
 spaced_known (Some bytes) left new first tail buf result ten same filled read =
     let is : first ≡ codes "YUV4MPEG2 " = equal first (codes "YUV4MPEG2 ") (rw (take_at first tail 10 ten) at same) in
@@ -59,7 +75,8 @@ so false r turned e = absurd cc
 
 -- ---- the header
 
-header_by : (bytes rest : List ℕ) (left : Option (List ℕ)) (result : Result Header Y4mFault) → header_and_rest bytes ≡ and_then result (λ h. Ok (h, rest)) → left ≡ Some rest → HeaderIs bytes result left
+header_by : (bytes rest : List ℕ) (left : Option (List ℕ)) (result : Result Header Y4mFault)
+    → header_and_rest bytes ≡ and_then result (λ h. Ok (h, rest)) → left ≡ Some rest → HeaderIs bytes result left
 header_by bytes rest left (Ok h) is there = (rest, is, there)
 header_by bytes rest left (Err NotY4m) is there = is
 header_by bytes rest left (Err BadHeader) is there = is
@@ -68,11 +85,14 @@ header_by bytes rest left (Err UnsupportedInterlace) is there = is
 header_by bytes rest left (Err Truncated) is there = is
 header_by bytes rest left (Err Read) is there = tt
 
-pub header_known : (known left : Option (List ℕ)) (n : ℕ) (text : List ℕ) (result : Result Header Y4mFault) → result ≡ header_of (drop 10 (take n text)) → IfSome known (λ bytes. LineIs (header_line bytes) (Ok n) text left) → IfSome known (λ bytes. HeaderIs bytes result left)
+pub header_known : (known left : Option (List ℕ)) (n : ℕ) (text : List ℕ) (result : Result Header Y4mFault)
+    → result ≡ header_of (drop 10 (take n text)) → IfSome known (λ bytes. LineIs (header_line bytes) (Ok n) text left)
+    → IfSome known (λ bytes. HeaderIs bytes result left)
 header_known None left n text result is read = tt
 header_known (Some bytes) left n text result is read = header_by bytes read.0 left result (rw (read.1) (rw is refl)) read.2
 
-behind_by : (more : Bool) (n : ℕ) (text : List ℕ) → nat_le 10 n ≡ more → take (n - min n 10) (drop (min n 10) text) ≡ drop 10 (take n text)
+behind_by : (more : Bool) (n : ℕ) (text : List ℕ) → nat_le 10 n ≡ more
+    → take (n - min n 10) (drop (min n 10) text) ≡ drop 10 (take n text)
 behind_by true n text is =
     let ten : min n 10 ≡ 10 = omega (arith, leb-true 10 n is) in
     let whole : n ≡ 10 + (n - 10) = omega (arith, leb-true 10 n is) in

@@ -32,7 +32,8 @@ abbrev inside : ℕ → ℕ → ℕ × Picture → Bool
 inside from to f = leb from f.0 && leb f.0 to
 
 -- one frame more
-taken : (from to : ℕ) (f : ℕ × Picture) (fs : List (ℕ × Picture)) (b : Bool) → inside from to f ≡ b → frames_between from to (f ∷ fs) ≡ cond b (f.1.bytes ∷ frames_between from to fs) (frames_between from to fs)
+taken : (from to : ℕ) (f : ℕ × Picture) (fs : List (ℕ × Picture)) (b : Bool) → inside from to f ≡ b
+    → frames_between from to (f ∷ fs) ≡ cond b (f.1.bytes ∷ frames_between from to fs) (frames_between from to fs)
 taken from to f fs true is = ap (λ (b : Bool). map (λ (k : ℕ × Picture). k.1.bytes) (cond b (f ∷ filter (inside from to) fs) (filter (inside from to) fs))) is
 taken from to f fs false is = ap (λ (b : Bool). map (λ (k : ℕ × Picture). k.1.bytes) (cond b (f ∷ filter (inside from to) fs) (filter (inside from to) fs))) is
 
@@ -40,7 +41,8 @@ taken from to f fs false is = ap (λ (b : Bool). map (λ (k : ℕ × Picture). k
 apart : (f : ℕ × Picture) (fs : List (ℕ × Picture)) (k : ℕ) → is_some (frame_under (f ∷ fs) k) ≡ false → (f.0 ≡ k → ⊥)
 apart f fs k none is = clash (is_some (frame_under (f ∷ fs) k)) (ap (λ (b : Bool). is_some (cond b (Some f.1) (frame_under fs k))) (equal_test f.0 k is)) none
 
-behind : (f : ℕ × Picture) (fs : List (ℕ × Picture)) (k : ℕ) → is_some (frame_under (f ∷ fs) k) ≡ false → is_some (frame_under fs k) ≡ false
+behind : (f : ℕ × Picture) (fs : List (ℕ × Picture)) (k : ℕ) → is_some (frame_under (f ∷ fs) k) ≡ false
+    → is_some (frame_under fs k) ≡ false
 behind f fs k none = go (eqb f.0 k) none
   where
     go : (b : Bool) → is_some (cond b (Some f.1) (frame_under fs k)) ≡ false → is_some (frame_under fs k) ≡ false
@@ -48,7 +50,8 @@ behind f fs k none = go (eqb f.0 k) none
     go false e = e
 
 -- a range without a held number
-pub none_between : (from to : ℕ) (fs : List (ℕ × Picture)) → ((k : ℕ) → from ≤ k → k ≤ to → is_some (frame_under fs k) ≡ false) → frames_between from to fs ≡ []
+pub none_between : (from to : ℕ) (fs : List (ℕ × Picture))
+    → ((k : ℕ) → from ≤ k → k ≤ to → is_some (frame_under fs k) ≡ false) → frames_between from to fs ≡ []
 none_between from to [] none = refl
 none_between from to (f ∷ fs) none = taken from to f fs false out ∙ none_between from to fs (λ k l u. behind f fs k (none k l u))
   where
@@ -60,7 +63,9 @@ none_between from to (f ∷ fs) none = taken from to f fs false out ∙ none_bet
         go true is = absurd (apart f fs f.0 (none f.0 (grind (arith, nat_tests, is)) (grind (arith, nat_tests, is))) refl)
 
 -- numbers that aren't held, at the range's beginning
-pub later_between : (from first to : ℕ) (fs : List (ℕ × Picture)) → from ≤ first → ((k : ℕ) → from ≤ k → k < first → is_some (frame_under fs k) ≡ false) → frames_between from to fs ≡ frames_between first to fs
+pub later_between : (from first to : ℕ) (fs : List (ℕ × Picture)) → from ≤ first
+    → ((k : ℕ) → from ≤ k → k < first → is_some (frame_under fs k) ≡ false)
+    → frames_between from to fs ≡ frames_between first to fs
 later_between from first to [] low none = refl
 later_between from first to (f ∷ fs) low none =
     taken from to f fs (inside first to f) same
@@ -77,11 +82,15 @@ later_between from first to (f ∷ fs) low none =
         go false true x y = absurd (grind (arith, nat_tests, x, y, low))
 
 -- the range's first number is held
-pub first_between : (first to low high : ℕ) (fs : List (ℕ × Picture)) (p : Picture) → first ≤ to → RiseBetween low high fs → frame_under fs first ≡ Some p → frames_between first to fs ≡ p.bytes ∷ frames_between (first + 1) to fs
+pub first_between : (first to low high : ℕ) (fs : List (ℕ × Picture)) (p : Picture) → first ≤ to
+    → RiseBetween low high fs → frame_under fs first ≡ Some p → frames_between first to fs ≡ p.bytes
+    ∷ frames_between (first + 1) to fs
 first_between first to low high [] p inner rise there = absurd cc
 first_between first to low high (f ∷ fs) p inner rise there = go (eqb f.0 first) refl (λ at. first_between first to (f.0 + 1) high fs p inner rise.1 at) there
   where
-    go : (b : Bool) → eqb f.0 first ≡ b → (frame_under fs first ≡ Some p → frames_between first to fs ≡ p.bytes ∷ frames_between (first + 1) to fs) → cond b (Some f.1) (frame_under fs first) ≡ Some p → frames_between first to (f ∷ fs) ≡ p.bytes ∷ frames_between (first + 1) to (f ∷ fs)
+    go : (b : Bool) → eqb f.0 first ≡ b → (frame_under fs first ≡ Some p → frames_between first to fs ≡ p.bytes
+        ∷ frames_between (first + 1) to fs) → cond b (Some f.1) (frame_under fs first) ≡ Some p
+        → frames_between first to (f ∷ fs) ≡ p.bytes ∷ frames_between (first + 1) to (f ∷ fs)
     go true is rest at =
         let e : f.0 ≡ first = equal f.0 first is in
         taken first to f fs true (grind (arith, nat_tests, e, inner))
@@ -105,10 +114,12 @@ first_between first to low high (f ∷ fs) p inner rise there = go (eqb f.0 firs
         ∙ ap (λ (l : List (List ℕ)). p.bytes ∷ l) (sym (taken (first + 1) to f fs false (grind (arith, nat_tests, above))))
 
 -- the least held number of a range, and where there is none
-pub first_held : (r : Recording) (from m to : ℕ) → IsLeastFrom (holds r) from (Some m) → IsFirstBetween r from to (Some m)
+pub first_held : (r : Recording) (from m to : ℕ) → IsLeastFrom (holds r) from (Some m)
+    → IsFirstBetween r from to (Some m)
 first_held r from m to least = (least.1.0, later_between from m to r.frames least.0 least.1.1)
 
-pub none_held : (r : Recording) (from to : ℕ) (least : Option ℕ) → ((m : ℕ) → least ≡ Some m → to < m) → IsLeastFrom (holds r) from least → IsFirstBetween r from to None
+pub none_held : (r : Recording) (from to : ℕ) (least : Option ℕ) → ((m : ℕ) → least ≡ Some m → to < m)
+    → IsLeastFrom (holds r) from least → IsFirstBetween r from to None
 none_held r from to None above none = (tt, none_between from to r.frames (λ k l u. none k l))
 none_held r from to (Some m) above least = (tt, none_between from to r.frames (λ k l u. least.1.1 k l (omega (arith, u, above m refl))))
 
@@ -116,15 +127,19 @@ none_held r from to (Some m) above least = (tt, none_between from to r.frames (�
 pub frame_there : (r : Recording) (n : ℕ) → holds r n ≡ true → (p : Picture) × (frame_under r.frames n ≡ Some p)
 frame_there r n held = go (frame_under r.frames n) refl held
   where
-    go : (o : Option Picture) → frame_under r.frames n ≡ o → is_some o ≡ true → (p : Picture) × (frame_under r.frames n ≡ Some p)
+    go : (o : Option Picture) → frame_under r.frames n ≡ o → is_some o ≡ true → (p : Picture)
+        × (frame_under r.frames n ≡ Some p)
     go None is e = absurd cc
     go (Some p) is e = (p, is)
 
 -- what holds of each frame under its number holds of each of a range
-pub each_between : (P : List ℕ → Type 0) (from to low high : ℕ) (fs : List (ℕ × Picture)) → RiseBetween low high fs → ((n : ℕ) (p : Picture) → frame_under fs n ≡ Some p → P p.bytes) → All P (frames_between from to fs)
+pub each_between : (P : List ℕ → Type 0) (from to low high : ℕ) (fs : List (ℕ × Picture)) → RiseBetween low high fs
+    → ((n : ℕ) (p : Picture) → frame_under fs n ≡ Some p → P p.bytes) → All P (frames_between from to fs)
 each_between P from to low high [] rise each = λ k d l. absurd (omega (arith, l))
 each_between P from to low high (f ∷ fs) rise each =
-    subst (All P) (sym (taken from to f fs (inside from to f) refl)) (go (inside from to f) (each_between P from to (f.0 + 1) high fs rise.1 (λ n p there. each n p (later n p there))))
+    subst (All P) (sym (taken from to f fs (inside from to f) refl))
+    (go (inside from to f) (each_between P from to (f.0 + 1) high fs rise.1
+    (λ n p there. each n p (later n p there))))
   where
     first : frame_under (f ∷ fs) f.0 ≡ Some f.1
     first = ap (λ (b : Bool). cond b (Some f.1) (frame_under fs f.0)) (equal_test f.0 f.0 refl)
@@ -135,7 +150,8 @@ each_between P from to low high (f ∷ fs) rise each =
         let other : eqb f.0 n ≡ false = grind (arith, nat_tests, above) in
         ap (λ (b : Bool). cond b (Some f.1) (frame_under fs n)) other ∙ there
 
-    go : (b : Bool) → All P (frames_between from to fs) → All P (cond b (f.1.bytes ∷ frames_between from to fs) (frames_between from to fs))
+    go : (b : Bool) → All P (frames_between from to fs)
+        → All P (cond b (f.1.bytes ∷ frames_between from to fs) (frames_between from to fs))
     go false all = all
     go true all = All-cons P f.1.bytes (frames_between from to fs) (each f.0 f.1 first) all
 
@@ -149,30 +165,46 @@ pub record Given (H : Type 0) (r : Recording) (first to count : ℕ) (next : Opt
   pub given : H → Appends old now (flat_map frame done)
 
 -- none yet
-pub given_none : (H : Type 0) (r : Recording) (first to : ℕ) (old : Option (List ℕ)) → Given H r first to 0 (Some first) old old
+pub given_none : (H : Type 0) (r : Recording) (first to : ℕ) (old : Option (List ℕ))
+    → Given H r first to 0 (Some first) old old
 given_none H r first to old = record { done = []; are = refl; counted = refl; given = λ h. Appends-nil old }
 
 -- one more
-pub given_more : (H : Type 0) (r : Recording) (first to count n high : ℕ) (p : Picture) (next : Option ℕ) (old mid new : Option (List ℕ)) → n ≤ to → RiseBetween 0 high r.frames → frame_under r.frames n ≡ Some p → Given H r first to count (Some n) old mid → (H → Appends mid new (frame p.bytes))
+pub given_more : (H : Type 0) (r : Recording) (first to count n high : ℕ) (p : Picture) (next : Option ℕ)
+    (old mid new : Option (List ℕ)) → n ≤ to → RiseBetween 0 high r.frames → frame_under r.frames n ≡ Some p
+    → Given H r first to count (Some n) old mid → (H → Appends mid new (frame p.bytes))
     → IsFirstBetween r (n + 1) to next → Given H r first to (count + 1) next old new
 given_more H r first to count n high p next old mid new inner rise there before more after = record {
   done = before.done ++ p.bytes ∷ [];
-  are = before.are ∙ ap (λ (l : List (List ℕ)). before.done ++ l) (first_between n to 0 high r.frames p inner rise there ∙ ap (λ (l : List (List ℕ)). p.bytes ∷ l) after.1) ∙ sym (append_assoc before.done (p.bytes ∷ []) (frames_left next to r.frames));
+  are = before.are ∙ ap (λ (l : List (List ℕ)). before.done ++ l)
+      (first_between n to 0 high r.frames p inner rise there ∙ ap (λ (l : List (List ℕ)). p.bytes ∷ l) after.1)
+      ∙ sym (append_assoc before.done (p.bytes ∷ []) (frames_left next to r.frames));
   counted = omega (arith, length-append before.done (p.bytes ∷ []), before.counted);
-  given = λ h. subst (λ (bytes : List ℕ). Appends old new bytes) (sym (flat_map-append frame before.done (p.bytes ∷ []) ∙ ap (λ (bytes : List ℕ). flat_map frame before.done ++ bytes) (append-nil (frame p.bytes)))) (Appends-trans old mid new (flat_map frame before.done) (frame p.bytes) (before.given h) (more h));
+  given = λ h. subst (λ (bytes : List ℕ). Appends old new bytes)
+      (sym (flat_map-append frame before.done (p.bytes ∷ [])
+      ∙ ap (λ (bytes : List ℕ). flat_map frame before.done ++ bytes) (append-nil (frame p.bytes))))
+      (Appends-trans old mid new (flat_map frame before.done) (frame p.bytes) (before.given h) (more h));
 }
 
 -- all of them
-pub given_all : (H : Type 0) (r : Recording) (first to count : ℕ) (old now : Option (List ℕ)) → Given H r first to count None old now → MovedAll H old now (Ok count) (frames_between first to r.frames)
+pub given_all : (H : Type 0) (r : Recording) (first to count : ℕ) (old now : Option (List ℕ))
+    → Given H r first to count None old now → MovedAll H old now (Ok count) (frames_between first to r.frames)
 given_all H r first to count old now all =
-    let are = all.are ∙ append-nil all.done in
-    (λ h. subst (λ (l : List (List ℕ)). Appends old now (flat_map frame l)) (sym are) (all.given h), sym all.counted ∙ ap (λ (l : List (List ℕ)). length l) (sym are))
+    let are = all.are ∙ append-nil all.done in (
+      λ h. subst (λ (l : List (List ℕ)). Appends old now (flat_map frame l)) (sym are) (all.given h),
+      sym all.counted
+          ∙ ap (λ (l : List (List ℕ)). length l) (sym are),
+    )
 
 -- the whole text is that of the frames so far, the next frame's and that of those behind it
-pub given_rest : (H : Type 0) (r : Recording) (first to count n high : ℕ) (p : Picture) (old mid : Option (List ℕ)) → n ≤ to → RiseBetween 0 high r.frames → frame_under r.frames n ≡ Some p → (before : Given H r first to count (Some n) old mid)
+pub given_rest : (H : Type 0) (r : Recording) (first to count n high : ℕ) (p : Picture) (old mid : Option (List ℕ))
+    → n ≤ to → RiseBetween 0 high r.frames → frame_under r.frames n ≡ Some p
+    → (before : Given H r first to count (Some n) old mid)
     → flat_map frame (frames_between first to r.frames) ≡ flat_map frame before.done ++ (frame p.bytes ++ flat_map frame (frames_between (n + 1) to r.frames))
 given_rest H r first to count n high p old mid inner rise there before =
-    ap (flat_map frame) (before.are ∙ ap (λ (l : List (List ℕ)). before.done ++ l) (first_between n to 0 high r.frames p inner rise there)) ∙ flat_map-append frame before.done (p.bytes ∷ frames_between (n + 1) to r.frames)
+    ap (flat_map frame) (before.are ∙ ap (λ (l : List (List ℕ)). before.done ++ l)
+    (first_between n to 0 high r.frames p inner rise there)) ∙ flat_map-append frame before.done
+    (p.bytes ∷ frames_between (n + 1) to r.frames)
 
 -- ---- a part of a frame
 
@@ -184,8 +216,12 @@ abbrev pub running : Recording → StoreState
 running r = record { recording = r; must_reopen = false }
 
 -- a read of a held frame is refused only where the disk failed or isn't honest
-pub part_refused : (H K : Type 0) → (H → K) → (g : Geometry) (r : Recording) (number at : ℕ) (p : Picture) (fault : StoreFault) (held : Option (List ℕ)) (bytes : List ℕ) → frame_under r.frames number ≡ Some p → IsAnswered K g (running r) (was_read_part number at (Err fault)) → Stopped H (Store fault) held held bytes
-part_refused H K to g r number at p fault held bytes there said = go fault (due-some (first_of (checks g (running r) (was_read_part number at (Err fault)))) (was_read_part number at (Err fault)) (ReadFails K fault) said)
+pub part_refused : (H K : Type 0) → (H → K) → (g : Geometry) (r : Recording) (number at : ℕ) (p : Picture)
+    (fault : StoreFault) (held : Option (List ℕ)) (bytes : List ℕ) → frame_under r.frames number ≡ Some p
+    → IsAnswered K g (running r) (was_read_part number at (Err fault)) → Stopped H (Store fault) held held bytes
+part_refused H K to g r number at p fault held bytes there said =
+    go fault (due-some (first_of (checks g (running r) (was_read_part number at (Err fault))))
+    (was_read_part number at (Err fault)) (ReadFails K fault) said)
   where
     none : first_of (checks g (running r) (was_read_part number at (Err fault))) ≡ None
     none = passed (not (holds r number)) NotHeld [] (ap (λ (o : Option Picture). not (is_some o)) there)
@@ -197,7 +233,9 @@ part_refused H K to g r number at p fault held bytes there said = go fault (due-
     failed (store.Disk f) e = λ h. nothing_yet held bytes
     failed f e = absurd cc
 
-    go : (f : StoreFault) → (first_of (checks g (running r) (was_read_part number at (Err fault))) ≡ Some f) ⊎ ((first_of (checks g (running r) (was_read_part number at (Err fault))) ≡ None) × ReadFails K f) → Stopped H (Store f) held held bytes
+    go : (f : StoreFault) → (first_of (checks g (running r) (was_read_part number at (Err fault))) ≡ Some f)
+        ⊎ ((first_of (checks g (running r) (was_read_part number at (Err fault))) ≡ None) × ReadFails K f)
+        → Stopped H (Store f) held held bytes
     go f (inl e) = absurd (apart f (sym none ∙ e))
     go f (inr x) = fails x.1
       where
@@ -206,20 +244,27 @@ part_refused H K to g r number at p fault held bytes there said = go fault (due-
         fails (inr damaged) = subst (λ (k : StoreFault). Stopped H (Store k) held held bytes) (sym damaged.0) (λ h. damaged.1 (to h))
 
 -- a part that was read of an honest disk is one of the frame
-pub part_given : (H : Type 0) (g : Geometry) (r : Recording) (number at : ℕ) (bytes : List ℕ) → IsAnswered H g (running r) (was_read_part number at (Ok bytes)) → H → IsPart r number at bytes
-part_given H g r number at bytes said = (due-none (first_of (checks g (running r) (was_read_part number at (Ok bytes)))) (was_read_part number at (Ok bytes)) (H → IsPart r number at bytes) said refl).1
+pub part_given : (H : Type 0) (g : Geometry) (r : Recording) (number at : ℕ) (bytes : List ℕ)
+    → IsAnswered H g (running r) (was_read_part number at (Ok bytes)) → H → IsPart r number at bytes
+part_given H g r number at bytes said =
+    (due-none (first_of (checks g (running r) (was_read_part number at (Ok bytes))))
+    (was_read_part number at (Ok bytes)) (H → IsPart r number at bytes) said refl).1
 
 -- the bytes that were read are those of the frame
-pub part_is : (r : Recording) (number at : ℕ) (p : Picture) (bytes : List ℕ) (m : ℕ) → frame_under r.frames number ≡ Some p → IsPart r number at bytes → length bytes ≡ m → bytes ≡ piece at m p.bytes
+pub part_is : (r : Recording) (number at : ℕ) (p : Picture) (bytes : List ℕ) (m : ℕ)
+    → frame_under r.frames number ≡ Some p → IsPart r number at bytes → length bytes ≡ m → bytes ≡ piece at m p.bytes
 part_is r number at p bytes m there said count = said.bytes_are ∙ (λ i. piece at (count i) (same (sym said.there ∙ there) i))
   where
     same : Some said.picture ≡ Some p → said.picture.bytes ≡ p.bytes
     same e = cc
 
 -- the writer failed
-pub writer_failed : {T : Type 0} (H : Type 0) (old new : Option (List ℕ)) (result : Result T ExportFault) (bytes text : List ℕ) → IsErrAnd result (λ fault. fault ≡ Write) → AppendsSome old new bytes → (H → bytes ≡ text) → Moved H old new result text
+pub writer_failed : {T : Type 0} (H : Type 0) (old new : Option (List ℕ)) (result : Result T ExportFault)
+    (bytes text : List ℕ) → IsErrAnd result (λ fault. fault ≡ Write) → AppendsSome old new bytes → (H → bytes ≡ text)
+    → Moved H old new result text
 writer_failed H old new (Ok x) bytes text failed some is = absurd failed
-writer_failed H old new (Err fault) bytes text failed some is = subst (λ (f : ExportFault). Stopped H f old new text) (sym failed) (λ h. subst (AppendsSome old new) (is h) some)
+writer_failed H old new (Err fault) bytes text failed some is = subst (λ (f : ExportFault). Stopped H f old new text)
+    (sym failed) (λ h. subst (AppendsSome old new) (is h) some)
 
 -- how many numbers there are from one on
 abbrev pub numbers_left : Option ℕ → ℕ

@@ -10,7 +10,8 @@ still_there (Some xs) (Some ys) None first then = absurd then
 still_there (Some xs) (Some ys) (Some zs) first then = then ∙ first
 
 -- what was kept is read from
-pub still_read : (old now new : Option (List ℕ)) (bs : List ℕ) → Keeps old now → Consumes now new bs → Consumes old new bs
+pub still_read : (old now new : Option (List ℕ)) (bs : List ℕ) → Keeps old now → Consumes now new bs
+    → Consumes old new bs
 still_read None now new bs first then = tt
 still_read (Some xs) None new bs first then = absurd first
 still_read (Some xs) (Some ys) None bs first then = absurd then

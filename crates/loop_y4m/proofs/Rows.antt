@@ -80,10 +80,12 @@ lined bytes = bytes ++ 10 ∷ []
 ffmpeg_full_range : parse (lined (codes "YUV4MPEG2 W4 H2 F25:1 Ip A1:1 C420jpeg XYSCSS=420JPEG")) ≡ reads [] None
 ffmpeg_full_range = refl
 
-ffmpeg_limited_range : parse (lined (codes "YUV4MPEG2 W4 H2 F25:1 Ip A1:1 C420mpeg2 XYSCSS=420MPEG2 XCOLORRANGE=LIMITED")) ≡ reads [] None
+ffmpeg_limited_range : parse (lined
+    (codes "YUV4MPEG2 W4 H2 F25:1 Ip A1:1 C420mpeg2 XYSCSS=420MPEG2 XCOLORRANGE=LIMITED")) ≡ reads [] None
 ffmpeg_limited_range = refl
 
-top_field_first : parse (lined (codes "YUV4MPEG2 W4 H2 F25:1 It A1:1 C420jpeg XYSCSS=420JPEG")) ≡ Err UnsupportedInterlace
+top_field_first : parse (lined (codes "YUV4MPEG2 W4 H2 F25:1 It A1:1 C420jpeg XYSCSS=420JPEG")) ≡ Err
+    UnsupportedInterlace
 top_field_first = refl
 
 quarter_width : parse (lined (codes "YUV4MPEG2 W4 H2 F25:1 Ip A1:1 C411 XYSCSS=420JPEG")) ≡ Err UnsupportedColour

@@ -10,7 +10,8 @@ appends_none : (held : Option (List ℕ)) → Appends held held []
 appends_none None = tt
 appends_none (Some xs) = sym (append-nil xs)
 
-appends_more : (old now new : Option (List ℕ)) (xs ys : List ℕ) → Appends old now xs → Appends now new ys → Appends old new (xs ++ ys)
+appends_more : (old now new : Option (List ℕ)) (xs ys : List ℕ) → Appends old now xs → Appends now new ys
+    → Appends old new (xs ++ ys)
 appends_more None now new xs ys first then = tt
 appends_more (Some held) None new xs ys first then = absurd first
 appends_more (Some held) (Some more) None xs ys first then = absurd then
@@ -27,38 +28,57 @@ pub begins : (held : Option (List ℕ)) (bytes : List ℕ) → IsGiven held held
 begins held bytes = ([], refl, appends_none held)
 
 -- a write took n bytes
-pub goes_on : (old now new : Option (List ℕ)) (bytes rest : List ℕ) (n : ℕ) → IsGiven old now bytes rest → Appends now new (take n rest) → IsGiven old new bytes (take (length rest - n) (drop n rest))
-goes_on old now new bytes rest n given more = rw (take_rest rest n)
-    (given.0 ++ take n rest, given.1 ∙ ap (λ r. given.0 ++ r) (sym (take-append-drop n rest)) ∙ sym (append_assoc given.0 (take n rest) (drop n rest)), appends_more old now new given.0 (take n rest) given.2 more)
+pub goes_on : (old now new : Option (List ℕ)) (bytes rest : List ℕ) (n : ℕ) → IsGiven old now bytes rest
+    → Appends now new (take n rest) → IsGiven old new bytes (take (length rest - n) (drop n rest))
+goes_on old now new bytes rest n given more = rw (take_rest rest n) (
+  given.0 ++ take n rest,
+  given.1 ∙ ap (λ r. given.0 ++ r) (sym (take-append-drop n rest))
+      ∙ sym (append_assoc given.0 (take n rest) (drop n rest)),
+  appends_more old now new given.0
+      (take n rest) given.2 more,
+)
 
 -- a write took nothing
-pub stands : (old now new : Option (List ℕ)) (bytes rest : List ℕ) → IsGiven old now bytes rest → Keeps now new → IsGiven old new bytes rest
+pub stands : (old now new : Option (List ℕ)) (bytes rest : List ℕ) → IsGiven old now bytes rest → Keeps now new
+    → IsGiven old new bytes rest
 stands old now new bytes rest given kept = (given.0, given.1, appends_kept old now new given.0 given.2 kept)
 
 -- all is written
-pub whole : (old now : Option (List ℕ)) (bytes rest : List ℕ) → IsGiven old now bytes rest → rest ≡ [] → Appends old now bytes
+pub whole : (old now : Option (List ℕ)) (bytes rest : List ℕ) → IsGiven old now bytes rest → rest ≡ []
+    → Appends old now bytes
 whole old now bytes rest given none = rw (given.1 ∙ ap (λ r. given.0 ++ r) none ∙ append-nil given.0) given.2
 
 -- a beginning is written
-pub beginning : (old now : Option (List ℕ)) (bytes rest : List ℕ) → IsGiven old now bytes rest → (done : List ℕ) × (left : List ℕ) × (bytes ≡ done ++ left) × Appends old now done
+pub beginning : (old now : Option (List ℕ)) (bytes rest : List ℕ) → IsGiven old now bytes rest → (done : List ℕ)
+    × (left : List ℕ) × (bytes ≡ done ++ left) × Appends old now done
 beginning old now bytes rest given = (given.0, rest, given.1, given.2)
 
 -- ---- one text behind another
 
 -- a beginning of the first is one of both
-pub first_failed : {E : Type 0} (old new : Option (List ℕ)) (e : E) (result : Result (Unit {0}) E) (first more : List ℕ) → IsErr result → Wrote old new (Err e) first → Wrote old new result (first ++ more)
+pub first_failed : {E : Type 0} (old new : Option (List ℕ)) (e : E) (result : Result (Unit {0}) E)
+    (first more : List ℕ) → IsErr result → Wrote old new (Err e) first → Wrote old new result (first ++ more)
 first_failed old new e (Ok done) first more failed wrote = absurd cc
 first_failed old new e (Err f) first more failed wrote = (wrote.0, wrote.1 ++ more, ap (λ b. b ++ more) wrote.2 ∙ append_assoc wrote.0 wrote.1 more, wrote.3)
 
 -- the whole first, and what is written of the second
-pub both : {E : Type 0} (old now new : Option (List ℕ)) (result : Result (Unit {0}) E) (first more : List ℕ) → Appends old now first → Wrote now new result more → Wrote old new result (first ++ more)
+pub both : {E : Type 0} (old now new : Option (List ℕ)) (result : Result (Unit {0}) E) (first more : List ℕ)
+    → Appends old now first → Wrote now new result more → Wrote old new result (first ++ more)
 both old now new (Ok done) first more begun wrote = appends_more old now new first more begun wrote
-both old now new (Err e) first more begun wrote = (first ++ wrote.0, wrote.1, ap (λ b. first ++ b) wrote.2 ∙ sym (append_assoc first wrote.0 wrote.1), appends_more old now new first wrote.0 begun wrote.3)
+both old now new (Err e) first more begun wrote = (
+  first ++ wrote.0,
+  wrote.1,
+  ap (λ b. first ++ b) wrote.2 ∙ sym (append_assoc first wrote.0 wrote.1),
+  appends_more old now new first wrote.0 begun wrote.3,
+)
 
 -- the text, under another name
-pub written : {E : Type 0} (old new : Option (List ℕ)) (result : Result (Unit {0}) E) (line text : List ℕ) → Wrote old new result line → line ≡ text → Wrote old new result text
+pub written : {E : Type 0} (old new : Option (List ℕ)) (result : Result (Unit {0}) E) (line text : List ℕ)
+    → Wrote old new result line → line ≡ text → Wrote old new result text
 written old new result line text wrote same = rw (sym same) wrote
 
 -- the parts of a header, as they are written one behind another
-pub nested : (a b c d e f g h i j k : List ℕ) → a ++ (b ++ (c ++ (d ++ (e ++ (f ++ (g ++ (h ++ (i ++ (j ++ k))))))))) ≡ a ++ b ++ c ++ d ++ e ++ f ++ g ++ h ++ i ++ j ++ k
+pub nested : (a b c d e f g h i j k : List ℕ) → a
+    ++ (b ++ (c ++ (d ++ (e ++ (f ++ (g ++ (h ++ (i ++ (j ++ k))))))))) ≡ a ++ b ++ c ++ d ++ e ++ f ++ g ++ h ++ i
+    ++ j ++ k
 nested a b c d e f g h i j k = simp append_assoc refl

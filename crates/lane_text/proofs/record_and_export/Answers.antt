@@ -19,7 +19,8 @@ returns-in-Ok-export g c = λ s stands now.
       lane,
       (
         ran,
-        exported medium new.store c.args.lane.desk.store.geometry _ store image c.args.from c.args.to c.in-Ok-export.field-0 (g.W.Write.contents c.args.out.now) (g.W.Write.contents c.export.new.out)
+        exported medium new.store c.args.lane.desk.store.geometry _ store image c.args.from c.args.to
+            c.in-Ok-export.field-0 (g.W.Write.contents c.args.out.now) (g.W.Write.contents c.export.new.out)
             kept.recording fine honest ran.desk.store.geometry (ap (λ d. (medium d).bytes) c.into_disk.ensures) (c.in-Ok-open.ensures.opened there) opened
             c.in-Ok-export.ensures.exported,
       ),

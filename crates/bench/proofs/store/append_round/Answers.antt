@@ -5,4 +5,6 @@ use Rattle.loop_record.specs.Geometry.{frame_bytes}
 use Rattle.bench.proofs.store.append_round.Goals as goal
 
 pub append_groups-requires : goal.append_groups-requires
-append_groups-requires c = subst (λ (h : Geometry). All (λ frame. length frame.bytes.items ≡ frame_bytes h) c.args.group.now) (sym c.in-Ok.ensures.formatted.geometry) c.requires.sizes
+append_groups-requires c = subst
+    (λ (h : Geometry). All (λ frame. length frame.bytes.items ≡ frame_bytes h) c.args.group.now)
+    (sym c.in-Ok.ensures.formatted.geometry) c.requires.sizes

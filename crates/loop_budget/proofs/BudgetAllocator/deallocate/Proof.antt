@@ -46,7 +46,13 @@ module _ (Z : Al) where
 
   -- nothing is left of the parameters at the return
   abbrev stayed : Stays ended.signature.params ended.kept
-  stayed = (stay_dropped (self Z) yes, (stay_dropped (plain (λ _. RawPtr)) yes, (stay_dropped (plain (λ _. usize)) yes, (stay_dropped (plain (λ _. usize)) yes, tt))))
+  stayed = (
+    stay_dropped (self Z) yes,
+    (
+      stay_dropped (plain (λ _. RawPtr)) yes,
+      (stay_dropped (plain (λ _. usize)) yes, (stay_dropped (plain (λ _. usize)) yes, tt)),
+    ),
+  )
 
 pub deallocate_spec : {M : Type 1} → statement M
 deallocate_spec 𝓤 𝓛 𝓜 𝓡 wired A L g d dd met _ =

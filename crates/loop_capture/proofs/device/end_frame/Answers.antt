@@ -5,10 +5,14 @@ use Rattle.loop_capture.proofs.device.end_frame.Goals as goal
 
 pub returns-in-Err-clause-ends : goal.returns-in-Err-clause-ends
 returns-in-Err-clause-ends g c =
-    let never : (s : QueueState) → StandsQueue g.P.PlaneMemory.plane c.args.queue.now s → ⊥ = λ s h. never_refused s c.in-More-Some.index c.in-Err.field-0 (sym (c.requires.active s h) ∙ c.in-More-Some.is-1) (c.in-Err.ensures.step s h).0 in
+    let never : (s : QueueState) → StandsQueue g.P.PlaneMemory.plane c.args.queue.now s → ⊥ =
+    λ s h. never_refused s c.in-More-Some.index c.in-Err.field-0
+    (sym (c.requires.active s h) ∙ c.in-More-Some.is-1) (c.in-Err.ensures.step s h).0 in
     (λ s h. absurd (never s h), λ s h. absurd (never s h))
 
 pub returns-in-Err-fail-clause-ends : goal.returns-in-Err-fail-clause-ends
 returns-in-Err-fail-clause-ends g c =
-    let never : (s : QueueState) → StandsQueue g.P.PlaneMemory.plane c.args.queue.now s → ⊥ = λ s h. never_refused s c.in-Bad-Some.index c.in-Err-fail.field-0 (sym (c.requires.active s h) ∙ c.in-Bad-Some.is-1) (c.in-Err-fail.ensures.step s h).0 in
+    let never : (s : QueueState) → StandsQueue g.P.PlaneMemory.plane c.args.queue.now s → ⊥ =
+    λ s h. never_refused s c.in-Bad-Some.index c.in-Err-fail.field-0
+    (sym (c.requires.active s h) ∙ c.in-Bad-Some.is-1) (c.in-Err-fail.ensures.step s h).0 in
     (λ s h. absurd (never s h), λ s h. absurd (never s h))

@@ -24,4 +24,14 @@ pub record-requires-clause-passes : goal.record-requires-clause-passes
 record-requires-clause-passes g c =
     let count = tell-count g.D.Disk.medium c.in_ok-cameras.cameras.items c.in-Ok.made.0.outlines c.in-Ok.ensures.outlines in
     let passes : length (map pass_number c.in-Ok.made.1.items) ≡ c.in-Some.passes = ap length c.in-Ok.ensures.passes ∙ length-range 0 c.in-Some.passes in
-    omega (arith, count, c.in_ok-cameras.ensures.cameras, c.in_ok-cameras.cameras.ok.0, passes, length-map c.in-Ok.made.1.items pass_number, c.in-Ok.made.1.ok.0, c.in-Some.ensures.passes, c.len.ensures)
+    omega (
+      arith,
+      count,
+      c.in_ok-cameras.ensures.cameras,
+      c.in_ok-cameras.cameras.ok.0,
+      passes,
+      length-map c.in-Ok.made.1.items pass_number,
+      c.in-Ok.made.1.ok.0,
+      c.in-Some.ensures.passes,
+      c.len.ensures,
+    )

@@ -9,10 +9,14 @@ use Rattle.loop_desk.proofs.lane.submit.Goals as goal
 
 pub returns-in-Spent-clause-goes : goal.returns-in-Spent-clause-goes
 returns-in-Spent-clause-goes g c =
-    subst (λ (h : Hand g.row.P.Denot g.row.A.Denot). DeskGoes g.D.Disk.medium c.args.desk.now c.args.desk.now (submit_calls (hand_state g.P.PlaneMemory.plane h) (Err HandEmpty))) (sym (sym c.replace.ensures.value ∙ c.in-Spent.is))
+    subst (λ (h : Hand g.row.P.Denot g.row.A.Denot). DeskGoes g.D.Disk.medium c.args.desk.now c.args.desk.now
+    (submit_calls (hand_state g.P.PlaneMemory.plane h) (Err HandEmpty)))
+    (sym (sym c.replace.ensures.value ∙ c.in-Spent.is))
     (desk-none g.D.Disk.medium c.args.desk.now c.opens.ensures.tells (λ now. g.met.D.Disk.sound c.args.desk.now.store.disk now))
 
 pub returns-in-Empty-clause-goes : goal.returns-in-Empty-clause-goes
 returns-in-Empty-clause-goes g c =
-    subst (λ (h : Hand g.row.P.Denot g.row.A.Denot). DeskGoes g.D.Disk.medium c.args.desk.now c.args.desk.now (submit_calls (hand_state g.P.PlaneMemory.plane h) (Err HandEmpty))) (sym (sym c.replace.ensures.value ∙ c.in-Empty.is))
+    subst (λ (h : Hand g.row.P.Denot g.row.A.Denot). DeskGoes g.D.Disk.medium c.args.desk.now c.args.desk.now
+    (submit_calls (hand_state g.P.PlaneMemory.plane h) (Err HandEmpty)))
+    (sym (sym c.replace.ensures.value ∙ c.in-Empty.is))
     (desk-none g.D.Disk.medium c.args.desk.now c.opens.ensures.tells (λ now. g.met.D.Disk.sound c.args.desk.now.store.disk now))

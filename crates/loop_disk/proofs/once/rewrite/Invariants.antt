@@ -11,8 +11,10 @@ invariant-loop-done g l = record {
   after : l.from ≤ l.done;
   called : Called (g.D.Disk.medium l.fn.disk) (g.D.Disk.medium l.disk) None;
   harsh : g.D.Disk.harsh l.fn.disk → g.D.Disk.harsh l.disk;
-  each : (g.D.Disk.medium l.fn.disk).honest → g.D.Disk.harsh l.fn.disk → LeavesEachTorn (l.at + l.from) (l.done - l.from) (g.D.Disk.medium l.fn.disk) (g.D.Disk.medium l.disk);
-  tears : (g.D.Disk.medium l.fn.disk).honest → Tears {T = Unit {0}} l.at l.count (g.D.Disk.medium l.fn.disk).bytes (g.D.Disk.medium l.fn.disk) (g.D.Disk.medium l.disk) (Ok tt);
+  each : (g.D.Disk.medium l.fn.disk).honest → g.D.Disk.harsh l.fn.disk → LeavesEachTorn (l.at + l.from)
+      (l.done - l.from) (g.D.Disk.medium l.fn.disk) (g.D.Disk.medium l.disk);
+  tears : (g.D.Disk.medium l.fn.disk).honest → Tears {T = Unit {0}} l.at l.count (g.D.Disk.medium l.fn.disk).bytes
+      (g.D.Disk.medium l.fn.disk) (g.D.Disk.medium l.disk) (Ok tt);
 }
 
 abbrev pub decreases-loop-done : goal.decreases-loop-done

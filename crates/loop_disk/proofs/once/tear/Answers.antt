@@ -7,7 +7,10 @@ use Rattle.loop_disk.proofs.once.tear.Goals as goal
 
 pub returns-clause-disk : goal.returns-clause-disk
 returns-clause-disk g c = λ honest.
-    kept_and_rewritten c.args.at c.args.keep c.args.bytes.now _ (g.D.Disk.medium c.args.disk.now) (g.D.Disk.medium c.write_at.new.self) (g.D.Disk.medium c.rewrite.new.disk) tt c.rewrite.result (ap (λ (k : ℕ). take k c.args.bytes.now) c.min-keep.ensures) (c.in_ok-write_at.ensures.disk honest) (c.rewrite.ensures.disk (c.write_at.ensures.called.honest.0 honest))
+    kept_and_rewritten c.args.at c.args.keep c.args.bytes.now _ (g.D.Disk.medium c.args.disk.now)
+    (g.D.Disk.medium c.write_at.new.self) (g.D.Disk.medium c.rewrite.new.disk) tt c.rewrite.result
+    (ap (λ (k : ℕ). take k c.args.bytes.now) c.min-keep.ensures) (c.in_ok-write_at.ensures.disk honest)
+    (c.rewrite.ensures.disk (c.write_at.ensures.called.honest.0 honest))
 
 pub returns-clause-each : goal.returns-clause-each
 returns-clause-each g c = λ honest harsh.
@@ -22,5 +25,6 @@ returns-clause-each g c = λ honest harsh.
     let front : length (take keep c.args.bytes.now) ≡ keep = omega (arith, length-take keep c.args.bytes.now, few) in
     on_ok_weaker c.rewrite.result (λ rest.
     subst (λ (k : ℕ). LeavesEachTorn at k old new) (omega (arith, few))
-    (torn_joined at keep (all - keep) old mid new (g.met.D.Disk.sound c.args.disk.now honest) (omega (arith, c.requires, few)) (subst (λ (k : ℕ). LeavesEachTorn at k old mid) front first) rest))
+    (torn_joined at keep (all - keep) old mid new (g.met.D.Disk.sound c.args.disk.now honest)
+    (omega (arith, c.requires, few)) (subst (λ (k : ℕ). LeavesEachTorn at k old mid) front first) rest))
     (c.rewrite.ensures.each (c.write_at.ensures.called.honest.0 honest) (c.write_at.ensures.each harsh).0)

@@ -7,15 +7,19 @@ use Rattle.loop_ioctl.proofs.events.react.Goals as goal
 
 pub complete-requires : goal.complete-requires
 complete-requires g c = record {
-  whole = ap length c.deref.ensures.value ∙ whole_bytes c.args.queue.now.body.shape c.args.event c.in-Complete.index c.in-Complete.stamp c.in-Complete.bytes c.requires.whole c.in-Complete.is;
+  whole = ap length c.deref.ensures.value ∙ whole_bytes c.args.queue.now.body.shape c.args.event c.in-Complete.index
+      c.in-Complete.stamp c.in-Complete.bytes c.requires.whole c.in-Complete.is;
 }
 
 pub returns-in-Complete-clause-step : goal.returns-in-Complete-clause-step
 returns-in-Complete-clause-step g c =
     let m = g.P.PlaneMemory.plane in
     subst (λ e. Reacts m e (answer.Ended c.complete.result) c.args.queue.now c.args.table.now c.complete.new.self c.args.table.now) (sym c.in-Complete.is)
-    (complete_reacts g.row.A.Denot m c.in-Complete.index c.in-Complete.stamp c.in-Complete.bytes c.complete.result c.args.queue.now c.complete.new.self c.args.table.now
-    (subst (λ l. Happens m c.args.queue.now c.complete.new.self (complete c.in-Complete.index c.in-Complete.stamp l (refusal_of c.complete.result))) c.deref.ensures.value c.complete.ensures.step))
+    (complete_reacts g.row.A.Denot m c.in-Complete.index c.in-Complete.stamp c.in-Complete.bytes c.complete.result
+    c.args.queue.now c.complete.new.self c.args.table.now
+    (subst (λ l. Happens m c.args.queue.now c.complete.new.self
+    (complete c.in-Complete.index c.in-Complete.stamp l (refusal_of c.complete.result))) c.deref.ensures.value
+    c.complete.ensures.step))
 
 pub returns-in-Fail-clause-step : goal.returns-in-Fail-clause-step
 returns-in-Fail-clause-step g c =

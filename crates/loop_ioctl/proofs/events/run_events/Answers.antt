@@ -14,7 +14,8 @@ loop-event-init g c =
     record {
       items = gives.0;
       left = omega (arith, c.args.events.ok.0);
-      runs = subst (λ l. Runs m [] l c.args.queue.now c.args.table.now c.args.queue.now c.args.table.now) (sym c.in-Ok.ensures.items) (runs_none m c.args.queue.now c.args.table.now);
+      runs = subst (λ l. Runs m [] l c.args.queue.now c.args.table.now c.args.queue.now c.args.table.now)
+          (sym c.in-Ok.ensures.items) (runs_none m c.args.queue.now c.args.table.now);
       shape = refl;
       whole = subst (λ l. are_whole c.args.queue.now.body.shape l ≡ true) (sym gives.0) c.requires.whole;
       room = omega (arith, c.in-Ok.ensures.capacity, c.in-Ok.ensures.len, c.len.ensures, c.args.events.ok.0);
@@ -24,8 +25,12 @@ pub react-reply-requires : goal.react-reply-requires
 react-reply-requires g c =
     let shape = c.args.queue.now.body.shape in
     let rest = into_iter_items c.next.new.self in
-    let whole : are_whole shape (c.in-Some.event ∷ rest) ≡ true = subst (λ l. are_whole shape l ≡ true) c.in-Some.ensures.steps.0 c.loop-event.invariant.whole in
-    record { whole = ap (λ s. is_whole s c.in-Some.event) c.loop-event.invariant.shape ∙ first_true (is_whole shape c.in-Some.event) (are_whole shape rest) whole }
+    let whole : are_whole shape (c.in-Some.event ∷ rest) ≡ true =
+    subst (λ l. are_whole shape l ≡ true) c.in-Some.ensures.steps.0 c.loop-event.invariant.whole in
+    record {
+      whole = ap (λ s. is_whole s c.in-Some.event) c.loop-event.invariant.shape
+          ∙ first_true (is_whole shape c.in-Some.event) (are_whole shape rest) whole;
+    }
 
 pub push_reserved-requires : goal.push_reserved-requires
 push_reserved-requires g c =
@@ -45,7 +50,9 @@ loop-event-preserved g c =
       items = append_assoc at.yielded (x ∷ []) rest ∙ rw (← steps) at.invariant.items;
       left = let was = at.invariant.left in let gone = c.in-Some.ensures.steps.1 in omega arith;
       runs =
-          runs_more g.P.PlaneMemory.plane at.yielded x at.replies.items c.push_reserved.new.self.items c.react-reply.result c.args.queue.now at.queue c.react-reply.new.queue c.args.table.now at.table c.react-reply.new.table
+          runs_more g.P.PlaneMemory.plane at.yielded x at.replies.items c.push_reserved.new.self.items
+          c.react-reply.result c.args.queue.now at.queue c.react-reply.new.queue c.args.table.now at.table
+          c.react-reply.new.table
           c.push_reserved.ensures.items at.invariant.runs c.react-reply.ensures.step;
       shape = c.react-reply.ensures.shape ∙ at.invariant.shape;
       whole = second_true (is_whole shape x) (are_whole shape rest) whole;
@@ -62,4 +69,5 @@ returns-clause-runs g c =
 
 pub returns-clause-in_order : goal.returns-clause-in_order
 returns-clause-in_order g c =
-    runs_are_in_order g.row.A.Denot g.P.PlaneMemory.plane c.args.events.items c.loop-event.replies.items c.args.queue.now c.loop-event.queue c.args.table.now c.loop-event.table (returns-clause-runs g c)
+    runs_are_in_order g.row.A.Denot g.P.PlaneMemory.plane c.args.events.items c.loop-event.replies.items
+    c.args.queue.now c.loop-event.queue c.args.table.now c.loop-event.table (returns-clause-runs g c)

@@ -7,7 +7,8 @@ use Rattle.loop_ioctl.proofs.fds.give_all.Given as goal
 abbrev pub invariant-along : goal.invariant-along
 invariant-along g l = AreAway (values_of l.initial.sets.items) (names_in l.initial.table) → record {
   away : AreAway (values_of l.sets.items) (names_in l.table);
-  back : given_back (values_of l.sets.items) (names_in l.table) ≡ given_back (values_of l.initial.sets.items) (names_in l.initial.table);
+  back : given_back (values_of l.sets.items) (names_in l.table) ≡ given_back (values_of l.initial.sets.items)
+      (names_in l.initial.table);
 }
 
 abbrev pub decreases-along : goal.decreases-along

@@ -8,7 +8,9 @@ pub returns-then-len-count-clause-tried : goal.returns-then-len-count-clause-tri
 returns-then-len-count-clause-tried g c =
     let kept = c.loop-page.invariant in
     let won = c.if-take_page.ensures in
-    got_last _ _ _ _ _ _ _ _ _ _ c.push_reserved.ensures.items (ap (λ (p : Place). p.missed) won) (ap (λ (p : Place). p.tried) won) (omega (arith, c.loop-page-test.true, c.count-page-end.ensures.count)) (omega (arith, c.if-len-count.true, c.len.ensures)) kept.tried
+    got_last _ _ _ _ _ _ _ _ _ _ c.push_reserved.ensures.items (ap (λ (p : Place). p.missed) won)
+    (ap (λ (p : Place). p.tried) won) (omega (arith, c.loop-page-test.true, c.count-page-end.ensures.count))
+    (omega (arith, c.if-len-count.true, c.len.ensures)) kept.tried
 
 pub loop-page-preserved : goal.loop-page-preserved
 loop-page-preserved g c =

@@ -18,11 +18,18 @@ loop-segment-preserved c =
     elim c.if-meets_head.branch [
       | then-meets_head w ↦
           subst (λ (l : List ℕ). IsMapped (without_one ring c.args.span) heads old l (i + 1)) (sym w.counts-is)
-          (mapped-set (without_one ring c.args.span) heads old mid i w.saturating_sub.result (omega (arith, c.loop-segment-test.true, c.loop-segment.auto.counts, c.requires.counted)) c.loop-segment.invariant (w.saturating_sub.ensures ∙ less-met ring c.args.span (get_or heads i None) (get_or mid i 0) c.meets_head.result c.meets_head.ensures w.if-meets_head.true))
+          (mapped-set (without_one ring c.args.span) heads old mid i w.saturating_sub.result
+          (omega (arith, c.loop-segment-test.true, c.loop-segment.auto.counts, c.requires.counted))
+          c.loop-segment.invariant (w.saturating_sub.ensures ∙ less-met ring c.args.span (get_or heads i None)
+          (get_or mid i 0) c.meets_head.result c.meets_head.ensures w.if-meets_head.true))
       | else-meets_head w ↦
           subst (λ (l : List ℕ). IsMapped (without_one ring c.args.span) heads old l (i + 1)) (sym w.counts-is)
-          (mapped-same (without_one ring c.args.span) heads old mid i c.loop-segment.invariant (less-same ring c.args.span (get_or heads i None) (get_or mid i 0) c.meets_head.result c.meets_head.ensures w.if-meets_head.false))
+          (mapped-same (without_one ring c.args.span) heads old mid i c.loop-segment.invariant
+          (less-same ring c.args.span (get_or heads i None) (get_or mid i 0) c.meets_head.result
+          c.meets_head.ensures w.if-meets_head.false))
     ]
 
 pub returns : goal.returns
-returns c = mapped-all (without_one (ring_of c.args.geometry.now) c.args.span) c.args.heads.now c.args.counts.now c.loop-segment.counts c.loop-segment.segment c.loop-segment.invariant c.loop-segment-test.false c.requires.counted c.loop-segment.auto.counts
+returns c = mapped-all (without_one (ring_of c.args.geometry.now) c.args.span) c.args.heads.now c.args.counts.now
+    c.loop-segment.counts c.loop-segment.segment c.loop-segment.invariant c.loop-segment-test.false c.requires.counted
+    c.loop-segment.auto.counts

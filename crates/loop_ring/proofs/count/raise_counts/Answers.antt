@@ -18,14 +18,22 @@ loop-segment-preserved c =
     elim c.if-meets_head.branch [
       | then-meets_head w ↦
           subst (λ (l : List ℕ). IsMapped (with_one ring c.args.span) heads old l (i + 1)) (sym w.counts-is)
-          (mapped-set (with_one ring c.args.span) heads old mid i (get_or c.loop-segment.counts c.loop-segment.segment 0 + 1) (omega (arith, c.loop-segment-test.true, c.loop-segment.auto.counts, c.requires.counted)) c.loop-segment.invariant (more-met ring c.args.span (get_or heads i None) (get_or mid i 0) c.meets_head.result c.meets_head.ensures w.if-meets_head.true))
+          (mapped-set (with_one ring c.args.span) heads old mid i
+          (get_or c.loop-segment.counts c.loop-segment.segment 0 + 1)
+          (omega (arith, c.loop-segment-test.true, c.loop-segment.auto.counts, c.requires.counted))
+          c.loop-segment.invariant (more-met ring c.args.span (get_or heads i None)
+          (get_or mid i 0) c.meets_head.result c.meets_head.ensures w.if-meets_head.true))
       | else-meets_head w ↦
           subst (λ (l : List ℕ). IsMapped (with_one ring c.args.span) heads old l (i + 1)) (sym w.counts-is)
-          (mapped-same (with_one ring c.args.span) heads old mid i c.loop-segment.invariant (more-same ring c.args.span (get_or heads i None) (get_or mid i 0) c.meets_head.result c.meets_head.ensures w.if-meets_head.false))
+          (mapped-same (with_one ring c.args.span) heads old mid i c.loop-segment.invariant
+          (more-same ring c.args.span (get_or heads i None) (get_or mid i 0) c.meets_head.result
+          c.meets_head.ensures w.if-meets_head.false))
     ]
 
 pub returns : goal.returns
-returns c = mapped-all (with_one (ring_of c.args.geometry.now) c.args.span) c.args.heads.now c.args.counts.now c.loop-segment.counts c.loop-segment.segment c.loop-segment.invariant c.loop-segment-test.false c.requires.counted c.loop-segment.auto.counts
+returns c = mapped-all (with_one (ring_of c.args.geometry.now) c.args.span) c.args.heads.now c.args.counts.now
+    c.loop-segment.counts c.loop-segment.segment c.loop-segment.invariant c.loop-segment-test.false c.requires.counted
+    c.loop-segment.auto.counts
 
 pub overflow_add-counts : goal.overflow_add-counts
 overflow_add-counts c =

@@ -12,7 +12,10 @@ returns-then-not-has_open g c =
         search rules,
         λ i low high.
             ap (λ (l : List ℕ). is_open l i) (c.in_ok-read.ensures.disk honest).bytes
-            ∙ closed_as_read c.args.at c.args.count old _ (omega (arith, (g.met.D.Disk.sound c.args.disk.now honest).length_is, c.requires.inside)) (read_front c.args.at c.args.count old _ c.requires.few (c.in_ok-read.ensures.read honest)) (sym c.has_open.ensures ∙ c.if-not-has_open.true) i low high,
+            ∙ closed_as_read c.args.at c.args.count old _
+            (omega (arith, (g.met.D.Disk.sound c.args.disk.now honest).length_is, c.requires.inside))
+            (read_front c.args.at c.args.count old _ c.requires.few (c.in_ok-read.ensures.read honest))
+            (sym c.has_open.ensures ∙ c.if-not-has_open.true) i low high,
       );
       settled = search rules;
       quiet = search rules;
@@ -26,11 +29,21 @@ returns g c = record {
       let later = c.in_ok-read.ensures.called.honest.0 honest in
       on_ok_weaker c.store.result (λ done. (
         search rules,
-        closed_written c.args.at c.args.count (g.D.Disk.medium c.read.new.self).bytes _ c.requires.few (omega (arith, (g.met.D.Disk.sound c.read.new.self later).length_is, c.in_ok-read.ensures.called.size, c.requires.inside)) done,
+        closed_written c.args.at c.args.count (g.D.Disk.medium c.read.new.self).bytes _ c.requires.few
+            (omega (
+              arith,
+              (g.met.D.Disk.sound c.read.new.self later).length_is,
+              c.in_ok-read.ensures.called.size,
+              c.requires.inside,
+            )) done,
       )) (c.store.ensures.disk later).done;
   settled = search rules;
   quiet = λ honest closed.
       let size = (g.met.D.Disk.sound c.args.disk.now honest).length_is in
-      never _ (sym c.has_open.ensures ∙ c.if-not-has_open.false) (none_open c.args.at c.args.count (g.D.Disk.medium c.args.disk.now).bytes _ (omega (arith, size, c.requires.inside)) (read_front c.args.at c.args.count (g.D.Disk.medium c.args.disk.now).bytes _ c.requires.few (c.in_ok-read.ensures.read honest)) closed);
+      never _ (sym c.has_open.ensures ∙ c.if-not-has_open.false)
+      (none_open c.args.at c.args.count (g.D.Disk.medium c.args.disk.now).bytes _
+      (omega (arith, size, c.requires.inside))
+      (read_front c.args.at c.args.count (g.D.Disk.medium c.args.disk.now).bytes _ c.requires.few
+      (c.in_ok-read.ensures.read honest)) closed);
   called = search rules;
 }

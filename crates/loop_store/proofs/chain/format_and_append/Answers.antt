@@ -9,5 +9,10 @@ use Rattle.loop_store.proofs.chain.format_and_append.Goals as goal
 pub returns : goal.returns
 returns g c =
     let formatted = c.in-Ok.ensures.formatted in
-    subst (λ (h : Geometry). Stands g.D.Disk.medium c.append.new.self (record { recording = plain (ring_of h) empty (steps_asked h empty (pictures c.args.frames.now)); must_reopen = false })) formatted.geometry
-    (c.in_ok-append-in-Ok.ensures.goes.stands (record { recording = empty; must_reopen = false }) (record { recording = c.in-Ok.ensures.stands; must_reopen = formatted.must_reopen }))
+    subst (λ (h : Geometry). Stands g.D.Disk.medium c.append.new.self
+    (record {
+      recording = plain (ring_of h) empty (steps_asked h empty (pictures c.args.frames.now));
+      must_reopen = false;
+    })) formatted.geometry
+    (c.in_ok-append-in-Ok.ensures.goes.stands (record { recording = empty; must_reopen = false })
+    (record { recording = c.in-Ok.ensures.stands; must_reopen = formatted.must_reopen }))

@@ -6,11 +6,16 @@ use Rattle.loop_store.proofs.chain.read_after_crash.Goals as goal
 
 pub returns-then-out-frame_bytes : goal.returns-then-out-frame_bytes
 returns-then-out-frame_bytes g c = λ s stands fine honest crashed there.
-    let same = opened-same g.D.Disk.medium g.E.Disk.medium c.args.store.now c.in-Ok.opened (g.E.Disk.medium c.args.crashed).bytes s stands fine honest c.requires.left (c.in-Ok.ensures.opened crashed) c.in-Ok.ensures.fine in
+    let same = opened-same g.D.Disk.medium g.E.Disk.medium c.args.store.now c.in-Ok.opened
+    (g.E.Disk.medium c.args.crashed).bytes s stands fine honest c.requires.left (c.in-Ok.ensures.opened crashed)
+    c.in-Ok.ensures.fine in
     absurd (c.if-out-frame_bytes.true (c.requires.size ∙ sym (c.frame_bytes.ensures ∙ ap frame_bytes (c.geometry.ensures.geometry ∙ same.geometry))))
 
 pub returns : goal.returns
 returns g c = λ s stands fine honest crashed there.
-    let same = opened-same g.D.Disk.medium g.E.Disk.medium c.args.store.now c.in-Ok.opened (g.E.Disk.medium c.args.crashed).bytes s stands fine honest c.requires.left (c.in-Ok.ensures.opened crashed) c.in-Ok.ensures.fine in
+    let same = opened-same g.D.Disk.medium g.E.Disk.medium c.args.store.now c.in-Ok.opened
+    (g.E.Disk.medium c.args.crashed).bytes s stands fine honest c.requires.left (c.in-Ok.ensures.opened crashed)
+    c.in-Ok.ensures.fine in
     let now = c.in-Ok.ensures.called.honest.0 crashed in
-    read-held _ c.in-Ok.opened.geometry s c.args.number c.read.result c.read.new.out (now, same.stands) fine there (c.read.ensures.goes.answers s (told-of g.E.Disk.medium c.in-Ok.opened s same.stands)).0
+    read-held _ c.in-Ok.opened.geometry s c.args.number c.read.result c.read.new.out (now, same.stands) fine there
+    (c.read.ensures.goes.answers s (told-of g.E.Disk.medium c.in-Ok.opened s same.stands)).0

@@ -10,7 +10,13 @@ returns-in_err-check_slot g c =
     let here = c.loop-slot.invariant in
     let first = ap (λ (k : ℕ). c.args.found.block * k) c.from.ensures in
     finds-on _ c.in_err-check_slot.field-0.0 _ _ _ _ _ _ _
-    (λ honest fault q. (q.0, slots-wrong h (g.D.Disk.medium c.args.disk.now).bytes (g.D.Disk.medium c.loop-slot.disk).bytes c.args.found c.loop-slot.slot (c.args.found.block * c.from.result + c.from-in-loop-slot.result) (here.stays honest).bytes (omega (arith, first, c.from-in-loop-slot.ensures)) (omega arith) q.1))
+    (λ honest fault q. (
+      q.0,
+      slots-wrong h (g.D.Disk.medium c.args.disk.now).bytes
+          (g.D.Disk.medium c.loop-slot.disk).bytes c.args.found c.loop-slot.slot
+          (c.args.found.block * c.from.result + c.from-in-loop-slot.result) (here.stays honest).bytes
+          (omega (arith, first, c.from-in-loop-slot.ensures)) (omega arith) q.1,
+    ))
     here.stays here.called c.from_residual.ensures.1 c.in_err-check_slot.ensures
 
 pub loop-slot-preserved : goal.loop-slot-preserved
@@ -20,6 +26,9 @@ loop-slot-preserved g c =
     let first = ap (λ (k : ℕ). c.args.found.block * k) c.from.ensures in record {
       called = called_on _ _ _ None here.called c.in_ok-check_slot.ensures.called;
       stays = λ honest. stays_on _ _ _ (here.stays honest) (c.in_ok-check_slot.ensures.stays (here.called.honest.0 honest));
-      hold = λ honest. slots-right h (g.D.Disk.medium c.args.disk.now).bytes (g.D.Disk.medium c.loop-slot.disk).bytes c.args.found.segment c.loop-slot.slot (c.args.found.block * h.slots) (c.args.found.block * c.from.result + c.from-in-loop-slot.result)
-          (here.stays honest).bytes (omega (arith, first, c.from-in-loop-slot.ensures)) (here.hold honest) (c.in_ok-check_slot.ensures.found (here.called.honest.0 honest));
+      hold = λ honest. slots-right h (g.D.Disk.medium c.args.disk.now).bytes (g.D.Disk.medium c.loop-slot.disk).bytes
+          c.args.found.segment c.loop-slot.slot (c.args.found.block * h.slots)
+          (c.args.found.block * c.from.result + c.from-in-loop-slot.result)
+          (here.stays honest).bytes (omega (arith, first, c.from-in-loop-slot.ensures)) (here.hold honest)
+          (c.in_ok-check_slot.ensures.found (here.called.honest.0 honest));
     }

@@ -9,5 +9,6 @@ abbrev pub invariant-loop-slot : goal.invariant-loop-slot
 invariant-loop-slot g l = record {
   called : Called (g.D.Disk.medium l.fn.disk) (g.D.Disk.medium l.disk) None;
   stays : (g.D.Disk.medium l.fn.disk).honest → Stays (g.D.Disk.medium l.fn.disk) (g.D.Disk.medium l.disk);
-  hold : (g.D.Disk.medium l.fn.disk).honest → hold_from (frame_bytes l.geometry) (l.found.block * l.geometry.slots) (read_slots l.geometry (g.D.Disk.medium l.fn.disk).bytes l.found.segment l.slot) ≡ true;
+  hold : (g.D.Disk.medium l.fn.disk).honest → hold_from (frame_bytes l.geometry) (l.found.block * l.geometry.slots)
+      (read_slots l.geometry (g.D.Disk.medium l.fn.disk).bytes l.found.segment l.slot) ≡ true;
 }

@@ -11,7 +11,8 @@ returns-in_err-decode_head g c =
     let image = (g.D.Disk.medium c.args.disk.now).bytes in
     finds-err _ (StoreFault.Damaged c.in_err-decode_head.field-0.0) _ _ _ _
     (λ honest. slot-wrong (frame_bytes h) c.args.number (slot_in (frame_bytes h) image (slot_at h c.args.segment c.args.slot)) c.in_err-decode_head.field-0.0
-    (slot-read h c.args.segment c.args.slot c.args.number c.slot_at.result c.frame_bytes.result image c.read.new.buf _ c.slot_at.ensures c.frame_bytes.ensures (c.in_ok-read.ensures.read honest) c.in_err-decode_head.ensures.head))
+    (slot-read h c.args.segment c.args.slot c.args.number c.slot_at.result c.frame_bytes.result image c.read.new.buf _
+    c.slot_at.ensures c.frame_bytes.ensures (c.in_ok-read.ensures.read honest) c.in_err-decode_head.ensures.head))
     c.in_ok-read.ensures.disk c.in_ok-read.ensures.called c.from_residual-in_err-decode_head.ensures.1
 
 pub returns : goal.returns
@@ -20,7 +21,9 @@ returns g c =
     let image = (g.D.Disk.medium c.args.disk.now).bytes in
     record {
       found = λ honest. slot-right (frame_bytes h) c.args.number (slot_in (frame_bytes h) image (slot_at h c.args.segment c.args.slot)) _
-          (slot-read h c.args.segment c.args.slot c.args.number c.slot_at.result c.frame_bytes.result image c.read.new.buf _ c.slot_at.ensures c.frame_bytes.ensures (c.in_ok-read.ensures.read honest) c.in_ok-decode_head.ensures.head);
+          (slot-read h c.args.segment c.args.slot c.args.number c.slot_at.result c.frame_bytes.result image
+          c.read.new.buf _ c.slot_at.ensures c.frame_bytes.ensures (c.in_ok-read.ensures.read honest)
+          c.in_ok-decode_head.ensures.head);
       stays = c.in_ok-read.ensures.disk;
       called = c.in_ok-read.ensures.called;
     }

@@ -9,5 +9,7 @@ loop-done-preserved g c =
     let here = c.loop-done.invariant in record {
       count = order-count h [] _ c.loop-done.open.items c.add_head.new.open.items c.loop-done.done (c.in_ok-add_head.ensures.placed h []) here.count;
       within = c.in_ok-add_head.ensures.within h (c.requires.within j _ (omega (arith, c.requires.count))) (omega arith) here.within;
-      order = λ image are. order-more h image c.args.heads.now c.loop-done.done _ _ c.loop-done.open.items c.add_head.new.open.items are (omega arith) refl (c.in_ok-add_head.ensures.placed h image) (here.order image are);
+      order = λ image are. order-more h image c.args.heads.now c.loop-done.done _ _ c.loop-done.open.items
+          c.add_head.new.open.items are (omega arith) refl (c.in_ok-add_head.ensures.placed h image)
+          (here.order image are);
     }

@@ -11,5 +11,7 @@ abbrev pub invariant-loop-done : goal.invariant-loop-done
 invariant-loop-done g l = record {
   count : length l.«open».items ≤ l.done;
   within : AreIn l.geometry l.«open».items;
-  order : (image : List ℕ) → l.heads ≡ heads_of l.geometry image → segments_of l.geometry image l.«open».items ≡ by_block (open_segments (map (segment_in l.geometry image) (range_with_len (l.geometry.segments - l.done) l.done)));
+  order : (image : List ℕ) → l.heads ≡ heads_of l.geometry image
+      → segments_of l.geometry image l.«open».items ≡ by_block
+      (open_segments (map (segment_in l.geometry image) (range_with_len (l.geometry.segments - l.done) l.done)));
 }

@@ -9,7 +9,9 @@ returns-in_err-geometry-clause-finds g c =
     let m = g.D.Disk.medium c.args.disk.now in
     finds-refusal _ c.in_err-geometry.field-0.0 _ _ _ _ (λ honest.
     let room : 512 ≤ length m.bytes = omega (arith, (g.met.D.Disk.sound c.args.disk.now honest).length_is) in
-    refused-read m.bytes c.read.new.buf c.in_err-geometry.field-0.0 room (c.in_ok-read.ensures.read honest) c.in_err-geometry.ensures) c.in_ok-read.ensures.disk c.in_ok-read.ensures.called c.from_residual-in_err-geometry.ensures.1
+    refused-read m.bytes c.read.new.buf c.in_err-geometry.field-0.0 room (c.in_ok-read.ensures.read honest)
+    c.in_err-geometry.ensures) c.in_ok-read.ensures.disk c.in_ok-read.ensures.called
+    c.from_residual-in_err-geometry.ensures.1
 
 pub disk_size-requires : goal.disk_size-requires
 disk_size-requires g c = geometry-good c.in_ok-geometry.geometry c.read.new.buf (sym c.in_ok-geometry.ensures)
@@ -20,14 +22,18 @@ returns-then-size-disk_size-clause-finds g c =
       found = λ honest.
           let size = (g.met.D.Disk.sound c.args.disk.now honest).length_is in
           let room : 512 ≤ length m.bytes = omega (arith, size) in
-          reading-other_size c.in_ok-geometry.geometry m.bytes (geometry-read m.bytes c.read.new.buf _ room (c.in_ok-read.ensures.read honest) c.in_ok-geometry.ensures)
+          reading-other_size c.in_ok-geometry.geometry m.bytes
+          (geometry-read m.bytes c.read.new.buf _ room (c.in_ok-read.ensures.read honest) c.in_ok-geometry.ensures)
           (λ same. c.if-size-disk_size.true (c.size-size.ensures ∙ sym size ∙ same ∙ sym c.disk_size.ensures));
       stays = c.in_ok-read.ensures.disk;
       called = c.in_ok-read.ensures.called;
     }
 
 pub returns-clause-fits : goal.returns-clause-fits
-returns-clause-fits g c = (geometry-good c.in_ok-geometry.geometry c.read.new.buf (sym c.in_ok-geometry.ensures), sym c.size-size.ensures ∙ c.if-size-disk_size.false ∙ c.disk_size.ensures)
+returns-clause-fits g c = (
+  geometry-good c.in_ok-geometry.geometry c.read.new.buf (sym c.in_ok-geometry.ensures),
+  sym c.size-size.ensures ∙ c.if-size-disk_size.false ∙ c.disk_size.ensures,
+)
 
 pub returns-clause-finds : goal.returns-clause-finds
 returns-clause-finds g c =

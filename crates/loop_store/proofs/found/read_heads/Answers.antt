@@ -12,7 +12,11 @@ returns-in_err-head-clause-finds g c =
     let h = c.args.geometry.now in
     let here = c.loop-segment.invariant in
     finds-on _ c.in_err-head.field-0.0 _ _ _ _ _ _ _
-    (λ honest fault q. (q.0, heads-wrong h (g.D.Disk.medium c.args.disk.now).bytes (g.D.Disk.medium c.loop-segment.disk).bytes c.loop-segment.segment (omega arith) (here.stays honest).bytes q.1))
+    (λ honest fault q. (
+      q.0,
+      heads-wrong h (g.D.Disk.medium c.args.disk.now).bytes
+          (g.D.Disk.medium c.loop-segment.disk).bytes c.loop-segment.segment (omega arith) (here.stays honest).bytes q.1,
+    ))
     here.stays here.called c.from_residual-in_err-head.ensures.1 c.in_err-head.ensures.finds
 
 pub loop-segment-preserved : goal.loop-segment-preserved
@@ -21,9 +25,12 @@ loop-segment-preserved g c =
     let here = c.loop-segment.invariant in record {
       count = omega (arith, here.count, c.push_reserved.ensures.len);
       capacity = omega (arith, here.capacity, c.push_reserved.ensures.capacity);
-      within = subst (All (IsHeadIn h)) (sym c.push_reserved.ensures.items) (All-push (IsHeadIn h) c.loop-segment.heads.items c.in_ok-head.head here.within c.in_ok-head.ensures.within);
+      within = subst (All (IsHeadIn h)) (sym c.push_reserved.ensures.items)
+          (All-push (IsHeadIn h) c.loop-segment.heads.items c.in_ok-head.head here.within c.in_ok-head.ensures.within);
       called = called_on _ _ _ None here.called c.in_ok-head.ensures.finds.called;
       stays = λ honest. stays_on _ _ _ (here.stays honest) (c.in_ok-head.ensures.finds.stays (here.called.honest.0 honest));
-      heads = λ honest. heads-more h (g.D.Disk.medium c.args.disk.now).bytes (g.D.Disk.medium c.loop-segment.disk).bytes c.loop-segment.segment c.in_ok-head.head c.loop-segment.heads.items c.push_reserved.new.self.items
+      heads = λ honest. heads-more h (g.D.Disk.medium c.args.disk.now).bytes
+          (g.D.Disk.medium c.loop-segment.disk).bytes c.loop-segment.segment c.in_ok-head.head
+          c.loop-segment.heads.items c.push_reserved.new.self.items
           (here.stays honest).bytes (c.in_ok-head.ensures.finds.found (here.called.honest.0 honest)) (here.heads honest) c.push_reserved.ensures.items;
     }

@@ -14,5 +14,7 @@ invariant-loop-segment g l = record {
   within : All (IsHeadIn l.geometry) l.heads.items;
   called : Called (g.D.Disk.medium l.fn.disk) (g.D.Disk.medium l.disk) None;
   stays : (g.D.Disk.medium l.fn.disk).honest → Stays (g.D.Disk.medium l.fn.disk) (g.D.Disk.medium l.disk);
-  heads : (g.D.Disk.medium l.fn.disk).honest → l.heads.items ≡ map (λ j. header_at l.geometry (g.D.Disk.medium l.fn.disk).bytes (segment_at l.geometry j)) (range_with_len 0 l.segment);
+  heads : (g.D.Disk.medium l.fn.disk).honest
+      → l.heads.items ≡ map (λ j. header_at l.geometry (g.D.Disk.medium l.fn.disk).bytes (segment_at l.geometry j))
+      (range_with_len 0 l.segment);
 }

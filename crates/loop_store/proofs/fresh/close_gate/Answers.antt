@@ -6,7 +6,9 @@ use Rattle.loop_store.proofs.fresh.close_gate.Goals as goal
 pub returns-then-gate : goal.returns-then-gate
 returns-then-gate g c = record {
   moments = λ honest.
-      closing _ _ _ c.store.result (g.met.D.Disk.sound c.args.disk.now honest) (c.requires.settled honest) (c.read.ensures.disk honest) (gate-read _ _ (c.in_ok-read.ensures.read honest) c.if-gate.true) (c.store.ensures.disk (c.read.ensures.called.honest.0 honest));
+      closing _ _ _ c.store.result (g.met.D.Disk.sound c.args.disk.now honest) (c.requires.settled honest)
+      (c.read.ensures.disk honest) (gate-read _ _ (c.in_ok-read.ensures.read honest) c.if-gate.true)
+      (c.store.ensures.disk (c.read.ensures.called.honest.0 honest));
   such = λ honest. closing-done _ _ c.store.result (c.store.ensures.disk (c.read.ensures.called.honest.0 honest));
   called = called_on _ _ _ _ c.in_ok-read.ensures.called c.store.ensures.called;
 }

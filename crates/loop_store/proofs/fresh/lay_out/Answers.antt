@@ -7,7 +7,9 @@ pub returns-in_err-write_front : goal.returns-in_err-write_front
 returns-in_err-write_front g c =
     let p = err_from_is_err_and c.from_residual-in_err-write_front.result c.from_residual-in_err-write_front.ensures.1 in
     rw (p.1, p.2) (record {
-      moments = λ honest. closed-or_empty c.args.geometry.now _ _ (closed-on _ _ _ (c.unformat.ensures.moments honest) (c.write_front.ensures.moments (c.in_ok-unformat.ensures.called.honest.0 honest)));
+      moments = λ honest. closed-or_empty c.args.geometry.now _ _
+          (closed-on _ _ _ (c.unformat.ensures.moments honest)
+          (c.write_front.ensures.moments (c.in_ok-unformat.ensures.called.honest.0 honest)));
       such = λ honest. tt;
       called = called_on _ _ _ _ c.in_ok-unformat.ensures.called c.in_err-write_front.ensures.called;
     })
@@ -19,7 +21,9 @@ returns-in_err-write_headers g c =
     rw (p.1, p.2) (record {
       moments = λ honest.
           closed-or_empty c.args.geometry.now _ _
-          (closed-on _ _ _ (closed-on _ _ _ (c.unformat.ensures.moments honest) (c.write_front.ensures.moments (c.in_ok-unformat.ensures.called.honest.0 honest))) (c.write_headers.ensures.moments (front.honest.0 honest)));
+          (closed-on _ _ _ (closed-on _ _ _ (c.unformat.ensures.moments honest)
+          (c.write_front.ensures.moments (c.in_ok-unformat.ensures.called.honest.0 honest)))
+          (c.write_headers.ensures.moments (front.honest.0 honest)));
       such = λ honest. tt;
       called = called_on _ _ _ _ front c.in_err-write_headers.ensures.called;
     })
@@ -30,7 +34,9 @@ returns g c =
     let laid = called_on _ _ _ _ front c.in_ok-write_headers.ensures.called in record {
       moments = λ honest.
           empty-on c.args.geometry.now _ _ _
-          (closed-on _ _ _ (closed-on _ _ _ (c.unformat.ensures.moments honest) (c.write_front.ensures.moments (c.in_ok-unformat.ensures.called.honest.0 honest))) (c.write_headers.ensures.moments (front.honest.0 honest)))
+          (closed-on _ _ _ (closed-on _ _ _ (c.unformat.ensures.moments honest)
+          (c.write_front.ensures.moments (c.in_ok-unformat.ensures.called.honest.0 honest)))
+          (c.write_headers.ensures.moments (front.honest.0 honest)))
           (c.finish.ensures.moments (laid.honest.0 honest));
       such = λ honest. c.finish.ensures.such (laid.honest.0 honest);
       called = called_on _ _ _ _ laid c.finish.ensures.called;

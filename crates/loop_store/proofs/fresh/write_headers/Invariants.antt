@@ -7,7 +7,8 @@ use Rattle.loop_store.proofs.fresh.write_headers.Given as goal
 -- the headers so far are closed, behind a closed gate
 abbrev pub invariant-loop-segment : goal.invariant-loop-segment
 invariant-loop-segment g l = record {
-  moments : (g.D.Disk.medium l.fn.disk).honest → LeavesOnly (g.D.Disk.medium l.fn.disk) (g.D.Disk.medium l.disk) IsClosed;
+  moments : (g.D.Disk.medium l.fn.disk).honest → LeavesOnly (g.D.Disk.medium l.fn.disk)
+      (g.D.Disk.medium l.disk) IsClosed;
   laid : (g.D.Disk.medium l.fn.disk).honest → IsLaidClosed l.geometry l.segment (g.D.Disk.medium l.disk);
   called : Called (g.D.Disk.medium l.fn.disk) (g.D.Disk.medium l.disk) None;
 }

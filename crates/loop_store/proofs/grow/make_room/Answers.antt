@@ -22,7 +22,8 @@ returns-in-Newest g c =
           subst (λ (steps : List Step). Holds h (plain (ring_of h) r steps) m.bytes) (sym at.steps) held;
       such = λ honest.
           let known = c.requires.known honest in
-          let at = known-newest h known.recording c.args.next c.in-Newest.field-0 c.args.place m.bytes c.in-Newest.is c.requires.segment known known.held known.next_is in
+          let at = known-newest h known.recording c.args.next c.in-Newest.field-0 c.args.place m.bytes c.in-Newest.is
+          c.requires.segment known known.held known.next_is in
           (at.newest, at.begun);
       settled = c.requires.settled;
       fault = tt;
@@ -39,11 +40,14 @@ returns-in-Closed g c =
           subst (λ (steps : List Step). LeavesOnly old new (HoldsSome h r steps)) (sym at.steps) (c.begin.ensures.moments r is honest held);
       held = λ r is honest held.
           let at = known-closed h r c.args.next c.in-Closed.segment c.args.place old.bytes c.in-Closed.is (c.requires.known honest) held is in
-          subst (λ (steps : List Step). OnOk c.begin.result (Holds h (plain (ring_of h) r steps) new.bytes)) (sym at.steps) (c.begin.ensures.held r is honest held);
+          subst (λ (steps : List Step). OnOk c.begin.result (Holds h (plain (ring_of h) r steps) new.bytes))
+          (sym at.steps) (c.begin.ensures.held r is honest held);
       such = λ honest.
           on_ok_weaker c.begin.result (λ begun. (
             subst (λ (p : Place). IsNewestSegment h c.args.next (place_segment p) new.bytes) (sym c.in-Closed.is) begun.0,
-            closed-at h c.args.next c.in-Closed.segment c.args.place old.bytes new.bytes (limits h c.args.ring.now.good).slots.1 c.in-Closed.is c.requires.segment (c.requires.known honest) begun.1 begun.0.stray,
+            closed-at h c.args.next c.in-Closed.segment c.args.place old.bytes new.bytes
+                (limits h c.args.ring.now.good).slots.1 c.in-Closed.is c.requires.segment
+                (c.requires.known honest) begun.1 begun.0.stray,
           )) (c.begin.ensures.such honest);
       settled = c.begin.ensures.settled;
       fault = c.begin.ensures.fault;

@@ -19,7 +19,9 @@ returns-in_err-retire g c =
       moments = λ r is honest held.
           let gone = goes h r c.args.next j _ (c.requires.known honest) held in
           subst (λ (steps : List Step). LeavesOnly (g.D.Disk.medium c.args.disk.now) (g.D.Disk.medium c.retire.new.disk) (HoldsSome h r steps)) (sym gone.steps)
-          (weaker _ _ _ _ (c.retire.ensures.moments honest) (λ image either. retired-held_or h r gone.block j _ image held c.requires.segment gone.chosen gone.is either));
+          (weaker _ _ _ _ (c.retire.ensures.moments honest)
+          (λ image either. retired-held_or h r gone.block j _ image held c.requires.segment gone.chosen gone.is
+          either));
       held = λ r is honest held. tt;
       such = λ honest. tt;
       settled = λ honest. tt;
@@ -28,7 +30,8 @@ returns-in_err-retire g c =
     })
 
 pub begin-requires-clause-first : goal.begin-requires-clause-first
-begin-requires-clause-first g c = λ now. first-of c.args.ring.now.geometry c.args.next c.args.segment _ (c.requires.known (c.retire.ensures.called.honest.1 now))
+begin-requires-clause-first g c = λ now. first-of c.args.ring.now.geometry c.args.next c.args.segment _
+    (c.requires.known (c.retire.ensures.called.honest.1 now))
 
 pub begin-requires-clause-settled : goal.begin-requires-clause-settled
 begin-requires-clause-settled g c = λ now. c.in_ok-retire.ensures.settled (c.retire.ensures.called.honest.1 now)
@@ -40,7 +43,8 @@ begin-requires-clause-free g c = λ now.
     let known = c.requires.known honest in
     let gone = goes h known.recording c.args.next c.args.segment _ known known.held in
     subst (λ (n : ℕ). IsFreeFor h n c.args.segment (g.D.Disk.medium c.retire.new.disk).bytes) known.next_is
-    (retired-free h known.recording.next gone.block c.args.segment _ _ (limits h c.args.ring.now.good).slots.1 c.requires.segment gone.is (c.in_ok-retire.ensures.such honest))
+    (retired-free h known.recording.next gone.block c.args.segment _ _ (limits h c.args.ring.now.good).slots.1
+    c.requires.segment gone.is (c.in_ok-retire.ensures.such honest))
 
 pub returns : goal.returns
 returns g c =
@@ -55,7 +59,9 @@ returns g c =
           let gap = retired-held h r gone.block j old.bytes mid.bytes held c.requires.segment gone.chosen gone.is (c.in_ok-retire.ensures.such honest) in
           subst (λ (steps : List Step). LeavesOnly old new (HoldsSome h r steps)) (sym gone.steps)
           (steps-joined h r (recycle gone.block ∷ []) [] old mid new
-          (weaker _ _ _ _ (c.retire.ensures.moments honest) (λ image either. retired-held_or h r gone.block j old.bytes image held c.requires.segment gone.chosen gone.is either))
+          (weaker _ _ _ _ (c.retire.ensures.moments honest)
+          (λ image either. retired-held_or h r gone.block j old.bytes image held c.requires.segment gone.chosen
+          gone.is either))
           (c.begin.ensures.moments (after_step (ring_of h) r (recycle gone.block)) is now gap));
       held = λ r is honest held.
           let now = c.retire.ensures.called.honest.0 honest in
@@ -68,7 +74,9 @@ returns g c =
           let known = c.requires.known honest in
           on_ok_weaker c.begin.result (λ begun. (
             begun.0,
-            replaced-begun h c.args.next j old.bytes mid.bytes new.bytes (limits h c.args.ring.now.good).slots.1 c.requires.segment (first-of h c.args.next j old.bytes known) known.unstray (c.in_ok-retire.ensures.such honest) begun.1 begun.0.stray,
+            replaced-begun h c.args.next j old.bytes mid.bytes new.bytes (limits h c.args.ring.now.good).slots.1
+                c.requires.segment (first-of h c.args.next j old.bytes known) known.unstray
+                (c.in_ok-retire.ensures.such honest) begun.1 begun.0.stray,
           ))
           (c.begin.ensures.such now);
       settled = λ honest. c.begin.ensures.settled (c.retire.ensures.called.honest.0 honest);

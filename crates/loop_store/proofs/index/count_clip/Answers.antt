@@ -10,7 +10,10 @@ pub lock_clip-requires-clause-few : goal.lock_clip-requires-clause-few
 lock_clip-requires-clause-few g c =
     let clips = c.args.clips.now in
     subst (λ (l : List ℕ). All (λ n. n < 64) l) (sym c.requires.counted)
-    (subst (λ (most : ℕ). All (λ n. n < most) (clip_counts (ring_of c.args.ring.now.geometry) clips c.args.table.now.heads)) c.requires.ids (counts-few (ring_of c.args.ring.now.geometry) clips c.args.table.now.heads c.args.id (omega (arith, c.requires.id, c.requires.ids)) c.requires.free))
+    (subst (λ (most : ℕ). All (λ n. n < most)
+    (clip_counts (ring_of c.args.ring.now.geometry) clips c.args.table.now.heads)) c.requires.ids
+    (counts-few (ring_of c.args.ring.now.geometry) clips c.args.table.now.heads c.args.id
+    (omega (arith, c.requires.id, c.requires.ids)) c.requires.free))
 
 pub returns-in-Some-clause-counted : goal.returns-in-Some-clause-counted
 returns-in-Some-clause-counted g c =

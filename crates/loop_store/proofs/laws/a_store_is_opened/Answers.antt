@@ -13,4 +13,5 @@ returns g c =
     subst (λ (v : Seen g.row.D.Denot). v.must_reopen ≡ false → (medium v.disk).honest → IsOpened medium (medium v.disk).bytes v) c.store.view_is
     (λ fine now.
     subst (λ (b : Bool). IsOpened medium (medium s.disk).bytes (seen_with s.disk i b)) (sym fine)
-    (present-opened medium s.disk i (medium s.disk).bytes (limits i.ring.geometry i.ring.good).slots.0 c.store.invariant.0.fits.whole.within (c.store.invariant.0.present fine now) refl))
+    (present-opened medium s.disk i (medium s.disk).bytes (limits i.ring.geometry i.ring.good).slots.0
+    c.store.invariant.0.fits.whole.within (c.store.invariant.0.present fine now) refl))

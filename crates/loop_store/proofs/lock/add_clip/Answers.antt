@@ -3,10 +3,15 @@ use Rattle.loop_store.proofs.Locked.{entry-closed, lock-makes}
 use Rattle.loop_store.proofs.lock.add_clip.Goals as goal
 
 pub lock-written-requires-clause-closed : goal.lock-written-requires-clause-closed
-lock-written-requires-clause-closed g c = λ honest. entry-closed c.args.index.now (g.D.Disk.medium c.args.disk.now) c.args.id (c.requires.present honest) c.requires.id.0 c.requires.id.1
+lock-written-requires-clause-closed g c = λ honest. entry-closed c.args.index.now (g.D.Disk.medium c.args.disk.now)
+    c.args.id (c.requires.present honest) c.requires.id.0 c.requires.id.1
 
 pub returns-then-is_ok-clause-makes : goal.returns-then-is_ok-clause-makes
-returns-then-is_ok-clause-makes g c = lock-makes c.args.index.now.ring.geometry c.args.span c.args.id _ _ _ (limits c.args.index.now.ring.geometry c.args.index.now.ring.good).slots.1 c.requires.id.0 (λ honest. (c.requires.present honest).unstray) c.lock-written.ensures
+returns-then-is_ok-clause-makes g c = lock-makes c.args.index.now.ring.geometry c.args.span c.args.id _ _ _
+    (limits c.args.index.now.ring.geometry c.args.index.now.ring.good).slots.1 c.requires.id.0
+    (λ honest. (c.requires.present honest).unstray) c.lock-written.ensures
 
 pub returns-else-is_ok-clause-makes : goal.returns-else-is_ok-clause-makes
-returns-else-is_ok-clause-makes g c = lock-makes c.args.index.now.ring.geometry c.args.span c.args.id _ _ _ (limits c.args.index.now.ring.geometry c.args.index.now.ring.good).slots.1 c.requires.id.0 (λ honest. (c.requires.present honest).unstray) c.lock-written.ensures
+returns-else-is_ok-clause-makes g c = lock-makes c.args.index.now.ring.geometry c.args.span c.args.id _ _ _
+    (limits c.args.index.now.ring.geometry c.args.index.now.ring.good).slots.1 c.requires.id.0
+    (λ honest. (c.requires.present honest).unstray) c.lock-written.ensures

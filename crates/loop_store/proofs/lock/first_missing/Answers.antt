@@ -21,12 +21,14 @@ returns-then-end-next-clause-within g c = (c.loop-next.invariant.low, c.loop-nex
 
 pub returns-then-end-next-clause-missing : goal.returns-then-end-next-clause-missing
 returns-then-end-next-clause-missing g c = λ r image known.
-    missing-is r c.args.span c.loop-next.next c.loop-next.invariant.low c.loop-next-test.true (c.run_end-end.ensures.missing r image known c.if-end-next.true) (c.loop-next.invariant.held r image known)
+    missing-is r c.args.span c.loop-next.next c.loop-next.invariant.low c.loop-next-test.true
+    (c.run_end-end.ensures.missing r image known c.if-end-next.true) (c.loop-next.invariant.held r image known)
 
 pub loop-next-preserved : goal.loop-next-preserved
 loop-next-preserved g c = record {
   low = omega (arith, c.loop-next.invariant.low, c.run_end-end.ensures.from);
-  held = λ r image known. runs-join r c.args.span.from c.loop-next.next c.run_end-end.result (c.loop-next.invariant.held r image known) (c.run_end-end.ensures.held r image known);
+  held = λ r image known. runs-join r c.args.span.from c.loop-next.next c.run_end-end.result
+      (c.loop-next.invariant.held r image known) (c.run_end-end.ensures.held r image known);
 }
 
 pub returns-clause-missing : goal.returns-clause-missing

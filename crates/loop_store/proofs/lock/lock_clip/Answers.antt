@@ -18,12 +18,15 @@ use Rattle.loop_store.proofs.Missing.{fits-legal}
 use Rattle.loop_store.proofs.lock.lock_clip.Goals as goal
 
 -- the recording takes a clip of the span under this id
-takes : (g : Geometry) (r : Recording) (span : Span) (id : ℕ) → id < 64 → (first_of (span_checks r span) ≡ None) × (id ≡ free_id r) → CanTake g span id r
+takes : (g : Geometry) (r : Recording) (span : Span) (id : ℕ) → id < 64 → (first_of (span_checks r span) ≡ None)
+    × (id ≡ free_id r) → CanTake g span id r
 takes g r span id low said = record { fits = said.0; legal = fits-legal (ring_of g) r span said.0 (subst (λ (n : ℕ). n < 64) said.1 low); id_is = said.1 }
 
 pub returns-then-must_reopen-clause-goes : goal.returns-then-must_reopen-clause-goes
 returns-then-must_reopen-clause-goes g c =
-    goes-must g.D.Disk.medium _ (locked c.args.span (Err MustReopen)) (one-kept g.D.Disk.medium c.args.disk.now c.args.index.now c.args.must_reopen.now c.requires) (λ honest. g.met.D.Disk.sound c.args.disk.now honest) c.if-must_reopen.true
+    goes-must g.D.Disk.medium _ (locked c.args.span (Err MustReopen))
+    (one-kept g.D.Disk.medium c.args.disk.now c.args.index.now c.args.must_reopen.now c.requires)
+    (λ honest. g.met.D.Disk.sound c.args.disk.now honest) c.if-must_reopen.true
     (record { early = refl; unfailed = refl; none = refl; made_none = λ h t. refl; begun_none = λ h t. refl }) refl
 
 pub returns-in_err-id-clause-goes : goal.returns-in_err-id-clause-goes
@@ -31,10 +34,14 @@ returns-in_err-id-clause-goes g c =
     let i = c.args.index.now in
     let medium = g.D.Disk.medium in
     let p = err_from_is_err_and c.from_residual.result c.from_residual.ensures.1 in
-    rw (p.1, p.2) (lock-refused medium (seen_with c.args.disk.now i c.args.must_reopen.now) c.args.span c.in_err-id.field-0.0 (one-kept medium c.args.disk.now i c.args.must_reopen.now c.requires) (λ honest. g.met.D.Disk.sound c.args.disk.now honest) c.if-must_reopen.false c.in_err-id.ensures.refusals
+    rw (p.1, p.2) (lock-refused medium (seen_with c.args.disk.now i c.args.must_reopen.now) c.args.span
+    c.in_err-id.field-0.0 (one-kept medium c.args.disk.now i c.args.must_reopen.now c.requires)
+    (λ honest. g.met.D.Disk.sound c.args.disk.now honest) c.if-must_reopen.false c.in_err-id.ensures.refusals
     (λ r told.
     let known = c.requires.known in
-    sym (span-same known.recording r c.args.span (alike-by medium c.args.disk.now i c.args.must_reopen.now r c.requires told)) ∙ c.in_err-id.ensures.answers known.recording (drawn_image i.ring.geometry i.table.heads i.clips) known.known))
+    sym (span-same known.recording r c.args.span
+    (alike-by medium c.args.disk.now i c.args.must_reopen.now r c.requires told))
+    ∙ c.in_err-id.ensures.answers known.recording (drawn_image i.ring.geometry i.table.heads i.clips) known.known))
 
 pub returns-in-Ok-clause-kept : goal.returns-in-Ok-clause-kept
 returns-in-Ok-clause-kept g c =
@@ -45,7 +52,8 @@ returns-in-Ok-clause-kept g c =
     let span = c.args.span in
     let makes = c.in-Ok.ensures.makes in
     let noted = c.in-Ok.ensures.noted in (
-      kept-noted medium c.args.disk.now c.add_clip.new.disk i c.add_clip.new.index id (Some span) (CanTake h span id) (lock span) c.args.must_reopen.now c.requires c.if-must_reopen.false
+      kept-noted medium c.args.disk.now c.add_clip.new.disk i c.add_clip.new.index id (Some span) (CanTake h span id)
+          (lock span) c.args.must_reopen.now c.requires c.if-must_reopen.false
           (λ r image known. takes h r span id c.in_ok-id.ensures.id.0.0 (c.in_ok-id.ensures.answers r image known))
           (record {
             noted = noted;
@@ -68,7 +76,8 @@ returns-in-Ok-clause-goes g c =
     let id = c.in_ok-id.id in
     let span = c.args.span in
     let makes = c.in-Ok.ensures.makes in
-    goes-noted medium c.args.disk.now c.add_clip.new.disk i c.add_clip.new.index c.args.must_reopen.now id (Some span) (CanTake h span id) (lock span) (locked span (Ok id)) c.requires c.if-must_reopen.false
+    goes-noted medium c.args.disk.now c.add_clip.new.disk i c.add_clip.new.index c.args.must_reopen.now id (Some span)
+    (CanTake h span id) (lock span) (locked span (Ok id)) c.requires c.if-must_reopen.false
     (record {
       noted = c.in-Ok.ensures.noted;
       called = makes.called;
@@ -81,11 +90,20 @@ returns-in-Ok-clause-goes g c =
     })
     makes.moments
     (λ r image known. takes h r span id c.in_ok-id.ensures.id.0.0 (c.in_ok-id.ensures.answers r image known))
-    (λ H. record { writes = refl; late = refl; answers = λ s still one. answer-given H h s (locked span (Ok id)) still one.fits one.id_is }) refl refl (λ s. refl) (λ s. refl)
+    (λ H. record {
+      writes = refl;
+      late = refl;
+      answers = λ s still one. answer-given H h s
+          (locked span (Ok id)) still one.fits one.id_is;
+    }) refl refl (λ s. refl) (λ s. refl)
 
 pub returns-in-Err-clause-kept : goal.returns-in-Err-clause-kept
-returns-in-Err-clause-kept g c =
-    (failed-kept g.D.Disk.medium c.args.disk.now c.add_clip.new.disk c.args.index.now c.add_clip.new.index c.args.must_reopen.now c.requires c.in-Err.ensures.same c.in-Err.ensures.makes.called.size c.in-Err.ensures.makes.called.honest.1, ap (λ (i : Index _). i.ring) c.in-Err.ensures.same)
+returns-in-Err-clause-kept g c = (
+  failed-kept g.D.Disk.medium c.args.disk.now c.add_clip.new.disk c.args.index.now c.add_clip.new.index
+      c.args.must_reopen.now c.requires c.in-Err.ensures.same c.in-Err.ensures.makes.called.size
+      c.in-Err.ensures.makes.called.honest.1,
+  ap (λ (i : Index _). i.ring) c.in-Err.ensures.same,
+)
 
 pub returns-in-Err-clause-goes : goal.returns-in-Err-clause-goes
 returns-in-Err-clause-goes g c =
@@ -95,7 +113,14 @@ returns-in-Err-clause-goes g c =
     let id = c.in_ok-id.id in
     let span = c.args.span in
     let makes = c.in-Err.ensures.makes in
-    goes-unnoted medium c.args.disk.now c.add_clip.new.disk i c.add_clip.new.index c.args.must_reopen.now (CanTake h span id) (lock span) (locked span (Err (Disk c.in-Err.fault))) c.in-Err.fault c.requires c.if-must_reopen.false c.in-Err.ensures.same (lock-redrawn h id span c.in_ok-id.ensures.id.0.0).alike
+    goes-unnoted medium c.args.disk.now c.add_clip.new.disk i c.add_clip.new.index c.args.must_reopen.now
+    (CanTake h span id) (lock span) (locked span (Err (Disk c.in-Err.fault))) c.in-Err.fault c.requires
+    c.if-must_reopen.false c.in-Err.ensures.same (lock-redrawn h id span c.in_ok-id.ensures.id.0.0).alike
     (λ honest. g.met.D.Disk.sound c.add_clip.new.disk honest) makes.called makes.moments
     (λ r image known. takes h r span id c.in_ok-id.ensures.id.0.0 (c.in_ok-id.ensures.answers r image known))
-    (λ H. record { writes = refl; late = refl; answers = λ s still one. answer-given H h s (locked span (Err (Disk c.in-Err.fault))) still one.fits makes.fault }) refl refl (λ s. refl) (λ s. refl)
+    (λ H. record {
+      writes = refl;
+      late = refl;
+      answers = λ s still one. answer-given H h s
+          (locked span (Err (Disk c.in-Err.fault))) still one.fits makes.fault;
+    }) refl refl (λ s. refl) (λ s. refl)

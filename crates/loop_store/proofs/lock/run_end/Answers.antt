@@ -7,8 +7,11 @@ pub returns-in-Some-get-clause-held : goal.returns-in-Some-get-clause-held
 returns-in-Some-get-clause-held g c = λ r image known m low high.
     let h = c.args.index.now.ring.geometry in
     let head = c.in-Some-get.head in
-    let end : m < head.block * h.slots + head.frames = subst (λ (k : ℕ). m < head.block * h.slots + k) c.from-in-Some-get.ensures (subst (λ (k : ℕ). m < head.block * k + c.from-in-Some-get.result) c.from.ensures high) in
-    run-held h r image c.args.index.now.table.heads c.in-Some.segment c.args.number m head known.held known.heads_are c.requires.within c.in-Some.ensures.within (limits h c.args.index.now.ring.good).slots.0
+    let end : m < head.block * h.slots + head.frames =
+    subst (λ (k : ℕ). m < head.block * h.slots + k) c.from-in-Some-get.ensures
+    (subst (λ (k : ℕ). m < head.block * k + c.from-in-Some-get.result) c.from.ensures high) in
+    run-held h r image c.args.index.now.table.heads c.in-Some.segment c.args.number m head known.held known.heads_are
+    c.requires.within c.in-Some.ensures.within (limits h c.args.index.now.ring.good).slots.0
     (sym c.get.ensures ∙ c.in-Some-get.is) c.in-Some.ensures.there low end
 
 pub returns-in-None-clause-missing : goal.returns-in-None-clause-missing

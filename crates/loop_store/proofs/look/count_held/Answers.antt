@@ -15,7 +15,11 @@ overflow_add-count g c =
     let few = (limits index.ring.geometry index.ring.good).segments.1 in
     let size : length c.heads-head-items.result.now ≤ 64 = omega (arith, few, c.requires.count, ap length c.heads-head-items.ensures) in
     let more : c.from-count.result < 4294967296 = omega (arith, c.from-count.ensures, c.frames_under.type_inv) in
-    omega (arith, fits-more c.loop-head.head-index (length c.heads-head-items.result.now) c.loop-head.count c.from-count.result c.loop-head-test.true size c.loop-head.invariant.few more)
+    omega (
+      arith,
+      fits-more c.loop-head.head-index (length c.heads-head-items.result.now) c.loop-head.count
+          c.from-count.result c.loop-head-test.true size c.loop-head.invariant.few more,
+    )
 
 pub loop-head-preserved : goal.loop-head-preserved
 loop-head-preserved g c =
@@ -24,7 +28,8 @@ loop-head-preserved g c =
     let i = c.loop-head.head-index in
     let same = c.heads-head-items.ensures in
     let inside : i < length table = subst (λ (t : List (Option SegmentHead)). i < length t) same c.loop-head-test.true in
-    let one = c.from-count.ensures ∙ c.frames_under.ensures slots ∙ ap (λ (t : List (Option SegmentHead)). length (numbers_under slots (get_or t i None ∷ []))) same in record {
+    let one = c.from-count.ensures ∙ c.frames_under.ensures slots
+    ∙ ap (λ (t : List (Option SegmentHead)). length (numbers_under slots (get_or t i None ∷ []))) same in record {
       count = count-more slots i c.loop-head.count c.from-count.result table inside c.loop-head.invariant.count one;
       few = few-more i c.loop-head.count c.from-count.result c.loop-head.invariant.few (omega (arith, c.from-count.ensures, c.frames_under.type_inv));
     }
@@ -33,5 +38,7 @@ pub returns : goal.returns
 returns g c =
     let table = c.args.index.now.table.heads in
     let slots = c.args.index.now.ring.geometry.slots in
-    let end : length table ≤ c.loop-head.head-index = subst (λ (t : List (Option SegmentHead)). length t ≤ c.loop-head.head-index) c.heads-head-items.ensures c.loop-head-test.false in
+    let end : length table ≤ c.loop-head.head-index =
+    subst (λ (t : List (Option SegmentHead)). length t ≤ c.loop-head.head-index) c.heads-head-items.ensures
+    c.loop-head-test.false in
     c.loop-head.invariant.count ∙ ap (λ (t : List (Option SegmentHead)). length (numbers_under slots t)) (take_all c.loop-head.head-index table end)

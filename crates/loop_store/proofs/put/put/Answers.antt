@@ -24,7 +24,9 @@ not-refused place e = absurd cc
 
 pub returns-then-must_reopen-clause-goes : goal.returns-then-must_reopen-clause-goes
 returns-then-must_reopen-clause-goes g c =
-    goes-must g.D.Disk.medium _ (appended c.args.group.now.frames (Err MustReopen)) (one-kept g.D.Disk.medium c.args.disk.now c.args.index.now c.args.must_reopen.now c.requires.kept) (λ honest. g.met.D.Disk.sound c.args.disk.now honest) c.if-must_reopen.true
+    goes-must g.D.Disk.medium _ (appended c.args.group.now.frames (Err MustReopen))
+    (one-kept g.D.Disk.medium c.args.disk.now c.args.index.now c.args.must_reopen.now c.requires.kept)
+    (λ honest. g.met.D.Disk.sound c.args.disk.now honest) c.if-must_reopen.true
     (record { early = refl; unfailed = refl; none = refl; made_none = λ h t. refl; begun_none = λ h t. refl }) refl
 
 pub returns-in_err-place-clause-goes : goal.returns-in_err-place-clause-goes
@@ -33,10 +35,15 @@ returns-in_err-place-clause-goes g c =
     let fault = c.in_err-place.field-0.0 in
     let medium = g.D.Disk.medium in
     let p = err_from_is_err_and c.from_residual.result c.from_residual.ensures.1 in
-    rw (p.1, p.2) (place-refused medium (seen_with c.args.disk.now i c.args.must_reopen.now) c.args.group.now.frames fault (one-kept medium c.args.disk.now i c.args.must_reopen.now c.requires.kept) (λ honest. g.met.D.Disk.sound c.args.disk.now honest) c.if-must_reopen.false c.in_err-place.ensures.refusals
+    rw (p.1, p.2) (place-refused medium (seen_with c.args.disk.now i c.args.must_reopen.now) c.args.group.now.frames
+    fault (one-kept medium c.args.disk.now i c.args.must_reopen.now c.requires.kept)
+    (λ honest. g.met.D.Disk.sound c.args.disk.now honest) c.if-must_reopen.false c.in_err-place.ensures.refusals
     (λ r told.
     let known = c.requires.kept.known in
-    refuses-same i.ring.geometry known.recording r fault (alike-by medium c.args.disk.now i c.args.must_reopen.now r c.requires.kept told) (c.in_err-place.ensures.answers known.recording (drawn_image i.ring.geometry i.table.heads i.clips) known.known)))
+    refuses-same i.ring.geometry known.recording r fault
+    (alike-by medium c.args.disk.now i c.args.must_reopen.now r c.requires.kept told)
+    (c.in_err-place.ensures.answers known.recording (drawn_image i.ring.geometry i.table.heads i.clips)
+    known.known)))
 
 pub append_group-requires-clause-settled : goal.append_group-requires-clause-settled
 append_group-requires-clause-settled g c = λ honest. (c.requires.kept.present c.if-must_reopen.false honest).settled
@@ -49,7 +56,8 @@ append_group-requires-clause-known g c = λ honest.
     (place-known i (g.D.Disk.medium c.args.disk.now).bytes c.in_ok-place.place present.recorded present.unstray c.in_ok-place.ensures.answers)
 
 -- what the group has grown to, by the count that the index takes
-grew-by : {D : Type 0} (medium : D → Medium) (g : Geometry) (old new : D) (first next n j : ℕ) (ps : List Picture) → first ≡ next → n ≡ length ps → Grew medium g old new first (length ps) j ps → Grew medium g old new next n j ps
+grew-by : {D : Type 0} (medium : D → Medium) (g : Geometry) (old new : D) (first next n j : ℕ) (ps : List Picture)
+    → first ≡ next → n ≡ length ps → Grew medium g old new first (length ps) j ps → Grew medium g old new next n j ps
 grew-by medium g old new first next n j ps same count grew =
     subst (λ (k : ℕ). Grew medium g old new k n j ps) same (subst (λ (k : ℕ). Grew medium g old new first k j ps) (sym count) grew)
 
@@ -76,7 +84,9 @@ returns-in-Ok-clause-kept g c =
       unspent = λ same. not-refused c.in_ok-place.place (c.in_ok-place.ensures.spent.1 same);
       room = omega (arith, c.requires.room, c.len.ensures.count);
     } in
-    kept-grown medium c.args.disk.now c.append_group.new.disk i c.note.new.self c.in_ok-place.place n j ps c.args.must_reopen.now c.requires.kept c.if-must_reopen.false refl placed noted c.append_group.ensures.called.size grew
+    kept-grown medium c.args.disk.now c.append_group.new.disk i c.note.new.self c.in_ok-place.place n j ps
+    c.args.must_reopen.now c.requires.kept c.if-must_reopen.false refl placed noted
+    c.append_group.ensures.called.size grew
 
 pub returns-in-Ok-clause-goes : goal.returns-in-Ok-clause-goes
 returns-in-Ok-clause-goes g c =
@@ -109,24 +119,30 @@ returns-in-Ok-clause-goes g c =
       one = one-kept medium c.args.disk.now i must c.requires.kept;
       geometry = ap (λ (x : Ring). x.geometry) noted.ring;
       called = c.in-Ok.ensures.called;
-      tells = λ r told. told-grown medium c.args.disk.now c.append_group.new.disk i c.note.new.self c.in_ok-place.place n j ps must r c.requires.kept told refl placed noted grew.count;
+      tells = λ r told. told-grown medium c.args.disk.now c.append_group.new.disk i c.note.new.self
+          c.in_ok-place.place n j ps must r c.requires.kept told refl placed noted grew.count;
       place = λ r told.
           let known = c.requires.kept.known in
           let image = drawn_image h i.table.heads i.clips in
           let at = c.in_ok-place.ensures.answers known.recording image known.known in
-          place-alike h known.recording r (alike-by medium c.args.disk.now i must r c.requires.kept told) (record { unspent = at.0; some = place-some h known.recording image c.in_ok-place.place at.1 });
+          place-alike h known.recording r (alike-by medium c.args.disk.now i must r c.requires.kept told)
+          (record { unspent = at.0; some = place-some h known.recording image c.in_ok-place.place at.1 });
       moments = λ r stands honest.
           let known = known-by medium c.args.disk.now i must r c.requires.kept stands fine honest in
           let at = c.in_ok-place.ensures.answers r (medium c.args.disk.now).bytes known in
-          subst (λ (l : List Step). LeavesOnly (medium c.args.disk.now) (medium c.append_group.new.disk) (HoldsSome h r l)) (steps-are h r ps at.0 (place-some h r (medium c.args.disk.now).bytes c.in_ok-place.place at.1))
+          subst (λ (l : List Step). LeavesOnly (medium c.args.disk.now) (medium c.append_group.new.disk)
+          (HoldsSome h r l)) (steps-are h r ps at.0
+          (place-some h r (medium c.args.disk.now).bytes c.in_ok-place.place at.1))
           (c.append_group.ensures.moments r (sym known.next_is ∙ sym c.requires.first) honest known.held);
-      stands = λ r stands. stands-grown medium c.args.disk.now c.append_group.new.disk i c.note.new.self c.in_ok-place.place n j ps must r c.requires.kept fine stands refl placed noted grew;
+      stands = λ r stands. stands-grown medium c.args.disk.now c.append_group.new.disk i c.note.new.self
+          c.in_ok-place.place n j ps must r c.requires.kept fine stands refl placed noted grew;
     })
 
 pub returns-in-Err-clause-kept : goal.returns-in-Err-clause-kept
 returns-in-Err-clause-kept g c =
     let i = c.args.index.now in
-    failed-kept g.D.Disk.medium c.args.disk.now c.append_group.new.disk i i c.args.must_reopen.now c.requires.kept refl c.in-Err.ensures.called.size c.in-Err.ensures.called.honest.1
+    failed-kept g.D.Disk.medium c.args.disk.now c.append_group.new.disk i i c.args.must_reopen.now c.requires.kept
+    refl c.in-Err.ensures.called.size c.in-Err.ensures.called.honest.1
 
 pub returns-in-Err-clause-goes : goal.returns-in-Err-clause-goes
 returns-in-Err-clause-goes g c =
@@ -146,10 +162,13 @@ returns-in-Err-clause-goes g c =
           let known = c.requires.kept.known in
           let image = drawn_image h i.table.heads i.clips in
           let at = c.in_ok-place.ensures.answers known.recording image known.known in
-          place-alike h known.recording r (alike-by medium c.args.disk.now i must r c.requires.kept told) (record { unspent = at.0; some = place-some h known.recording image c.in_ok-place.place at.1 });
+          place-alike h known.recording r (alike-by medium c.args.disk.now i must r c.requires.kept told)
+          (record { unspent = at.0; some = place-some h known.recording image c.in_ok-place.place at.1 });
       moments = λ r stands honest.
           let known = known-by medium c.args.disk.now i must r c.requires.kept stands c.if-must_reopen.false honest in
           let at = c.in_ok-place.ensures.answers r (medium c.args.disk.now).bytes known in
-          subst (λ (l : List Step). LeavesOnly (medium c.args.disk.now) (medium c.append_group.new.disk) (HoldsSome h r l)) (steps-are h r ps at.0 (place-some h r (medium c.args.disk.now).bytes c.in_ok-place.place at.1))
+          subst (λ (l : List Step). LeavesOnly (medium c.args.disk.now) (medium c.append_group.new.disk)
+          (HoldsSome h r l)) (steps-are h r ps at.0
+          (place-some h r (medium c.args.disk.now).bytes c.in_ok-place.place at.1))
           (c.append_group.ensures.moments r (sym known.next_is ∙ sym c.requires.first) honest known.held);
     })

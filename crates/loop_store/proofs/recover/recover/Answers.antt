@@ -6,4 +6,6 @@ use Rattle.loop_store.proofs.recover.recover.Goals as goal
 
 pub returns-clause-finds : goal.returns-clause-finds
 returns-clause-finds g c =
-    finds-after c.recover_parts.result (λ image index. IsRecovered index image) (λ image fault. reading image ≡ Err fault) _ _ _ c.in_ok-geometry.ensures.finds.stays c.in_ok-geometry.ensures.finds.called c.recover_parts.ensures.finds
+    finds-after c.recover_parts.result (λ image index. IsRecovered index image)
+    (λ image fault. reading image ≡ Err fault) _ _ _ c.in_ok-geometry.ensures.finds.stays
+    c.in_ok-geometry.ensures.finds.called c.recover_parts.ensures.finds

@@ -21,7 +21,8 @@ returns-in_err-heads-clause-finds g c =
     let h = c.args.geometry in
     let image = (g.D.Disk.medium c.args.disk.now).bytes in
     let size = (g.met.D.Disk.sound c.args.disk.now honest).length_is ∙ c.requires.fits.1 in
-    refused-head h image fault (c.requires.geometry honest) size q) (λ honest. stays-still m) (called-none m) c.from_residual.ensures.1 c.in_err-heads.ensures.finds
+    refused-head h image fault (c.requires.geometry honest) size q) (λ honest. stays-still m)
+    (called-none m) c.from_residual.ensures.1 c.in_err-heads.ensures.finds
 
 pub returns-then-repeats-clause-finds : goal.returns-then-repeats-clause-finds
 returns-then-repeats-clause-finds g c = record {
@@ -31,7 +32,9 @@ returns-then-repeats-clause-finds g c = record {
       let size = (g.met.D.Disk.sound c.args.disk.now honest).length_is ∙ c.requires.fits.1 in
       let fs = c.in_ok-segments.segments.items in
       let xs = c.as_slice-open.result.now in
-      let found = found-by h image fs xs _ (c.requires.geometry honest) size c.in_ok-segments.ensures.order (c.as_slice.ensures.value ∙ c.in_ok-heads.ensures.finds.found honest) c.in_ok-segments.ensures.within c.as_slice-open.ensures.value in
+      let found = found-by h image fs xs _ (c.requires.geometry honest) size c.in_ok-segments.ensures.order
+      (c.as_slice.ensures.value ∙ c.in_ok-heads.ensures.finds.found honest) c.in_ok-segments.ensures.within
+      c.as_slice-open.ensures.value in
       read-repeats h image fs xs c.repeats.result found (c.repeats.ensures h image) c.if-repeats.true;
   stays = c.in_ok-heads.ensures.finds.stays;
   called = c.in_ok-heads.ensures.finds.called;
@@ -45,8 +48,11 @@ returns-then-lacks_frame-clause-finds g c = record {
       let size = (g.met.D.Disk.sound c.args.disk.now honest).length_is ∙ c.requires.fits.1 in
       let fs = c.in_ok-segments.segments.items in
       let xs = c.as_slice-open.result.now in
-      let found = found-by h image fs xs _ (c.requires.geometry honest) size c.in_ok-segments.ensures.order (c.as_slice.ensures.value ∙ c.in_ok-heads.ensures.finds.found honest) c.in_ok-segments.ensures.within c.as_slice-open.ensures.value in
-      read-lacks h image fs xs c.repeats.result c.lacks_frame.result found (c.repeats.ensures h image) c.if-repeats.false (c.lacks_frame.ensures image) c.if-lacks_frame.true;
+      let found = found-by h image fs xs _ (c.requires.geometry honest) size c.in_ok-segments.ensures.order
+      (c.as_slice.ensures.value ∙ c.in_ok-heads.ensures.finds.found honest) c.in_ok-segments.ensures.within
+      c.as_slice-open.ensures.value in
+      read-lacks h image fs xs c.repeats.result c.lacks_frame.result found
+      (c.repeats.ensures h image) c.if-repeats.false (c.lacks_frame.ensures image) c.if-lacks_frame.true;
   stays = c.in_ok-heads.ensures.finds.stays;
   called = c.in_ok-heads.ensures.finds.called;
 }
@@ -59,9 +65,13 @@ returns-in_err-check_slots-clause-finds g c = finds-on _ c.in_err-check_slots.fi
     let first = c.in_ok-heads.ensures.finds.stays honest in
     let fs = c.in_ok-segments.segments.items in
     let xs = c.as_slice-open.result.now in
-    let found = found-by h image fs xs _ (c.requires.geometry honest) size c.in_ok-segments.ensures.order (c.as_slice.ensures.value ∙ c.in_ok-heads.ensures.finds.found honest) c.in_ok-segments.ensures.within c.as_slice-open.ensures.value in
-    let all : AreFull h image fs xs = full h image fs xs c.repeats.result c.lacks_frame.result found (c.repeats.ensures h image) c.if-repeats.false (c.lacks_frame.ensures image) c.if-lacks_frame.false in
-    refused-slot h image _ fs xs fault all first.bytes q) c.in_ok-heads.ensures.finds.stays c.in_ok-heads.ensures.finds.called c.from_residual-in_err-check_slots.ensures.1 c.in_err-check_slots.ensures
+    let found = found-by h image fs xs _ (c.requires.geometry honest) size c.in_ok-segments.ensures.order
+    (c.as_slice.ensures.value ∙ c.in_ok-heads.ensures.finds.found honest) c.in_ok-segments.ensures.within
+    c.as_slice-open.ensures.value in
+    let all : AreFull h image fs xs = full h image fs xs c.repeats.result c.lacks_frame.result found
+    (c.repeats.ensures h image) c.if-repeats.false (c.lacks_frame.ensures image) c.if-lacks_frame.false in
+    refused-slot h image _ fs xs fault all first.bytes q) c.in_ok-heads.ensures.finds.stays
+    c.in_ok-heads.ensures.finds.called c.from_residual-in_err-check_slots.ensures.1 c.in_err-check_slots.ensures
 
 pub returns-in_err-clips-clause-finds : goal.returns-in_err-clips-clause-finds
 returns-in_err-clips-clause-finds g c = finds-on _ c.in_err-clips.field-0.0 _ _ _ _ _ _ _ (λ honest fault q.
@@ -71,12 +81,17 @@ returns-in_err-clips-clause-finds g c = finds-on _ c.in_err-clips.field-0.0 _ _ 
     let first = c.in_ok-heads.ensures.finds.stays honest in
     let fs = c.in_ok-segments.segments.items in
     let xs = c.as_slice-open.result.now in
-    let found = found-by h image fs xs _ (c.requires.geometry honest) size c.in_ok-segments.ensures.order (c.as_slice.ensures.value ∙ c.in_ok-heads.ensures.finds.found honest) c.in_ok-segments.ensures.within c.as_slice-open.ensures.value in
-    let all : AreFull h image fs xs = full h image fs xs c.repeats.result c.lacks_frame.result found (c.repeats.ensures h image) c.if-repeats.false (c.lacks_frame.ensures image) c.if-lacks_frame.false in
+    let found = found-by h image fs xs _ (c.requires.geometry honest) size c.in_ok-segments.ensures.order
+    (c.as_slice.ensures.value ∙ c.in_ok-heads.ensures.finds.found honest) c.in_ok-segments.ensures.within
+    c.as_slice-open.ensures.value in
+    let all : AreFull h image fs xs = full h image fs xs c.repeats.result c.lacks_frame.result found
+    (c.repeats.ensures h image) c.if-repeats.false (c.lacks_frame.ensures image) c.if-lacks_frame.false in
     let second = c.in_ok-heads.ensures.finds.called.honest.0 honest in
     let checked = c.in_ok-check_slots.ensures.stays second in
     refused-clip h image _ _ fs xs fault all first.bytes (c.in_ok-check_slots.ensures.found second) (checked.bytes ∙ first.bytes) q)
-    (λ honest. stays_on _ _ _ (c.in_ok-heads.ensures.finds.stays honest) (c.in_ok-check_slots.ensures.stays (c.in_ok-heads.ensures.finds.called.honest.0 honest))) (called_on _ _ _ None c.in_ok-heads.ensures.finds.called c.in_ok-check_slots.ensures.called)
+    (λ honest. stays_on _ _ _ (c.in_ok-heads.ensures.finds.stays honest)
+    (c.in_ok-check_slots.ensures.stays (c.in_ok-heads.ensures.finds.called.honest.0 honest)))
+    (called_on _ _ _ None c.in_ok-heads.ensures.finds.called c.in_ok-check_slots.ensures.called)
     c.from_residual-in_err-clips.ensures.1 c.in_err-clips.ensures.finds
 
 pub returns-clause-finds : goal.returns-clause-finds
@@ -88,15 +103,23 @@ returns-clause-finds g c = record {
       let first = c.in_ok-heads.ensures.finds.stays honest in
       let fs = c.in_ok-segments.segments.items in
       let xs = c.as_slice-open.result.now in
-      let found = found-by h image fs xs _ (c.requires.geometry honest) size c.in_ok-segments.ensures.order (c.as_slice.ensures.value ∙ c.in_ok-heads.ensures.finds.found honest) c.in_ok-segments.ensures.within c.as_slice-open.ensures.value in
-      let all : AreFull h image fs xs = full h image fs xs c.repeats.result c.lacks_frame.result found (c.repeats.ensures h image) c.if-repeats.false (c.lacks_frame.ensures image) c.if-lacks_frame.false in
+      let found = found-by h image fs xs _ (c.requires.geometry honest) size c.in_ok-segments.ensures.order
+      (c.as_slice.ensures.value ∙ c.in_ok-heads.ensures.finds.found honest) c.in_ok-segments.ensures.within
+      c.as_slice-open.ensures.value in
+      let all : AreFull h image fs xs = full h image fs xs c.repeats.result c.lacks_frame.result found
+      (c.repeats.ensures h image) c.if-repeats.false (c.lacks_frame.ensures image) c.if-lacks_frame.false in
       let second = c.in_ok-heads.ensures.finds.called.honest.0 honest in
       let checked = c.in_ok-check_slots.ensures.stays second in
       let third = c.in_ok-check_slots.ensures.called.honest.0 second in
-      recovered c.in_ok-index_of.field-0 h image _ _ fs xs c.in_ok-heads.heads.items c.in_ok-clips.clips c.next_after-next.result c.in_ok-index_of.ensures all first.bytes (c.in_ok-check_slots.ensures.found second) (checked.bytes ∙ first.bytes) (c.in_ok-clips.ensures.finds.found third) (c.next_after-next.ensures image) (c.in_ok-heads.ensures.finds.found honest);
+      recovered c.in_ok-index_of.field-0 h image _ _ fs xs c.in_ok-heads.heads.items c.in_ok-clips.clips
+      c.next_after-next.result c.in_ok-index_of.ensures all first.bytes (c.in_ok-check_slots.ensures.found second)
+      (checked.bytes ∙ first.bytes) (c.in_ok-clips.ensures.finds.found third) (c.next_after-next.ensures image)
+      (c.in_ok-heads.ensures.finds.found honest);
   stays = λ honest.
       let second = c.in_ok-heads.ensures.finds.called.honest.0 honest in
-      stays_on _ _ _ (stays_on _ _ _ (c.in_ok-heads.ensures.finds.stays honest) (c.in_ok-check_slots.ensures.stays second)) (c.in_ok-clips.ensures.finds.stays (c.in_ok-check_slots.ensures.called.honest.0 second));
+      stays_on _ _ _ (stays_on _ _ _ (c.in_ok-heads.ensures.finds.stays honest)
+      (c.in_ok-check_slots.ensures.stays second))
+      (c.in_ok-clips.ensures.finds.stays (c.in_ok-check_slots.ensures.called.honest.0 second));
   called = called_on _ _ _ None (called_on _ _ _ None c.in_ok-heads.ensures.finds.called c.in_ok-check_slots.ensures.called) c.in_ok-clips.ensures.finds.called;
 }
 
@@ -108,19 +131,21 @@ returns-clause-known g c =
       fitting c.in_ok-index_of.field-0 h c.in_ok-heads.heads.items c.in_ok-clips.clips c.next_after-next.result (g.D.Disk.medium c.args.disk.now).size
           c.in_ok-index_of.ensures c.requires.fits.1 c.in_ok-heads.ensures.count c.in_ok-heads.ensures.within
           (subst (λ (n : ℕ). n ≤ last_number (ring_of h)) (sym (c.next_after-next.ensures [])) (next-few h [] xs (limits h c.requires.fits.0).slots.0 within)),
-      says-recording c.in_ok-index_of.field-0 h c.in_ok-heads.heads.items c.in_ok-clips.clips c.in_ok-segments.segments.items c.as_slice-open.result.now c.next_after-next.result c.in_ok-index_of.ensures (record {
-        good = c.requires.fits.0;
-        count = c.in_ok-heads.ensures.count;
-        stand = c.in_ok-heads.ensures.within;
-        order = λ image are. c.in_ok-segments.ensures.order image (c.as_slice.ensures.value ∙ are);
-        within = c.in_ok-segments.ensures.within;
-        same = c.as_slice-open.ensures.value;
-        single = λ image. sym (c.repeats.ensures h image) ∙ c.if-repeats.false;
-        full = λ image. sym (c.lacks_frame.ensures image) ∙ c.if-lacks_frame.false;
-        ids = c.in_ok-clips.ensures.held.0;
-        held = c.in_ok-clips.ensures.held.1;
-        next_is = λ image. c.next_after-next.ensures image;
-      }),
+      says-recording c.in_ok-index_of.field-0 h c.in_ok-heads.heads.items c.in_ok-clips.clips
+          c.in_ok-segments.segments.items c.as_slice-open.result.now c.next_after-next.result c.in_ok-index_of.ensures
+          (record {
+            good = c.requires.fits.0;
+            count = c.in_ok-heads.ensures.count;
+            stand = c.in_ok-heads.ensures.within;
+            order = λ image are. c.in_ok-segments.ensures.order image (c.as_slice.ensures.value ∙ are);
+            within = c.in_ok-segments.ensures.within;
+            same = c.as_slice-open.ensures.value;
+            single = λ image. sym (c.repeats.ensures h image) ∙ c.if-repeats.false;
+            full = λ image. sym (c.lacks_frame.ensures image) ∙ c.if-lacks_frame.false;
+            ids = c.in_ok-clips.ensures.held.0;
+            held = c.in_ok-clips.ensures.held.1;
+            next_is = λ image. c.next_after-next.ensures image;
+          }),
     )
 
 pub returns-in_err-index_of-clause-finds : goal.returns-in_err-index_of-clause-finds
@@ -128,5 +153,8 @@ returns-in_err-index_of-clause-finds g c =
     finds-err _ StoreFault.NoMemory _ _ _ _ (λ honest. tt)
     (λ honest.
     let second = c.in_ok-heads.ensures.finds.called.honest.0 honest in
-    stays_on _ _ _ (stays_on _ _ _ (c.in_ok-heads.ensures.finds.stays honest) (c.in_ok-check_slots.ensures.stays second)) (c.in_ok-clips.ensures.finds.stays (c.in_ok-check_slots.ensures.called.honest.0 second)))
-    (called_on _ _ _ None (called_on _ _ _ None c.in_ok-heads.ensures.finds.called c.in_ok-check_slots.ensures.called) c.in_ok-clips.ensures.finds.called) c.from_residual-in_err-index_of.ensures.1
+    stays_on _ _ _ (stays_on _ _ _ (c.in_ok-heads.ensures.finds.stays honest)
+    (c.in_ok-check_slots.ensures.stays second))
+    (c.in_ok-clips.ensures.finds.stays (c.in_ok-check_slots.ensures.called.honest.0 second)))
+    (called_on _ _ _ None (called_on _ _ _ None c.in_ok-heads.ensures.finds.called c.in_ok-check_slots.ensures.called)
+    c.in_ok-clips.ensures.finds.called) c.from_residual-in_err-index_of.ensures.1

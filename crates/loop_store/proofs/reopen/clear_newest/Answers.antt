@@ -18,13 +18,17 @@ returns-in-Some g c = record {
   moments = λ honest.
       let image = (g.D.Disk.medium c.args.disk.now).bytes in
       let told = c.requires.told honest in
-      let found = found-place c.args.index.now c.from-slots.result image c.find.result (Some c.in-Some.segment) told c.from-slots.ensures c.in-Some.is c.find.ensures.place in
-      weaker _ _ _ (ReadsAlike image) (c.clear_stray.ensures.moments honest) (λ new shows. found-alike c.args.index.now c.in-Some.segment image new told found shows);
+      let found = found-place c.args.index.now c.from-slots.result image c.find.result
+      (Some c.in-Some.segment) told c.from-slots.ensures c.in-Some.is c.find.ensures.place in
+      weaker _ _ _ (ReadsAlike image) (c.clear_stray.ensures.moments honest)
+      (λ new shows. found-alike c.args.index.now c.in-Some.segment image new told found shows);
   such = λ honest.
       let image = (g.D.Disk.medium c.args.disk.now).bytes in
       let told = c.requires.told honest in
-      let found = found-place c.args.index.now c.from-slots.result image c.find.result (Some c.in-Some.segment) told c.from-slots.ensures c.in-Some.is c.find.ensures.place in
-      both_ok c.clear_stray.result (λ shows settled. found-present c.args.index.now c.in-Some.segment image (g.D.Disk.medium c.clear_stray.new.disk) told found shows.0 shows.1 settled)
+      let found = found-place c.args.index.now c.from-slots.result image c.find.result
+      (Some c.in-Some.segment) told c.from-slots.ensures c.in-Some.is c.find.ensures.place in
+      both_ok c.clear_stray.result (λ shows settled. found-present c.args.index.now c.in-Some.segment image
+      (g.D.Disk.medium c.clear_stray.new.disk) told found shows.0 shows.1 settled)
       (c.clear_stray.ensures.such honest) (c.clear_stray.ensures.settled honest);
   called = c.clear_stray.ensures.called;
 }
@@ -40,7 +44,9 @@ returns-in-None g c = record {
       let told = c.requires.told honest in record {
         recorded = told;
         settled = c.requires.settled honest;
-        unstray = unstray-missing h told.recording image told.known.held (found-place c.args.index.now c.from-slots.result image c.find.result None told c.from-slots.ensures c.in-None.is c.find.ensures.place);
+        unstray = unstray-missing h told.recording image told.known.held
+            (found-place c.args.index.now c.from-slots.result image c.find.result None told c.from-slots.ensures
+            c.in-None.is c.find.ensures.place);
       };
   called = called-none _;
 }

@@ -7,7 +7,9 @@ use Rattle.loop_y4m.proofs.exported.held_between.Goals as goal
 
 pub returns-in-Some-clause-frames : goal.returns-in-Some-clause-frames
 returns-in-Some-clause-frames g c = λ r stands.
-    first_held r c.args.from c.in-Some.number c.args.to (least-same (is_among c.args.store.now.numbers) (holds r) c.args.from (Some c.in-Some.number) stands.told.numbers_are c.in-Some.ensures.least)
+    first_held r c.args.from c.in-Some.number c.args.to
+    (least-same (is_among c.args.store.now.numbers) (holds r) c.args.from
+    (Some c.in-Some.number) stands.told.numbers_are c.in-Some.ensures.least)
 
 pub returns-in_default-clause-frames : goal.returns-in_default-clause-frames
 returns-in_default-clause-frames g c = λ r stands.
@@ -19,4 +21,6 @@ returns-in_default-clause-frames g c = λ r stands.
 
 pub returns-in_default-2-clause-frames : goal.returns-in_default-2-clause-frames
 returns-in_default-2-clause-frames g c = λ r stands.
-    none_held r c.args.from c.args.to None (λ m is. absurd cc) (least-same (is_among c.args.store.now.numbers) (holds r) c.args.from None stands.told.numbers_are c.in_default.ensures.least)
+    none_held r c.args.from c.args.to None (λ m is. absurd cc)
+    (least-same (is_among c.args.store.now.numbers) (holds r) c.args.from None stands.told.numbers_are
+    c.in_default.ensures.least)

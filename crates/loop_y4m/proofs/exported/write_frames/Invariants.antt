@@ -11,8 +11,11 @@ abbrev pub invariant-loop-next : goal.invariant-loop-next
 invariant-loop-next g l = record {
   store : OnlyRead g.D.Disk.medium l.fn.store l.store None;
   low : IfSome l.next (λ n. (l.count ≤ n) × ((n ≤ l.to) × (n < 2 ^ 62)));
-  held : (r : Recording) → StandsFor g.D.Disk.medium l.fn.store r → holds r l.first ≡ true → IfSome l.next (λ n. holds r n ≡ true);
-  moved : (r : Recording) → StandsFor g.D.Disk.medium l.fn.store r → holds r l.first ≡ true → Given (g.D.Disk.medium l.fn.store.disk).honest r l.first l.to l.count l.next (g.W.Write.contents l.fn.out) (g.W.Write.contents l.out);
+  held : (r : Recording) → StandsFor g.D.Disk.medium l.fn.store r → holds r l.first ≡ true
+      → IfSome l.next (λ n. holds r n ≡ true);
+  moved : (r : Recording) → StandsFor g.D.Disk.medium l.fn.store r → holds r l.first ≡ true
+      → Given (g.D.Disk.medium l.fn.store.disk).honest r l.first l.to l.count l.next (g.W.Write.contents l.fn.out)
+      (g.W.Write.contents l.out);
 }
 
 -- the numbers from the next one on

@@ -13,7 +13,8 @@ invariant-loop-at g l = record {
   store : OnlyRead g.D.Disk.medium l.fn.store l.store None;
   size : l.size ≡ frame_bytes l.fn.store.geometry;
   within : l.at ≤ l.size;
-  moved : (r : Recording) (p : Picture) → StandsFor g.D.Disk.medium l.fn.store r → frame_under r.frames l.number ≡ Some p → (g.D.Disk.medium l.fn.store.disk).honest
+  moved : (r : Recording) (p : Picture) → StandsFor g.D.Disk.medium l.fn.store r
+      → frame_under r.frames l.number ≡ Some p → (g.D.Disk.medium l.fn.store.disk).honest
       → Appends (g.W.Write.contents l.fn.out) (g.W.Write.contents l.out) (frame (take l.at p.bytes));
 }
 

@@ -7,7 +7,8 @@ abbrev pub invariant-loop-n : goal.invariant-loop-n
 invariant-loop-n g l = record {
   size : length l.buf ≡ 4096;
   room : l.n ≤ 4096;
-  begun : IfSome (g.R.Read.remaining l.fn.reader) (λ bytes. IsBegun (take l.from l.fn.buf ++ bytes) (take l.n l.buf) (g.R.Read.remaining l.reader));
+  begun : IfSome (g.R.Read.remaining l.fn.reader) (λ bytes. IsBegun (take l.from l.fn.buf ++ bytes) (take l.n l.buf)
+      (g.R.Read.remaining l.reader));
 }
 
 abbrev pub decreases-loop-n : goal.decreases-loop-n

@@ -12,4 +12,6 @@ pub returns : goal.returns
 returns c = λ r image from to good held.
     let h = c.args.geometry.now in
     text_read h (frames_between from to r.frames) good
-    (each_between (λ f. length f ≡ frame_bytes h) from to 0 r.next r.frames (reading-well_formed h r image held).rising (λ n p there. sized h r image n p (limits h good).slots.0 held there))
+    (each_between (λ f. length f ≡ frame_bytes h) from to 0 r.next r.frames
+    (reading-well_formed h r image held).rising
+    (λ n p there. sized h r image n p (limits h good).slots.0 held there))

@@ -5,5 +5,10 @@ use Rattle.loop_y4m.proofs.Writing.{nested, written}
 use Rattle.loop_y4m.proofs.text.write_header.Goals as goal
 
 pub returns : goal.returns
-returns g c = written (g.W.Write.contents c.args.out.now) (g.W.Write.contents c.put.new.out) c.put.result c.as_slice.result.now (header c.args.geometry.now) c.put.ensures
-    (c.as_slice.ensures.value ∙ (rw c.new-line.ensures at (rw c.colour_name-colour.ensures at c.in_ok-write.ensures.bytes)) ∙ nested (codes "YUV4MPEG2 W") (decimal c.args.geometry.now.width) (codes " H") (decimal c.args.geometry.now.height) (codes " F") (decimal c.args.geometry.now.rate_num) (codes ":") (decimal c.args.geometry.now.rate_den) (codes " Ip A0:0 C") (colour_name c.args.geometry.now.format) (10 ∷ []))
+returns g c = written (g.W.Write.contents c.args.out.now) (g.W.Write.contents c.put.new.out) c.put.result
+    c.as_slice.result.now (header c.args.geometry.now) c.put.ensures
+    (c.as_slice.ensures.value ∙ (rw c.new-line.ensures at
+    (rw c.colour_name-colour.ensures at c.in_ok-write.ensures.bytes)) ∙ nested (codes "YUV4MPEG2 W")
+    (decimal c.args.geometry.now.width) (codes " H") (decimal c.args.geometry.now.height) (codes " F")
+    (decimal c.args.geometry.now.rate_num) (codes ":") (decimal c.args.geometry.now.rate_den) (codes " Ip A0:0 C")
+    (colour_name c.args.geometry.now.format) (10 ∷ []))

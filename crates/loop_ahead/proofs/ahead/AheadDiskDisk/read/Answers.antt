@@ -12,7 +12,9 @@ returns-clause-read g c =
     let n = length c.args.buf.now in
     let k = c.give-known.result in
     let same = ap (λ v. v.disk) c.self.view_is in
-    subst (λ d. (g.D.Disk.medium d).honest → OnOk c.note.result (take k buf ++ (rest ++ drop (length buf - k) (drop k buf)) ≡ piece c.args.at n (g.D.Disk.medium d).bytes)) same
+    subst (λ d. (g.D.Disk.medium d).honest
+    → OnOk c.note.result (take k buf ++ (rest ++ drop (length buf - k) (drop k buf)) ≡ piece c.args.at n
+    (g.D.Disk.medium d).bytes)) same
     (λ honest.
     let image = (g.D.Disk.medium disk).bytes in
     let long : length buf ≡ n = omega (arith, c.give-known.auto.buf) in

@@ -10,11 +10,26 @@ returns-clause-tick g c =
     let gives = g.S.FrameSource.next_gives in
     let m = g.P.PlaneMemory.plane in
     let d : SeenDevice g.row.S.Denot = record { source = c.self.inside.source; frame = c.self.inside.frame.items; next = c.self.inside.next } in
-    let e : SeenDevice g.row.S.Denot = record { source = c.ask-answer.new.source; frame = c.ask-answer.new.frame.items; next = c.sequence_after-self-inside.result } in
+    let e : SeenDevice g.row.S.Denot =
+    record {
+      source = c.ask-answer.new.source;
+      frame = c.ask-answer.new.frame.items;
+      next =
+          c.sequence_after-self-inside.result;
+    } in
     let fits : length d.frame ≡ frame_size c.args.queue.now.body.shape = search rules in
     let started : c.args.queue.now.body.started ≡ true = search rules in
     let is : c.if-take_fresh.sequence ≡ cond c.take_fresh.result 0 d.next =
-    elim c.if-take_fresh.branch [ then-take_fresh w ↦ w.sequence-is ∙ sym (ap (λ b. cond b 0 d.next) w.if-take_fresh.true) | else-take_fresh w ↦ w.sequence-is ∙ sym (ap (λ b. cond b 0 d.next) w.if-take_fresh.false) ] in
-    let ends = subst (λ l. Ends m c.ask-answer.result (record { sequence = c.if-take_fresh.sequence; timestamp = c.args.now }) l c.end_frame.result c.take_fresh.new.self c.end_frame.new.queue) c.deref.ensures.value c.end_frame.ensures.ends in
+    elim c.if-take_fresh.branch [
+      | then-take_fresh w ↦ w.sequence-is
+          ∙ sym (ap (λ b. cond b 0 d.next) w.if-take_fresh.true)
+      | else-take_fresh w ↦ w.sequence-is
+          ∙ sym (ap (λ b. cond b 0 d.next) w.if-take_fresh.false)
+    ] in
+    let ends = subst (λ l. Ends m c.ask-answer.result
+    (record { sequence = c.if-take_fresh.sequence; timestamp = c.args.now }) l c.end_frame.result
+    c.take_fresh.new.self c.end_frame.new.queue) c.deref.ensures.value c.end_frame.ensures.ends in
     subst (λ x. Ticks gives m c.args.now c.end_frame.result x e c.args.queue.now c.end_frame.new.queue) c.self.view_is
-    (took gives m c.args.now c.if-take_fresh.sequence c.take_fresh.result c.ask-answer.result c.end_frame.result d e c.args.queue.now c.take_fresh.new.self c.end_frame.new.queue fits started c.take_fresh.ensures.step is c.ask-answer.ensures.gives c.sequence_after-self-inside.ensures ends)
+    (took gives m c.args.now c.if-take_fresh.sequence c.take_fresh.result c.ask-answer.result c.end_frame.result d e
+    c.args.queue.now c.take_fresh.new.self c.end_frame.new.queue fits started c.take_fresh.ensures.step is
+    c.ask-answer.ensures.gives c.sequence_after-self-inside.ensures ends)

@@ -14,8 +14,10 @@ returns g c =
     let gate : take 1 bytes ≡ 165 ∷ [] = ap (λ (bs : List ℕ). take 1 bs) c.encode_clip.ensures in
     let fits : (g.D.Disk.medium c.args.disk.now).honest → clip_at id + 32 ≤ length (g.D.Disk.medium c.args.disk.now).bytes = λ honest.
     omega (arith, (g.met.D.Disk.sound c.args.disk.now honest).length_is, c.requires.extent, c.requires.id) in record {
-      moments = λ honest. lock_moments id span c.entry_place-at.result _ _ _ _ _ c.entry_place-at.ensures gate entry (fits honest) (c.requires.closed honest) (c.store_in_turn.ensures.disk honest);
-      such = λ honest. lock_ok id span c.entry_place-at.result _ _ _ _ _ c.entry_place-at.ensures gate entry (fits honest) (c.store_in_turn.ensures.disk honest);
+      moments = λ honest. lock_moments id span c.entry_place-at.result _ _ _ _ _ c.entry_place-at.ensures gate entry
+          (fits honest) (c.requires.closed honest) (c.store_in_turn.ensures.disk honest);
+      such = λ honest. lock_ok id span c.entry_place-at.result _ _ _ _ _ c.entry_place-at.ensures gate entry
+          (fits honest) (c.store_in_turn.ensures.disk honest);
       settled = λ honest. (c.store_in_turn.ensures.disk honest).settled;
       fault = c.store_in_turn.ensures.fault;
       called = c.store_in_turn.ensures.called;

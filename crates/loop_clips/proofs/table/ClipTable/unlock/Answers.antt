@@ -8,7 +8,8 @@ returns g c =
     let id = c.args.id in
     let fits : (g.D.Disk.medium c.args.disk.now).honest → clip_at id + 32 ≤ length (g.D.Disk.medium c.args.disk.now).bytes = λ honest.
     omega (arith, (g.met.D.Disk.sound c.args.disk.now honest).length_is, c.requires.extent, c.requires.id) in record {
-      moments = λ honest. unlock_moments id c.entry_place.result _ _ _ c.entry_place.ensures (c.requires.settled honest) (c.requires.there honest) (c.store.ensures.disk honest);
+      moments = λ honest. unlock_moments id c.entry_place.result _ _ _ c.entry_place.ensures
+          (c.requires.settled honest) (c.requires.there honest) (c.store.ensures.disk honest);
       such = λ honest. unlock_ok id c.entry_place.result _ _ _ c.entry_place.ensures (fits honest) (c.store.ensures.disk honest);
       settled = λ honest. (c.store.ensures.disk honest).settled;
       fault = c.store.ensures.fault;

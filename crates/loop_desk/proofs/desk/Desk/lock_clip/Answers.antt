@@ -9,4 +9,9 @@ invariant_of-self g c =
     let s = c.self.inside in
     let new = c.lock.new.self in
     let goes = c.lock.ensures.goes in
-    kept-same s.store new s.limits s.pending c.self.invariant goes.geometry (omega (arith, next-one s.store new (locked (record { from = c.args.from; to = c.args.to }) c.lock.result) goes))
+    kept-same s.store new s.limits s.pending c.self.invariant goes.geometry
+    (omega (
+      arith,
+      next-one s.store new (locked (record { from = c.args.from; to = c.args.to }) c.lock.result)
+          goes,
+    ))

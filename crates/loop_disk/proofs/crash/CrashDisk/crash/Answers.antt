@@ -11,7 +11,8 @@ replay-requires-clause-within g c =
 pub returns-clause-image : goal.returns-clause-image
 returns-clause-image g c =
     let inside = c.self.inside in
-    crashed (λ v. v.items) c.args.spoil c.args.calls c.args.self.now inside.start.items inside.calls.items c.deref-3.result.now inside.failures c.in_ok-bytes.bytes.items c.replay.new.image.items c.of.result.bytes.items
+    crashed (λ v. v.items) c.args.spoil c.args.calls c.args.self.now inside.start.items inside.calls.items
+    c.deref-3.result.now inside.failures c.in_ok-bytes.bytes.items c.replay.new.image.items c.of.result.bytes.items
     c.self.view_is (c.in_ok-bytes.ensures.items ∙ c.deref.ensures.value) c.deref-3.ensures.value c.of.ensures.fresh.bytes c.replay.ensures.spoilt
 
 pub returns-clause-left : goal.returns-clause-left

@@ -5,9 +5,11 @@ use Rattle.loop_disk.proofs.crash.CrashDiskDisk.sync.Goals as goal
 pub invariant_of-self : goal.invariant_of-self
 invariant_of-self g c =
     let inside = c.self.inside in
-    recorded-more inside.start.items _ _ inside.bytes.items inside.bytes.items call.Sync (c.in-Ok.ensures.call) tt c.self.invariant.whole c.self.invariant.size c.self.invariant
+    recorded-more inside.start.items _ _ inside.bytes.items inside.bytes.items call.Sync
+    (c.in-Ok.ensures.call) tt c.self.invariant.whole c.self.invariant.size c.self.invariant
 
 pub returns-in-Ok-clause-disk : goal.returns-in-Ok-clause-disk
 returns-in-Ok-clause-disk g c = λ honest.
     let inside = c.self.inside in
-    synced c.args.self.now _ (view-more (λ v. v.items) c.args.self.now inside.start.items inside.calls.items _ inside.failures call.Sync c.self.view_is (c.in-Ok.ensures.call))
+    synced c.args.self.now _ (view-more (λ v. v.items) c.args.self.now inside.start.items inside.calls.items _
+    inside.failures call.Sync c.self.view_is (c.in-Ok.ensures.call))

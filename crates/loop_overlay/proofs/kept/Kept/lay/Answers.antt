@@ -13,8 +13,11 @@ returns-then-to-buf g c = λ image part.
     let buf = c.args.buf.now in
     subst (λ (v : KeptWrite). IsBufferOf c.args.at (laid_on image v) buf) c.self.view_is
     (elim c.then-to-buf.branch [
-      | then-to-buf-via-then-to-buf way ↦ part_outside c.args.at _ _ image buf w c.saturating_sub-to.ensures c.saturating_sub-from.ensures (inl way.if-to-buf.true) part
-      | then-to-buf-via-else-to-buf+then-from-len way ↦ part_outside c.args.at _ _ image buf w c.saturating_sub-to.ensures c.saturating_sub-from.ensures (inr (omega (arith, way.if-from-len.true, way.len.ensures, inside.bytes.ok.0))) part
+      | then-to-buf-via-then-to-buf way ↦ part_outside c.args.at _ _ image buf w c.saturating_sub-to.ensures
+          c.saturating_sub-from.ensures (inl way.if-to-buf.true) part
+      | then-to-buf-via-else-to-buf+then-from-len way ↦ part_outside c.args.at _ _ image buf w
+          c.saturating_sub-to.ensures c.saturating_sub-from.ensures
+          (inr (omega (arith, way.if-from-len.true, way.len.ensures, inside.bytes.ok.0))) part
     ])
 
 pub returns : goal.returns
@@ -27,7 +30,10 @@ returns g c = λ image part.
     let buf = c.args.buf.now in
     let many = inside.bytes.ok.0 in
     let same : c.put.new.buf ≡ with_bytes_at to (take count (drop from w.bytes)) buf =
-    c.put.ensures ∙ ap (λ (l : List ℕ). with_bytes_at to (take (from + count - from) (drop from l)) buf) c.deref.ensures.value ∙ ap (λ (k : ℕ). with_bytes_at to (take k (drop from w.bytes)) buf) (omega arith) in
+    c.put.ensures ∙ ap (λ (l : List ℕ). with_bytes_at to (take (from + count - from) (drop from l)) buf)
+    c.deref.ensures.value ∙ ap (λ (k : ℕ). with_bytes_at to (take k (drop from w.bytes)) buf) (omega arith) in
     subst (λ (v : KeptWrite). IsBufferOf c.args.at (laid_on image v) c.put.new.buf) c.self.view_is
     (subst (λ (l : List ℕ). IsBufferOf c.args.at (laid_on image w) l) (sym same)
-    (part_laid c.args.at to from count image buf w c.saturating_sub-to.ensures c.saturating_sub-from.ensures (omega (arith, c.min-count.ensures, c.len.ensures, c.len-2.ensures, many)) c.if-to-buf.false (omega (arith, c.if-from-len.false, c.len.ensures, many)) part))
+    (part_laid c.args.at to from count image buf w c.saturating_sub-to.ensures c.saturating_sub-from.ensures
+    (omega (arith, c.min-count.ensures, c.len.ensures, c.len-2.ensures, many)) c.if-to-buf.false
+    (omega (arith, c.if-from-len.false, c.len.ensures, many)) part))

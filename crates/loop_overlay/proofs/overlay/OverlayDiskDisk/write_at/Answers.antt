@@ -10,7 +10,11 @@ returns-in-Ok-clause-disk g c =
     let m = g.D.Disk.medium inside.inner in
     let w : KeptWrite = record { at = c.args.at; bytes = c.args.bytes.now } in
     let size = ap (λ v. (g.D.Disk.medium v.disk).size) c.self.view_is in
-    subst (λ v. (g.D.Disk.medium v.disk).honest → Writes {T = Unit {0}} c.args.at c.args.bytes.now (overlaid (g.D.Disk.medium v.disk) v.writes v.failures) (overlaid m c.keep.new.writes.items inside.failures) (Ok tt)) c.self.view_is
+    subst (λ v. (g.D.Disk.medium v.disk).honest → Writes {T = Unit {0}} c.args.at c.args.bytes.now
+    (overlaid (g.D.Disk.medium v.disk) v.writes v.failures) (overlaid m c.keep.new.writes.items inside.failures)
+    (Ok tt)) c.self.view_is
     (λ honest.
-    subst (λ (ws : List KeptWrite). Writes {T = Unit {0}} c.args.at c.args.bytes.now (overlaid m inside.writes.items inside.failures) (overlaid m ws inside.failures) (Ok tt)) (sym c.in-Ok.ensures.kept)
+    subst (λ (ws : List KeptWrite). Writes {T = Unit {0}} c.args.at c.args.bytes.now
+    (overlaid m inside.writes.items inside.failures) (overlaid m ws inside.failures) (Ok tt))
+    (sym c.in-Ok.ensures.kept)
     (kept_write m inside.writes.items inside.failures w (omega (arith, c.requires, size, (g.met.D.Disk.sound inside.inner honest).length_is))))

@@ -11,9 +11,17 @@ first_of-requires g c = rw c.deref.ensures.value (blocks-rise c.self.inside.head
 
 pub returns-clause-first : goal.returns-clause-first
 returns-clause-first g c =
-    first-segment c.self.inside.heads.items c.self.inside.entries.items _ c.args.block c.first_of.result.0 c.self.invariant.indexed (subst (λ (l : List Entry). IsFirstOf c.args.block l c.first_of.result.0) c.deref.ensures.value c.first_of.ensures.first)
+    first-segment c.self.inside.heads.items c.self.inside.entries.items _ c.args.block c.first_of.result.0
+    c.self.invariant.indexed (subst (λ (l : List Entry). IsFirstOf c.args.block l c.first_of.result.0)
+    c.deref.ensures.value c.first_of.ensures.first)
     ∙ ap (λ (s : Segments). position (is_of c.args.block) s.heads) c.self.view_is
 
 pub returns-clause-looks : goal.returns-clause-looks
 returns-clause-looks g c = λ n few.
-    c.first_of.ensures.looks n (omega (arith, few, index-length c.self.inside.heads.items c.self.inside.entries.items _ c.self.invariant.indexed, ap (λ (l : List Entry). length l) c.deref.ensures.value, ap (λ (s : Segments). length s.heads) c.self.view_is))
+    c.first_of.ensures.looks n (omega (
+      arith,
+      few,
+      index-length c.self.inside.heads.items c.self.inside.entries.items _ c.self.invariant.indexed,
+      ap (λ (l : List Entry). length l) c.deref.ensures.value,
+      ap (λ (s : Segments). length s.heads) c.self.view_is,
+    ))

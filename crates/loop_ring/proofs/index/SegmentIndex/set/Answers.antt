@@ -10,5 +10,6 @@ pub held_after-self-inside-requires-clause-few : goal.held_after-self-inside-req
 held_after-self-inside-requires-clause-few g c =
     let heads = c.self.inside.heads.items in
     let inside : c.args.segment < length heads = omega (arith, c.requires, ap (λ (s : Segments). length s.heads) c.self.view_is) in
-    subst (λ (o : Option SegmentHead). c.self.inside.held + count_by has_frame (c.args.head ∷ []) < 2 ^ 32 + count_by has_frame (o ∷ [])) (sym (c.index.ensures ∙ get_or_default heads c.args.segment c.index.result.now None inside))
+    subst (λ (o : Option SegmentHead). c.self.inside.held + count_by has_frame (c.args.head ∷ []) < 2 ^ 32 + count_by
+    has_frame (o ∷ [])) (sym (c.index.ensures ∙ get_or_default heads c.args.segment c.index.result.now None inside))
     (held-few heads c.args.segment c.self.inside.held (2 ^ 32) c.args.head inside c.self.invariant.indexed.few c.self.invariant.held_is)

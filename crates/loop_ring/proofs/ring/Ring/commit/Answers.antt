@@ -20,35 +20,73 @@ are_gates count le = record {
   open_all = λ i l. get_or-take count gates_8 i 0 l ∙ get_or-replicate 8 i 165 0 (omega (arith, l, le));
 }
 
-can_commit : (g : Geometry) (j first count : ℕ) (bytes old : List ℕ) → IsTrue (is_good g) → j < g.segments → 1 ≤ count → first + count ≤ g.slots → length bytes ≡ count * slot_size g → length old ≡ disk_size g → whole_frames g old j ≡ first → HasNoStray g j old
+can_commit : (g : Geometry) (j first count : ℕ) (bytes old : List ℕ) → IsTrue (is_good g) → j < g.segments → 1 ≤ count
+    → first + count ≤ g.slots → length bytes ≡ count * slot_size g → length old ≡ disk_size g
+    → whole_frames g old j ≡ first → HasNoStray g j old
     → CanCommit g j first count bytes old
 can_commit g j first count bytes old good l some room size whole_disk whole stray =
-    record { few = (limits g good).slots.1; some = some; room = room; size = size; fits = omega (arith, whole_disk, apart g j g.segments l); whole = whole; stray = stray }
+    record {
+      few = (limits g good).slots.1;
+      some = some;
+      room = room;
+      size = size;
+      fits =
+          omega (arith, whole_disk, apart g j g.segments l);
+      whole = whole;
+      stray = stray;
+    }
 
-ready : (g : Geometry) (j first number count : ℕ) (frames : List Picture) (bytes : List ℕ) (at gate : ℕ) (old : List ℕ) → count ≤ 8 → CanCommit g j first count bytes old → IsGroup g number frames bytes count → at ≡ slot_at g j first → gate ≡ gate_at g j first
+ready : (g : Geometry) (j first number count : ℕ) (frames : List Picture) (bytes : List ℕ) (at gate : ℕ)
+    (old : List ℕ) → count ≤ 8 → CanCommit g j first count bytes old → IsGroup g number frames bytes count
+    → at ≡ slot_at g j first → gate ≡ gate_at g j first
     → IsReady g j first number frames at gate bytes (take count gates_8) old
 ready g j first number count frames bytes at gate old few can group at_is gate_is = record {
   at_is = at_is;
   gate_is = gate_is;
-  staged = record { size = can.size ∙ ap (λ (n : ℕ). n * slot_size g) group.count_is; slots = subst (λ (n : ℕ). slots_in (frame_bytes g) bytes n ≡ slots_of (frame_bytes g) number frames) group.count_is group.slots };
+  staged = record {
+    size = can.size ∙ ap (λ (n : ℕ). n * slot_size g) group.count_is;
+    slots =
+        subst (λ (n : ℕ). slots_in (frame_bytes g) bytes n ≡ slots_of (frame_bytes g) number frames) group.count_is
+        group.slots;
+  };
   gates_are = subst (λ (n : ℕ). AreGates n (take count gates_8)) group.count_is (are_gates count few);
   can = subst (λ (n : ℕ). CanCommit g j first n bytes old) group.count_is can;
 }
 
 -- the bytes of a group's slots
-staged : (g : Geometry) (count size long : ℕ) (frames : List Picture) → count ≡ length frames → size ≡ frame_bytes g → long ≡ length frames * (32 + size) → long ≡ count * slot_size g
+staged : (g : Geometry) (count size long : ℕ) (frames : List Picture) → count ≡ length frames → size ≡ frame_bytes g
+    → long ≡ length frames * (32 + size) → long ≡ count * slot_size g
 staged g count size long frames count_is size_is long_is = long_is ∙ (λ i. sym count_is i * (32 + size_is i))
 
 pub store_in_turn-requires-clause-inside : goal.store_in_turn-requires-clause-inside
 store_in_turn-requires-clause-inside g c =
     let h = c.args.self.now.geometry in
-    let size = staged h c.len.result c.args.group.now.size (length c.slots.result.now) c.args.group.now.frames c.len.ensures.count c.requires.size c.slots.ensures.size in
-    omega (arith, c.slot_at-at.ensures, size, c.requires.extent, c.len.ensures.count, slots_end h c.args.segment c.args.first_slot c.len.result (omega (arith, c.requires.room, c.len.ensures.count)), apart h c.args.segment h.segments c.requires.segment)
+    let size = staged h c.len.result c.args.group.now.size (length c.slots.result.now) c.args.group.now.frames
+    c.len.ensures.count c.requires.size c.slots.ensures.size in
+    omega (
+      arith,
+      c.slot_at-at.ensures,
+      size,
+      c.requires.extent,
+      c.len.ensures.count,
+      slots_end h c.args.segment c.args.first_slot c.len.result
+          (omega (arith, c.requires.room, c.len.ensures.count)),
+      apart h c.args.segment h.segments c.requires.segment,
+    )
 
 pub store_in_turn-requires-clause-gate : goal.store_in_turn-requires-clause-gate
 store_in_turn-requires-clause-gate g c =
     let h = c.args.self.now.geometry in
-    omega (arith, c.gate_at-gate.ensures, length-take c.len.result gates_8, c.requires.extent, c.requires.room, c.len.ensures.count, (limits h c.args.self.now.good).slots.1, apart h c.args.segment h.segments c.requires.segment)
+    omega (
+      arith,
+      c.gate_at-gate.ensures,
+      length-take c.len.result gates_8,
+      c.requires.extent,
+      c.requires.room,
+      c.len.ensures.count,
+      (limits h c.args.self.now.good).slots.1,
+      apart h c.args.segment h.segments c.requires.segment,
+    )
 
 pub returns : goal.returns
 returns g c =
@@ -61,14 +99,18 @@ returns g c =
     let size = staged h n c.args.group.now.size (length bytes) frames c.len.ensures.count c.requires.size c.slots.ensures.size in
     let group = is_group h c.args.group.now.first c.args.group.now.size n frames bytes c.requires.size c.len.ensures.count c.slots.ensures.slots in
     let can : old.honest → CanCommit h j c.args.first_slot n bytes old.bytes = λ honest.
-    can_commit h j c.args.first_slot n bytes old.bytes c.args.self.now.good c.requires.segment (omega (arith, c.requires.some, c.len.ensures.count)) (omega (arith, c.requires.room, c.len.ensures.count)) size
+    can_commit h j c.args.first_slot n bytes old.bytes c.args.self.now.good c.requires.segment
+    (omega (arith, c.requires.some, c.len.ensures.count)) (omega (arith, c.requires.room, c.len.ensures.count)) size
     ((g.met.D.Disk.sound c.args.disk.now honest).length_is ∙ c.requires.extent) (c.requires.tail honest).0 (c.requires.tail honest).1 in
-    let made : (honest : old.honest) → IsReady h j c.args.first_slot c.args.group.now.first frames c.slot_at-at.result c.gate_at-gate.result bytes (take n gates_8) old.bytes = λ honest.
-    ready h j c.args.first_slot c.args.group.now.first n frames bytes c.slot_at-at.result c.gate_at-gate.result old.bytes c.len.ensures.few (can honest) group c.slot_at-at.ensures c.gate_at-gate.ensures in record {
+    let made : (honest : old.honest) → IsReady h j c.args.first_slot c.args.group.now.first frames c.slot_at-at.result
+    c.gate_at-gate.result bytes (take n gates_8) old.bytes = λ honest.
+    ready h j c.args.first_slot c.args.group.now.first n frames bytes c.slot_at-at.result c.gate_at-gate.result
+    old.bytes c.len.ensures.few (can honest) group c.slot_at-at.ensures c.gate_at-gate.ensures in record {
       moments = λ honest. commit_moments _ _ _ _ _ _ _ _ _ _ _ _ (made honest) (c.store_in_turn.ensures.disk honest);
       such = λ honest.
           both_ok c.store_in_turn.result (λ shows stray. (shows, stray)) (commit_ok _ _ _ _ _ _ _ _ _ _ _ _ (made honest) (c.store_in_turn.ensures.disk honest))
-          (commit_stray_done h j c.args.first_slot n _ _ _ _ _ _ _ c.slot_at-at.ensures c.gate_at-gate.ensures (can honest) (are_gates n c.len.ensures.few) (c.store_in_turn.ensures.disk honest));
+          (commit_stray_done h j c.args.first_slot n _ _ _ _ _ _ _ c.slot_at-at.ensures c.gate_at-gate.ensures
+          (can honest) (are_gates n c.len.ensures.few) (c.store_in_turn.ensures.disk honest));
       settled = λ honest. (c.store_in_turn.ensures.disk honest).settled;
       fault = c.store_in_turn.ensures.fault;
       called = c.store_in_turn.ensures.called;

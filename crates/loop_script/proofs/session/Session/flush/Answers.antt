@@ -16,7 +16,9 @@ returns-clause-unchanged g c =
     let new : Shown (MemDisk g.row.A.Denot) = record { desk = c.flush.new.self; accepted = s.accepted } in
     let goes = c.flush.ensures.goes in
     subst (λ (v : Shown (MemDisk g.row.A.Denot)). OnErr c.flush.result (new ≡ v)) c.self.view_is
-    (unchanged old new c.flush.result c.flush.ensures.refused (flush-fault (λ d. refl) s.desk c.flush.new.self c.flush.result goes c.self.invariant) (flush-waits s.desk c.flush.new.self c.flush.result goes) goes.limits refl)
+    (unchanged old new c.flush.result c.flush.ensures.refused
+    (flush-fault (λ d. refl) s.desk c.flush.new.self c.flush.result goes c.self.invariant)
+    (flush-waits s.desk c.flush.new.self c.flush.result goes) goes.limits refl)
 
 pub returns-clause-refusals : goal.returns-clause-refusals
 returns-clause-refusals g c = flush-locked (λ d. refl) c.self.inside.desk c.flush.new.self c.flush.result c.flush.ensures.goes c.self.invariant

@@ -10,7 +10,10 @@ pub invariant_of-self : goal.invariant_of-self
 invariant_of-self g c =
     let goes = c.read_frame.ensures.goes in
     let store = store-goes _ c.self.inside.desk c.read_frame.new.self (frame_read c.args.number (read_of c.read_frame.result) ∷ []) goes in
-    kept-one c.self.inside.desk c.read_frame.new.self (was_read c.args.number (read_of c.read_frame.result)) store (λ d. refl) refl (told-then _ c.self.inside.desk c.read_frame.new.self (frame_read c.args.number (read_of c.read_frame.result) ∷ []) goes).pending c.self.invariant
+    kept-one c.self.inside.desk c.read_frame.new.self (was_read c.args.number (read_of c.read_frame.result)) store
+    (λ d. refl) refl (told-then _ c.self.inside.desk c.read_frame.new.self
+    (frame_read c.args.number (read_of c.read_frame.result) ∷ []) goes).pending c.self.invariant
 
 pub returns-clause-refusals : goal.returns-clause-refusals
-returns-clause-refusals g c = read-refused (λ d. refl) c.self.inside.desk c.read_frame.new.self c.args.number c.read_frame.result c.read_frame.ensures.goes c.self.invariant
+returns-clause-refusals g c = read-refused (λ d. refl) c.self.inside.desk c.read_frame.new.self c.args.number
+    c.read_frame.result c.read_frame.ensures.goes c.self.invariant

@@ -11,5 +11,6 @@ returns-in-Ok-clause-goes g c =
     let mid = c.submit_next.new.self in
     let number = c.in-Ok.field-0 in
     let first : DeskGoes memory old.desk mid.desk (calls_of_submit old.desk.store.geometry old.accepted (Ok number)) =
-    subst (λ (x : Result ℕ StoreFault). DeskGoes memory old.desk mid.desk (calls_of_submit old.desk.store.geometry old.accepted x)) c.in-Ok.is c.submit_next.ensures.goes in
+    subst (λ (x : Result ℕ StoreFault). DeskGoes memory old.desk mid.desk
+    (calls_of_submit old.desk.store.geometry old.accepted x)) c.in-Ok.is c.submit_next.ensures.goes in
     store-goes old.desk mid.desk c.flush.new.self.desk old.accepted number c.flush.result first c.flush.ensures.goes c.flush.ensures.refusals

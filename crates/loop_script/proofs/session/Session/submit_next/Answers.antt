@@ -20,7 +20,9 @@ pub returns-in-Err-clause-goes : goal.returns-in-Err-clause-goes
 returns-in-Err-clause-goes g c =
     let d = c.args.self.now.desk in
     let same : c.next_frame.new.desk ≡ d = c.next_frame.ensures.same ∙ ap (λ (s : Shown (MemDisk g.row.A.Denot)). s.desk) c.self.view_is in
-    subst (λ (x : SeenDesk (MemDisk g.row.A.Denot)). DeskGoes memory d x []) (sym same) (desk-none memory d (subst (λ (v : Shown (MemDisk g.row.A.Denot)). TellsOne v.desk.store) c.self.view_is c.opens.ensures.tells) (λ now. memory-sound d.store.disk))
+    subst (λ (x : SeenDesk (MemDisk g.row.A.Denot)). DeskGoes memory d x []) (sym same)
+    (desk-none memory d (subst (λ (v : Shown (MemDisk g.row.A.Denot)). TellsOne v.desk.store) c.self.view_is
+    c.opens.ensures.tells) (λ now. memory-sound d.store.disk))
 
 pub invariant_of-self : goal.invariant_of-self
 invariant_of-self g c = subst (λ (x : SeenDesk (MemDisk g.row.A.Denot)). IsSession x) (sym c.next_frame.ensures.same) c.self.invariant
@@ -45,14 +47,20 @@ returns-clause-goes g c =
     let n = c.self.inside.accepted in
     let f = c.in-Ok.frame in
     let size = length f.bytes.items in
-    let shown : picture f ≡ pattern_picture taken.store.geometry n = c.in-Ok.ensures.picture ∙ ap (λ (x : SeenDesk (MemDisk g.row.A.Denot)). pattern_picture x.store.geometry n) (sym same) in
-    let bytes : size ≡ frame_bytes taken.store.geometry = c.in-Ok.ensures.size ∙ ap (λ (x : SeenDesk (MemDisk g.row.A.Denot)). frame_bytes x.store.geometry) (sym same) in
-    subst (λ (v : Shown (MemDisk g.row.A.Denot)). DeskGoes memory v.desk c.match-submit.self.desk (calls_of_submit v.desk.store.geometry v.accepted c.match-submit.result)) c.self.view_is
-    (subst (λ (x : SeenDesk (MemDisk g.row.A.Denot)). DeskGoes memory x c.match-submit.self.desk (calls_of_submit x.store.geometry n c.match-submit.result)) same
+    let shown : picture f ≡ pattern_picture taken.store.geometry n = c.in-Ok.ensures.picture
+    ∙ ap (λ (x : SeenDesk (MemDisk g.row.A.Denot)). pattern_picture x.store.geometry n) (sym same) in
+    let bytes : size ≡ frame_bytes taken.store.geometry = c.in-Ok.ensures.size
+    ∙ ap (λ (x : SeenDesk (MemDisk g.row.A.Denot)). frame_bytes x.store.geometry) (sym same) in
+    subst (λ (v : Shown (MemDisk g.row.A.Denot)). DeskGoes memory v.desk c.match-submit.self.desk
+    (calls_of_submit v.desk.store.geometry v.accepted c.match-submit.result)) c.self.view_is
+    (subst (λ (x : SeenDesk (MemDisk g.row.A.Denot)). DeskGoes memory x c.match-submit.self.desk
+    (calls_of_submit x.store.geometry n c.match-submit.result)) same
     (elim c.match-submit.branch [
-      | in-Ok-submit w ↦ submit-goes taken c.submit.new.self c.match-submit.self.desk n size (picture f) (answer_of c.submit.result) c.match-submit.result c.submit.ensures.goes shown bytes
+      | in-Ok-submit w ↦ submit-goes taken c.submit.new.self c.match-submit.self.desk n size (picture f)
+          (answer_of c.submit.result) c.match-submit.result c.submit.ensures.goes shown bytes
           (ap (λ (s : Shown (MemDisk g.row.A.Denot)). s.desk) w.self-is) (w.result-is ∙ sym (ap answer_of w.in-Ok-submit.is))
-      | in-Err-submit w ↦ submit-goes taken c.submit.new.self c.match-submit.self.desk n size (picture f) (answer_of c.submit.result) c.match-submit.result c.submit.ensures.goes shown bytes
+      | in-Err-submit w ↦ submit-goes taken c.submit.new.self c.match-submit.self.desk n size (picture f)
+          (answer_of c.submit.result) c.match-submit.result c.submit.ensures.goes shown bytes
           (ap (λ (s : Shown (MemDisk g.row.A.Denot)). s.desk) w.self-is) (w.result-is ∙ sym (ap answer_of w.in-Err-submit.is))
     ]))
 
@@ -62,7 +70,8 @@ desk-refusals g c =
     let taken = c.next_frame.new.desk in
     let f = c.in-Ok.frame in
     let kept = subst (λ (x : SeenDesk (MemDisk g.row.A.Denot)). IsSession x) (sym c.next_frame.ensures.same) c.self.invariant in
-    let bytes : length f.bytes.items ≡ frame_bytes taken.store.geometry = c.in-Ok.ensures.size ∙ ap (λ (x : SeenDesk (MemDisk g.row.A.Denot)). frame_bytes x.store.geometry) (sym c.next_frame.ensures.same) in
+    let bytes : length f.bytes.items ≡ frame_bytes taken.store.geometry = c.in-Ok.ensures.size
+    ∙ ap (λ (x : SeenDesk (MemDisk g.row.A.Denot)). frame_bytes x.store.geometry) (sym c.next_frame.ensures.same) in
     submit-refusals taken c.submit.new.self (picture f) (length f.bytes.items) (answer_of c.submit.result) c.submit.ensures.goes bytes kept
 
 pub returns-clause-refusals : goal.returns-clause-refusals
@@ -92,8 +101,12 @@ pub returns-clause-accepted : goal.returns-clause-accepted
 returns-clause-accepted g c =
     let refusals = desk-refusals g c in
     elim c.match-submit.branch [
-      | in-Ok-submit w ↦ ap (λ (s : Shown (MemDisk g.row.A.Denot)). s.accepted) w.self-is ∙ w.saturating_add-self-inside.ensures ∙ (λ i. accepted_after {T = ℕ} (c.self.view_is i).accepted (sym w.result-is i))
+      | in-Ok-submit w ↦ ap (λ (s : Shown (MemDisk g.row.A.Denot)). s.accepted) w.self-is
+          ∙ w.saturating_add-self-inside.ensures
+          ∙ (λ i. accepted_after {T = ℕ} (c.self.view_is i).accepted (sym w.result-is i))
       | in-Err-submit w ↦
           let refuses = subst (λ (x : Result ℕ StoreFault). IfErr x RefusesFrame) (ap answer_of w.in-Err-submit.is) refusals in
-          ap (λ (s : Shown (MemDisk g.row.A.Denot)). s.accepted) w.self-is ∙ accepted-refused c.self.inside.accepted w.in-Err-submit.fault refuses ∙ (λ i. accepted_after {T = ℕ} (c.self.view_is i).accepted (sym w.result-is i))
+          ap (λ (s : Shown (MemDisk g.row.A.Denot)). s.accepted) w.self-is
+          ∙ accepted-refused c.self.inside.accepted w.in-Err-submit.fault refuses
+          ∙ (λ i. accepted_after {T = ℕ} (c.self.view_is i).accepted (sym w.result-is i))
     ]

@@ -12,7 +12,9 @@ pub invariant_of-self : goal.invariant_of-self
 invariant_of-self g c =
     let goes = c.unlock_clip.ensures.goes in
     let store = store-goes _ c.self.inside.desk c.unlock_clip.new.self (clip_unlocked c.args.id c.unlock_clip.result ∷ []) goes in
-    kept-one c.self.inside.desk c.unlock_clip.new.self (unlocked c.args.id c.unlock_clip.result) store (λ d. refl) refl (told-then _ c.self.inside.desk c.unlock_clip.new.self (clip_unlocked c.args.id c.unlock_clip.result ∷ []) goes).pending c.self.invariant
+    kept-one c.self.inside.desk c.unlock_clip.new.self (unlocked c.args.id c.unlock_clip.result) store
+    (λ d. refl) refl (told-then _ c.self.inside.desk c.unlock_clip.new.self
+    (clip_unlocked c.args.id c.unlock_clip.result ∷ []) goes).pending c.self.invariant
 
 pub returns-clause-unchanged : goal.returns-clause-unchanged
 returns-clause-unchanged g c =
@@ -24,7 +26,9 @@ returns-clause-unchanged g c =
     let result = c.unlock_clip.result in
     let fine = fine-of result (none-failed s.desk.store c.unlock_clip.new.self.store (unlocked c.args.id c.unlock_clip.result) store (λ d. refl)) in
     subst (λ (v : Shown (MemDisk g.row.A.Denot)). OnErr result (new ≡ v)) c.self.view_is
-    (unchanged old new result c.unlock_clip.ensures.refused fine (on-err result (told-then _ c.self.inside.desk c.unlock_clip.new.self (clip_unlocked c.args.id c.unlock_clip.result ∷ []) goes).pending) goes.limits refl)
+    (unchanged old new result c.unlock_clip.ensures.refused fine
+    (on-err result (told-then _ c.self.inside.desk c.unlock_clip.new.self
+    (clip_unlocked c.args.id c.unlock_clip.result ∷ []) goes).pending) goes.limits refl)
 
 pub returns-clause-fine : goal.returns-clause-fine
 returns-clause-fine g c =

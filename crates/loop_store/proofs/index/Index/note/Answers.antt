@@ -9,7 +9,15 @@ returns g c =
     let old = c.args.self.now in record {
       ring = refl;
       next = ap (λ n. old.next + n) c.from.ensures;
-      heads = c.set_head.ensures.heads ∙ (λ i. set old.table.heads c.args.segment (Some (record { block = old.next / c.from-slots.ensures i; frames = old.next % c.from-slots.ensures i + c.args.count })));
+      heads = c.set_head.ensures.heads
+          ∙ (λ i. set old.table.heads c.args.segment
+          (Some (record {
+            block = old.next / c.from-slots.ensures i;
+            frames =
+                old.next % c.from-slots.ensures i + c.args.count;
+          })));
       clips = refl;
-      counted = c.set_head.ensures.counted ∙ ap (λ (l : List (Option Span)). clip_counts (ring_of old.ring.geometry) l c.set_head.new.table.heads) c.as_slice.ensures.clips;
+      counted = c.set_head.ensures.counted
+          ∙ ap (λ (l : List (Option Span)). clip_counts (ring_of old.ring.geometry) l c.set_head.new.table.heads)
+          c.as_slice.ensures.clips;
     }

@@ -17,5 +17,6 @@ returns-clause-numbers g c =
     let at = c.self.invariant.0.known in
     let image = drawn_image h s.index.table.heads s.index.clips in
     c.in_ok-numbers.ensures ∙ ap (λ (fs : List Found). numbers_in h fs) c.as_slice.ensures.value
-    ∙ held-numbers h at.recording image c.in_ok-segments.segments.items at.known.held (c.in_ok-segments.ensures.order image (c.heads.ensures ∙ at.known.heads_are))
+    ∙ held-numbers h at.recording image c.in_ok-segments.segments.items at.known.held
+    (c.in_ok-segments.ensures.order image (c.heads.ensures ∙ at.known.heads_are))
     ∙ (alike-by g.D.Disk.medium s.disk s.index s.must_reopen r c.self.invariant.0 stands.told).numbers)

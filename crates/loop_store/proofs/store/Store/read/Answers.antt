@@ -15,26 +15,40 @@ use Rattle.loop_store.proofs.store.Store.read.Goals as goal
 
 pub returns-then-self-clause-goes : goal.returns-then-self-clause-goes
 returns-then-self-clause-goes g c =
-    goes-must g.D.Disk.medium c.args.self.now (was_read c.args.number (Err MustReopen)) (one-seen g.D.Disk.medium c.self.inside.disk c.self.inside.index c.self.inside.must_reopen c.self.invariant.0 c.self.view_is) (λ honest. g.met.D.Disk.sound c.args.self.now.disk honest) (sym (ap (λ v. v.must_reopen) c.self.view_is) ∙ c.if-self.true)
+    goes-must g.D.Disk.medium c.args.self.now (was_read c.args.number (Err MustReopen))
+    (one-seen g.D.Disk.medium c.self.inside.disk c.self.inside.index c.self.inside.must_reopen c.self.invariant.0
+    c.self.view_is) (λ honest. g.met.D.Disk.sound c.args.self.now.disk honest)
+    (sym (ap (λ v. v.must_reopen) c.self.view_is) ∙ c.if-self.true)
     (record { early = refl; unfailed = refl; none = refl; made_none = λ h t. refl; begun_none = λ h t. refl }) refl
 
 pub invariant_of-self : goal.invariant_of-self
-invariant_of-self g c =
-    (looked-kept g.D.Disk.medium _ _ _ _ c.self.invariant.0 c.read_held.ensures.called.size c.read_held.ensures.called.honest.1 c.read_held.ensures.stays, c.self.invariant.1)
+invariant_of-self g c = (
+  looked-kept g.D.Disk.medium _ _ _ _ c.self.invariant.0 c.read_held.ensures.called.size
+      c.read_held.ensures.called.honest.1 c.read_held.ensures.stays,
+  c.self.invariant.1,
+)
 
 pub returns-in-Some-clause-goes : goal.returns-in-Some-clause-goes
 returns-in-Some-clause-goes g c =
     let s = c.self.inside in
     let medium = g.D.Disk.medium in
     let old : Seen g.row.D.Denot = seen_with s.disk s.index s.must_reopen in
-    subst (λ (v : Seen g.row.D.Denot). Goes medium v (record old { disk = c.read_held.new.disk }) (was_read c.args.number (read_with c.read_held.result c.read_held.new.out) ∷ [])) c.self.view_is
-    (goes-looked medium old c.read_held.new.disk (was_read c.args.number (read_with c.read_held.result c.read_held.new.out)) (look-read c.args.number (read_with c.read_held.result c.read_held.new.out)) (λ honest. g.met.D.Disk.sound s.disk honest)
+    subst (λ (v : Seen g.row.D.Denot). Goes medium v (record old { disk = c.read_held.new.disk })
+    (was_read c.args.number (read_with c.read_held.result c.read_held.new.out) ∷ [])) c.self.view_is
+    (goes-looked medium old c.read_held.new.disk
+    (was_read c.args.number (read_with c.read_held.result c.read_held.new.out))
+    (look-read c.args.number (read_with c.read_held.result c.read_held.new.out))
+    (λ honest. g.met.D.Disk.sound s.disk honest)
     (record {
       one = one-kept medium s.disk s.index s.must_reopen c.self.invariant.0;
-      answers = λ t told. read-answered ((medium s.disk).honest × Stands medium old t) s.index.ring.geometry t c.args.number c.read_held.result c.read_held.new.out (sym told.must_reopen ∙ c.if-self.false)
-          (there-alike medium s.disk s.index s.must_reopen t.recording c.args.number c.in-Some.segment c.self.invariant.0 told.recording c.in-Some.ensures.within c.in-Some.ensures.there) c.read_held.ensures.refusals (λ held.
+      answers = λ t told. read-answered ((medium s.disk).honest × Stands medium old t) s.index.ring.geometry t
+          c.args.number c.read_held.result c.read_held.new.out (sym told.must_reopen ∙ c.if-self.false)
+          (there-alike medium s.disk s.index s.must_reopen t.recording c.args.number c.in-Some.segment
+          c.self.invariant.0 told.recording c.in-Some.ensures.within c.in-Some.ensures.there)
+          c.read_held.ensures.refusals (λ held.
           let known = known-by medium s.disk s.index s.must_reopen t.recording c.self.invariant.0 held.1.recording c.if-self.false held.0 in
-          let has = subst (λ (hs : List (Option SegmentHead)). has_number s.index.ring.geometry.slots c.args.number (get_or hs c.in-Some.segment None) ≡ true) known.heads_are c.in-Some.ensures.there in
+          let has = subst (λ (hs : List (Option SegmentHead)). has_number s.index.ring.geometry.slots c.args.number
+          (get_or hs c.in-Some.segment None) ≡ true) known.heads_are c.in-Some.ensures.there in
           c.read_held.ensures.frame t.recording held.0 (held.1.recording.held c.if-self.false held.0) has);
       stays = c.read_held.ensures.stays;
       called = read-failed c.read_held.result c.read_held.new.out _ _ c.read_held.ensures.called;
@@ -46,9 +60,12 @@ returns-in-None-clause-goes g c =
     let s = c.self.inside in
     let medium = g.D.Disk.medium in
     subst (λ (v : Seen g.row.D.Denot). Goes medium v v (was_read c.args.number (Err NotHeld) ∷ [])) c.self.view_is
-    (goes-unread medium (seen_with s.disk s.index s.must_reopen) (was_read c.args.number (Err NotHeld)) (look-read c.args.number (Err NotHeld)) (one-kept medium s.disk s.index s.must_reopen c.self.invariant.0) (λ honest. g.met.D.Disk.sound s.disk honest) refl
+    (goes-unread medium (seen_with s.disk s.index s.must_reopen) (was_read c.args.number (Err NotHeld))
+    (look-read c.args.number (Err NotHeld)) (one-kept medium s.disk s.index s.must_reopen c.self.invariant.0)
+    (λ honest. g.met.D.Disk.sound s.disk honest) refl
     (λ H t told.
     let known = c.self.invariant.0.known in
     let same = alike-by medium s.disk s.index s.must_reopen t.recording c.self.invariant.0 told.recording in
     read-missing H s.index.ring.geometry t c.args.number (sym told.must_reopen ∙ c.if-self.false)
-    (sym (holds-same known.recording t.recording c.args.number same) ∙ c.in-None.ensures.missing known.recording (drawn_image s.index.ring.geometry s.index.table.heads s.index.clips) known.known)))
+    (sym (holds-same known.recording t.recording c.args.number same) ∙ c.in-None.ensures.missing known.recording
+    (drawn_image s.index.ring.geometry s.index.table.heads s.index.clips) known.known)))

@@ -16,5 +16,7 @@ returns g c =
     (λ r stands.
     let at = c.self.invariant.0.known in
     let known = at.known in
-    c.victim.ensures.victim i.ring.geometry at.recording (drawn_image i.ring.geometry i.table.heads i.clips) known.held known.heads_are (c.self.invariant.0.fits.whole.counted ∙ ap (λ cs. clip_counts (ring_of i.ring.geometry) cs i.table.heads) known.clips_are)
+    c.victim.ensures.victim i.ring.geometry at.recording (drawn_image i.ring.geometry i.table.heads i.clips)
+    known.held known.heads_are (c.self.invariant.0.fits.whole.counted
+    ∙ ap (λ cs. clip_counts (ring_of i.ring.geometry) cs i.table.heads) known.clips_are)
     ∙ victim-same (ring_of i.ring.geometry) at.recording r (alike-by medium s.disk i s.must_reopen r c.self.invariant.0 stands.told))
