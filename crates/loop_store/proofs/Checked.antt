@@ -2,6 +2,8 @@
 use Rattle.std.proofs.Common.{◌≡◌, ◌⊎◌, inl, inr, Bool, true, false, Option, Some, None, Ok, Err, List, [], ◌∷◌, refl, sym, ◌∙◌, subst}
 use Rattle.loop_record.specs.declared.geometry.Geometry.{Geometry}
 use Rattle.loop_store.specs.declared.fault.StoreFault.{StoreFault}
+use Rattle.loop_store.specs.declared.fault.StoreFault.TheVariants as kind
+use Rattle.loop_store.specs.Faults.{is_disk, is_write_fault}
 use Rattle.loop_store.specs.declared.fault.StoreFault.TheVariants.{MustReopen}
 use Rattle.loop_record.specs.Recording.{Recording}
 use Rattle.loop_store.specs.Calls.{AnswersDue, AreAnswered, Call, IsAnswered, AnswersOtherwise, StoreState, after, appended, locked, unlocked, was_read, was_read_part, checks, checks_on, due, fault_answered, first_of}
@@ -105,3 +107,25 @@ answered-as H K g s c f said = go (first_of (checks g s c)) said
 pub are-answered-as : (H K : Type 0) (g : Geometry) (s : StoreState) (calls : List Call) → (K → H) → AreAnswered H g s calls → AreAnswered K g s calls
 are-answered-as H K g s [] f said = tt
 are-answered-as H K g s (c ∷ calls) f said = (answered-as H K g s c f said.0, are-answered-as H K g (after g s c) calls f said.1)
+
+-- ---- which call of the disk failed
+
+-- a failed write or sync is a failed call
+pub write-disk : (refusal : StoreFault) → is_write_fault refusal ≡ true → is_disk refusal ≡ true
+write-disk (kind.Disk call) e = refl
+write-disk kind.NoMemory e = absurd cc
+write-disk kind.MustReopen e = absurd cc
+write-disk kind.NotFormatted e = absurd cc
+write-disk (kind.Damaged damage) e = absurd cc
+write-disk kind.NotHeld e = absurd cc
+write-disk kind.BadGeometry e = absurd cc
+write-disk kind.NumbersSpent e = absurd cc
+write-disk kind.AllLocked e = absurd cc
+write-disk kind.ClipEmpty e = absurd cc
+write-disk (kind.ClipNotHeld number) e = absurd cc
+write-disk kind.ClipTableFull e = absurd cc
+write-disk kind.NoSuchClip e = absurd cc
+write-disk kind.PendingFull e = absurd cc
+write-disk kind.WrongSize e = absurd cc
+write-disk kind.HandFull e = absurd cc
+write-disk kind.HandEmpty e = absurd cc

@@ -9,7 +9,7 @@ use Rattle.loop_disk.specs.Calls.{Stays}
 use Rattle.loop_disk.specs.Medium.{Medium, IsSound, IsSettled, LeavesOnly, SameOutside, written}
 use Rattle.loop_disk.specs.Steps.{Stores}
 use Rattle.loop_disk.proofs.Images.{get_or-written_there, written_outside}
-use Rattle.loop_disk.proofs.Moments.{started, goes_on, stored}
+use Rattle.loop_disk.proofs.Moments.{started, goes_on, joined, stored, weaker}
 use Rattle.loop_record.specs.declared.damage.LayoutFault.TheVariants.{NotFormatted}
 use Rattle.loop_record.specs.declared.geometry.Geometry.{Geometry}
 use Rattle.loop_record.specs.declared.geometry.PixelFormat.{PixelFormat}
@@ -19,7 +19,7 @@ use Rattle.loop_record.specs.Layout.{checked_geometry, format_at, has_bytes, is_
 use Rattle.loop_record.specs.Reading.{IsFreshImage, contents, reading}
 use Rattle.loop_record.proofs.Decided.{equal}
 use Rattle.loop_record.proofs.Fresh.{reading-fresh}
-use Rattle.loop_store.specs.Formatted.{LeavesClosed, IsClosed, IsLaid, NoneOrEmpty}
+use Rattle.loop_store.specs.Formatted.{LeavesClosed, IsClosed, IsLaid, NoneOrEmpty, WasOrClosed, WasOrEmpty}
 
 -- behind a closed gate nothing is formatted
 pub closed-none : (image : List ℕ) → IsClosed image → reading image ≡ Err NotFormatted
@@ -88,3 +88,18 @@ opening-fresh g old new r laid stores =
 pub sync-none : (g : Geometry) (old new : Medium) → IsSound old → LeavesClosed old → Stays old new → LeavesOnly old new (NoneOrEmpty g)
 sync-none g old new sound closed stays =
     goes_on old old new (NoneOrEmpty g) old.may_leave (started old (NoneOrEmpty g) sound (λ c left. inl (closed-none c (closed c left)))) stays.time (λ c left. inl (closed-none c (closed c left)))
+
+-- what closed the gate, and then a write behind it
+pub closed-on : (old mid new : Medium) → LeavesOnly old mid (WasOrClosed old) → LeavesOnly mid new IsClosed → LeavesOnly old new (WasOrClosed old)
+closed-on old mid new first second = joined old mid new (WasOrClosed old) first (weaker mid new IsClosed (WasOrClosed old) second (λ c closed. inr closed))
+
+pub closed-or_empty : (g : Geometry) (old new : Medium) → LeavesOnly old new (WasOrClosed old) → LeavesOnly old new (WasOrEmpty g old)
+closed-or_empty g old new run = weaker old new (WasOrClosed old) (WasOrEmpty g old) run go
+  where
+    go : (c : List ℕ) → WasOrClosed old c → WasOrEmpty g old c
+    go c (inl left) = inl left
+    go c (inr closed) = inr (inl (closed-none c closed))
+
+-- and then what opened it
+pub empty-on : (g : Geometry) (old mid new : Medium) → LeavesOnly old mid (WasOrClosed old) → LeavesOnly mid new (NoneOrEmpty g) → LeavesOnly old new (WasOrEmpty g old)
+empty-on g old mid new first second = joined old mid new (WasOrEmpty g old) (closed-or_empty g old mid first) (weaker mid new (NoneOrEmpty g) (WasOrEmpty g old) second (λ c none. inr none))

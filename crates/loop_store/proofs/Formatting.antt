@@ -8,7 +8,7 @@ use Rattle.loop_disk.specs.Calls.{Called, Stays, Writes, failed_call}
 use Rattle.loop_disk.specs.Medium.{Medium, IsSound, IsSettled, LeavesOnly, SameOutside, TornAt, written, piece}
 use Rattle.loop_disk.specs.Steps.{Stores}
 use Rattle.loop_disk.proofs.Images.{get_or-written_before, get_or-written_there, length-written, get_or-piece}
-use Rattle.loop_disk.proofs.Moments.{started, goes_on, joined, stored}
+use Rattle.loop_disk.proofs.Moments.{each_now, started, goes_on, joined, stored}
 use Rattle.loop_record.specs.declared.geometry.Geometry.{Geometry}
 use Rattle.loop_record.specs.Geometry.{clip_at, disk_size, segment_at}
 use Rattle.loop_record.specs.Layout.{is_open, super_bytes}
@@ -167,6 +167,6 @@ pub brings-laid : {T : Type 0} (g : Geometry) (count : ℕ) (old new : Medium) (
     → Brings IsClosed (IsLaidClosed g count) old new r
 brings-laid g count old new r sound moments laid called = record {
   moments = moments;
-  such = λ honest. on_ok_weaker r (λ is. (run-closed old new (sound honest) (moments honest), is)) (laid honest);
+  such = λ honest. on_ok_weaker r (λ is. (each_now old new IsClosed (sound honest) (moments honest), is)) (laid honest);
   called = called;
 }

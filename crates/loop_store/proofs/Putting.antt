@@ -16,7 +16,7 @@ use Rattle.loop_store.specs.Places.{RefusesPlace}
 use Rattle.loop_store.specs.Opened.{TellsOne}
 use Rattle.loop_store.specs.Seen.{HasFailed, Seen, StandsFor, Tells}
 use Rattle.loop_store.proofs.Appended.{steps-some}
-use Rattle.loop_store.proofs.Checked.{answer-due, answer-given, due-none, failed, passed, passes}
+use Rattle.loop_store.proofs.Checked.{answer-due, answer-given, due-none, failed, passed, passes, write-disk}
 use Rattle.loop_store.proofs.Alike.{place-same}
 use Rattle.loop_store.proofs.Same.{IsSame}
 use Rattle.loop_store.proofs.Once.{goes-done, goes-failed, goes-refused}
@@ -81,13 +81,9 @@ answered-refusal H g s ps fault fine unspent said = go (lacks_victim (ring_of g)
     same : (a b : StoreFault) → Some a ≡ Some b → a ≡ b
     same a b e = cc
 
-    of_disk : (f : StoreFault) → is_write_fault f ≡ true → is_disk f ≡ true
-    of_disk (Disk f) e = refl
-    of_disk _ e = absurd cc
-
     go : (b : Bool) → AnswersDue (first_of (due b AllLocked ∷ [])) (appended ps (Err fault)) (is_write_fault fault ≡ true) → (fault ≡ AllLocked) ⊎ (is_disk fault ≡ true)
     go true is = inl (same fault AllLocked is)
-    go false is = inr (of_disk fault is)
+    go false is = inr (write-disk fault is)
 
 -- ---- refused before the disk was called
 
