@@ -6,7 +6,7 @@ use Rattle.loop_record.specs.declared.damage.LayoutFault.{LayoutFault}
 use Rattle.loop_record.specs.declared.geometry.Geometry.{Geometry}
 use Rattle.loop_record.specs.Reading.{Contents, Holds}
 use Rattle.loop_record.specs.Recording.{Recording}
-use Rattle.loop_store.specs.Opened.{IsOpened}
+use Rattle.loop_store.specs.Reopen.{IsOpened}
 use Rattle.loop_store.specs.Seen.{Seen, StandsFor}
 use Rattle.loop_y4m.specs.Export.{IsExport, frames_between}
 use Rattle.loop_y4m.specs.Text.{text}

@@ -7,7 +7,7 @@ use Rattle.loop_record.specs.Recording.{Recording, plain, ring_of}
 use Rattle.loop_store.specs.declared.fault.StoreFault.{StoreFault}
 use Rattle.loop_store.specs.Calls.{StoreState}
 use Rattle.loop_store.specs.Goes.{Stands}
-use Rattle.loop_store.specs.Opened.{IsOpened, IsRefusedOpen}
+use Rattle.loop_store.specs.Reopen.{IsOpened, IsRefusedOpen}
 use Rattle.loop_store.specs.Seen.{Seen, StandsFor}
 use Rattle.loop_desk.specs.declared.event.LaneEvent.{LaneEvent}
 use Rattle.loop_desk.specs.declared.event.LaneReply.{LaneReply}

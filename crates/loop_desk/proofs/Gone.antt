@@ -5,7 +5,7 @@ use Rattle.loop_record.specs.Turns.{Plays}
 use Rattle.loop_record.proofs.Turned.{plays-joined, plays-none, told-behind}
 use Rattle.loop_store.specs.Calls.{Call}
 use Rattle.loop_store.specs.Goes.{Goes}
-use Rattle.loop_store.specs.Opened.{TellsOne}
+use Rattle.loop_store.specs.Reopen.{TellsOne}
 use Rattle.loop_store.proofs.Gone.{goes-joined, goes-none}
 use Rattle.loop_desk.specs.Desk.{DeskCall, DeskState, IsDeskTold, Rules, desk_after, desk_after_calls, desk_model, store_calls, store_calls_in}
 use Rattle.loop_desk.specs.Seen.{DeskGoes, SeenDesk, TellsDesk, rules_of}

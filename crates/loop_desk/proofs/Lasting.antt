@@ -8,12 +8,11 @@ use Rattle.loop_record.specs.Recording.{Picture, Recording, Step, plain, ring_of
 use Rattle.loop_record.proofs.Form.{reading-well_formed}
 use Rattle.loop_store.specs.Calls.{StoreState}
 use Rattle.loop_store.specs.Goes.{Stands}
-use Rattle.loop_store.specs.Held.{HoldsSome}
-use Rattle.loop_store.specs.Steps.{LeavesSteps}
+use Rattle.loop_store.specs.Steps.{HoldsSome, LeavesSteps}
+use Rattle.loop_store.specs.Seen.{StandsFor}
 use Rattle.loop_store.proofs.Checked.{are-answered-as}
 use Rattle.loop_store.proofs.Gone.{told-of}
 use Rattle.loop_store.proofs.Modelled.{recording-after}
-use Rattle.loop_store.specs.Seen.{StandsFor}
 use Rattle.loop_desk.specs.Desk.{DeskCall, DeskState, frames_stored}
 use Rattle.loop_desk.specs.Footage.{HoldsWhole, KeepsFootage, steps_begun, steps_made, stored_calls}
 use Rattle.loop_desk.specs.Seen.{DeskGoes, SeenDesk, TellsDesk, rules_of}

@@ -6,7 +6,7 @@ use Rattle.loop_plane.specs.Plane.{Plane}
 use Rattle.loop_disk.specs.Medium.{Medium, IsSound}
 use Rattle.loop_record.specs.Turns.{Plays, after_all, told_in}
 use Rattle.loop_record.proofs.Turned.{plays-joined, plays-none, told-behind}
-use Rattle.loop_store.specs.Opened.{TellsOne}
+use Rattle.loop_store.specs.Reopen.{TellsOne}
 use Rattle.loop_desk.specs.declared.event.LaneEvent.{LaneEvent}
 use Rattle.loop_desk.specs.declared.event.LaneReply.{LaneReply}
 use Rattle.loop_desk.specs.declared.lane.Lane.{Lane}

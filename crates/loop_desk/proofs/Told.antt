@@ -8,7 +8,7 @@ use Rattle.loop_record.specs.declared.geometry.PixelFormat.{PixelFormat}
 use Rattle.loop_record.proofs.Turned.{plays-once}
 use Rattle.loop_store.specs.declared.command.ReadFrame.{ReadFrame}
 use Rattle.loop_store.specs.declared.fault.StoreFault.{StoreFault}
-use Rattle.loop_store.specs.Opened.{TellsOne}
+use Rattle.loop_store.specs.Reopen.{TellsOne}
 use Rattle.loop_store.specs.Runs.{read_of}
 use Rattle.loop_vb2.specs.State.{Body}
 use Rattle.loop_ioctl.specs.declared.events.QueueEvent.{QueueEvent}

@@ -7,7 +7,7 @@ use Rattle.loop_record.specs.declared.geometry.Geometry.{Geometry}
 use Rattle.loop_record.specs.Reading.{Holds}
 use Rattle.loop_record.specs.Recording.{Picture, Recording, Ring, Step, frame_under, plain, ring_of}
 use Rattle.loop_store.specs.Calls.{Call, StoreState, begun_in, made_in}
-use Rattle.loop_store.specs.Held.{EachNow, HoldsFrom}
+use Rattle.loop_store.specs.Steps.{EachNow, HoldsFrom}
 use Rattle.loop_store.specs.Seen.{StandsFor}
 use Rattle.loop_desk.specs.Desk.{DeskCall, accepted_in, frames_stored, store_calls_in}
 use Rattle.loop_desk.specs.Seen.{SeenDesk, rules_of}

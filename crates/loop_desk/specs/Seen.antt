@@ -10,7 +10,7 @@ use Rattle.loop_record.specs.Turns.{Plays}
 use Rattle.loop_store.specs.declared.fault.StoreFault.{StoreFault}
 use Rattle.loop_store.specs.declared.fault.StoreFault.TheVariants.{MustReopen, NoMemory}
 use Rattle.loop_store.specs.Goes.{Goes, Stands, TellsState}
-use Rattle.loop_store.specs.Opened.{TellsOne}
+use Rattle.loop_store.specs.Reopen.{TellsOne}
 use Rattle.loop_store.specs.Seen.{Seen, StandsFor}
 use Rattle.loop_desk.specs.declared.limits.DeskLimits.{DeskLimits}
 use Rattle.loop_desk.specs.declared.limits.Outline.{Outline}

@@ -7,7 +7,7 @@ ghost use Rattle.loop_record.specs.Plain.{pictures};
 ghost use Rattle.loop_record.specs.Recording.{last_number, picture, ring_of};
 ghost use Rattle.loop_desk.specs.Desk.{DeskState, clip_locked, clip_unlocked, flushed, frame_read, submit_answer, submitted};
 ghost use Rattle.loop_desk.specs.Seen.{DeskGoes, IsDesk, Opens, OutlineRefuses, SeenDesk, TellsDesk, TellsOutline, TellsStatus, answer_of, rules_of};
-ghost use Rattle.loop_store.specs.Opened.{TellsOne};
+ghost use Rattle.loop_store.specs.Reopen.{TellsOne};
 ghost use Rattle.loop_store.specs.Runs.{read_of};
 ghost use Rattle.loop_store.specs.Seen.{Refused};
 

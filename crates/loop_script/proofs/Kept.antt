@@ -17,16 +17,16 @@ use Rattle.loop_store.specs.declared.fault.StoreFault.TheVariants.{AllLocked, Da
 use Rattle.loop_store.specs.Calls.{Call, appended, failed_for, has_failed, locked, unlocked, was_read, was_read_part}
 use Rattle.loop_store.specs.Faults.{answers_disk, failed_by, failed_in, is_disk}
 use Rattle.loop_store.specs.Goes.{Goes, Stands}
-use Rattle.loop_store.specs.Opened.{TellsOne}
+use Rattle.loop_store.specs.Reopen.{TellsOne}
+use Rattle.loop_store.specs.declared.command.ReadFrame.{ReadFrame}
+use Rattle.loop_store.specs.Runs.{read_of}
+use Rattle.loop_store.specs.Seen.{Refused, Seen}
 use Rattle.loop_store.proofs.Gone as store
 use Rattle.loop_store.proofs.NextNumber.{count_stored, next-one}
 use Rattle.loop_store.proofs.Putting.{answered-refusal}
 use Rattle.loop_store.proofs.Reading.{read-refusal}
-use Rattle.loop_store.specs.declared.command.ReadFrame.{ReadFrame}
-use Rattle.loop_store.specs.Runs.{read_of}
 use Rattle.loop_record.specs.declared.damage.Damage.TheVariants.{SlotHead}
 use Rattle.loop_record.proofs.Decided.{equal_test}
-use Rattle.loop_store.specs.Seen.{Refused, Seen}
 use Rattle.loop_desk.specs.declared.limits.Flushed.{Flushed}
 use Rattle.loop_desk.specs.Desk.{IsFlush, append_of, flushed, frame_read, group_of, submitted}
 use Rattle.loop_desk.specs.Seen.{DeskGoes, SeenDesk, rules_of}

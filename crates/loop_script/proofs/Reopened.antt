@@ -7,7 +7,7 @@ use Rattle.loop_record.specs.Recording.{Recording}
 use Rattle.loop_store.specs.declared.fault.StoreFault.{StoreFault}
 use Rattle.loop_store.specs.declared.fault.StoreFault.TheVariants.{Damaged, Disk, NoMemory, NotFormatted}
 use Rattle.loop_store.specs.Faults.{is_disk}
-use Rattle.loop_store.specs.Opened.{IsRefusedOpen}
+use Rattle.loop_store.specs.Reopen.{IsRefusedOpen}
 
 -- want of memory, where no call of the disk failed
 pub refused_for_memory : (g : Geometry) (r : Recording) (image : List ℕ) (fault : StoreFault) → Holds g r image

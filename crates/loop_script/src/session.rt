@@ -6,8 +6,8 @@ ghost use Rattle.loop_record.specs.declared.damage.Damage.TheVariants.{SlotHead}
 ghost use Rattle.loop_record.specs.Geometry.{frame_bytes, is_good};
 ghost use Rattle.loop_record.specs.Recording.{Recording, empty, picture};
 ghost use Rattle.loop_store.specs.Faults.{is_disk};
-ghost use Rattle.loop_store.specs.Formatted.{IsFormatted};
-ghost use Rattle.loop_store.specs.Opened.{IsOpened, IsRefusedOpen};
+ghost use Rattle.loop_store.specs.Make.{IsFormatted};
+ghost use Rattle.loop_store.specs.Reopen.{IsOpened, IsRefusedOpen};
 ghost use Rattle.loop_store.specs.Runs.{read_of};
 ghost use Rattle.loop_store.specs.Seen.{StandsFor};
 ghost use Rattle.loop_script.specs.Pattern.{pattern_picture};

@@ -19,11 +19,13 @@ use Rattle.loop_ring.specs.declared.ring.Ring.{Ring as LoopRing}
 use Rattle.loop_store.specs.declared.index.Index.{Index}
 use Rattle.loop_store.specs.declared.place.Place.{Place}
 use Rattle.loop_store.specs.declared.place.Place.TheVariants.{Newest, Closed, Victim}
-use Rattle.loop_store.specs.Held.{HasNoneStray}
+use Rattle.loop_store.specs.Grow.{HasNoneStray}
 use Rattle.loop_store.specs.Drawn.{drawn_image}
-use Rattle.loop_store.specs.Places.{IsGrownAt, IsKnown, IsPlaceAt, place_segment, steps_before}
-use Rattle.loop_store.specs.Recovered.{IsHeadIn, IsIndex, IsIndexOf, IsNoted, IsRecovered, head_after}
-use Rattle.loop_store.specs.Seen.{IsKept, StandsFor, Tells, seen_with}
+use Rattle.loop_store.specs.Place.{IsGrownAt, IsKnown, IsPlaceAt, place_segment, steps_before}
+use Rattle.loop_store.specs.Found.{IsHeadIn}
+use Rattle.loop_store.specs.Index.{IsIndex, IsIndexOf, IsNoted, IsRecovered, head_after}
+use Rattle.loop_store.specs.Store.{IsKept}
+use Rattle.loop_store.specs.Seen.{StandsFor, Tells, seen_with}
 use Rattle.loop_store.specs.Steps.{steps_or_none}
 use Rattle.loop_record.proofs.Bounds.{limits}
 use Rattle.loop_store.proofs.Alike.{appended-same, place-same}

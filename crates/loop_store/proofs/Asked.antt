@@ -6,7 +6,7 @@ use Rattle.loop_record.specs.declared.geometry.Geometry.{Geometry}
 use Rattle.loop_record.specs.Reading.{Holds}
 use Rattle.loop_record.specs.Recording.{Recording, Step, plain, ring_of}
 use Rattle.loop_record.proofs.Decided.{clash}
-use Rattle.loop_store.specs.Held.{HoldsFrom}
+use Rattle.loop_store.specs.Steps.{HoldsFrom}
 use Rattle.loop_store.specs.Seen.{HasFailed, Seen, StandsFor, Tells}
 
 -- all of some steps, with none behind them

@@ -11,8 +11,8 @@ use Rattle.loop_store.specs.declared.fault.StoreFault.TheVariants.{MustReopen, N
 use Rattle.loop_store.specs.Calls.{IsAnswered, AnswersOtherwise, IsHeldFrame, ReadFails, StoreState, checks, first_of, read_with, was_read}
 use Rattle.loop_store.specs.Faults.{is_disk}
 use Rattle.loop_store.specs.Goes.{Stands}
-use Rattle.loop_store.specs.Opened.{IsOpened}
-use Rattle.loop_store.specs.Reads.{ReadsFrame}
+use Rattle.loop_store.specs.Reopen.{IsOpened}
+use Rattle.loop_store.specs.Chain.{ReadsFrame}
 use Rattle.loop_store.specs.Seen.{Seen, StandsFor}
 use Rattle.loop_store.proofs.Checked.{due-none, due-some, passed}
 

@@ -19,7 +19,8 @@ use Rattle.loop_record.specs.Layout.{checked_geometry, format_at, has_bytes, is_
 use Rattle.loop_record.specs.Reading.{IsFreshImage, contents, reading}
 use Rattle.loop_record.proofs.Decided.{equal}
 use Rattle.loop_record.proofs.Fresh.{reading-fresh}
-use Rattle.loop_store.specs.Formatted.{LeavesClosed, IsClosed, IsLaid, NoneOrEmpty, WasOrClosed, WasOrEmpty}
+use Rattle.loop_store.specs.Fresh.{LeavesClosed, IsClosed, IsLaid, WasOrClosed}
+use Rattle.loop_store.specs.Make.{NoneOrEmpty, WasOrEmpty}
 
 -- behind a closed gate nothing is formatted
 pub closed-none : (image : List ℕ) → IsClosed image → reading image ≡ Err NotFormatted

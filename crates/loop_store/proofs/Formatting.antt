@@ -14,8 +14,8 @@ use Rattle.loop_record.specs.Geometry.{clip_at, disk_size, segment_at}
 use Rattle.loop_record.specs.Layout.{is_open, super_bytes}
 use Rattle.loop_record.proofs.Decided.{differ_test, equal}
 use Rattle.loop_record.proofs.Parts.{apart}
-use Rattle.loop_store.specs.Formatted.{LeavesClosed, IsClosed, IsLaid, IsLaidClosed, WasOrClosed}
-use Rattle.loop_store.specs.Held.{Brings}
+use Rattle.loop_store.specs.Fresh.{LeavesClosed, IsClosed, IsLaid, IsLaidClosed, WasOrClosed}
+use Rattle.loop_store.specs.Grow.{Brings}
 use Rattle.loop_store.proofs.Answered.{both_ok}
 use Rattle.loop_store.proofs.Looks.{stays-settled}
 

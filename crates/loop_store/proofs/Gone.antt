@@ -15,7 +15,7 @@ use Rattle.loop_ring.proofs.SlotReads.{stays_on}
 use Rattle.loop_store.specs.Calls.{AreAnswered, Call, IsAnswered, StoreState, after_store_call, after_calls, begun_by, begun_in, failed_for, has_failed, is_look, made_by, made_in, was_refused}
 use Rattle.loop_store.specs.Faults.{is_early}
 use Rattle.loop_store.specs.Goes.{CalledEach, Goes, Stands, TellsState, with_each}
-use Rattle.loop_store.specs.Opened.{TellsOne}
+use Rattle.loop_store.specs.Reopen.{TellsOne}
 use Rattle.loop_store.specs.Seen.{Seen}
 use Rattle.loop_store.specs.Steps.{LeavesSteps}
 use Rattle.loop_store.proofs.Checked.{are-answered-as, must-answer}

@@ -14,7 +14,8 @@ use Rattle.loop_record.specs.Reading.{Holds, hold_from, empty_segment}
 use Rattle.loop_record.proofs.Steps.{plain-append}
 use Rattle.loop_record.proofs.Readings.{reading-commit, reading-begin, reading-same, whole-length}
 use Rattle.loop_ring.specs.Writes.{HasNoStray, ShowsOrNot, ShowsFrames, ShowsBeginning, slots_of, with_more}
-use Rattle.loop_store.specs.Held.{HoldsFrom, HoldsSome, IsNewestSegment, IsFreeFor}
+use Rattle.loop_store.specs.Steps.{HoldsFrom, HoldsSome}
+use Rattle.loop_store.specs.Grow.{IsNewestSegment, IsFreeFor}
 
 -- ---- the slots of frames
 

@@ -13,7 +13,7 @@ use Rattle.loop_record.proofs.Decided.{at_most, at_most_test, both, untrue}
 use Rattle.loop_ring.specs.Heads.{has_number}
 use Rattle.loop_ring.proofs.Heads.{any-index}
 use Rattle.loop_store.specs.Numbers.{IsLeastFrom}
-use Rattle.loop_store.specs.Recovered.{IsHeadIn}
+use Rattle.loop_store.specs.Found.{IsHeadIn}
 use Rattle.loop_store.proofs.Numbers.{among-block, among-range}
 
 -- a test that says the same

@@ -37,14 +37,17 @@ use Rattle.loop_store.specs.declared.fault.StoreFault.TheVariants.{NoSuchClip}
 use Rattle.loop_store.specs.Calls.{Call, IsAnswered, AnswersOtherwise, StoreState, begun_by, checks, failed_for, first_of, has_failed, is_look, locked, made_by, span_checks, unlocked, was_refused}
 use Rattle.loop_store.specs.Faults.{failed_by, is_disk, is_early}
 use Rattle.loop_store.specs.Goes.{Goes, Stands}
-use Rattle.loop_store.specs.Opened.{TellsOne}
+use Rattle.loop_store.specs.Reopen.{TellsOne}
 use Rattle.loop_store.specs.Drawn.{drawn_image}
-use Rattle.loop_store.specs.Held.{HasNoneStray, HoldsSome, Makes}
-use Rattle.loop_store.specs.Locks.{CanRefuseSpan, CanTake, EndsRun, KeepsSegments}
-use Rattle.loop_store.specs.Recovered.{IsClipNoted, IsHeadIn, IsIndex, IsIndexOf, IsRecovered}
-use Rattle.loop_store.specs.Seen.{IsKept, IsPresent, Seen, StandsFor, Tells, seen_with}
-use Rattle.loop_store.proofs.Grown.{held-some}
+use Rattle.loop_store.specs.Grow.{HasNoneStray, Makes}
+use Rattle.loop_store.specs.Steps.{HoldsSome}
+use Rattle.loop_store.specs.Lock.{CanRefuseSpan, CanTake, EndsRun, KeepsSegments}
+use Rattle.loop_store.specs.Index.{IsClipNoted, IsIndex, IsIndexOf, IsRecovered}
+use Rattle.loop_store.specs.Found.{IsHeadIn}
+use Rattle.loop_store.specs.Store.{IsKept, IsPresent}
+use Rattle.loop_store.specs.Seen.{Seen, StandsFor, Tells, seen_with}
 use Rattle.loop_store.specs.Numbers.{is_among}
+use Rattle.loop_store.proofs.Grown.{held-some}
 use Rattle.loop_store.proofs.Looked.{missing-behind}
 use Rattle.loop_store.proofs.Alike.{clip-same, free-same, locked-same, span-same, unlocked-same}
 use Rattle.loop_store.proofs.Drawn.{FitsEntry}

@@ -30,7 +30,7 @@ use Rattle.loop_ring.proofs.Held.{held-number}
 use Rattle.loop_store.specs.declared.fault.StoreFault.{StoreFault}
 use Rattle.loop_store.specs.declared.fault.StoreFault.TheVariants.{Damaged}
 use Rattle.loop_store.specs.Faults.{failed_by, is_disk, slot_refusal}
-use Rattle.loop_store.specs.Reads.{AnswersFrame, AnswersFramePart, ReadsHeld}
+use Rattle.loop_store.specs.Look.{AnswersFrame, AnswersFramePart, ReadsHeld}
 
 below : (m n : ℕ) → ltb m n ≡ true → m < n
 below m n e = grind (arith, nat_tests, e)

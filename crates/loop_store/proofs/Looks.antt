@@ -14,12 +14,14 @@ use Rattle.loop_ring.specs.Heads.{has_number, heads_of}
 use Rattle.loop_ring.proofs.Held.{held-number}
 pub use Rattle.loop_ring.proofs.SlotReads.{stays_on}
 use Rattle.loop_store.specs.Drawn.{drawn_image}
-use Rattle.loop_store.specs.Held.{HasNoneStray}
+use Rattle.loop_store.specs.Grow.{HasNoneStray}
 use Rattle.loop_store.specs.declared.index.Index.{Index}
-use Rattle.loop_store.specs.Recovered.{IsFitting, IsHeadIn, IsIndexOf, IsRecovered}
+use Rattle.loop_store.specs.Index.{IsFitting, IsIndexOf, IsRecovered}
+use Rattle.loop_store.specs.Found.{IsHeadIn}
 use Rattle.loop_store.specs.Numbers.{numbers_under}
-use Rattle.loop_store.specs.Opened.{TellsOne}
-use Rattle.loop_store.specs.Seen.{IsKept, IsPresent, Seen, StandsFor, Tells, seen_with}
+use Rattle.loop_store.specs.Reopen.{TellsOne}
+use Rattle.loop_store.specs.Store.{IsKept, IsPresent}
+use Rattle.loop_store.specs.Seen.{Seen, StandsFor, Tells, seen_with}
 use Rattle.loop_store.proofs.HeldCount.{count-held}
 use Rattle.loop_store.proofs.Looked.{held-slot}
 use Rattle.loop_store.proofs.Numbers.{among-under}

@@ -16,14 +16,16 @@ use Rattle.loop_ring.specs.Heads.{clip_counts, heads_of}
 use Rattle.loop_ring.proofs.Bytes.{closed_none}
 use Rattle.loop_ring.proofs.Counted.{counts-closed}
 use Rattle.loop_store.specs.declared.index.Index.{Index}
-use Rattle.loop_record.specs.declared.segment.SegmentHead.{SegmentHead}
 use Rattle.loop_store.specs.Drawn.{drawn_image}
+use Rattle.loop_store.specs.Grow.{HasNoneStray}
+use Rattle.loop_store.specs.Numbers.{is_among, numbers_under}
+use Rattle.loop_store.specs.Found.{IsHeadIn}
+use Rattle.loop_store.specs.Index.{IsIndexOf}
+use Rattle.loop_store.specs.Store.{IsKept}
+use Rattle.loop_store.specs.Seen.{StandsFor, Tells, seen_with}
+use Rattle.loop_record.specs.declared.segment.SegmentHead.{SegmentHead}
 use Rattle.loop_store.proofs.Drawn.{closed-entry, closed-header, drawn-length, super-length}
 use Rattle.loop_store.proofs.Regrown.{known-drawn}
-use Rattle.loop_store.specs.Held.{HasNoneStray}
-use Rattle.loop_store.specs.Numbers.{is_among, numbers_under}
-use Rattle.loop_store.specs.Recovered.{IsHeadIn, IsIndexOf}
-use Rattle.loop_store.specs.Seen.{IsKept, StandsFor, Tells, seen_with}
 
 all-none : {X : Type 0} (f : ℕ → Option X) (lo n : ℕ) → ((j : ℕ) → j < lo + n → f j ≡ None)
     → map f (range_with_len lo n) ≡ replicate n None

@@ -9,7 +9,8 @@ use Rattle.loop_record.proofs.Decided.{both, equal}
 use Rattle.loop_ring.specs.declared.ring.Ring.{Ring as LoopRing}
 use Rattle.loop_ring.specs.Heads.{clip_counts, grown, has_frame, is_of}
 use Rattle.loop_store.specs.declared.index.Index.{Index}
-use Rattle.loop_store.specs.Recovered.{IsClipNoted, IsHeadIn, IsIndex}
+use Rattle.loop_store.specs.Index.{IsClipNoted, IsIndex}
+use Rattle.loop_store.specs.Found.{IsHeadIn}
 use Rattle.std.specs.List.{All}
 
 -- a segment with a frame of the block, once it has so many

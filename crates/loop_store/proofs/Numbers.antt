@@ -21,7 +21,7 @@ use Rattle.loop_record.proofs.Readings.{length-range}
 use Rattle.loop_ring.specs.Heads.{has_number}
 use Rattle.loop_ring.proofs.Held.{sorted}
 use Rattle.loop_store.specs.Numbers.{is_among, numbers_in, numbers_under}
-use Rattle.loop_store.specs.Recovered.{IsHeadIn}
+use Rattle.loop_store.specs.Found.{IsHeadIn}
 
 enumerated : (n : ℕ) (ps : List Picture) → map (λ f. f.0) (enumerate_from n ps) ≡ range_with_len n (length ps)
 enumerated n [] = refl

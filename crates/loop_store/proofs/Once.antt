@@ -12,12 +12,11 @@ use Rattle.loop_record.specs.Recording.{Recording, Step, plain, ring_of}
 use Rattle.loop_record.proofs.Decided.{clash}
 use Rattle.loop_store.specs.Calls.{AnswersOtherwise, Call, IsAnswered, StoreState, begun_by, checks, failed_for, fault_answered, first_of, has_failed, is_look, made_by, was_refused}
 use Rattle.loop_store.specs.Goes.{Goes, Stands, TellsState}
-use Rattle.loop_store.specs.Held.{HoldsFrom, HoldsSome}
-use Rattle.loop_store.specs.Opened.{TellsOne}
+use Rattle.loop_store.specs.Steps.{HoldsFrom, HoldsSome, LeavesSteps}
+use Rattle.loop_store.specs.Reopen.{TellsOne}
 use Rattle.loop_store.specs.Seen.{HasFailed, Seen, StandsFor, Tells}
-use Rattle.loop_store.specs.Steps.{LeavesSteps}
-use Rattle.loop_store.proofs.Asked.{failed-stands, failed-told, holds-all}
 use Rattle.loop_store.specs.declared.fault.StoreFault.TheVariants.{MustReopen}
+use Rattle.loop_store.proofs.Asked.{failed-stands, failed-told, holds-all}
 use Rattle.loop_store.proofs.Checked.{must-first, refused}
 use Rattle.loop_store.proofs.Gone.{goes-once, stays-still}
 use Rattle.loop_store.proofs.Leaves.{leaves-none, leaves-same}

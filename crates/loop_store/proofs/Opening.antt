@@ -19,7 +19,8 @@ use Rattle.loop_record.proofs.Rising.{all_range-each}
 use Rattle.loop_ring.specs.Heads.{heads_of}
 use Rattle.loop_store.specs.declared.index.Index.{Index}
 use Rattle.loop_store.specs.Drawn.{drawn_image}
-use Rattle.loop_store.specs.Recovered.{IsHeadIn, IsOf, IsRecovered, SaysRecording, clips_of, some_bad_clip}
+use Rattle.loop_store.specs.Found.{IsHeadIn, clips_of, some_bad_clip}
+use Rattle.loop_store.specs.Index.{IsOf, IsRecovered, SaysRecording}
 use Rattle.loop_store.proofs.Drawn.{Clips, FitsEntry, Heads, all-there, clip-drawn, drawn-geometry, drawn-length, heads-drawn, none-bad}
 use Rattle.loop_store.proofs.RecoveredWhole.{recovered}
 use Rattle.loop_store.proofs.Regrown.{all-stand}

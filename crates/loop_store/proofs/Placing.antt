@@ -19,8 +19,8 @@ use Rattle.loop_record.proofs.Readings.{overfull_none}
 use Rattle.loop_ring.specs.Heads.{IsPlaceOf, has_frame, heads_of, is_of}
 use Rattle.loop_ring.proofs.Heads.{Newest, closed-found, head-some, head-there, heads-length, newest-found, newest-missing, there}
 use Rattle.loop_ring.proofs.Held.{held-count, none-closed}
-use Rattle.loop_store.specs.Held.{IsFreeFor}
-use Rattle.loop_store.specs.Places.{IsNext, IsOldFor}
+use Rattle.loop_store.specs.Grow.{IsFreeFor}
+use Rattle.loop_store.specs.Place.{IsNext, IsOldFor}
 
 -- ---- the next number
 

@@ -11,9 +11,9 @@ use Rattle.loop_store.specs.declared.fault.StoreFault.TheVariants.{AllLocked, Di
 use Rattle.loop_store.specs.Calls.{AnswersDue, Call, IsAnswered, AnswersOtherwise, StoreState, appended, steps_asked, checks, checks_on, due, first_of, lacks_victim, was_refused}
 use Rattle.loop_store.specs.Faults.{failed_by, is_disk, is_early, is_write_fault}
 use Rattle.loop_store.specs.Goes.{Goes, Stands, TellsState}
-use Rattle.loop_store.specs.Held.{HoldsSome}
-use Rattle.loop_store.specs.Places.{RefusesPlace}
-use Rattle.loop_store.specs.Opened.{TellsOne}
+use Rattle.loop_store.specs.Steps.{HoldsSome}
+use Rattle.loop_store.specs.Place.{RefusesPlace}
+use Rattle.loop_store.specs.Reopen.{TellsOne}
 use Rattle.loop_store.specs.Seen.{HasFailed, Seen, StandsFor, Tells}
 use Rattle.loop_store.proofs.Appended.{steps-some}
 use Rattle.loop_store.proofs.Checked.{answer-due, answer-given, due-none, failed, passed, passes, write-disk}

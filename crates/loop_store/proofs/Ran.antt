@@ -6,7 +6,7 @@ use Rattle.loop_store.specs.declared.command.Command.{Command}
 use Rattle.loop_store.specs.declared.command.Reply.{Reply}
 use Rattle.loop_store.specs.Calls.{Call}
 use Rattle.loop_store.specs.Goes.{Goes}
-use Rattle.loop_store.specs.Opened.{TellsOne}
+use Rattle.loop_store.specs.Reopen.{TellsOne}
 use Rattle.loop_store.specs.Runs.{AreCalls, IsCall, Ran}
 use Rattle.loop_store.specs.Seen.{Seen}
 use Rattle.loop_store.proofs.Gone.{goes-joined, goes-none}

@@ -14,8 +14,8 @@ use Rattle.loop_store.specs.declared.fault.StoreFault.TheVariants.{Damaged, Must
 use Rattle.loop_store.specs.Calls.{AnswersDue, Call, ReadFails, IsAnswered, StoreState, begun_by, checks_on, due, failed_for, first_of, has_failed, made_by, part_with, read_with, was_read, was_read_part, was_refused}
 use Rattle.loop_store.specs.Faults.{answers_disk, failed_in, fault_in, is_damage, is_disk, is_early}
 use Rattle.loop_store.specs.Goes.{Goes, Stands, TellsState}
-use Rattle.loop_store.specs.Opened.{TellsOne}
-use Rattle.loop_store.specs.Reads.{AnswersFrame, AnswersFramePart}
+use Rattle.loop_store.specs.Reopen.{TellsOne}
+use Rattle.loop_store.specs.Look.{AnswersFrame, AnswersFramePart}
 use Rattle.loop_store.specs.Seen.{Seen, StandsFor, Tells}
 use Rattle.loop_store.specs.Steps.{if_answered}
 use Rattle.loop_store.proofs.Checked.{answer-due, answer-given, failed, passed}

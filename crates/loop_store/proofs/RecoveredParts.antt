@@ -30,8 +30,8 @@ use Rattle.loop_ring.proofs.SlotReads.{head_read, stays_on}
 use Rattle.loop_record.proofs.Readings.{length-range}
 use Rattle.loop_store.specs.declared.fault.StoreFault.{StoreFault}
 use Rattle.loop_store.specs.Faults.{failed_by}
+use Rattle.loop_store.specs.Found.{Finds, IsHeadIn, Recovers, clips_of, refusal, segment_said, some_bad_clip}
 use Rattle.loop_ring.specs.Heads.{heads_of}
-use Rattle.loop_store.specs.Recovered.{Finds, IsHeadIn, Recovers, clips_of, refusal, segment_said, some_bad_clip}
 
 -- ---- refusals
 

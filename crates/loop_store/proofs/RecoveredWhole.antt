@@ -15,7 +15,8 @@ use Rattle.loop_record.specs.Recording.{Recording, last_number, ring_of}
 use Rattle.loop_record.proofs.FoundSegments.{AreFull, IsFoundIn, fault-of, found-low, found-read, read-all, read-bad_clip, reading-bad_slot, reading-high}
 use Rattle.loop_ring.specs.Heads.{clip_counts, heads_of}
 use Rattle.loop_store.specs.declared.index.Index.{Index}
-use Rattle.loop_store.specs.Recovered.{IsFitting, IsHeadIn, IsOf, IsRecovered, clips_of, some_bad_clip}
+use Rattle.loop_store.specs.Index.{IsFitting, IsOf, IsRecovered}
+use Rattle.loop_store.specs.Found.{IsHeadIn, clips_of, some_bad_clip}
 
 -- the segments that were found, in the order of their blocks
 pub found-by : (g : Geometry) (image : List ℕ) (fs xs : List Found) (heads : List (Option SegmentHead))

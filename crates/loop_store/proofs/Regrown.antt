@@ -19,9 +19,10 @@ use Rattle.loop_store.specs.declared.index.Index.{Index}
 use Rattle.loop_store.specs.declared.place.Place.{Place}
 use Rattle.loop_store.specs.declared.place.Place.TheVariants.{Newest, Closed, Victim}
 use Rattle.loop_store.specs.Drawn.{drawn_image}
-use Rattle.loop_store.specs.Held.{IsFreeFor}
-use Rattle.loop_store.specs.Places.{IsPlaceAt, head_at, place_segment, steps_before}
-use Rattle.loop_store.specs.Recovered.{IsHeadIn, IsIndexOf, head_after}
+use Rattle.loop_store.specs.Grow.{IsFreeFor}
+use Rattle.loop_store.specs.Place.{IsPlaceAt, head_at, place_segment, steps_before}
+use Rattle.loop_store.specs.Found.{IsHeadIn}
+use Rattle.loop_store.specs.Index.{IsIndexOf, head_after}
 use Rattle.loop_store.proofs.Drawn.{AllStand, Clips, Heads, MayStand, head_in, heads-drawn, slots-drawn}
 use Rattle.loop_store.proofs.Grown.{begun-held}
 use Rattle.loop_store.proofs.Redrawn.{drawn-begun, drawn-closed, drawn-grown, segment-of}

@@ -28,11 +28,13 @@ use Rattle.loop_record.proofs.Segments.{placed_there}
 use Rattle.loop_ring.specs.Heads.{heads_of, is_of}
 use Rattle.loop_ring.specs.Writes.{HasNoStray}
 use Rattle.loop_ring.proofs.Heads.{head_of, head-there, heads-length, heads-shown, newest-found, one-entry, position-none}
-use Rattle.loop_store.specs.Held.{HasNoneStray}
+use Rattle.loop_store.specs.Grow.{HasNoneStray}
 use Rattle.loop_store.specs.declared.index.Index.{Index}
-use Rattle.loop_store.specs.Opened.{IsOpened, ReadsAlike, WasOrReadsAlike}
-use Rattle.loop_store.specs.Recovered.{IsHeadIn, IsRecovered}
-use Rattle.loop_store.specs.Seen.{IsPresent, seen_with}
+use Rattle.loop_store.specs.Reopen.{IsOpened, ReadsAlike, WasOrReadsAlike}
+use Rattle.loop_store.specs.Found.{IsHeadIn}
+use Rattle.loop_store.specs.Index.{IsRecovered}
+use Rattle.loop_store.specs.Store.{IsPresent}
+use Rattle.loop_store.specs.Seen.{seen_with}
 use Rattle.loop_store.proofs.Looks.{told-by}
 use Rattle.loop_store.proofs.Placing.{found-of}
 

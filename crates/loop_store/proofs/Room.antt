@@ -21,9 +21,9 @@ use Rattle.loop_ring.specs.Writes.{HasNoStray, ShowsFrames, ShowsOrNot}
 use Rattle.loop_ring.proofs.Heads.{heads-committed, heads-length, heads-shown}
 use Rattle.loop_store.specs.declared.place.Place.{Place}
 use Rattle.loop_store.specs.declared.place.Place.TheVariants.{Newest, Closed, Victim}
-use Rattle.loop_store.specs.Held.{HasNoneStray, HoldsSome, IsFreeFor, IsNewestSegment}
-use Rattle.loop_store.specs.Places.{IsBegunAt, IsGrownAt, IsKnown, IsOldFor, IsPlaceAt, head_at, place_segment, steps_before}
-use Rattle.loop_store.specs.Steps.{steps_or_none}
+use Rattle.loop_store.specs.Grow.{HasNoneStray, IsFreeFor, IsNewestSegment}
+use Rattle.loop_store.specs.Steps.{HoldsSome, steps_or_none}
+use Rattle.loop_store.specs.Place.{IsBegunAt, IsGrownAt, IsKnown, IsOldFor, IsPlaceAt, head_at, place_segment, steps_before}
 
 -- ---- one image holds one recording
 

@@ -4,7 +4,8 @@ use Rattle.loop_disk.specs.Medium.{Medium}
 use Rattle.loop_record.specs.Recording.{Recording}
 use Rattle.loop_record.proofs.Bounds.{limits}
 use Rattle.loop_store.specs.declared.index.Index.{Index}
-use Rattle.loop_store.specs.Seen.{IsKept, StandsFor, seen_with}
+use Rattle.loop_store.specs.Store.{IsKept}
+use Rattle.loop_store.specs.Seen.{StandsFor, seen_with}
 use Rattle.loop_store.proofs.Looks.{told-drawn}
 use Rattle.loop_store.proofs.Reopened.{present-opened}
 

@@ -5,7 +5,7 @@ use Rattle.loop_disk.proofs.Moments.{started, weaker}
 use Rattle.loop_record.specs.declared.geometry.Geometry.{Geometry}
 use Rattle.loop_record.specs.Reading.{Holds}
 use Rattle.loop_record.specs.Recording.{Recording, Step}
-use Rattle.loop_store.specs.Held.{HoldsSome}
+use Rattle.loop_store.specs.Steps.{HoldsSome}
 use Rattle.loop_store.proofs.Grown.{held-some}
 
 -- nothing was called

@@ -6,7 +6,7 @@ use Rattle.loop_disk.specs.declared.fault.Failures.{Failures}
 use Rattle.loop_disk.specs.Calls.{Stays, with_failed}
 use Rattle.loop_disk.specs.Medium.{Medium}
 use Rattle.loop_store.specs.Calls.{AreAnswered, Call, StoreState, after_calls, begun_in, failed_for, is_look, made_in, was_refused}
-use Rattle.loop_store.specs.Opened.{TellsOne}
+use Rattle.loop_store.specs.Reopen.{TellsOne}
 use Rattle.loop_store.specs.Seen.{Seen, StandsFor, Tells}
 use Rattle.loop_store.specs.Steps.{LeavesSteps}
 

@@ -6,14 +6,14 @@ use Rattle.loop_record.specs.declared.geometry.Geometry.{Geometry}
 use Rattle.loop_record.specs.Geometry.{frame_bytes}
 use Rattle.loop_record.specs.Recording.{picture}
 use Rattle.loop_store.specs.declared.command.Command.{Command}
-use Rattle.loop_store.specs.declared.command.Command.TheVariants as command
 use Rattle.loop_store.specs.declared.command.ReadFrame.{ReadFrame}
 use Rattle.loop_store.specs.declared.command.Reply.{Reply}
-use Rattle.loop_store.specs.declared.command.Reply.TheVariants as reply
 use Rattle.loop_store.specs.declared.fault.StoreFault.{StoreFault}
 use Rattle.loop_store.specs.Calls.{Call, appended, locked, unlocked, was_read}
 use Rattle.loop_store.specs.Goes.{Goes}
 use Rattle.loop_store.specs.Seen.{Seen}
+use Rattle.loop_store.specs.declared.command.Command.TheVariants as command
+use Rattle.loop_store.specs.declared.command.Reply.TheVariants as reply
 
 -- a frame that is to be stored has the size of the geometry's
 abbrev pub IsOfSize : {A : Type 0} → Geometry → Command A → Type 0

@@ -1,18 +1,14 @@
 -- A store as its callers see it, and the recording that it stands for.
-use Rattle.std.specs.Prelude.{◌≡◌, ℕ, Result, Ok, Err, Bool, true, false, Option, List, length, min}
+use Rattle.std.specs.Prelude.{◌≡◌, ℕ, Result, Ok, Err, Bool, true, false, Option, List, length}
 use Rattle.loop_disk.specs.Medium.{Medium, IsSettled}
 use Rattle.loop_record.specs.declared.clip.Span.{Span}
 use Rattle.loop_record.specs.declared.geometry.Geometry.{Geometry}
-use Rattle.loop_record.specs.Geometry.{frame_bytes}
 use Rattle.loop_record.specs.Recording.{IsWellFormed, Recording, holds}
 use Rattle.loop_record.specs.Reading.{Holds}
-use Rattle.loop_ring.specs.Groups.{Grouped}
 use Rattle.loop_store.specs.declared.fault.StoreFault.{StoreFault}
 use Rattle.loop_store.specs.declared.fault.StoreFault.TheVariants.{Disk}
 use Rattle.loop_store.specs.declared.index.Index.{Index}
-use Rattle.loop_store.specs.Held.{HasNoneStray}
 use Rattle.loop_store.specs.Numbers.{is_among, numbers_under}
-use Rattle.loop_store.specs.Recovered.{IsFitting, IsRecovered, SaysRecording}
 
 -- the disk and the geometry, and what a store tells of its recording: the number that comes next, the numbers
 -- that are held, the clip of each id; and whether a call that writes has failed
@@ -50,8 +46,6 @@ pub record StandsFor {D : Type 0} (medium : D → Medium) (s : Seen D) (r : Reco
   pub settled : s.must_reopen ≡ false → (medium s.disk).honest → IsSettled (medium s.disk)
   pub held : s.must_reopen ≡ false → (medium s.disk).honest → Holds s.geometry r (medium s.disk).bytes
 
--- ---- refusals
-
 -- after a failed call of the disk the store has to be opened again, and tells what it told before
 abbrev pub HasFailed : {D : Type 0} → Seen D → Seen D → Type 0
 HasFailed old new = new ≡ record old { disk = new.disk; must_reopen = true }
@@ -62,23 +56,3 @@ abbrev pub Refused : {D T : Type 0} → Seen D → Seen D → Result T StoreFaul
 Refused old new (Ok x) = Unit {0}
 Refused old new (Err (Disk fault)) = HasFailed old new
 Refused old new (Err fault) = new ≡ old
-
--- ---- what only the store's own code looks at
-
--- the disk holds a recording, of which the index says all, with no stray gate, and a crash leaves nothing else
-pub record IsPresent {A : Type 0} (index : Index A) (m : Medium) : Type 0 where
-  pub recorded : IsRecovered index m.bytes
-  pub settled : IsSettled m
-  pub unstray : HasNoneStray index.ring.geometry m.bytes
-
--- the index fits the disk; with frames that are made up it says a whole recording; and where the store needn't be
--- reopened, it says what an honest disk holds
-pub record IsKept {D A : Type 0} (medium : D → Medium) (disk : D) (index : Index A) (must_reopen : Bool) : Type 0 where
-  pub fits : IsFitting index (medium disk).size
-  pub known : SaysRecording index
-  pub present : must_reopen ≡ false → (medium disk).honest → IsPresent index (medium disk)
-
--- the group is for frames of the index's geometry, with memory for as many as may be stored at once
-pub record IsGroupFor {A : Type 0} (index : Index A) (group : Grouped) : Type 0 where
-  pub size_is : group.size ≡ frame_bytes index.ring.geometry
-  pub limit_is : group.limit ≡ min 8 index.ring.geometry.slots

@@ -6,7 +6,7 @@ ghost use Rattle.loop_record.specs.Plain.{pictures};
 ghost use Rattle.loop_record.specs.Recording.{empty, holds, plain, ring_of};
 ghost use Rattle.loop_store.specs.Calls.{StoreState, steps_asked};
 ghost use Rattle.loop_store.specs.Goes.{Stands};
-ghost use Rattle.loop_store.specs.Reads.{ReadsFrame};
+ghost use Rattle.loop_store.specs.Chain.{ReadsFrame};
 
 use crate::{OpenRefused, Store, StoreFault, format};
 use loop_disk::Disk;

@@ -13,8 +13,8 @@ ghost use Rattle.loop_record.specs.Layout.{geometry_in, header_at, is_slot_of, i
 ghost use Rattle.loop_record.specs.Plain.{AreIn, IsSomeHigh, lacks_number, segment_of, segments_of, with_segment};
 ghost use Rattle.loop_record.specs.Reading.{by_block, is_bad_slot, is_high, open_segments, parts_of, reading};
 ghost use Rattle.loop_ring.specs.Heads.{heads_of};
-ghost use Rattle.loop_store.specs.Formatted.{FitsDisk};
-ghost use Rattle.loop_store.specs.Recovered.{Finds, IsHeadIn, clips_of, refusal, segment_said, some_bad_clip};
+ghost use Rattle.loop_store.specs.Fresh.{FitsDisk};
+ghost use Rattle.loop_store.specs.Found.{Finds, IsHeadIn, clips_of, refusal, segment_said, some_bad_clip};
 
 use crate::StoreFault;
 use loop_disk::Disk;

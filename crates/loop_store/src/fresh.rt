@@ -4,8 +4,9 @@ ghost use Rattle.std.specs.Prelude.{◌≡◌, ◌+◌, ◌<◌, ◌≤◌, IsTr
 ghost use Rattle.loop_disk.specs.Medium.{IsSettled};
 ghost use Rattle.loop_record.specs.Geometry.{is_good};
 ghost use Rattle.loop_record.specs.Layout.{super_bytes};
-ghost use Rattle.loop_store.specs.Formatted.{FitsDisk, HoldsFresh, IsClosed, IsLaid, IsLaidClosed, LeavesClosed, NoneOrEmpty, WasOrClosed, WasOrEmpty};
-ghost use Rattle.loop_store.specs.Held.{Brings};
+ghost use Rattle.loop_store.specs.Fresh.{FitsDisk, HoldsFresh, IsClosed, IsLaid, IsLaidClosed, LeavesClosed, WasOrClosed};
+ghost use Rattle.loop_store.specs.Make.{NoneOrEmpty, WasOrEmpty};
+ghost use Rattle.loop_store.specs.Grow.{Brings};
 
 use loop_disk::{Disk, DiskFault, store};
 use loop_record::{Geometry, HEADER_SIZE, OPEN, SUPER_SIZE, encode_super};

@@ -9,8 +9,8 @@ ghost use Rattle.loop_record.specs.Reading.{empty_segment};
 ghost use Rattle.loop_record.specs.Recording.{store};
 ghost use Rattle.loop_ring.specs.Writes.{HasNoStray, ShowsFrames};
 ghost use Rattle.loop_store.specs.declared.place.Place.TheVariants.{Victim};
-ghost use Rattle.loop_store.specs.Held.{HasNext, IsFreeFor, IsNewestSegment, Makes};
-ghost use Rattle.loop_store.specs.Places.{IsBegunAt, IsGrownAt, IsKnown, place_segment, steps_before};
+ghost use Rattle.loop_store.specs.Grow.{HasNext, IsFreeFor, IsNewestSegment, Makes};
+ghost use Rattle.loop_store.specs.Place.{IsBegunAt, IsGrownAt, IsKnown, place_segment, steps_before};
 
 use crate::place::Place;
 use loop_disk::{Disk, DiskFault};

@@ -5,8 +5,8 @@ ghost use Rattle.std.specs.List.{position};
 ghost use Rattle.loop_record.specs.Geometry.{is_good};
 ghost use Rattle.loop_record.specs.Recording.{Recording, last_number, ring_of, victim};
 ghost use Rattle.loop_ring.specs.Heads.{IsPlaceOf, clip_counts, has_frame, heads_of, is_of};
-ghost use Rattle.loop_store.specs.Places.{AnswersPlace, IsPlace, place_segment};
-ghost use Rattle.loop_store.specs.Recovered.{IsClipNoted, IsIndex, IsIndexOf, IsNoted, IsOf};
+ghost use Rattle.loop_store.specs.Place.{AnswersPlace, IsPlace, place_segment};
+ghost use Rattle.loop_store.specs.Index.{IsClipNoted, IsIndex, IsIndexOf, IsNoted, IsOf};
 
 use crate::StoreFault;
 use crate::place::Place;

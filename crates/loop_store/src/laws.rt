@@ -4,9 +4,9 @@
 ghost use Rattle.std.specs.Prelude.{◌≡◌, ◌⊎◌, ◌++◌, List, false};
 ghost use Rattle.loop_store.specs.Calls.{Call};
 ghost use Rattle.loop_store.specs.Goes.{Goes};
-ghost use Rattle.loop_record.specs.Recording.{Recording};
-ghost use Rattle.loop_store.specs.Opened.{IsOpened, TellsOne};
+ghost use Rattle.loop_store.specs.Reopen.{IsOpened, TellsOne};
 ghost use Rattle.loop_store.specs.Seen.{StandsFor};
+ghost use Rattle.loop_record.specs.Recording.{Recording};
 
 use crate::Store;
 use loop_disk::Disk;

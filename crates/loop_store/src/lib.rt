@@ -1,6 +1,6 @@
 //! A loop recording on a disk: made, appended to, read, and after a stop at any moment still there.
 //!
-//! A `Store` stands for a recording of the plain recorder. `specs/Seen` says how, and `specs/Held` what a call
+//! A `Store` stands for a recording of the plain recorder. `specs/Seen` says how, and `specs/Steps` what a call
 //! may leave of it: whatever the moment of a stop, the disk's image reads as that recording after a beginning
 //! of the steps that were asked for.
 //!
@@ -11,6 +11,10 @@
 //! - `command`: lists of commands, and the replies; `memory`: memory for a frame;
 //! - `laws`: what calls leave, one after the other; `chain`: calls in a row, across a crash;
 //! - `fault`: the refusals, with their numbers and names.
+//!
+//! Of `specs`, contracts of public calls name `Calls`, `Steps`, `Seen`, `Goes`, `Runs`, `Faults`, `Numbers`, `Make`,
+//! `Reopen` and `Chain`. The others are for this crate alone: `Drawn`, and those named after the files in `src` of
+//! which they speak.
 #![tactic(auto)]
 
 pub mod chain;

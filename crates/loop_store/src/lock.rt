@@ -6,10 +6,11 @@ ghost use Rattle.loop_record.specs.Geometry.{disk_size};
 ghost use Rattle.loop_record.specs.Recording.{Recording, clip_of, first_free, holds, lock, ring_of, unlock};
 ghost use Rattle.loop_store.specs.Calls.{locked, missing, unlocked};
 ghost use Rattle.loop_store.specs.Goes.{Goes};
-ghost use Rattle.loop_store.specs.Held.{Makes};
-ghost use Rattle.loop_store.specs.Locks.{AnswersSpan, AreHeld, CanRefuseSpan, CanTake, EndsRun, IsInSpan, KeepsSegments};
-ghost use Rattle.loop_store.specs.Recovered.{IsClipNoted, IsIndex, IsIndexOf};
-ghost use Rattle.loop_store.specs.Seen.{IsKept, IsPresent, Refused, seen_with};
+ghost use Rattle.loop_store.specs.Grow.{Makes};
+ghost use Rattle.loop_store.specs.Lock.{AnswersSpan, AreHeld, CanRefuseSpan, CanTake, EndsRun, IsInSpan, KeepsSegments};
+ghost use Rattle.loop_store.specs.Index.{IsClipNoted, IsIndex, IsIndexOf};
+ghost use Rattle.loop_store.specs.Store.{IsKept, IsPresent};
+ghost use Rattle.loop_store.specs.Seen.{Refused, seen_with};
 
 use crate::StoreFault;
 use crate::index::Index;

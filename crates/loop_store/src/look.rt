@@ -8,8 +8,9 @@ ghost use Rattle.loop_record.specs.Plain.{AreIn};
 ghost use Rattle.loop_record.specs.Recording.{Recording, holds};
 ghost use Rattle.loop_ring.specs.Heads.{has_number};
 ghost use Rattle.loop_store.specs.Numbers.{IsLeastFrom, numbers_in, numbers_under};
-ghost use Rattle.loop_store.specs.Reads.{AnswersFrame, AnswersFramePart, ReadsHeld};
-ghost use Rattle.loop_store.specs.Recovered.{IsHeadIn, IsIndex, IsIndexOf};
+ghost use Rattle.loop_store.specs.Look.{AnswersFrame, AnswersFramePart, ReadsHeld};
+ghost use Rattle.loop_store.specs.Found.{IsHeadIn};
+ghost use Rattle.loop_store.specs.Index.{IsIndex, IsIndexOf};
 
 use crate::StoreFault;
 use crate::index::Index;

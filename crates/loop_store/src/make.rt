@@ -6,7 +6,7 @@ ghost use Rattle.loop_disk.specs.Medium.{LeavesOnly};
 ghost use Rattle.loop_record.specs.Geometry.{disk_size, is_good};
 ghost use Rattle.loop_record.specs.Recording.{empty};
 ghost use Rattle.loop_store.specs.Faults.{is_disk};
-ghost use Rattle.loop_store.specs.Formatted.{IsBadGeometry, IsFormatted, IsRefusedFormat, WasOrEmpty, disk_after, failed_opening};
+ghost use Rattle.loop_store.specs.Make.{IsBadGeometry, IsFormatted, IsRefusedFormat, WasOrEmpty, disk_after, failed_opening};
 ghost use Rattle.loop_store.specs.Seen.{StandsFor};
 
 use crate::fresh::lay_out;

@@ -1,7 +1,7 @@
 //! Where an append goes.
 
 ghost use Rattle.std.specs.Prelude.{◌≡◌};
-ghost use Rattle.loop_store.specs.Places.{place_segment};
+ghost use Rattle.loop_store.specs.Place.{place_segment};
 
 /// Where the next frames go.
 #[derive(Clone, Copy, Debug)]

@@ -4,7 +4,8 @@ ghost use Rattle.std.specs.Prelude.{◌≡◌, ◌+◌, ◌%◌, ◌≤◌, ◌�
 ghost use Rattle.loop_record.specs.Geometry.{frame_bytes};
 ghost use Rattle.loop_store.specs.Calls.{appended};
 ghost use Rattle.loop_store.specs.Goes.{Goes};
-ghost use Rattle.loop_store.specs.Seen.{IsKept, Refused, seen_with};
+ghost use Rattle.loop_store.specs.Store.{IsKept};
+ghost use Rattle.loop_store.specs.Seen.{Refused, seen_with};
 
 use crate::StoreFault;
 use crate::grow::append_group;

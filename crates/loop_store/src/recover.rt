@@ -3,8 +3,9 @@
 ghost use Rattle.std.specs.Prelude.{◌≡◌, Ok, Err, IfOk};
 ghost use Rattle.loop_record.specs.Layout.{geometry_in};
 ghost use Rattle.loop_record.specs.Reading.{reading};
-ghost use Rattle.loop_store.specs.Formatted.{FitsDisk};
-ghost use Rattle.loop_store.specs.Recovered.{Finds, IsFitting, IsRecovered, SaysRecording};
+ghost use Rattle.loop_store.specs.Fresh.{FitsDisk};
+ghost use Rattle.loop_store.specs.Found.{Finds};
+ghost use Rattle.loop_store.specs.Index.{IsFitting, IsRecovered, SaysRecording};
 
 use crate::StoreFault;
 use crate::found::{check_slots, in_order, read_geometry, read_heads, read_table};

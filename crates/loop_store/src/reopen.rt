@@ -5,11 +5,12 @@ ghost use Rattle.loop_disk.specs.Calls.{Called, Stays};
 ghost use Rattle.loop_disk.specs.Medium.{IsSettled, LeavesOnly};
 ghost use Rattle.loop_record.specs.Reading.{reading};
 ghost use Rattle.loop_store.specs.Faults.{is_disk, failed_in};
-ghost use Rattle.loop_store.specs.Formatted.{disk_after, failed_opening};
-ghost use Rattle.loop_store.specs.Opened.{IsOpened, IsRefusedOpen, ReadsAlike, TellsOne, WasOrReadsAlike};
-ghost use Rattle.loop_store.specs.Held.{Brings};
-ghost use Rattle.loop_store.specs.Recovered.{Finds, IsFitting, IsRecovered, Recovers, SaysRecording};
-ghost use Rattle.loop_store.specs.Seen.{IsGroupFor, IsPresent};
+ghost use Rattle.loop_store.specs.Make.{disk_after, failed_opening};
+ghost use Rattle.loop_store.specs.Reopen.{IsOpened, IsRefusedOpen, ReadsAlike, TellsOne, WasOrReadsAlike};
+ghost use Rattle.loop_store.specs.Grow.{Brings};
+ghost use Rattle.loop_store.specs.Found.{Finds, Recovers};
+ghost use Rattle.loop_store.specs.Index.{IsFitting, IsRecovered, SaysRecording};
+ghost use Rattle.loop_store.specs.Store.{IsGroupFor, IsPresent};
 
 use crate::index::Index;
 use crate::recover::recover;

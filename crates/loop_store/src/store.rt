@@ -9,7 +9,8 @@ ghost use Rattle.loop_record.specs.Recording.{Recording, last_number, picture, r
 ghost use Rattle.loop_store.specs.Calls.{appended, locked, read_with, unlocked, was_read, part_with, was_read_part};
 ghost use Rattle.loop_store.specs.Goes.{Goes};
 ghost use Rattle.loop_store.specs.Numbers.{IsLeastFrom, is_among};
-ghost use Rattle.loop_store.specs.Seen.{IsGroupFor, IsKept, Refused, Seen, StandsFor, seen_with};
+ghost use Rattle.loop_store.specs.Store.{IsGroupFor, IsKept};
+ghost use Rattle.loop_store.specs.Seen.{Refused, Seen, StandsFor, seen_with};
 
 use crate::StoreFault;
 use crate::found::in_order;

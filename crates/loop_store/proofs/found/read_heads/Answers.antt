@@ -3,7 +3,7 @@ use Rattle.std.specs.List.{All}
 use Rattle.std.proofs.lemmas.List.Elements.{All-push}
 use Rattle.loop_disk.proofs.Moments.{called_on}
 use Rattle.loop_ring.proofs.SlotReads.{stays_on}
-use Rattle.loop_store.specs.Recovered.{IsHeadIn}
+use Rattle.loop_store.specs.Found.{IsHeadIn}
 use Rattle.loop_store.proofs.RecoveredParts.{finds-on, heads-more, heads-wrong}
 use Rattle.loop_store.proofs.found.read_heads.Goals as goal
 

@@ -4,7 +4,7 @@ use Rattle.std.specs.List.{All, range_with_len}
 use Rattle.loop_disk.specs.Calls.{Called, Stays}
 use Rattle.loop_record.specs.Geometry.{segment_at}
 use Rattle.loop_record.specs.Layout.{header_at}
-use Rattle.loop_store.specs.Recovered.{IsHeadIn}
+use Rattle.loop_store.specs.Found.{IsHeadIn}
 use Rattle.loop_store.proofs.found.read_heads.Given as goal
 
 abbrev pub invariant-loop-segment : goal.invariant-loop-segment

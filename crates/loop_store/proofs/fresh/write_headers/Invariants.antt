@@ -1,7 +1,7 @@
 use Rattle.std.proofs.Common.{None}
 use Rattle.loop_disk.specs.Calls.{Called}
 use Rattle.loop_disk.specs.Medium.{LeavesOnly}
-use Rattle.loop_store.specs.Formatted.{IsClosed, IsLaidClosed}
+use Rattle.loop_store.specs.Fresh.{IsClosed, IsLaidClosed}
 use Rattle.loop_store.proofs.fresh.write_headers.Given as goal
 
 -- the headers so far are closed, behind a closed gate

@@ -5,8 +5,9 @@ use Rattle.loop_record.specs.Reading.{Holds}
 use Rattle.loop_record.specs.Recording.{Step, plain, ring_of}
 use Rattle.loop_record.proofs.Bounds.{limits}
 use Rattle.loop_store.specs.declared.place.Place.{Place}
-use Rattle.loop_store.specs.Held.{HoldsSome, IsNewestSegment}
-use Rattle.loop_store.specs.Places.{place_segment}
+use Rattle.loop_store.specs.Steps.{HoldsSome}
+use Rattle.loop_store.specs.Grow.{IsNewestSegment}
+use Rattle.loop_store.specs.Place.{place_segment}
 use Rattle.loop_store.proofs.Answered.{called-none}
 use Rattle.loop_store.proofs.Room.{closed-at, known-closed, known-newest}
 use Rattle.loop_store.proofs.Stands.{unmoved-some}

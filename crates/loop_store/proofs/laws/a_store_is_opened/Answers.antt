@@ -1,6 +1,6 @@
 use Rattle.std.proofs.Common.{◌≡◌, Bool, false, refl, subst, sym}
 use Rattle.loop_record.proofs.Bounds.{limits}
-use Rattle.loop_store.specs.Opened.{IsOpened}
+use Rattle.loop_store.specs.Reopen.{IsOpened}
 use Rattle.loop_store.specs.Seen.{Seen, seen_with}
 use Rattle.loop_store.proofs.Reopened.{present-opened}
 use Rattle.loop_store.proofs.laws.a_store_is_opened.Goals as goal

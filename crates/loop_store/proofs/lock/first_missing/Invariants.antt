@@ -1,7 +1,7 @@
 use Rattle.std.proofs.Common.{◌+◌, ◌-◌, ◌≤◌, ℕ, List}
 use Rattle.loop_record.specs.Recording.{Recording}
-use Rattle.loop_store.specs.Locks.{AreHeld}
-use Rattle.loop_store.specs.Recovered.{IsIndexOf}
+use Rattle.loop_store.specs.Lock.{AreHeld}
+use Rattle.loop_store.specs.Index.{IsIndexOf}
 use Rattle.loop_store.proofs.lock.first_missing.Given as goal
 
 -- the numbers of the span before the next one are held

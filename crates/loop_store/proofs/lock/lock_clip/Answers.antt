@@ -5,12 +5,12 @@ use Rattle.loop_record.specs.declared.geometry.Geometry.{Geometry}
 use Rattle.loop_record.specs.Recording.{Recording, free_id, lock, ring_of}
 use Rattle.loop_store.specs.declared.fault.StoreFault.TheVariants.{Disk, MustReopen}
 use Rattle.loop_store.specs.Calls.{first_of, locked, span_checks}
-use Rattle.loop_store.specs.Locks.{CanTake}
+use Rattle.loop_store.specs.Lock.{CanTake}
 use Rattle.loop_store.specs.declared.index.Index.{Index}
 use Rattle.loop_store.specs.Seen.{seen_with}
+use Rattle.loop_store.specs.Drawn.{drawn_image}
 use Rattle.loop_store.proofs.Checked.{answer-given}
 use Rattle.loop_store.proofs.Locked.{goes-noted, goes-unnoted, kept-noted, lock-redrawn, lock-refused}
-use Rattle.loop_store.specs.Drawn.{drawn_image}
 use Rattle.loop_store.proofs.Alike.{span-same}
 use Rattle.loop_store.proofs.Looks.{alike-by, failed-kept, one-kept}
 use Rattle.loop_store.proofs.Once.{goes-must}

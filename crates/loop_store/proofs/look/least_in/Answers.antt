@@ -3,7 +3,7 @@ use Rattle.loop_record.specs.declared.segment.SegmentHead.{SegmentHead}
 use Rattle.loop_record.proofs.Bounds.{limits}
 use Rattle.loop_ring.specs.Heads.{has_number}
 use Rattle.loop_store.specs.Numbers.{IsLeastFrom}
-use Rattle.loop_store.specs.Recovered.{IsHeadIn}
+use Rattle.loop_store.specs.Found.{IsHeadIn}
 use Rattle.loop_store.proofs.Least.{least-over, least-there}
 use Rattle.loop_store.proofs.look.least_in.Goals as goal
 

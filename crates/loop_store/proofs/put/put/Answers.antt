@@ -8,8 +8,8 @@ use Rattle.loop_store.specs.declared.fault.StoreFault.{StoreFault}
 use Rattle.loop_store.specs.declared.fault.StoreFault.TheVariants.{MustReopen, NumbersSpent}
 use Rattle.loop_store.specs.Calls.{appended}
 use Rattle.loop_store.specs.declared.place.Place.{Place}
-use Rattle.loop_store.specs.Held.{HoldsSome}
-use Rattle.loop_store.specs.Places.{IsKnown, place_segment}
+use Rattle.loop_store.specs.Steps.{HoldsSome}
+use Rattle.loop_store.specs.Place.{IsKnown, place_segment}
 use Rattle.loop_store.specs.Seen.{seen_with}
 use Rattle.loop_store.specs.Drawn.{drawn_image}
 use Rattle.loop_store.proofs.Alike.{refuses-same}

@@ -1,6 +1,6 @@
 use Rattle.std.proofs.Common.{◌≡◌, Err}
 use Rattle.loop_record.specs.Reading.{reading}
-use Rattle.loop_store.specs.Recovered.{IsRecovered}
+use Rattle.loop_store.specs.Index.{IsRecovered}
 use Rattle.loop_store.proofs.RecoveredParts.{finds-after}
 use Rattle.loop_store.proofs.recover.recover.Goals as goal
 

@@ -1,7 +1,7 @@
 use Rattle.std.proofs.Common.{Some, None, ap}
 use Rattle.loop_disk.proofs.Moments.{started, weaker}
 use Rattle.loop_record.specs.Reading.{reading}
-use Rattle.loop_store.specs.Opened.{ReadsAlike}
+use Rattle.loop_store.specs.Reopen.{ReadsAlike}
 use Rattle.loop_store.proofs.Reopened.{found-alike, found-place, found-present, found-whole, unstray-missing}
 use Rattle.loop_store.proofs.Answered.{both_ok, called-none}
 use Rattle.loop_store.proofs.reopen.clear_newest.Goals as goal

@@ -8,8 +8,8 @@ use Rattle.loop_record.specs.Recording.{Picture, picture}
 use Rattle.loop_store.specs.Calls.{appended}
 use Rattle.loop_store.specs.Goes.{Goes}
 use Rattle.loop_store.specs.Seen.{Refused}
-use Rattle.loop_store.proofs.NextNumber.{next-one}
 use Rattle.loop_store.specs.declared.fault.StoreFault.{StoreFault}
+use Rattle.loop_store.proofs.NextNumber.{next-one}
 use Rattle.loop_desk.specs.declared.limits.Flushed.{Flushed}
 use Rattle.loop_desk.specs.Desk.{flushed}
 use Rattle.loop_desk.specs.Seen.{DeskGoes, IsDesk, SeenDesk}

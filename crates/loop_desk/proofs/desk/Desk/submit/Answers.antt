@@ -6,7 +6,7 @@ use Rattle.loop_record.specs.Geometry.{frame_bytes}
 use Rattle.loop_record.specs.Plain.{pictures}
 use Rattle.loop_record.specs.Recording.{last_number, picture, ring_of}
 use Rattle.loop_desk.specs.Desk.{DeskState, submit_answer, submitted}
-use Rattle.loop_store.specs.Opened.{TellsOne}
+use Rattle.loop_store.specs.Reopen.{TellsOne}
 use Rattle.loop_desk.specs.Seen.{DeskGoes, IsDesk, SeenDesk, TellsDesk, rules_of}
 use Rattle.loop_desk.proofs.Called.{goes-submit}
 use Rattle.loop_desk.proofs.Kept.{below, keep-all, kept-pushed}

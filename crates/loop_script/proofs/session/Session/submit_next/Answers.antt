@@ -1,10 +1,10 @@
 use Rattle.std.specs.Prelude.{OnErr}
 use Rattle.loop_store.specs.declared.fault.StoreFault.{StoreFault}
+use Rattle.loop_store.specs.Reopen.{TellsOne}
 use Rattle.std.proofs.Common.{◌≡◌, ℕ, IfErr, Result, [], length, sym, ap, ◌∙◌, subst}
 use Rattle.loop_disk.specs.declared.memory.MemDisk.{MemDisk}
 use Rattle.loop_record.specs.Geometry.{frame_bytes}
 use Rattle.loop_record.specs.Recording.{picture}
-use Rattle.loop_store.specs.Opened.{TellsOne}
 use Rattle.loop_desk.specs.Seen.{DeskGoes, SeenDesk, answer_of}
 use Rattle.loop_desk.proofs.Gone.{desk-none}
 use Rattle.loop_script.specs.Pattern.{pattern_picture}

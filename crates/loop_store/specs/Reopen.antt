@@ -7,8 +7,6 @@ use Rattle.loop_record.specs.Recording.{Recording}
 use Rattle.loop_store.specs.declared.fault.StoreFault.{StoreFault}
 use Rattle.loop_store.specs.Seen.{Seen, StandsFor, Tells}
 
--- ---- the call
-
 -- the second image reads as the first does
 abbrev pub ReadsAlike : List ℕ → List ℕ → Type 0
 ReadsAlike old new = reading new ≡ reading old

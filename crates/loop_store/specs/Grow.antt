@@ -1,5 +1,5 @@
--- What a disk's image holds of a recording, before and after some steps.
-use Rattle.std.specs.Prelude.{◌≡◌, ◌≢◌, ◌==◌, ℕ, ◌/◌, ◌%◌, ◌<◌, ◌≤◌, false, true, None, Some, Result, IfErr, OnOk, List, length, take}
+-- What the store's own writes find on a disk, and what they make of it. Only the store's own code looks at this.
+use Rattle.std.specs.Prelude.{◌≡◌, ◌≢◌, ◌==◌, ℕ, ◌/◌, ◌%◌, ◌<◌, false, true, None, Some, Result, IfErr, OnOk, List}
 use Rattle.std.specs.List.{list_any}
 use Rattle.loop_disk.specs.declared.fault.DiskFault.{DiskFault}
 use Rattle.loop_disk.specs.Calls.{Called, failed_call, is_write_or_sync}
@@ -9,17 +9,7 @@ use Rattle.loop_record.specs.Recording.{Recording, Step, ring_of, plain}
 use Rattle.loop_record.specs.Layout.{Segment, is_too_high, segment_in, whole_frames}
 use Rattle.loop_record.specs.Reading.{Holds, open_segments, parts_of}
 use Rattle.loop_ring.specs.Writes.{HasNoStray}
-
--- the image reads as the recording after the first steps, none skipped, and those are at least so many
-pub record HoldsFrom (g : Geometry) (r : Recording) (least : ℕ) (steps : List Step) (image : List ℕ) : Type 0 where
-  pub count : ℕ
-  pub enough : least ≤ count
-  pub few : count ≤ length steps
-  pub held : Holds g (plain (ring_of g) r (take count steps)) image
-
--- the image reads as the recording after some of the first steps, or after none
-abbrev pub HoldsSome : Geometry → Recording → List Step → List ℕ → Type 0
-HoldsSome g r steps image = HoldsFrom g r 0 steps image
+use Rattle.loop_store.specs.Steps.{HoldsSome}
 
 -- segment j has the block of the next number, the frames before it, and no frame gate open behind them
 pub record IsNewestSegment (g : Geometry) (next j : ℕ) (image : List ℕ) : Type 0 where
@@ -34,10 +24,6 @@ pub record IsFreeFor (g : Geometry) (next j : ℕ) (image : List ℕ) : Type 0 w
   pub closed : segment_in g image j ≡ None
   pub apart : list_any (λ s. s.block == (next / g.slots)) (open_segments (parts_of g image).segments) ≡ false
   pub low_enough : is_too_high g (next / g.slots) ≡ false
-
--- so is each image that a crash now may leave
-abbrev pub EachNow : Medium → (List ℕ → Type 0) → Type 0
-EachNow m P = (image : List ℕ) → m.may_leave image → P image
 
 -- no frame gate is open behind the frames of an open segment
 abbrev pub HasNoneStray : Geometry → List ℕ → Type 0

@@ -1,4 +1,4 @@
--- Where an append goes.
+-- Where an append goes. Only the store's own code looks at this.
 use Rattle.std.specs.Prelude.{◌≡◌, ◌≢◌, ◌⊎◌, ℕ, ◌/◌, ◌%◌, ◌==◌, false, true, Result, Ok, Err, Option, Some, None, List, slice_index_or, slice_set}
 use Rattle.std.specs.List.{list_any}
 use Rattle.loop_record.specs.declared.geometry.Geometry.{Geometry}
@@ -11,8 +11,8 @@ use Rattle.loop_store.specs.declared.fault.StoreFault.{StoreFault}
 use Rattle.loop_store.specs.declared.fault.StoreFault.TheVariants.{AllLocked, NumbersSpent}
 use Rattle.loop_store.specs.declared.place.Place.{Place}
 use Rattle.loop_store.specs.declared.place.Place.TheVariants.{Newest, Closed, Victim}
-use Rattle.loop_store.specs.Held.{HasNoneStray, IsFreeFor}
-use Rattle.loop_store.specs.Recovered.{head_after}
+use Rattle.loop_store.specs.Grow.{HasNoneStray, IsFreeFor}
+use Rattle.loop_store.specs.Index.{head_after}
 use Rattle.loop_store.specs.Steps.{steps_or_none}
 
 -- the segment of a place

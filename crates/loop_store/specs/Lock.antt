@@ -1,4 +1,4 @@
--- Which clips may be locked, and what a lock and an unlock note.
+-- Which clips may be locked, and what a lock and an unlock note. Only the store's own code looks at this.
 use Rattle.std.specs.Prelude.{◌≡◌, ◌⊎◌, ℕ, ◌+◌, ◌*◌, ◌<◌, ◌≤◌, true, false, IsTrue, Option, None, Some, Result, Ok, Err, List}
 use Rattle.loop_record.specs.declared.clip.Span.{Span}
 use Rattle.loop_record.specs.declared.geometry.Geometry.{Geometry}
@@ -7,7 +7,7 @@ use Rattle.loop_ring.specs.Heads.{heads_of}
 use Rattle.loop_store.specs.declared.fault.StoreFault.{StoreFault}
 use Rattle.loop_store.specs.declared.fault.StoreFault.TheVariants.{ClipEmpty, ClipNotHeld, ClipTableFull}
 use Rattle.loop_store.specs.Calls.{first_of, span_checks}
-use Rattle.loop_store.specs.Held.{HasNoneStray}
+use Rattle.loop_store.specs.Grow.{HasNoneStray}
 
 -- the numbers from one up to another, without it, are held
 abbrev pub AreHeld : Recording → ℕ → ℕ → Type 0

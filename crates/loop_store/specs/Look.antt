@@ -1,4 +1,4 @@
--- What a read of a held frame answers.
+-- What a read of a held frame answers. Only the store's own code looks at this.
 use Rattle.std.specs.Prelude.{◌≡◌, ◌⊎◌, ℕ, true, None, Result, Ok, Err, IfErr, List, slice_index_or}
 use Rattle.loop_disk.specs.Calls.{Called, Stays}
 use Rattle.loop_disk.specs.Medium.{Medium}
@@ -9,7 +9,7 @@ use Rattle.loop_record.specs.Reading.{Holds}
 use Rattle.loop_record.specs.Recording.{Recording, holds}
 use Rattle.loop_ring.specs.Heads.{has_number, heads_of}
 use Rattle.loop_store.specs.declared.fault.StoreFault.{StoreFault}
-use Rattle.loop_store.specs.declared.fault.StoreFault.TheVariants.{Damaged, NoMemory}
+use Rattle.loop_store.specs.declared.fault.StoreFault.TheVariants.{Damaged}
 use Rattle.loop_store.specs.Calls.{IsHeldFrame, IsPart}
 use Rattle.loop_store.specs.Faults.{failed_in, is_disk}
 
@@ -22,13 +22,6 @@ AnswersFrame r number (Err fault) out = (is_disk fault ≡ true) × (holds r num
 abbrev pub AnswersFramePart : Recording → ℕ → ℕ → Result (Unit {0}) StoreFault → List ℕ → Type 0
 AnswersFramePart r number at (Ok done) out = IsPart r number at out
 AnswersFramePart r number at (Err fault) out = (is_disk fault ≡ true) × (holds r number ≡ true)
-
--- the answer is the frame of that number, or memory was refused, or a call of the disk has failed
-abbrev pub ReadsFrame : Recording → ℕ → Result FrameHead StoreFault → List ℕ → Type 0
-ReadsFrame r number (Ok h) out = IsHeldFrame r number h out
-ReadsFrame r number (Err fault) out = (fault ≡ NoMemory) ⊎ (is_disk fault ≡ true)
-
--- ---- what only the store's own code looks at
 
 -- What a read in a segment did: where an honest disk holds a recording, and its header there has that number, it
 -- answers so for that recording. It fails for the slot's head or a call of the disk, and an honest disk stays.

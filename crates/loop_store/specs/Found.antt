@@ -1,0 +1,57 @@
+-- What is read of a disk again, part by part, and how damage is answered. Only the store's own code looks at this.
+use Rattle.std.specs.Prelude.{◌≡◌, ℕ, ◌≤◌, Bool, false, Option, Some, None, Result, Ok, Err, List, map}
+use Rattle.std.specs.List.{list_any, range_with_len}
+use Rattle.loop_disk.specs.Calls.{Called, Stays}
+use Rattle.loop_disk.specs.Medium.{Medium}
+use Rattle.loop_record.specs.declared.clip.Span.{Span}
+use Rattle.loop_record.specs.declared.damage.LayoutFault.{LayoutFault}
+use Rattle.loop_record.specs.declared.geometry.Geometry.{Geometry}
+use Rattle.loop_record.specs.declared.image.Found.{Found}
+use Rattle.loop_record.specs.declared.segment.SegmentHead.{SegmentHead}
+use Rattle.loop_record.specs.Layout.{Segment, clip_in, is_too_high}
+use Rattle.loop_record.specs.Plain.{segment_of, segments_of}
+use Rattle.loop_record.specs.Reading.{all_frames, is_bad_clip}
+use Rattle.loop_record.specs.Recording.{empty}
+use Rattle.loop_store.specs.declared.fault.StoreFault.{StoreFault}
+use Rattle.loop_store.specs.Faults.{failed_in}
+
+-- the refusal that stands for the layout's
+abbrev pub refusal : LayoutFault → StoreFault
+refusal LayoutFault.NotFormatted = StoreFault.NotFormatted
+refusal (LayoutFault.Damaged damage) = StoreFault.Damaged damage
+
+-- The answer is as the first says, or the layout's refusal as the second, or memory was refused, or a call of
+-- the disk failed.
+abbrev pub Recovers : {T : Type 0} → Result T StoreFault → (T → Type 0) → (LayoutFault → Type 0) → Type 0
+Recovers (Ok x) P Q = P x
+Recovers (Err StoreFault.NoMemory) P Q = Unit {0}
+Recovers (Err (StoreFault.Disk fault)) P Q = Unit {0}
+Recovers (Err StoreFault.NotFormatted) P Q = Q LayoutFault.NotFormatted
+Recovers (Err (StoreFault.Damaged damage)) P Q = Q (LayoutFault.Damaged damage)
+Recovers (Err _) P Q = ⊥
+
+-- What a call that only reads found: of an honest disk it answers so, and leaves it as it was.
+pub record Finds {T : Type 0} (IsSuch : T → Type 0) (IsRefused : LayoutFault → Type 0) (old new : Medium)
+    (result : Result T StoreFault) : Type 0 where
+  pub found : old.honest → Recovers result IsSuch IsRefused
+  pub stays : old.honest → Stays old new
+  pub called : Called old new (failed_in result)
+
+-- the header of an open segment has no more frames than there are slots, and its block isn't too high
+abbrev pub IsHeadIn : Geometry → Option SegmentHead → Type 0
+IsHeadIn g None = Unit {0}
+IsHeadIn g (Some h) = (h.frames ≤ g.slots) × (is_too_high g h.block ≡ false)
+
+-- segment j, where its header says so
+abbrev pub segment_said : Geometry → List ℕ → ℕ → Option SegmentHead → Option Segment
+segment_said g image j None = None
+segment_said g image j (Some h) = Some (segment_of g image (record { segment = j; block = h.block; frames = h.frames }))
+
+-- the clip of each id
+abbrev pub clips_of : List ℕ → List (Option Span)
+clips_of image = map (clip_in image) (range_with_len 0 64)
+
+-- some clip of the image is empty or has a number of which the segments have no frame
+abbrev pub some_bad_clip : Geometry → List ℕ → List Found → Bool
+some_bad_clip g image fs =
+    list_any (is_bad_clip (record empty { frames = all_frames g (segments_of g image fs) })) (clips_of image)

@@ -1,0 +1,38 @@
+-- What formatting writes, part by part. Only the store's own code looks at this.
+use Rattle.std.specs.Prelude.{◌≡◌, ◌⊎◌, ℕ, IsTrue, ◌<◌, false, List, length, drop, slice_range}
+use Rattle.loop_disk.specs.Medium.{IsSettled, Medium}
+use Rattle.loop_record.specs.declared.geometry.Geometry.{Geometry}
+use Rattle.loop_record.specs.Geometry.{clip_at, disk_size, is_good, segment_at}
+use Rattle.loop_record.specs.Layout.{is_open, super_bytes}
+use Rattle.loop_record.specs.Reading.{IsFreshImage}
+
+-- the geometry is good, and a disk of this size is one for it
+abbrev pub FitsDisk : Geometry → ℕ → Type 0
+FitsDisk g size = IsTrue (is_good g) × (size ≡ disk_size g)
+
+-- the superblock's gate is closed
+abbrev pub IsClosed : List ℕ → Type 0
+IsClosed image = is_open image 0 ≡ false
+
+-- so it is in the present bytes, and in each image that a crash may leave
+abbrev pub LeavesClosed : Medium → Type 0
+LeavesClosed m = (c : List ℕ) → m.may_leave c → IsClosed c
+
+-- an image that a crash might have left before, or one whose gate is closed
+abbrev pub WasOrClosed : Medium → List ℕ → Type 0
+WasOrClosed m c = m.may_leave c ⊎ IsClosed c
+
+-- behind a closed gate stand the superblock, a clip table without a clip, and the closed headers of the first segments
+pub record IsLaid (g : Geometry) (count : ℕ) (image : List ℕ) : Type 0 where
+  pub size : length image ≡ disk_size g
+  pub superblock : slice_range image 1 512 ≡ drop 1 (super_bytes g)
+  pub clips : (id : ℕ) → id < 64 → is_open image (clip_at id) ≡ false
+  pub segments : (j : ℕ) → j < count → is_open image (segment_at g j) ≡ false
+
+-- so much is laid out, behind a gate that is closed in each image that a crash may leave too
+abbrev pub IsLaidClosed : Geometry → ℕ → Medium → Type 0
+IsLaidClosed g count m = LeavesClosed m × IsLaid g count m.bytes
+
+-- the disk holds an empty recording, just laid out, and a crash leaves nothing else
+abbrev pub HoldsFresh : Geometry → Medium → Type 0
+HoldsFresh g m = IsFreshImage g m.bytes × IsSettled m
