@@ -110,8 +110,8 @@ or-none-bare : (o : Option (List Step)) → steps_or_none (option_map (map bare_
 or-none-bare None = refl
 or-none-bare (Some l) = refl
 
-asked-bare : (g : Geometry) (r : Recording) (ps : List Picture) → steps_asked g (bare_recording r)
-    (map bare ps) ≡ map bare_step (steps_asked g r ps)
+asked-bare : (g : Geometry) (r : Recording) (ps : List Picture) → steps_asked (ring_of g) (bare_recording r)
+    (map bare ps) ≡ map bare_step (steps_asked (ring_of g) r ps)
 asked-bare g r ps = ap steps_or_none (steps-bare (ring_of g) r ps) ∙ or-none-bare (steps (ring_of g) r ps)
 
 -- ---- the answers of the store
@@ -122,7 +122,8 @@ victim-bare ring r =
     λ i. (r.next % ring.slots == 0 && length (same i) == ring.segments) && not
     (is_some (find (λ b. not (is_locked ring r b)) (take (length (same i) - 1) (same i))))
 
-checks-bare : (g : Geometry) (s : StoreState) (c : Call) → checks g (bare_store s) (bare_stored c) ≡ checks g s c
+checks-bare : (g : Geometry) (s : StoreState) (c : Call) → checks (ring_of g) (bare_store s) (bare_stored c) ≡ checks
+    (ring_of g) s c
 checks-bare g s (appended ps result) =
     let same = victim-bare (ring_of g) s.recording in
     λ i. due s.must_reopen StoreFault.MustReopen
@@ -172,12 +173,12 @@ given-bare r (was_read_part number at (Ok bytes)) given = λ now. let is = given
     }
 given-bare r (was_read_part number at (Err fault)) is = is
 
-stored-answer : (g : Geometry) (s : StoreState) (c : Call) → IsAnswered (Unit {0}) g s c
-    → IsAnswered (Unit {0}) g (bare_store s) (bare_stored c)
+stored-answer : (g : Geometry) (s : StoreState) (c : Call) → IsAnswered (Unit {0}) (ring_of g) s c
+    → IsAnswered (Unit {0}) (ring_of g) (bare_store s) (bare_stored c)
 stored-answer g s c said =
     subst (λ (l : List (Option StoreFault)). AnswersDue (first_of l) (bare_stored c)
     (AnswersOtherwise (Unit {0}) (bare_recording s.recording) (bare_stored c))) (sym (checks-bare g s c))
-    (go (first_of (checks g s c)) said)
+    (go (first_of (checks (ring_of g) s c)) said)
   where
     go : (o : Option StoreFault) → AnswersDue o c (AnswersOtherwise (Unit {0}) s.recording c)
         → AnswersDue o (bare_stored c) (AnswersOtherwise (Unit {0}) (bare_recording s.recording) (bare_stored c))
@@ -191,20 +192,22 @@ answered-bare : (o : Option StoreFault) (l : List Step) → if_answered o (map b
 answered-bare None l = refl
 answered-bare (Some fault) l = refl
 
-steps-of-bare : (g : Geometry) (s : StoreState) (c : Call) → steps_of g (bare_store s) (bare_stored c) ≡ map bare_step
-    (steps_of g s c)
+steps-of-bare : (g : Geometry) (s : StoreState) (c : Call) → steps_of (ring_of g) (bare_store s)
+    (bare_stored c) ≡ map bare_step
+    (steps_of (ring_of g) s c)
 steps-of-bare g s (appended ps result) = asked-bare g s.recording ps
 steps-of-bare g s (locked span result) = refl
 steps-of-bare g s (unlocked id result) = refl
 steps-of-bare g s (was_read number result) = refl
 steps-of-bare g s (was_read_part number at result) = refl
 
-made-bare : (g : Geometry) (s : StoreState) (c : Call) → made_by g (bare_store s) (bare_stored c) ≡ map bare_step
-    (made_by g s c)
+made-bare : (g : Geometry) (s : StoreState) (c : Call) → made_by (ring_of g) (bare_store s)
+    (bare_stored c) ≡ map bare_step
+    (made_by (ring_of g) s c)
 made-bare g s c =
     let same = fault-bare c in
     let steps = steps-of-bare g s c in
-    (λ i. if_answered (same i) (steps i)) ∙ answered-bare (fault_answered c) (steps_of g s c)
+    (λ i. if_answered (same i) (steps i)) ∙ answered-bare (fault_answered c) (steps_of (ring_of g) s c)
 
 failed-bare : (c : Call) → has_failed (bare_stored c) ≡ has_failed c
 failed-bare (appended ps result) = refl
@@ -213,31 +216,33 @@ failed-bare (unlocked id result) = refl
 failed-bare (was_read number result) = refl
 failed-bare (was_read_part number at result) = refl
 
-stored-bare : (g : Geometry) (s : StoreState) (c : Call) → stored g (bare_store s) (bare_stored c) ≡ bare_store
-    (stored g s c)
+stored-bare : (g : Geometry) (s : StoreState) (c : Call) → stored (ring_of g) (bare_store s)
+    (bare_stored c) ≡ bare_store
+    (stored (ring_of g) s c)
 stored-bare g s c =
     let ring = ring_of g in
-    let recording = ap (plain ring (bare_recording s.recording)) (made-bare g s c) ∙ plain-bare ring s.recording (made_by g s c) in
+    let recording = ap (plain ring (bare_recording s.recording)) (made-bare g s c) ∙ plain-bare ring s.recording (made_by (ring_of g) s c) in
     let failed = failed-bare c in
     λ i. record { recording = recording i; must_reopen = s.must_reopen || failed i }
 
 -- calls of the store
 record IsStoreBlind (g : Geometry) (s : StoreState) (calls : List Call) : Type 0 where
-  answers : AreAnswered (Unit {0}) g s calls → AreAnswered (Unit {0}) g (bare_store s) (map bare_stored calls)
-  state : after_calls g (bare_store s) (map bare_stored calls) ≡ bare_store (after_calls g s calls)
+  answers : AreAnswered (Unit {0}) (ring_of g) s calls → AreAnswered (Unit {0}) (ring_of g) (bare_store s)
+      (map bare_stored calls)
+  state : after_calls (ring_of g) (bare_store s) (map bare_stored calls) ≡ bare_store (after_calls (ring_of g) s calls)
 
 store-blind : (g : Geometry) (s : StoreState) (calls : List Call) → IsStoreBlind g s calls
 store-blind g s [] = record { answers = λ said. tt; state = refl }
 store-blind g s (c ∷ calls) =
-    let rest = store-blind g (stored g s c) calls in
+    let rest = store-blind g (stored (ring_of g) s c) calls in
     let one = stored-bare g s c in
     record {
       answers = λ said. (
         stored-answer g s c said.0,
-        subst (λ (x : StoreState). AreAnswered (Unit {0}) g x (map bare_stored calls)) (sym one)
+        subst (λ (x : StoreState). AreAnswered (Unit {0}) (ring_of g) x (map bare_stored calls)) (sym one)
             (rest.answers said.1),
       );
-      state = ap (λ (x : StoreState). after_calls g x (map bare_stored calls)) one ∙ rest.state;
+      state = ap (λ (x : StoreState). after_calls (ring_of g) x (map bare_stored calls)) one ∙ rest.state;
     }
 
 -- ---- the desk
@@ -272,7 +277,7 @@ call-bare : (k : Rules) (s : DeskState) (c : DeskCall) → IsDeskAnswer k s c �
     (bare_call c)
 call-bare k s c said = (
   told c said.0,
-  subst (λ (l : List Call). AreAnswered (Unit {0}) k.geometry (bare_store s.store) l) (sym (calls-bare k s c))
+  subst (λ (l : List Call). AreAnswered (Unit {0}) (ring_of k.geometry) (bare_store s.store) l) (sym (calls-bare k s c))
       ((store-blind k.geometry s.store (store_calls k s c)).answers said.1),
 )
   where
@@ -310,7 +315,7 @@ pending-bare waiting (status_told status) = refl
 after-bare : (k : Rules) (s : DeskState) (c : DeskCall) → desk_after k (bare_state s) (bare_call c) ≡ bare_state
     (desk_after k s c)
 after-bare k s c =
-    let store = ap (λ (l : List Call). after_calls k.geometry (bare_store s.store) l) (calls-bare k s c)
+    let store = ap (λ (l : List Call). after_calls (ring_of k.geometry) (bare_store s.store) l) (calls-bare k s c)
     ∙ (store-blind k.geometry s.store (store_calls k s c)).state in
     let waiting = pending-bare s.pending c in
     λ i. record { store = store i; pending = waiting i }

@@ -37,7 +37,7 @@ module _ {D : Type 0} (medium : D → Medium) (d : SeenDesk D) where
     plays = λ s at. (
       ((said s at).1, tt),
       record {
-        store = subst (λ (l : List Call). TellsState new (after_calls d.store.geometry s.store l)) (sym (said s at).0) (goes.tells s.store at.store);
+        store = subst (λ (l : List Call). TellsState new (after_calls (ring_of d.store.geometry) s.store l)) (sym (said s at).0) (goes.tells s.store at.store);
         pending = waits ∙ ap (λ (ps : List Picture). pending_after ps c) at.pending;
       },
     );

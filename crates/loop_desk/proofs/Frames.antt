@@ -47,9 +47,9 @@ group-and-rest most waiting =
     (λ i. sym front i ++ drop (count i) waiting) ∙ take-append-drop (min most (length waiting)) waiting
 
 flush-frames : (g : Geometry) (w : DeskState) (s : StoreState) (group : List Picture) (f : Flushed)
-    → IsFlush w group (Ok f) → AreAnswered (Unit {0}) g s (append_of group (Ok f)) → group
+    → IsFlush w group (Ok f) → AreAnswered (Unit {0}) (ring_of g) s (append_of group (Ok f)) → group
     ++ drop (length group) w.pending ≡ w.pending
-    → frames_stored (made_in g s (append_of group (Ok f))) ++ drop f.stored w.pending ≡ w.pending
+    → frames_stored (made_in (ring_of g) s (append_of group (Ok f))) ++ drop f.stored w.pending ≡ w.pending
 flush-frames g w s [] f told said whole = (λ i. drop (told.1 i).stored w.pending) ∙ whole
 flush-frames g w s (p ∷ ps) f told said whole =
     let list = steps_or_none (steps (ring_of g) s.recording (p ∷ ps)) in
@@ -59,13 +59,13 @@ flush-frames g w s (p ∷ ps) f told said whole =
     (λ i. frames i ++ drop (count i).stored w.pending) ∙ whole
 
 none-stored : (g : Geometry) (s : StoreState) (group : List Picture) (fault : StoreFault)
-    → frames_stored (made_in g s (append_of group (Err fault))) ≡ []
+    → frames_stored (made_in (ring_of g) s (append_of group (Err fault))) ≡ []
 none-stored g s [] fault = refl
 none-stored g s (p ∷ ps) fault = refl
 
 call-frames : (k : Rules) (w : DeskState) (c : DeskCall) → IsDeskTold k w c
-    → AreAnswered (Unit {0}) k.geometry w.store (store_calls k w c) → w.pending ++ frame_accepted c ≡ frames_stored
-    (made_in k.geometry w.store (store_calls k w c)) ++ pending_after w.pending c
+    → AreAnswered (Unit {0}) (ring_of k.geometry) w.store (store_calls k w c) → w.pending ++ frame_accepted c ≡ frames_stored
+    (made_in (ring_of k.geometry) w.store (store_calls k w c)) ++ pending_after w.pending c
 call-frames k w (submitted p size (Ok number)) told said = refl
 call-frames k w (submitted p size (Err fault)) told said = append-nil w.pending
 call-frames k w (flushed (Ok f)) told said =
@@ -83,8 +83,8 @@ call-frames k w (status_told status) told said = append-nil w.pending
 
 -- what waited, and then what was accepted, is what was stored, and then what waits
 pub none-lost : (k : Rules) (s : DeskState) (calls : List DeskCall) → AreTold k s calls
-    → AreAnswered (Unit {0}) k.geometry s.store (store_calls_in k s calls) → s.pending
-    ++ accepted_in calls ≡ frames_stored (made_in k.geometry s.store (store_calls_in k s calls))
+    → AreAnswered (Unit {0}) (ring_of k.geometry) s.store (store_calls_in k s calls) → s.pending
+    ++ accepted_in calls ≡ frames_stored (made_in (ring_of k.geometry) s.store (store_calls_in k s calls))
     ++ (desk_after_calls k s calls).pending
 none-lost k s [] told said = append-nil s.pending
 none-lost k s (c ∷ calls) told said =
@@ -92,15 +92,16 @@ none-lost k s (c ∷ calls) told said =
     let here = store_calls k s c in
     let t = desk_after k s c in
     let there = store_calls_in k t calls in
-    let parts = each-parts (after_store_call g) (IsAnswered (Unit {0}) g) s.store here there said in
+    let parts = each-parts (after_store_call (ring_of g)) (IsAnswered (Unit {0}) (ring_of g)) s.store here there said in
     let one = call-frames k s c told.0 parts.0 in
     let rest = none-lost k t calls told.1 parts.1 in
-    let split : frames_stored (made_in g s.store (here ++ there)) ≡ frames_stored (made_in g s.store here)
-    ++ frames_stored (made_in g t.store there) =
-    ap frames_stored (told-behind (after_store_call g) (made_by g) s.store here there)
-    ∙ frames-both (made_in g s.store here) (made_in g t.store there) in
+    let split : frames_stored (made_in (ring_of g) s.store (here ++ there)) ≡ frames_stored (made_in (ring_of g) s.store here)
+    ++ frames_stored (made_in (ring_of g) t.store there) =
+    ap frames_stored (told-behind (after_store_call (ring_of g)) (made_by (ring_of g)) s.store here there)
+    ∙ frames-both (made_in (ring_of g) s.store here) (made_in (ring_of g) t.store there) in
     sym (append_assoc s.pending (frame_accepted c) (accepted_in calls)) ∙ (λ i. one i ++ accepted_in calls)
-    ∙ append_assoc (frames_stored (made_in g s.store here)) t.pending (accepted_in calls)
-    ∙ ap (λ l. frames_stored (made_in g s.store here) ++ l) rest
-    ∙ sym (append_assoc (frames_stored (made_in g s.store here)) (frames_stored (made_in g t.store there)) (desk_after_calls k t calls).pending)
+    ∙ append_assoc (frames_stored (made_in (ring_of g) s.store here)) t.pending (accepted_in calls)
+    ∙ ap (λ l. frames_stored (made_in (ring_of g) s.store here) ++ l) rest
+    ∙ sym (append_assoc (frames_stored (made_in (ring_of g) s.store here))
+    (frames_stored (made_in (ring_of g) t.store there)) (desk_after_calls k t calls).pending)
     ∙ ap (λ l. l ++ (desk_after_calls k t calls).pending) (sym split)

@@ -2,6 +2,7 @@
 use Rattle.std.proofs.Common.{◌≡◌, List, [], ◌∷◌, refl, sym, ◌∙◌, subst}
 use Rattle.loop_disk.specs.Medium.{Medium}
 use Rattle.loop_record.proofs.Turned.{after-behind}
+use Rattle.loop_record.specs.Recording.{ring_of}
 use Rattle.loop_store.specs.Calls.{AreAnswered, IsAnswered, StoreState, after_store_call, after_calls}
 use Rattle.loop_store.specs.Goes.{Stands}
 use Rattle.loop_store.proofs.Checked.{are-answered-as}
@@ -13,20 +14,20 @@ use Rattle.loop_desk.proofs.Frames.{each-parts}
 -- Calls that were told so, over calls of the store that were answered so, are answers of the model.
 record AreModelled (k : Rules) (s : DeskState) (list : List DeskCall) : Type 0 where
   answers : AreDeskAnswers k s list
-  store : (desk_after_calls k s list).store ≡ after_calls k.geometry s.store (store_calls_in k s list)
+  store : (desk_after_calls k s list).store ≡ after_calls (ring_of k.geometry) s.store (store_calls_in k s list)
 
 modelled : (k : Rules) (s : DeskState) (list : List DeskCall) → AreTold k s list
-    → AreAnswered (Unit {0}) k.geometry s.store (store_calls_in k s list) → AreModelled k s list
+    → AreAnswered (Unit {0}) (ring_of k.geometry) s.store (store_calls_in k s list) → AreModelled k s list
 modelled k s [] told said = record { answers = tt; store = refl }
 modelled k s (c ∷ list) told said =
     let g = k.geometry in
     let t = desk_after k s c in
-    let parts = each-parts (after_store_call g) (IsAnswered (Unit {0}) g) s.store (store_calls k s c) (store_calls_in k t list) said in
+    let parts = each-parts (after_store_call (ring_of g)) (IsAnswered (Unit {0}) (ring_of g)) s.store (store_calls k s c) (store_calls_in k t list) said in
     let rest = modelled k t list told.1 parts.1 in
     record {
       answers = ((told.0, parts.0), rest.answers);
       store = rest.store
-          ∙ sym (after-behind (after_store_call g) s.store (store_calls k s c) (store_calls_in k t list));
+          ∙ sym (after-behind (after_store_call (ring_of g)) s.store (store_calls k s c) (store_calls_in k t list));
     }
 
 -- a desk tells what the state says for which it stands

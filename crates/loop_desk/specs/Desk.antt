@@ -83,7 +83,7 @@ pending_after pending _ = pending
 
 abbrev pub desk_after : Rules → DeskState → DeskCall → DeskState
 desk_after k s call = record {
-  store = after_calls k.geometry s.store (store_calls k s call);
+  store = after_calls (ring_of k.geometry) s.store (store_calls k s call);
   pending = pending_after s.pending call;
 }
 
@@ -130,7 +130,7 @@ desk_model k = record { after = desk_after k; May = IsDeskTold k }
 -- the whole answer of a desk whose disk is honest
 abbrev pub IsDeskAnswer : Rules → DeskState → DeskCall → Type 0
 IsDeskAnswer k s call =
-    IsDeskTold k s call × AreAnswered (Unit {0}) k.geometry s.store (store_calls k s call)
+    IsDeskTold k s call × AreAnswered (Unit {0}) (ring_of k.geometry) s.store (store_calls k s call)
 
 -- ---- lists of calls
 

@@ -8,7 +8,7 @@ use Rattle.loop_record.specs.Reading.{Holds}
 use Rattle.loop_record.specs.Recording.{Picture, Recording, Ring, Step, frame_under, plain, ring_of}
 use Rattle.loop_store.specs.Calls.{Call, StoreState, begun_in, made_in}
 use Rattle.loop_store.specs.Steps.{EachNow, HoldsFrom}
-use Rattle.loop_store.specs.Seen.{StandsFor}
+use Rattle.loop_store.specs.Seen.{StandsFor, ring_in}
 use Rattle.loop_desk.specs.Desk.{DeskCall, accepted_in, frames_stored, store_calls_in}
 use Rattle.loop_desk.specs.Seen.{SeenDesk, rules_of}
 
@@ -45,10 +45,10 @@ stored_calls d s calls = store_calls_in (rules_of d) (record { store = s; pendin
 
 -- the steps that calls made, as they were answered, and those that they began
 abbrev pub steps_made : {D : Type 0} → SeenDesk D → StoreState → List DeskCall → List Step
-steps_made d s calls = made_in d.store.geometry s (stored_calls d s calls)
+steps_made d s calls = made_in (ring_in d.store) s (stored_calls d s calls)
 
 abbrev pub steps_begun : {D : Type 0} → SeenDesk D → StoreState → List DeskCall → List Step
-steps_begun d s calls = begun_in d.store.geometry s (stored_calls d s calls)
+steps_begun d s calls = begun_in (ring_in d.store) s (stored_calls d s calls)
 
 -- What calls leave of the footage of a desk whose store stood for a state, with an honest disk.
 pub record KeepsFootage {D : Type 0} (medium : D → Medium) (old new : SeenDesk D) (calls : List DeskCall)
@@ -63,6 +63,6 @@ pub record KeepsFootage {D : Type 0} (medium : D → Medium) (old new : SeenDesk
       (steps_made old s calls ++ steps_begun old s calls))
   -- the recording is the one after all steps that were answered
   pub recording : StandsFor medium new.store
-      (plain (ring_of old.store.geometry) s.recording (steps_made old s calls))
+      (plain (ring_in old.store) s.recording (steps_made old s calls))
   -- what waited and then what was accepted is what was stored and then what waits
   pub none_lost : old.pending ++ accepted_in calls ≡ frames_stored (steps_made old s calls) ++ new.pending

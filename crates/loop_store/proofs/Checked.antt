@@ -1,11 +1,11 @@
--- What the checks of a call say of its answer.
+-- What the checks (ring_of of) a call say of its answer.
 use Rattle.std.proofs.Common.{◌≡◌, ◌⊎◌, inl, inr, Bool, true, false, Option, Some, None, Ok, Err, List, [], ◌∷◌, refl, sym, ◌∙◌, subst}
 use Rattle.loop_record.specs.declared.geometry.Geometry.{Geometry}
 use Rattle.loop_store.specs.declared.fault.StoreFault.{StoreFault}
 use Rattle.loop_store.specs.declared.fault.StoreFault.TheVariants as kind
 use Rattle.loop_store.specs.Faults.{is_disk, is_write_fault}
 use Rattle.loop_store.specs.declared.fault.StoreFault.TheVariants.{MustReopen}
-use Rattle.loop_record.specs.Recording.{Recording}
+use Rattle.loop_record.specs.Recording.{Recording, ring_of}
 use Rattle.loop_store.specs.Calls.{AnswersDue, AreAnswered, Call, IsAnswered, AnswersOtherwise, StoreState, after_store_call, appended, locked, unlocked, was_read, was_read_part, checks, checks_on, due, fault_answered, first_of}
 
 -- ---- which is the first
@@ -68,30 +68,32 @@ refused o c Given fault first is = subst (λ (x : Option StoreFault). AnswersDue
 
 -- each call is refused so
 pub must-first : (g : Geometry) (s : StoreState) (c : Call) → s.must_reopen ≡ true
-    → first_of (checks g s c) ≡ Some MustReopen
-must-first g s c must = failed s.must_reopen MustReopen (checks_on g s.recording c) must
+    → first_of (checks (ring_of g) s c) ≡ Some MustReopen
+must-first g s c must = failed s.must_reopen MustReopen (checks_on (ring_of g) s.recording c) must
 
-pub must-answer : (H : Type 0) (g : Geometry) (s : StoreState) (c : Call) → s.must_reopen ≡ true → IsAnswered H g s c
+pub must-answer : (H : Type 0) (g : Geometry) (s : StoreState) (c : Call) → s.must_reopen ≡ true
+    → IsAnswered H (ring_of g) s c
     → fault_answered c ≡ Some MustReopen
-must-answer H g s c must said = go (first_of (checks g s c)) (must-first g s c must) said
+must-answer H g s c must said = go (first_of (checks (ring_of g) s c)) (must-first g s c must) said
   where
     go : (o : Option StoreFault) → o ≡ Some MustReopen → AnswersDue o c (AnswersOtherwise H s.recording c)
         → fault_answered c ≡ Some MustReopen
     go None e x = absurd cc
     go (Some fault) e x = x ∙ e
 
--- where it needn't, the checks on what is recorded decide
+-- where it needn't, the checks (ring_of on) what is recorded decide
 pub fine-first : (g : Geometry) (s : StoreState) (c : Call) → s.must_reopen ≡ false
-    → first_of (checks g s c) ≡ first_of (checks_on g s.recording c)
-fine-first g s c fine = passed s.must_reopen MustReopen (checks_on g s.recording c) fine
+    → first_of (checks (ring_of g) s c) ≡ first_of (checks_on (ring_of g) s.recording c)
+fine-first g s c fine = passed s.must_reopen MustReopen (checks_on (ring_of g) s.recording c) fine
 
 pub answer-given : (H : Type 0) (g : Geometry) (s : StoreState) (c : Call) → s.must_reopen ≡ false
-    → first_of (checks_on g s.recording c) ≡ None → AnswersOtherwise H s.recording c → IsAnswered H g s c
-answer-given H g s c fine none is = given (first_of (checks g s c)) c (AnswersOtherwise H s.recording c) (fine-first g s c fine ∙ none) is
+    → first_of (checks_on (ring_of g) s.recording c) ≡ None → AnswersOtherwise H s.recording c → IsAnswered H (ring_of g) s c
+answer-given H g s c fine none is = given (first_of (checks (ring_of g) s c)) c (AnswersOtherwise H s.recording c) (fine-first g s c fine ∙ none) is
 
 pub answer-due : (H : Type 0) (g : Geometry) (s : StoreState) (c : Call) (fault : StoreFault) → s.must_reopen ≡ false
-    → first_of (checks_on g s.recording c) ≡ Some fault → fault_answered c ≡ Some fault → IsAnswered H g s c
-answer-due H g s c fault fine first is = refused (first_of (checks g s c)) c (AnswersOtherwise H s.recording c) fault (fine-first g s c fine ∙ first) is
+    → first_of (checks_on (ring_of g) s.recording c) ≡ Some fault → fault_answered c ≡ Some fault → IsAnswered H (ring_of g) s c
+answer-due H g s c fault fine first is = refused (first_of (checks (ring_of g) s c)) c
+    (AnswersOtherwise H s.recording c) fault (fine-first g s c fine ∙ first) is
 
 -- ---- honest disks
 
@@ -111,9 +113,9 @@ otherwise-as H K r (locked span (Err fault)) f x = x
 otherwise-as H K r (unlocked id (Err fault)) f x = x
 
 -- an answer of one disk is one of another that is honest only where the first is
-pub answered-as : (H K : Type 0) (g : Geometry) (s : StoreState) (c : Call) → (K → H) → IsAnswered H g s c
-    → IsAnswered K g s c
-answered-as H K g s c f said = go (first_of (checks g s c)) said
+pub answered-as : (H K : Type 0) (g : Geometry) (s : StoreState) (c : Call) → (K → H) → IsAnswered H (ring_of g) s c
+    → IsAnswered K (ring_of g) s c
+answered-as H K g s c f said = go (first_of (checks (ring_of g) s c)) said
   where
     go : (o : Option StoreFault) → AnswersDue o c (AnswersOtherwise H s.recording c)
         → AnswersDue o c (AnswersOtherwise K s.recording c)
@@ -121,9 +123,9 @@ answered-as H K g s c f said = go (first_of (checks g s c)) said
     go (Some fault) x = x
 
 pub are-answered-as : (H K : Type 0) (g : Geometry) (s : StoreState) (calls : List Call) → (K → H)
-    → AreAnswered H g s calls → AreAnswered K g s calls
+    → AreAnswered H (ring_of g) s calls → AreAnswered K (ring_of g) s calls
 are-answered-as H K g s [] f said = tt
-are-answered-as H K g s (c ∷ calls) f said = (answered-as H K g s c f said.0, are-answered-as H K g (after_store_call g s c) calls f said.1)
+are-answered-as H K g s (c ∷ calls) f said = (answered-as H K g s c f said.0, are-answered-as H K g (after_store_call (ring_of g) s c) calls f said.1)
 
 -- ---- which call of the disk failed
 

@@ -5,7 +5,7 @@ use Rattle.loop_record.specs.declared.damage.LayoutFault.{LayoutFault}
 use Rattle.loop_record.specs.declared.frame.FrameHead.{FrameHead}
 use Rattle.loop_record.specs.declared.geometry.Geometry.{Geometry}
 use Rattle.loop_record.specs.Reading.{Contents, Holds}
-use Rattle.loop_record.specs.Recording.{holds}
+use Rattle.loop_record.specs.Recording.{holds, ring_of}
 use Rattle.loop_store.specs.declared.fault.StoreFault.{StoreFault}
 use Rattle.loop_store.specs.declared.fault.StoreFault.TheVariants.{MustReopen, NoMemory, NotHeld}
 use Rattle.loop_store.specs.Calls.{IsAnswered, AnswersOtherwise, IsHeldFrame, ReadFails, StoreState, checks, first_of, read_with, was_read}
@@ -46,22 +46,22 @@ opened-same medium other old new image s stands fine honest left opened still =
 -- a read of a held number
 pub read-held : (H : Type 0) (g : Geometry) (s : StoreState) (number : ℕ) (result : Result FrameHead StoreFault)
     (out : List ℕ) → H → s.must_reopen ≡ false → holds s.recording number ≡ true
-    → IsAnswered H g s (was_read number (read_with result out)) → ReadsFrame s.recording number result out
+    → IsAnswered H (ring_of g) s (was_read number (read_with result out)) → ReadsFrame s.recording number result out
 read-held H g s number (Ok h) out honest fine there said =
-    (due-none (first_of (checks g s (was_read number (Ok (h, out))))) (was_read number (Ok (h, out)))
+    (due-none (first_of (checks (ring_of g) s (was_read number (Ok (h, out))))) (was_read number (Ok (h, out)))
     (H → IsHeldFrame s.recording number h out) said refl).1 honest
 read-held H g s number (Err fault) out honest fine there said =
-    go (due-some (first_of (checks g s (was_read number (Err fault)))) (was_read number (Err fault))
+    go (due-some (first_of (checks (ring_of g) s (was_read number (Err fault)))) (was_read number (Err fault))
     (AnswersOtherwise H s.recording (was_read number (Err fault))) said)
   where
-    none : first_of (checks g s (was_read number (Err fault))) ≡ None
+    none : first_of (checks (ring_of g) s (was_read number (Err fault))) ≡ None
     none = passed s.must_reopen MustReopen _ fine ∙ passed (not (holds s.recording number)) NotHeld [] (ap not there)
 
     apart : None ≡ Some fault → ⊥
     apart e = absurd cc
 
-    go : (first_of (checks g s (was_read number (Err fault))) ≡ Some fault)
-        ⊎ ((first_of (checks g s (was_read number (Err fault))) ≡ None) × AnswersOtherwise H s.recording
+    go : (first_of (checks (ring_of g) s (was_read number (Err fault))) ≡ Some fault)
+        ⊎ ((first_of (checks (ring_of g) s (was_read number (Err fault))) ≡ None) × AnswersOtherwise H s.recording
         (was_read number (Err fault))) → (fault ≡ NoMemory) ⊎ (is_disk fault ≡ true)
     go (inl e) = absurd (apart (sym none ∙ e))
     go (inr x) = failed x.1

@@ -67,11 +67,11 @@ all-both p (x ∷ xs) ys all =
 
 -- each call of it is refused
 all-refused : (H : Type 0) (g : Geometry) (s : StoreState) (calls : List Call) → s.must_reopen ≡ true
-    → AreAnswered H g s calls → list_all was_refused calls ≡ true
+    → AreAnswered H (ring_of g) s calls → list_all was_refused calls ≡ true
 all-refused H g s [] must said = refl
 all-refused H g s (c ∷ calls) must said =
     let early = ap is_early (must-answer H g s c must said.0) in
-    let rest = all-refused H g (after_store_call g s c) calls (ap (λ (b : Bool). b || has_failed c) must) said.1 in
+    let rest = all-refused H g (after_store_call (ring_of g) s c) calls (ap (λ (b : Bool). b || has_failed c) must) said.1 in
     λ i. early i && rest i
 
 -- the store stands for a state, and its disk is honest
@@ -121,10 +121,10 @@ pub record GoesOnce {D : Type 0} (medium : D → Medium) (old new : Seen D) (c :
   pub one : TellsOne old
   pub answers : (s : StoreState) → TellsState old s → IsAnswered ((medium old.disk).honest × Stands medium old s)
       old.geometry s c
-  pub tells : (s : StoreState) → TellsState old s → TellsState new (after_store_call old.geometry s c)
-  pub stands : (s : StoreState) → Stands medium old s → Stands medium new (after_store_call old.geometry s c)
+  pub tells : (s : StoreState) → TellsState old s → TellsState new (after_store_call (ring_of old.geometry) s c)
+  pub stands : (s : StoreState) → Stands medium old s → Stands medium new (after_store_call (ring_of old.geometry) s c)
   pub leaves : (s : StoreState) → Stands medium old s → (medium old.disk).honest → s.must_reopen ≡ false
-      → LeavesSteps old.geometry s.recording (made_by old.geometry s c) (begun_by old.geometry s c) (medium old.disk) (medium new.disk)
+      → LeavesSteps old.geometry s.recording (made_by (ring_of old.geometry) s c) (begun_by (ring_of old.geometry) s c) (medium old.disk) (medium new.disk)
   pub looks : is_look c ≡ true → (medium old.disk).honest → Stays (medium old.disk) (medium new.disk)
   pub unmoved : was_refused c ≡ true → new ≡ old
   pub geometry : new.geometry ≡ old.geometry
@@ -139,8 +139,8 @@ goes-once medium old new c one = record {
   stands = one.stands;
   leaves = λ s stands now fine.
       let g = old.geometry in
-      leaves-same g s.recording (made_by g s c) (made_by g s c ++ []) (begun_by g s c) (begun_by g s c ++ [])
-      (medium old.disk) (medium new.disk) (sym (append-nil (made_by g s c))) (sym (append-nil (begun_by g s c)))
+      leaves-same g s.recording (made_by (ring_of g) s c) (made_by (ring_of g) s c ++ []) (begun_by (ring_of g) s c) (begun_by (ring_of g) s c ++ [])
+      (medium old.disk) (medium new.disk) (sym (append-nil (made_by (ring_of g) s c))) (sym (append-nil (begun_by (ring_of g) s c)))
       (one.leaves s stands now fine);
   looks = λ all now. one.looks (both (is_look c) true all).0 now;
   unmoved = λ all. one.unmoved (both (was_refused c) true all).0;
@@ -153,18 +153,19 @@ pub goes-joined : {D : Type 0} (medium : D → Medium) (old mid new : Seen D) (x
     → Goes medium old mid xs → Goes medium mid new ys → Goes medium old new (xs ++ ys)
 goes-joined {D} medium old mid new xs ys first second = record {
   one = first.one;
-  answers = λ s told. each-behind (after_store_call g) (IsAnswered (Held medium old s) g) s xs ys (first.answers s told) (later s told);
+  answers = λ s told. each-behind (after_store_call (ring_of g)) (IsAnswered (Held medium old s) (ring_of g)) s xs ys (first.answers s told) (later s told);
   tells = λ s told.
-      subst (λ (t : StoreState). TellsState new t) (sym (after-behind (after_store_call g) s xs ys))
-      (subst (λ (h : Geometry). TellsState new (after_calls h (mid_state s) ys)) first.geometry (second.tells (mid_state s) (first.tells s told)));
+      subst (λ (t : StoreState). TellsState new t) (sym (after-behind (after_store_call (ring_of g)) s xs ys))
+      (subst (λ (h : Geometry). TellsState new (after_calls (ring_of h) (mid_state s) ys)) first.geometry (second.tells (mid_state s) (first.tells s told)));
   stands = λ s stands.
-      subst (λ (t : StoreState). Stands medium new t) (sym (after-behind (after_store_call g) s xs ys))
-      (subst (λ (h : Geometry). Stands medium new (after_calls h (mid_state s) ys)) first.geometry (second.stands (mid_state s) (first.stands s stands)));
+      subst (λ (t : StoreState). Stands medium new t) (sym (after-behind (after_store_call (ring_of g)) s xs ys))
+      (subst (λ (h : Geometry). Stands medium new (after_calls (ring_of h) (mid_state s) ys)) first.geometry
+      (second.stands (mid_state s) (first.stands s stands)));
   leaves = λ s stands now fine.
-      leaves-same g s.recording (made_in g s xs ++ made_in g (mid_state s) ys) (made_in g s (xs ++ ys))
-      (begun_in g s xs ++ begun_in g (mid_state s) ys) (begun_in g s (xs ++ ys)) (medium old.disk) (medium new.disk)
-      (sym (told-behind (after_store_call g) (made_by g) s xs ys))
-      (sym (told-behind (after_store_call g) (begun_by g) s xs ys))
+      leaves-same g s.recording (made_in (ring_of g) s xs ++ made_in (ring_of g) (mid_state s) ys) (made_in (ring_of g) s (xs ++ ys))
+      (begun_in (ring_of g) s xs ++ begun_in (ring_of g) (mid_state s) ys) (begun_in (ring_of g) s (xs ++ ys)) (medium old.disk) (medium new.disk)
+      (sym (told-behind (after_store_call (ring_of g)) (made_by (ring_of g)) s xs ys))
+      (sym (told-behind (after_store_call (ring_of g)) (begun_by (ring_of g)) s xs ys))
       (go s stands now fine (mid_state s).must_reopen refl);
   looks = λ all now. let k = all-both is_look xs ys all in stays_on (medium old.disk) (medium mid.disk)
       (medium new.disk) (first.looks k.0 now) (second.looks k.1 (first.called.honest.0 now));
@@ -179,44 +180,44 @@ goes-joined {D} medium old mid new xs ys first second = record {
     g = old.geometry
 
     mid_state : StoreState → StoreState
-    mid_state s = after_calls g s xs
+    mid_state s = after_calls (ring_of g) s xs
 
-    later : (s : StoreState) → TellsState old s → AreAnswered (Held medium old s) g (mid_state s) ys
+    later : (s : StoreState) → TellsState old s → AreAnswered (Held medium old s) (ring_of g) (mid_state s) ys
     later s told =
         are-answered-as (Held medium mid (mid_state s)) (Held medium old s) g (mid_state s) ys (λ held. (first.called.honest.0 held.0, first.stands s held.1))
-        (subst (λ (h : Geometry). AreAnswered (Held medium mid (mid_state s)) h (mid_state s) ys) first.geometry
+        (subst (λ (h : Geometry). AreAnswered (Held medium mid (mid_state s)) (ring_of h) (mid_state s) ys) first.geometry
         (second.answers (mid_state s) (first.tells s told)))
 
     go : (s : StoreState) → Stands medium old s → (medium old.disk).honest → s.must_reopen ≡ false → (b : Bool)
         → (mid_state s).must_reopen ≡ b
-        → LeavesSteps g s.recording (made_in g s xs ++ made_in g (mid_state s) ys)
-        (begun_in g s xs ++ begun_in g (mid_state s) ys) (medium old.disk) (medium new.disk)
+        → LeavesSteps g s.recording (made_in (ring_of g) s xs ++ made_in (ring_of g) (mid_state s) ys)
+        (begun_in (ring_of g) s xs ++ begun_in (ring_of g) (mid_state s) ys) (medium old.disk) (medium new.disk)
     go s stands now fine true must =
         let none = idle-all (Held medium old s) g (mid_state s) ys must (later s (told-of medium old s stands)) in
         let there = first.stands s stands in
         let same : new ≡ mid = idle medium mid new ys second (there.must_reopen ∙ must) in
-        subst (λ (t : Seen D). LeavesSteps g s.recording (made_in g s xs ++ made_in g (mid_state s) ys)
-        (begun_in g s xs ++ begun_in g (mid_state s) ys) (medium old.disk) (medium t.disk)) (sym same)
-        (leaves-same g s.recording (made_in g s xs) (made_in g s xs ++ made_in g (mid_state s) ys) (begun_in g s xs)
-        (begun_in g s xs ++ begun_in g (mid_state s) ys) (medium old.disk) (medium mid.disk)
-        (sym (ap (λ l. made_in g s xs ++ l) none.made ∙ append-nil (made_in g s xs)))
-        (sym (ap (λ l. begun_in g s xs ++ l) none.begun ∙ append-nil (begun_in g s xs)))
+        subst (λ (t : Seen D). LeavesSteps g s.recording (made_in (ring_of g) s xs ++ made_in (ring_of g) (mid_state s) ys)
+        (begun_in (ring_of g) s xs ++ begun_in (ring_of g) (mid_state s) ys) (medium old.disk) (medium t.disk)) (sym same)
+        (leaves-same g s.recording (made_in (ring_of g) s xs) (made_in (ring_of g) s xs ++ made_in (ring_of g) (mid_state s) ys) (begun_in (ring_of g) s xs)
+        (begun_in (ring_of g) s xs ++ begun_in (ring_of g) (mid_state s) ys) (medium old.disk) (medium mid.disk)
+        (sym (ap (λ l. made_in (ring_of g) s xs ++ l) none.made ∙ append-nil (made_in (ring_of g) s xs)))
+        (sym (ap (λ l. begun_in (ring_of g) s xs ++ l) none.begun ∙ append-nil (begun_in (ring_of g) s xs)))
         (first.leaves s stands now fine))
     go s stands now fine false still =
         let none = (fine-all g s xs still).none in
-        let one : LeavesSteps g s.recording (made_in g s xs) [] (medium old.disk) (medium mid.disk) =
-        subst (λ l. LeavesSteps g s.recording (made_in g s xs) l (medium old.disk) (medium mid.disk)) none
+        let one : LeavesSteps g s.recording (made_in (ring_of g) s xs) [] (medium old.disk) (medium mid.disk) =
+        subst (λ l. LeavesSteps g s.recording (made_in (ring_of g) s xs) l (medium old.disk) (medium mid.disk)) none
         (first.leaves s stands now fine) in
-        let two : LeavesSteps g (plain (ring_of g) s.recording (made_in g s xs)) (made_in g (mid_state s) ys)
-        (begun_in g (mid_state s) ys) (medium mid.disk) (medium new.disk) =
-        subst (λ (r : Recording). LeavesSteps g r (made_in g (mid_state s) ys) (begun_in g (mid_state s) ys)
+        let two : LeavesSteps g (plain (ring_of g) s.recording (made_in (ring_of g) s xs)) (made_in (ring_of g) (mid_state s) ys)
+        (begun_in (ring_of g) (mid_state s) ys) (medium mid.disk) (medium new.disk) =
+        subst (λ (r : Recording). LeavesSteps g r (made_in (ring_of g) (mid_state s) ys) (begun_in (ring_of g) (mid_state s) ys)
         (medium mid.disk) (medium new.disk)) (recording-after g s xs)
-        (subst (λ (h : Geometry). LeavesSteps h (mid_state s).recording (made_in h (mid_state s) ys)
-        (begun_in h (mid_state s) ys) (medium mid.disk) (medium new.disk)) first.geometry
+        (subst (λ (h : Geometry). LeavesSteps h (mid_state s).recording (made_in (ring_of h) (mid_state s) ys)
+        (begun_in (ring_of h) (mid_state s) ys) (medium mid.disk) (medium new.disk)) first.geometry
         (second.leaves (mid_state s) (first.stands s stands) (first.called.honest.0 now) still)) in
-        leaves-same g s.recording (made_in g s xs ++ made_in g (mid_state s) ys)
-        (made_in g s xs ++ made_in g (mid_state s) ys) (begun_in g (mid_state s) ys)
-        (begun_in g s xs ++ begun_in g (mid_state s) ys) (medium old.disk) (medium new.disk) refl
-        (sym (ap (λ l. l ++ begun_in g (mid_state s) ys) none))
-        (leaves-joined g s.recording (made_in g s xs) (made_in g (mid_state s) ys) (begun_in g (mid_state s) ys)
+        leaves-same g s.recording (made_in (ring_of g) s xs ++ made_in (ring_of g) (mid_state s) ys)
+        (made_in (ring_of g) s xs ++ made_in (ring_of g) (mid_state s) ys) (begun_in (ring_of g) (mid_state s) ys)
+        (begun_in (ring_of g) s xs ++ begun_in (ring_of g) (mid_state s) ys) (medium old.disk) (medium new.disk) refl
+        (sym (ap (λ l. l ++ begun_in (ring_of g) (mid_state s) ys) none))
+        (leaves-joined g s.recording (made_in (ring_of g) s xs) (made_in (ring_of g) (mid_state s) ys) (begun_in (ring_of g) (mid_state s) ys)
         (medium old.disk) (medium mid.disk) (medium new.disk) one two)

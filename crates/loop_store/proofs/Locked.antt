@@ -396,7 +396,7 @@ run-ends g r image table j n end h held same within l there has is = go (cases_l
 pub record IsClipCall (H : Type 0) (g : Geometry) (c : Call) (IsOne : Recording → Type 0) : Type 0 where
   pub writes : is_look c ≡ false
   pub late : was_refused c ≡ false
-  pub answers : (s : StoreState) → s.must_reopen ≡ false → IsOne s.recording → IsAnswered H g s c
+  pub answers : (s : StoreState) → s.must_reopen ≡ false → IsOne s.recording → IsAnswered H (ring_of g) s c
 
 pub goes-noted : {D A : Type 0} (medium : D → Medium) (old new : D) (was now : Index A) (must : Bool) (id : ℕ)
     (clip : Option Span) (IsOne : Recording → Type 0) (step : Step) (c : Call) → IsKept medium old was must
@@ -406,8 +406,8 @@ pub goes-noted : {D A : Type 0} (medium : D → Medium) (old new : D) (was now :
     → LeavesOnly (medium old) (medium new) (HoldsSome was.ring.geometry r (step ∷ [])))
     → ((r : Recording) (image : List ℕ) → IsIndexOf was r image → IsOne r)
     → ((H : Type 0) → IsClipCall H was.ring.geometry c IsOne) → has_failed c ≡ false → failed_for c ≡ None
-    → ((s : StoreState) → made_by was.ring.geometry s c ≡ step ∷ [])
-    → ((s : StoreState) → begun_by was.ring.geometry s c ≡ [])
+    → ((s : StoreState) → made_by (ring_of was.ring.geometry) s c ≡ step ∷ [])
+    → ((s : StoreState) → begun_by (ring_of was.ring.geometry) s c ≡ [])
     → Goes medium (seen_with old was must) (seen_with new now must) (c ∷ [])
 goes-noted medium old new was now must id clip IsOne step c kept fine n moments one call unfailed none made_all begun_none =
     goes-done medium (seen_with old was must) (seen_with new now must) c (λ r. step ∷ []) (record {
@@ -441,8 +441,8 @@ pub goes-unnoted : {D A : Type 0} (medium : D → Medium) (old new : D) (was now
     → LeavesOnly (medium old) (medium new) (HoldsSome was.ring.geometry r (step ∷ [])))
     → ((r : Recording) (image : List ℕ) → IsIndexOf was r image → IsOne r)
     → ((H : Type 0) → IsClipCall H was.ring.geometry c IsOne) → has_failed c ≡ true → failed_for c ≡ Some fault
-    → ((s : StoreState) → made_by was.ring.geometry s c ≡ [])
-    → ((s : StoreState) → begun_by was.ring.geometry s c ≡ step ∷ [])
+    → ((s : StoreState) → made_by (ring_of was.ring.geometry) s c ≡ [])
+    → ((s : StoreState) → begun_by (ring_of was.ring.geometry) s c ≡ step ∷ [])
     → Goes medium (seen_with old was must) (seen_with new now true) (c ∷ [])
 goes-unnoted medium old new was now must IsOne step c fault kept fine same alike sound called moments one call has some made_none begun_all =
     goes-failed medium (seen_with old was must) (seen_with new now true) c (λ r. step ∷ []) fault (record {
@@ -500,8 +500,8 @@ lock-refused medium s span fault one sound fine can first =
 
 -- the id that was answered is the least free one
 pub answered-id : (H : Type 0) (g : Geometry) (s : StoreState) (span : Span) (id : ℕ)
-    → IsAnswered H g s (locked span (Ok id)) → id ≡ free_id s.recording
-answered-id H g s span id said = (due-none (first_of (checks g s (locked span (Ok id)))) (locked span (Ok id)) (id ≡ free_id s.recording) said refl).1
+    → IsAnswered H (ring_of g) s (locked span (Ok id)) → id ≡ free_id s.recording
+answered-id H g s span id said = (due-none (first_of (checks (ring_of g) s (locked span (Ok id)))) (locked span (Ok id)) (id ≡ free_id s.recording) said refl).1
 
 -- ---- an unlock
 
@@ -516,7 +516,7 @@ none-is (Some s) e = absurd cc
 -- a clip that stands may be taken away
 pub unlock-answered : (H : Type 0) (g : Geometry) (s : StoreState) (id : ℕ) (result : Result (Unit {0}) StoreFault)
     → s.must_reopen ≡ false → clip_of s.recording id ≢ None → AnswersOtherwise H s.recording (unlocked id result)
-    → IsAnswered H g s (unlocked id result)
+    → IsAnswered H (ring_of g) s (unlocked id result)
 unlock-answered H g s id result fine some is = answer-given H g s (unlocked id result) fine
     (passed (not (is_some (clip_of s.recording id))) NoSuchClip [] (some-is (clip_of s.recording id) some)) is
 

@@ -12,11 +12,12 @@ use Rattle.loop_store.specs.Steps.{if_answered, if_failed}
 use Rattle.loop_store.proofs.Checked.{must-answer}
 
 -- the recording after calls is the one after their steps
-pub recording-after : (g : Geometry) (s : StoreState) (calls : List Call) → (after_calls g s calls).recording ≡ plain
-    (ring_of g) s.recording (made_in g s calls)
+pub recording-after : (g : Geometry) (s : StoreState) (calls : List Call)
+    → (after_calls (ring_of g) s calls).recording ≡ plain
+    (ring_of g) s.recording (made_in (ring_of g) s calls)
 recording-after g s [] = refl
-recording-after g s (c ∷ calls) = recording-after g (after_store_call g s c) calls
-    ∙ sym (plain-append (ring_of g) s.recording (made_by g s c) (made_in g (after_store_call g s c) calls))
+recording-after g s (c ∷ calls) = recording-after g (after_store_call (ring_of g) s c) calls
+    ∙ sym (plain-append (ring_of g) s.recording (made_by (ring_of g) s c) (made_in (ring_of g) (after_store_call (ring_of g) s c) calls))
 
 -- ---- what hasn't failed has begun nothing that it didn't make
 
@@ -27,23 +28,24 @@ pub none-either : (b : Bool) → (if b then no_steps else no_steps) ≡ no_steps
 none-either true = refl
 none-either false = refl
 
-begun-none : (g : Geometry) (s : StoreState) (c : Call) → has_failed c ≡ false → begun_by g s c ≡ []
+begun-none : (g : Geometry) (s : StoreState) (c : Call) → has_failed c ≡ false → begun_by (ring_of g) s c ≡ []
 begun-none g s (was_read number result) fine = none-either (answers_disk result)
 begun-none g s (locked span result) fine = ap (λ (b : Bool). if b then lock span ∷ [] else []) fine
 begun-none g s (unlocked id result) fine = ap (λ (b : Bool). if b then unlock id ∷ [] else []) fine
 begun-none g s (was_read_part number at result) fine = none-either (answers_disk result)
-begun-none g s (appended group result) fine = ap (λ (b : Bool). if b then steps_asked g s.recording group else []) fine
+begun-none g s (appended group result) fine = ap (λ (b : Bool). if b then steps_asked (ring_of g) s.recording group else []) fine
 
 -- nothing has failed before
 pub record IsFine (g : Geometry) (s : StoreState) (calls : List Call) : Type 0 where
   pub before : s.must_reopen ≡ false
-  pub none : begun_in g s calls ≡ []
+  pub none : begun_in (ring_of g) s calls ≡ []
 
-pub fine-all : (g : Geometry) (s : StoreState) (calls : List Call) → (after_calls g s calls).must_reopen ≡ false
+pub fine-all : (g : Geometry) (s : StoreState) (calls : List Call)
+    → (after_calls (ring_of g) s calls).must_reopen ≡ false
     → IsFine g s calls
 fine-all g s [] fine = record { before = fine; none = refl }
 fine-all g s (c ∷ calls) fine =
-    let rest = fine-all g (after_store_call g s c) calls fine in
+    let rest = fine-all g (after_store_call (ring_of g) s c) calls fine in
     let both = neither s.must_reopen (has_failed c) rest.before in
     let none = begun-none g s c both.1 in
     let later = rest.none in
@@ -55,18 +57,22 @@ pub record IsIdle (a b : List Step) : Type 0 where
   pub made : a ≡ []
   pub begun : b ≡ []
 
-idle-one : (H : Type 0) (g : Geometry) (s : StoreState) (c : Call) → s.must_reopen ≡ true → IsAnswered H g s c
-    → IsIdle (made_by g s c) (begun_by g s c)
+idle-one : (H : Type 0) (g : Geometry) (s : StoreState) (c : Call) → s.must_reopen ≡ true → IsAnswered H (ring_of g) s c
+    → IsIdle (made_by (ring_of g) s c) (begun_by (ring_of g) s c)
 idle-one H g s c must said =
     let is = must-answer H g s c must said in
-    record { made = ap (λ (o : Option StoreFault). if_answered o (steps_of g s c)) is; begun = ap (λ (o : Option StoreFault). if_failed o (steps_of g s c)) is }
+    record {
+      made = ap (λ (o : Option StoreFault). if_answered o (steps_of (ring_of g) s c)) is;
+      begun =
+          ap (λ (o : Option StoreFault). if_failed o (steps_of (ring_of g) s c)) is;
+    }
 
 pub idle-all : (H : Type 0) (g : Geometry) (s : StoreState) (calls : List Call) → s.must_reopen ≡ true
-    → AreAnswered H g s calls → IsIdle (made_in g s calls) (begun_in g s calls)
+    → AreAnswered H (ring_of g) s calls → IsIdle (made_in (ring_of g) s calls) (begun_in (ring_of g) s calls)
 idle-all H g s [] must said = record { made = refl; begun = refl }
 idle-all H g s (c ∷ calls) must said =
     let one = idle-one H g s c must said.0 in
-    let rest = idle-all H g (after_store_call g s c) calls (ap (λ (b : Bool). b || has_failed c) must) said.1 in
+    let rest = idle-all H g (after_store_call (ring_of g) s c) calls (ap (λ (b : Bool). b || has_failed c) must) said.1 in
     let a = one.made in
     let b = rest.made in
     let d = one.begun in

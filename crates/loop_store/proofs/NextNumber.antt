@@ -37,8 +37,8 @@ appended-raises ring r group some = go (r.next == last_number ring) (needs_recyc
     go false true None some = absurd (some refl)
     go false true (Some b) some = raised ring (stepped ring r (recycle b)) group
 
-after-next : (H : Type 0) (g : Geometry) (s : StoreState) (c : Call) → IsAnswered H g s c
-    → (after_store_call g s c).recording.next ≡ s.recording.next + count_stored c
+after-next : (H : Type 0) (g : Geometry) (s : StoreState) (c : Call) → IsAnswered H (ring_of g) s c
+    → (after_store_call (ring_of g) s c).recording.next ≡ s.recording.next + count_stored c
 after-next H g s (appended group (Ok number)) said = appended-raises (ring_of g) s.recording group (answered-some H g s group number said)
 after-next H g s (appended group (Err fault)) said = none-more s.recording.next
 after-next H g s (locked span (Ok id)) said = none-more s.recording.next

@@ -42,12 +42,12 @@ pub record IsQuiet (c : Call) : Type 0 where
   pub early : was_refused c ≡ true
   pub unfailed : has_failed c ≡ false
   pub none : failed_for c ≡ None
-  pub made_none : (g : Geometry) (s : StoreState) → made_by g s c ≡ []
-  pub begun_none : (g : Geometry) (s : StoreState) → begun_by g s c ≡ []
+  pub made_none : (g : Geometry) (s : StoreState) → made_by (ring_of g) s c ≡ []
+  pub begun_none : (g : Geometry) (s : StoreState) → begun_by (ring_of g) s c ≡ []
 
 pub goes-refused : {D : Type 0} (medium : D → Medium) (s : Seen D) (c : Call) → TellsOne s
     → ((medium s.disk).honest → IsSound (medium s.disk)) → IsQuiet c
-    → ((H : Type 0) (t : StoreState) → TellsState s t → IsAnswered H s.geometry t c) → Goes medium s s (c ∷ [])
+    → ((H : Type 0) (t : StoreState) → TellsState s t → IsAnswered H (ring_of s.geometry) t c) → Goes medium s s (c ∷ [])
 goes-refused {D} medium s c one sound quiet answers = goes-once medium s s c (record {
   one = one;
   answers = λ t told. answers ((medium s.disk).honest × Stands medium s t) t told;
@@ -62,7 +62,7 @@ goes-refused {D} medium s c one sound quiet answers = goes-once medium s s c (re
   };
   leaves = λ t stands now fine.
       let still : s.must_reopen ≡ false = stands.must_reopen ∙ fine in
-      leaves-same s.geometry t.recording [] (made_by s.geometry t c) [] (begun_by s.geometry t c) (medium s.disk)
+      leaves-same s.geometry t.recording [] (made_by (ring_of s.geometry) t c) [] (begun_by (ring_of s.geometry) t c) (medium s.disk)
       (medium s.disk) (sym (quiet.made_none s.geometry t)) (sym (quiet.begun_none s.geometry t))
       (leaves-none s.geometry t.recording (medium s.disk) (sound now) (stands.recording.settled still now) (stands.recording.held still now));
   looks = λ look now. stays-still (medium s.disk);
@@ -78,7 +78,7 @@ pub goes-must : {D : Type 0} (medium : D → Medium) (s : Seen D) (c : Call) →
     → fault_answered c ≡ Some MustReopen → Goes medium s s (c ∷ [])
 goes-must medium s c one sound must quiet is =
     goes-refused medium s c one sound quiet
-    (λ H t told. refused (first_of (checks s.geometry t c)) c (AnswersOtherwise H t.recording c) MustReopen
+    (λ H t told. refused (first_of (checks (ring_of s.geometry) t c)) c (AnswersOtherwise H t.recording c) MustReopen
     (must-first s.geometry t c (sym told.must_reopen ∙ must)) is)
 
 -- ---- done
@@ -101,8 +101,8 @@ pub record Done {D : Type 0} (medium : D → Medium) (old new : Seen D) (c : Cal
   pub called : Called (medium old.disk) (medium new.disk) None
   pub unfailed : has_failed c ≡ false
   pub none : failed_for c ≡ None
-  pub made_all : (s : StoreState) → made_by old.geometry s c ≡ steps s.recording
-  pub begun_none : (s : StoreState) → begun_by old.geometry s c ≡ []
+  pub made_all : (s : StoreState) → made_by (ring_of old.geometry) s c ≡ steps s.recording
+  pub begun_none : (s : StoreState) → begun_by (ring_of old.geometry) s c ≡ []
   pub one : TellsOne old
   pub answers : (s : StoreState) → TellsState old s → IsAnswered ((medium old.disk).honest × Stands medium old s)
       old.geometry s c
@@ -131,7 +131,7 @@ goes-done {D} medium old new c steps done = goes-once medium old new c (record {
       let r = s.recording in
       let later = done.stands r stands.recording in
       let there = done.called.honest.0 now in
-      leaves-same old.geometry r (steps r) (made_by old.geometry s c) [] (begun_by old.geometry s c) (medium old.disk)
+      leaves-same old.geometry r (steps r) (made_by (ring_of old.geometry) s c) [] (begun_by (ring_of old.geometry) s c) (medium old.disk)
       (medium new.disk) (sym (done.made_all s)) (sym (done.begun_none s))
       (done-leaves old.geometry r (steps r) (medium old.disk) (medium new.disk) (done.moments r stands.recording now) (later.settled done.still there)
       (subst (λ (g : Geometry). Holds g (plain (ring_of old.geometry) r (steps r)) (medium new.disk).bytes) done.geometry (later.held done.still there)));
@@ -153,8 +153,8 @@ pub record Failed {D : Type 0} (medium : D → Medium) (old new : Seen D) (c : C
   pub sound : (medium new.disk).honest → IsSound (medium new.disk)
   pub has : has_failed c ≡ true
   pub some : failed_for c ≡ Some fault
-  pub made_none : (s : StoreState) → made_by old.geometry s c ≡ []
-  pub begun_all : (s : StoreState) → begun_by old.geometry s c ≡ steps s.recording
+  pub made_none : (s : StoreState) → made_by (ring_of old.geometry) s c ≡ []
+  pub begun_all : (s : StoreState) → begun_by (ring_of old.geometry) s c ≡ steps s.recording
   pub one : TellsOne old
   pub answers : (s : StoreState) → TellsState old s → IsAnswered ((medium old.disk).honest × Stands medium old s)
       old.geometry s c
@@ -179,8 +179,8 @@ goes-failed {D} medium old new c steps fault failed = goes-once medium old new c
   };
   leaves = λ s stands now fine.
       let run = failed.moments s.recording stands.recording now in
-      leaves-same old.geometry s.recording [] (made_by old.geometry s c) (steps s.recording)
-      (begun_by old.geometry s c) (medium old.disk) (medium new.disk) (sym (failed.made_none s))
+      leaves-same old.geometry s.recording [] (made_by (ring_of old.geometry) s c) (steps s.recording)
+      (begun_by (ring_of old.geometry) s c) (medium old.disk) (medium new.disk) (sym (failed.made_none s))
       (sym (failed.begun_all s)) (record {
         moments = run;
         now = each_now (medium old.disk) (medium new.disk) (HoldsSome old.geometry s.recording (steps s.recording))

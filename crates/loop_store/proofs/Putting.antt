@@ -25,7 +25,7 @@ use Rattle.loop_store.proofs.Once.{goes-done, goes-failed, goes-refused}
 
 -- where the numbers are spent
 first-spent : (g : Geometry) (r : Recording) (ps : List Picture) (result : Result ℕ StoreFault)
-    → r.next ≡ last_number (ring_of g) → first_of (checks_on g r (appended ps result)) ≡ Some NumbersSpent
+    → r.next ≡ last_number (ring_of g) → first_of (checks_on (ring_of g) r (appended ps result)) ≡ Some NumbersSpent
 first-spent g r ps result spent = failed (eqb r.next (last_number (ring_of g))) NumbersSpent _ (equal_test r.next (last_number (ring_of g)) spent)
 
 lacks : (recycles : Bool) (v : Option ℕ) → recycling_first recycles v ≡ None → (recycles && not (is_some v)) ≡ true
@@ -41,7 +41,7 @@ has true (Some b) e = refl
 -- where a block has to go and none may
 first-locked : (g : Geometry) (r : Recording) (ps : List Picture) (result : Result ℕ StoreFault)
     → r.next ≢ last_number (ring_of g) → recycling_first (needs_recycling (ring_of g) r) (victim (ring_of g) r) ≡ None
-    → first_of (checks_on g r (appended ps result)) ≡ Some AllLocked
+    → first_of (checks_on (ring_of g) r (appended ps result)) ≡ Some AllLocked
 first-locked g r ps result unspent none =
     passed (eqb r.next (last_number (ring_of g))) NumbersSpent _ (differ_test r.next (last_number (ring_of g)) unspent)
     ∙ failed (lacks_victim (ring_of g) r) AllLocked [] (lacks (needs_recycling (ring_of g) r) (victim (ring_of g) r) none)
@@ -49,7 +49,7 @@ first-locked g r ps result unspent none =
 -- where there is a place
 first-none : (g : Geometry) (r : Recording) (ps : List Picture) (result : Result ℕ StoreFault)
     → r.next ≢ last_number (ring_of g) → recycling_first (needs_recycling (ring_of g) r) (victim (ring_of g) r) ≢ None
-    → first_of (checks_on g r (appended ps result)) ≡ None
+    → first_of (checks_on (ring_of g) r (appended ps result)) ≡ None
 first-none g r ps result unspent some =
     passed (eqb r.next (last_number (ring_of g))) NumbersSpent _ (differ_test r.next (last_number (ring_of g)) unspent)
     ∙ passed (lacks_victim (ring_of g) r) AllLocked [] (has (needs_recycling (ring_of g) r) (victim (ring_of g) r) some)
@@ -62,9 +62,9 @@ some-first true (Some b) e none = absurd cc
 
 -- a group that was appended has steps
 pub answered-some : (H : Type 0) (g : Geometry) (s : StoreState) (ps : List Picture) (number : ℕ)
-    → IsAnswered H g s (appended ps (Ok number)) → steps (ring_of g) s.recording ps ≢ None
+    → IsAnswered H (ring_of g) s (appended ps (Ok number)) → steps (ring_of g) s.recording ps ≢ None
 answered-some H g s ps number said =
-    let none = (due-none (first_of (checks g s (appended ps (Ok number)))) (appended ps (Ok number))
+    let none = (due-none (first_of (checks (ring_of g) s (appended ps (Ok number)))) (appended ps (Ok number))
     (AnswersOtherwise H s.recording (appended ps (Ok number))) said refl).0 in
     let a = passes s.must_reopen MustReopen _ none in
     let b = passes (eqb s.recording.next (last_number (ring_of g))) NumbersSpent _ a.1 in
@@ -74,27 +74,27 @@ answered-some H g s ps number said =
 
 -- and its number is the next one
 pub answered-number : (H : Type 0) (g : Geometry) (s : StoreState) (ps : List Picture) (number : ℕ)
-    → IsAnswered H g s (appended ps (Ok number)) → number ≡ s.recording.next
+    → IsAnswered H (ring_of g) s (appended ps (Ok number)) → number ≡ s.recording.next
 answered-number H g s ps number said =
-    (due-none (first_of (checks g s (appended ps (Ok number)))) (appended ps (Ok number))
+    (due-none (first_of (checks (ring_of g) s (appended ps (Ok number)))) (appended ps (Ok number))
     (number ≡ s.recording.next) said refl).1
 
 -- and the store needn't be reopened
 pub answered-fine : (H : Type 0) (g : Geometry) (s : StoreState) (ps : List Picture) (number : ℕ)
-    → IsAnswered H g s (appended ps (Ok number)) → s.must_reopen ≡ false
+    → IsAnswered H (ring_of g) s (appended ps (Ok number)) → s.must_reopen ≡ false
 answered-fine H g s ps number said =
     (passes s.must_reopen MustReopen _
-    (due-none (first_of (checks g s (appended ps (Ok number)))) (appended ps (Ok number))
+    (due-none (first_of (checks (ring_of g) s (appended ps (Ok number)))) (appended ps (Ok number))
     (AnswersOtherwise H s.recording (appended ps (Ok number))) said refl).0).0
 
 -- and where a number is left, it is refused since no block may go, or the disk failed
 pub answered-refusal : (H : Type 0) (g : Geometry) (s : StoreState) (ps : List Picture) (fault : StoreFault)
-    → s.must_reopen ≡ false → s.recording.next ≢ last_number (ring_of g) → IsAnswered H g s (appended ps (Err fault))
+    → s.must_reopen ≡ false → s.recording.next ≢ last_number (ring_of g) → IsAnswered H (ring_of g) s (appended ps (Err fault))
     → (fault ≡ AllLocked) ⊎ (is_disk fault ≡ true)
 answered-refusal H g s ps fault fine unspent said = go (lacks_victim (ring_of g) s.recording)
     (subst (λ (o : Option StoreFault). AnswersDue o (appended ps (Err fault)) (is_write_fault fault ≡ true)) first said)
   where
-    first : first_of (checks g s (appended ps (Err fault))) ≡ first_of
+    first : first_of (checks (ring_of g) s (appended ps (Err fault))) ≡ first_of
         (due (lacks_victim (ring_of g) s.recording) AllLocked ∷ [])
     first = passed s.must_reopen MustReopen _ fine
         ∙ passed (eqb s.recording.next (last_number (ring_of g))) NumbersSpent _
@@ -120,7 +120,7 @@ place-refused {D} medium s ps fault one sound fine either known = goes-refused m
   unfailed = quiet either;
   none = none either;
   made_none = λ g t. refl;
-  begun_none = λ g t. ap (λ (b : Bool). if b then steps_asked g t.recording ps else []) (quiet either);
+  begun_none = λ g t. ap (λ (b : Bool). if b then steps_asked (ring_of g) t.recording ps else []) (quiet either);
 }) answers
   where
     call : Call
@@ -139,13 +139,13 @@ place-refused {D} medium s ps fault one sound fine either known = goes-refused m
     none (inr e) = ap failed_by e
 
     refuses : (H : Type 0) (t : StoreState) → t.must_reopen ≡ false → RefusesPlace s.geometry t.recording fault
-        → IsAnswered H s.geometry t call
+        → IsAnswered H (ring_of s.geometry) t call
     refuses H t still (inl x) = answer-due H s.geometry t call NumbersSpent still
         (first-spent s.geometry t.recording ps (Err fault) x.1) (ap (λ (f : StoreFault). Some f) x.0)
     refuses H t still (inr x) = answer-due H s.geometry t call AllLocked still
         (first-locked s.geometry t.recording ps (Err fault) x.1.0 x.1.1) (ap (λ (f : StoreFault). Some f) x.0)
 
-    answers : (H : Type 0) (t : StoreState) → TellsState s t → IsAnswered H s.geometry t call
+    answers : (H : Type 0) (t : StoreState) → TellsState s t → IsAnswered H (ring_of s.geometry) t call
     answers H t told = refuses H t (sym told.must_reopen ∙ fine) (known t.recording told.recording)
 
 -- ---- stored
@@ -157,7 +157,7 @@ pub record HasPlace (g : Geometry) (r : Recording) : Type 0 where
 
 placed : (H : Type 0) (g : Geometry) (s : StoreState) (ps : List Picture) (result : Result ℕ StoreFault)
     → s.must_reopen ≡ false → HasPlace g s.recording → AnswersOtherwise H s.recording (appended ps result)
-    → IsAnswered H g s (appended ps result)
+    → IsAnswered H (ring_of g) s (appended ps result)
 placed H g s ps result fine place is = answer-given H g s (appended ps result) fine (first-none g s.recording ps result place.unspent place.some) is
 
 -- what is known where the frames were stored
@@ -168,15 +168,16 @@ pub record Stored {D : Type 0} (medium : D → Medium) (old new : Seen D) (ps : 
   pub geometry : new.geometry ≡ old.geometry
   pub called : Called (medium old.disk) (medium new.disk) None
   pub place : (r : Recording) → Tells old r → HasPlace old.geometry r
-  pub tells : (r : Recording) → Tells old r → Tells new (plain (ring_of old.geometry) r (steps_asked old.geometry r ps))
+  pub tells : (r : Recording) → Tells old r
+      → Tells new (plain (ring_of old.geometry) r (steps_asked (ring_of old.geometry) r ps))
   pub moments : (r : Recording) → StandsFor medium old r → (medium old.disk).honest → LeavesOnly (medium old.disk)
-      (medium new.disk) (HoldsSome old.geometry r (steps_asked old.geometry r ps))
+      (medium new.disk) (HoldsSome old.geometry r (steps_asked (ring_of old.geometry) r ps))
   pub stands : (r : Recording) → StandsFor medium old r
-      → StandsFor medium new (plain (ring_of old.geometry) r (steps_asked old.geometry r ps))
+      → StandsFor medium new (plain (ring_of old.geometry) r (steps_asked (ring_of old.geometry) r ps))
 
 pub put-stored : {D : Type 0} (medium : D → Medium) (old new : Seen D) (ps : List Picture) → Stored medium old new ps
     → Goes medium old new (appended ps (Ok old.next) ∷ [])
-put-stored medium old new ps stored = goes-done medium old new (appended ps (Ok old.next)) (λ r. steps_asked old.geometry r ps) (record {
+put-stored medium old new ps stored = goes-done medium old new (appended ps (Ok old.next)) (λ r. steps_asked (ring_of old.geometry) r ps) (record {
   writes = refl;
   late = refl;
   fine = stored.fine;
@@ -207,26 +208,27 @@ pub record Failed {D : Type 0} (medium : D → Medium) (old new : Seen D) (ps : 
   pub sound : (medium new.disk).honest → IsSound (medium new.disk)
   pub place : (r : Recording) → Tells old r → HasPlace old.geometry r
   pub moments : (r : Recording) → StandsFor medium old r → (medium old.disk).honest → LeavesOnly (medium old.disk)
-      (medium new.disk) (HoldsSome old.geometry r (steps_asked old.geometry r ps))
+      (medium new.disk) (HoldsSome old.geometry r (steps_asked (ring_of old.geometry) r ps))
 
 pub put-failed : {D : Type 0} (medium : D → Medium) (old new : Seen D) (ps : List Picture) (fault : DiskFault)
     → Failed medium old new ps fault → Goes medium old new (appended ps (Err (Disk fault)) ∷ [])
-put-failed medium old new ps fault failed = goes-failed medium old new (appended ps (Err (Disk fault))) (λ r. steps_asked old.geometry r ps) fault (record {
-  writes = refl;
-  late = refl;
-  fine = failed.fine;
-  one = failed.one;
-  failed = failed.has_failed;
-  called = failed.called;
-  sound = failed.sound;
-  has = refl;
-  some = refl;
-  made_none = λ s. refl;
-  begun_all = λ s. refl;
-  answers = λ s told. placed ((medium old.disk).honest × Stands medium old s) old.geometry s ps (Err (Disk fault))
-      (sym told.must_reopen ∙ failed.fine) (failed.place s.recording told.recording) failed.writes;
-  moments = failed.moments;
-})
+put-failed medium old new ps fault failed = goes-failed medium old new (appended ps (Err (Disk fault)))
+    (λ r. steps_asked (ring_of old.geometry) r ps) fault (record {
+      writes = refl;
+      late = refl;
+      fine = failed.fine;
+      one = failed.one;
+      failed = failed.has_failed;
+      called = failed.called;
+      sound = failed.sound;
+      has = refl;
+      some = refl;
+      made_none = λ s. refl;
+      begun_all = λ s. refl;
+      answers = λ s told. placed ((medium old.disk).honest × Stands medium old s) old.geometry s ps (Err (Disk fault))
+          (sym told.must_reopen ∙ failed.fine) (failed.place s.recording told.recording) failed.writes;
+      moments = failed.moments;
+    })
 
 -- a place that is there for one recording is there for each with its numbers
 pub place-alike : (g : Geometry) (r t : Recording) → IsSame r t → HasPlace g r → HasPlace g t

@@ -34,8 +34,8 @@ made-either (Some fault) = refl
 
 -- a call that makes no step, begins none and fails none
 pub record IsLook (c : Call) : Type 0 where
-  pub steps : (g : Geometry) (s : StoreState) → made_by g s c ≡ []
-  pub begins : (g : Geometry) (s : StoreState) → begun_by g s c ≡ []
+  pub steps : (g : Geometry) (s : StoreState) → made_by (ring_of g) s c ≡ []
+  pub begins : (g : Geometry) (s : StoreState) → begun_by (ring_of g) s c ≡ []
   pub fine : has_failed c ≡ false
 
 pub look-read : (number : ℕ) (result : Result (FrameHead × List ℕ) StoreFault) → IsLook (was_read number result)
@@ -73,7 +73,7 @@ goes-looked {D} medium old disk c look sound looked = goes-once medium old (reco
   };
   leaves = λ s stands now fine.
       let still : old.must_reopen ≡ false = stands.must_reopen ∙ fine in
-      leaves-same old.geometry s.recording [] (made_by old.geometry s c) [] (begun_by old.geometry s c)
+      leaves-same old.geometry s.recording [] (made_by (ring_of old.geometry) s c) [] (begun_by (ring_of old.geometry) s c)
       (medium old.disk) (medium disk) (sym (look.steps old.geometry s)) (sym (look.begins old.geometry s))
       (leaves-looked old.geometry s.recording (medium old.disk) (medium disk) (sound now)
       (stands.recording.settled still now) (stands.recording.held still now) (looked.stays now));
@@ -89,7 +89,7 @@ goes-looked {D} medium old disk c look sound looked = goes-once medium old (reco
 -- refused before the disk was called
 pub goes-unread : {D : Type 0} (medium : D → Medium) (s : Seen D) (c : Call) → IsLook c → TellsOne s
     → ((medium s.disk).honest → IsSound (medium s.disk)) → failed_for c ≡ None
-    → ((H : Type 0) (t : StoreState) → TellsState s t → IsAnswered H s.geometry t c) → Goes medium s s (c ∷ [])
+    → ((H : Type 0) (t : StoreState) → TellsState s t → IsAnswered H (ring_of s.geometry) t c) → Goes medium s s (c ∷ [])
 goes-unread medium s c look one sound none answers = goes-looked medium s s.disk c look sound (record {
   one = one;
   answers = λ t told. answers ((medium s.disk).honest × Stands medium s t) t told;
@@ -102,11 +102,11 @@ goes-unread medium s c look one sound none answers = goes-looked medium s s.disk
 -- ---- the checks
 
 held-none : (g : Geometry) (s : StoreState) (number : ℕ) (result : Result (FrameHead × List ℕ) StoreFault)
-    → holds s.recording number ≡ true → first_of (checks_on g s.recording (was_read number result)) ≡ None
+    → holds s.recording number ≡ true → first_of (checks_on (ring_of g) s.recording (was_read number result)) ≡ None
 held-none g s number result held = passed (not (holds s.recording number)) NotHeld [] (ap not held)
 
 held-none-part : (g : Geometry) (s : StoreState) (number at : ℕ) (result : Result (List ℕ) StoreFault)
-    → holds s.recording number ≡ true → first_of (checks_on g s.recording (was_read_part number at result)) ≡ None
+    → holds s.recording number ≡ true → first_of (checks_on (ring_of g) s.recording (was_read_part number at result)) ≡ None
 held-none-part g s number at result held = passed (not (holds s.recording number)) NotHeld [] (ap not held)
 
 -- a read that failed, where the call of an honest disk did
@@ -119,18 +119,18 @@ read-fails H fault (inr is) honest = inl is
 
 -- a number that isn't held
 pub read-missing : (H : Type 0) (g : Geometry) (s : StoreState) (number : ℕ) → s.must_reopen ≡ false
-    → holds s.recording number ≡ false → IsAnswered H g s (was_read number (Err NotHeld))
+    → holds s.recording number ≡ false → IsAnswered H (ring_of g) s (was_read number (Err NotHeld))
 read-missing H g s number fine none = answer-due H g s (was_read number (Err NotHeld)) NotHeld fine
     (failed (not (holds s.recording number)) NotHeld [] (ap not none)) refl
 
 pub part-missing : (H : Type 0) (g : Geometry) (s : StoreState) (number at : ℕ) → s.must_reopen ≡ false
-    → holds s.recording number ≡ false → IsAnswered H g s (was_read_part number at (Err NotHeld))
+    → holds s.recording number ≡ false → IsAnswered H (ring_of g) s (was_read_part number at (Err NotHeld))
 part-missing H g s number at fine none = answer-due H g s (was_read_part number at (Err NotHeld)) NotHeld fine
     (failed (not (holds s.recording number)) NotHeld [] (ap not none)) refl
 
 -- why a read is refused
 pub read-refusal : (H : Type 0) (g : Geometry) (s : StoreState) (number : ℕ) (fault : StoreFault)
-    → s.must_reopen ≡ false → IsAnswered H g s (was_read number (Err fault)) → (fault ≡ NotHeld)
+    → s.must_reopen ≡ false → IsAnswered H (ring_of g) s (was_read number (Err fault)) → (fault ≡ NotHeld)
     ⊎ ((fault ≡ NoMemory) ⊎ ((fault ≡ Damaged SlotHead) ⊎ (is_disk fault ≡ true)))
 read-refusal H g s number fault fine said =
     go (not (holds s.recording number))
@@ -151,14 +151,14 @@ read-refusal H g s number fault fine said =
 
 -- one for which there is no memory
 pub read-unread : (H : Type 0) (g : Geometry) (s : StoreState) (number : ℕ) → s.must_reopen ≡ false
-    → holds s.recording number ≡ true → IsAnswered H g s (was_read number (Err NoMemory))
+    → holds s.recording number ≡ true → IsAnswered H (ring_of g) s (was_read number (Err NoMemory))
 read-unread H g s number fine held = answer-given H g s (was_read number (Err NoMemory)) fine (held-none g s number (Err NoMemory) held) (inl refl)
 
 -- what a read into lent memory answers
 pub read-answered : (H : Type 0) (g : Geometry) (s : StoreState) (number : ℕ) (result : Result FrameHead StoreFault)
     (out : List ℕ) → s.must_reopen ≡ false → holds s.recording number ≡ true
     → IfErr result (λ fault. (fault ≡ Damaged SlotHead) ⊎ (is_disk fault ≡ true))
-    → (H → AnswersFrame s.recording number result out) → IsAnswered H g s (was_read number (read_with result out))
+    → (H → AnswersFrame s.recording number result out) → IsAnswered H (ring_of g) s (was_read number (read_with result out))
 read-answered H g s number (Ok h) out fine held refusals said =
     answer-given H g s (was_read number (Ok (h, out))) fine (held-none g s number (Ok (h, out)) held) said
 read-answered H g s number (Err fault) out fine held refusals said =
@@ -191,7 +191,7 @@ part-late number at (Err fault) out said = late-fault fault said
 pub part-answered : (H : Type 0) (g : Geometry) (s : StoreState) (number at : ℕ)
     (result : Result (Unit {0}) StoreFault) (out : List ℕ) → s.must_reopen ≡ false → holds s.recording number ≡ true
     → IfErr result (λ fault. (fault ≡ Damaged SlotHead) ⊎ (is_disk fault ≡ true))
-    → (H → AnswersFramePart s.recording number at result out) → IsAnswered H g s (was_read_part number at (part_with result out))
+    → (H → AnswersFramePart s.recording number at result out) → IsAnswered H (ring_of g) s (was_read_part number at (part_with result out))
 part-answered H g s number at (Ok done) out fine held refusals said =
     answer-given H g s (was_read_part number at (Ok out)) fine (held-none-part g s number at (Ok out) held) said
 part-answered H g s number at (Err fault) out fine held refusals said =

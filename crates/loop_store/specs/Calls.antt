@@ -6,8 +6,7 @@ use Rattle.loop_disk.specs.Medium.{piece}
 use Rattle.loop_record.specs.declared.clip.Span.{Span}
 use Rattle.loop_record.specs.declared.damage.Damage.TheVariants.{SlotHead}
 use Rattle.loop_record.specs.declared.frame.FrameHead.{FrameHead}
-use Rattle.loop_record.specs.declared.geometry.Geometry.{Geometry}
-use Rattle.loop_record.specs.Recording.{Picture, Recording, Ring, Step, clip_of, frame_under, free_id, head, holds, last_number, lock, needs_recycling, plain, ring_of, steps, unlock, victim}
+use Rattle.loop_record.specs.Recording.{Picture, Recording, Ring, Step, clip_of, frame_under, free_id, head, holds, last_number, lock, needs_recycling, plain, steps, unlock, victim}
 use Rattle.loop_record.specs.Turns.{after_all, told_in, EachIn}
 use Rattle.loop_store.specs.declared.fault.StoreFault.{StoreFault}
 use Rattle.loop_store.specs.declared.fault.StoreFault.TheVariants.{AllLocked, ClipEmpty, ClipNotHeld, ClipTableFull, Damaged, NoMemory, NoSuchClip, MustReopen, NotHeld, NumbersSpent}
@@ -56,23 +55,23 @@ is_look (was_read_part number at result) = true
 is_look _ = false
 
 -- the steps that an append is asked for
-abbrev pub steps_asked : Geometry → Recording → List Picture → List Step
-steps_asked g r group = steps_or_none (steps (ring_of g) r group)
+abbrev pub steps_asked : Ring → Recording → List Picture → List Step
+steps_asked ring r group = steps_or_none (steps ring r group)
 
 -- the steps that a call is asked for
-abbrev pub steps_of : Geometry → StoreState → Call → List Step
-steps_of g s (appended group result) = steps_asked g s.recording group
-steps_of g s (locked span result) = lock span ∷ []
-steps_of g s (unlocked id result) = unlock id ∷ []
-steps_of g s _ = []
+abbrev pub steps_of : Ring → StoreState → Call → List Step
+steps_of ring s (appended group result) = steps_asked ring s.recording group
+steps_of ring s (locked span result) = lock span ∷ []
+steps_of ring s (unlocked id result) = unlock id ∷ []
+steps_of ring s _ = []
 
 -- the steps that a call made, as it answered
-abbrev pub made_by : Geometry → StoreState → Call → List Step
-made_by g s call = if_answered (fault_answered call) (steps_of g s call)
+abbrev pub made_by : Ring → StoreState → Call → List Step
+made_by ring s call = if_answered (fault_answered call) (steps_of ring s call)
 
 -- the steps that it began, and of which a beginning may stand
-abbrev pub begun_by : Geometry → StoreState → Call → List Step
-begun_by g s call = if_failed (fault_answered call) (steps_of g s call)
+abbrev pub begun_by : Ring → StoreState → Call → List Step
+begun_by ring s call = if_failed (fault_answered call) (steps_of ring s call)
 
 -- the call of the disk that failed, if the answer says that one did
 abbrev pub failed_for : Call → Option DiskFault
@@ -86,9 +85,9 @@ has_failed call = not (is_look call) && disk_failed (fault_answered call)
 abbrev pub was_refused : Call → Bool
 was_refused call = is_early (fault_answered call)
 
-abbrev pub after_store_call : Geometry → StoreState → Call → StoreState
-after_store_call g s call = record {
-  recording = plain (ring_of g) s.recording (made_by g s call);
+abbrev pub after_store_call : Ring → StoreState → Call → StoreState
+after_store_call ring s call = record {
+  recording = plain ring s.recording (made_by ring s call);
   must_reopen = s.must_reopen || has_failed call;
 }
 
@@ -122,19 +121,19 @@ span_checks r span =
     ∷ []
 
 -- the checks of a call on what is recorded, in their order
-abbrev pub checks_on : Geometry → Recording → Call → List (Option StoreFault)
-checks_on g r (appended group result) =
-    due (r.next == last_number (ring_of g)) NumbersSpent
-    ∷ due (lacks_victim (ring_of g) r) AllLocked
+abbrev pub checks_on : Ring → Recording → Call → List (Option StoreFault)
+checks_on ring r (appended group result) =
+    due (r.next == last_number ring) NumbersSpent
+    ∷ due (lacks_victim ring r) AllLocked
     ∷ []
-checks_on g r (locked span result) = span_checks r span
-checks_on g r (unlocked id result) = due (not (is_some (clip_of r id))) NoSuchClip ∷ []
-checks_on g r (was_read number result) = due (not (holds r number)) NotHeld ∷ []
-checks_on g r (was_read_part number at result) = due (not (holds r number)) NotHeld ∷ []
+checks_on ring r (locked span result) = span_checks r span
+checks_on ring r (unlocked id result) = due (not (is_some (clip_of r id))) NoSuchClip ∷ []
+checks_on ring r (was_read number result) = due (not (holds r number)) NotHeld ∷ []
+checks_on ring r (was_read_part number at result) = due (not (holds r number)) NotHeld ∷ []
 
 -- the checks of a call, in their order
-abbrev pub checks : Geometry → StoreState → Call → List (Option StoreFault)
-checks g s call = due s.must_reopen MustReopen ∷ checks_on g s.recording call
+abbrev pub checks : Ring → StoreState → Call → List (Option StoreFault)
+checks ring s call = due s.must_reopen MustReopen ∷ checks_on ring s.recording call
 
 -- the frame of a number, with this head and these bytes
 pub record IsHeldFrame (r : Recording) (number : ℕ) (h : FrameHead) (bytes : List ℕ) : Type 0 where
@@ -174,23 +173,23 @@ AnswersDue (Some fault) call Given = fault_answered call ≡ Some fault
 AnswersDue None call Given = Given
 
 -- a call was answered so, where `Honest` says that the disk is honest
-abbrev pub IsAnswered : Type 0 → Geometry → StoreState → Call → Type 0
-IsAnswered Honest g s call = AnswersDue (first_of (checks g s call)) call (AnswersOtherwise Honest s.recording call)
+abbrev pub IsAnswered : Type 0 → Ring → StoreState → Call → Type 0
+IsAnswered Honest ring s call = AnswersDue (first_of (checks ring s call)) call (AnswersOtherwise Honest s.recording call)
 
 -- ---- lists of calls
 
 -- the state after calls
-abbrev pub after_calls : Geometry → StoreState → List Call → StoreState
-after_calls g s calls = after_all (after_store_call g) s calls
+abbrev pub after_calls : Ring → StoreState → List Call → StoreState
+after_calls ring s calls = after_all (after_store_call ring) s calls
 
 -- each was answered so at its point
-abbrev pub AreAnswered : Type 0 → Geometry → StoreState → List Call → Type 0
-AreAnswered Honest g s calls = EachIn (after_store_call g) (IsAnswered Honest g) s calls
+abbrev pub AreAnswered : Type 0 → Ring → StoreState → List Call → Type 0
+AreAnswered Honest ring s calls = EachIn (after_store_call ring) (IsAnswered Honest ring) s calls
 
 -- the steps that were made, in order
-abbrev pub made_in : Geometry → StoreState → List Call → List Step
-made_in g s calls = told_in (after_store_call g) (made_by g) s calls
+abbrev pub made_in : Ring → StoreState → List Call → List Step
+made_in ring s calls = told_in (after_store_call ring) (made_by ring) s calls
 
 -- the steps that were begun behind them
-abbrev pub begun_in : Geometry → StoreState → List Call → List Step
-begun_in g s calls = told_in (after_store_call g) (begun_by g) s calls
+abbrev pub begun_in : Ring → StoreState → List Call → List Step
+begun_in ring s calls = told_in (after_store_call ring) (begun_by ring) s calls

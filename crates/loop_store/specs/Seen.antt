@@ -3,7 +3,7 @@ use Rattle.std.specs.Prelude.{◌≡◌, ℕ, Result, Ok, Err, Bool, true, false
 use Rattle.loop_disk.specs.Medium.{Medium, IsSettled}
 use Rattle.loop_record.specs.declared.clip.Span.{Span}
 use Rattle.loop_record.specs.declared.geometry.Geometry.{Geometry}
-use Rattle.loop_record.specs.Recording.{IsWellFormed, Recording, holds}
+use Rattle.loop_record.specs.Recording.{IsWellFormed, Recording, Ring, holds, ring_of}
 use Rattle.loop_record.specs.Reading.{Holds}
 use Rattle.loop_store.specs.declared.fault.StoreFault.{StoreFault}
 use Rattle.loop_store.specs.declared.fault.StoreFault.TheVariants.{Disk}
@@ -19,6 +19,10 @@ pub record Seen (D : Type 0) : Type 0 where
   pub numbers : List ℕ
   pub clips : List (Option Span)
   pub must_reopen : Bool
+
+-- its segments and slots
+abbrev pub ring_in : {D : Type 0} → Seen D → Ring
+ring_in store = ring_of store.geometry
 
 -- what is seen of a disk with an index of it
 abbrev pub seen_with : {D A : Type 0} → D → Index A → Bool → Seen D

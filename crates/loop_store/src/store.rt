@@ -5,12 +5,12 @@ ghost use Rattle.loop_clips.specs.Table.{clip_list};
 ghost use Rattle.loop_disk.specs.Calls.{Stays};
 ghost use Rattle.loop_record.specs.Geometry.{frame_bytes, is_good};
 ghost use Rattle.loop_record.specs.Plain.{pictures};
-ghost use Rattle.loop_record.specs.Recording.{Recording, last_number, picture, ring_of, room, victim, numbers_end};
+ghost use Rattle.loop_record.specs.Recording.{Recording, last_number, picture, room, victim, numbers_end};
 ghost use Rattle.loop_store.specs.Calls.{appended, locked, read_with, unlocked, was_read, part_with, was_read_part};
 ghost use Rattle.loop_store.specs.Goes.{Goes};
 ghost use Rattle.loop_store.specs.Numbers.{IsLeastFrom, is_among};
 ghost use Rattle.loop_store.specs.Store.{IsGroupFor, IsKept};
-ghost use Rattle.loop_store.specs.Seen.{Refused, Seen, StandsFor, seen_with};
+ghost use Rattle.loop_store.specs.Seen.{Refused, Seen, StandsFor, seen_with, ring_in};
 
 use crate::StoreFault;
 use crate::found::in_order;
@@ -61,7 +61,7 @@ impl<D: Disk + Drop, A: Allocator> Store<D, A> {
     /// The number that the next frame gets.
     pub fn next(&self) -> u64
         ensures next { result ≡ self.now.next }
-        ensures low { result ≤ last_number (ring_of self.now.geometry) }
+        ensures low { result ≤ last_number (ring_in self.now) }
     {
         self.index.next
     }
@@ -71,7 +71,7 @@ impl<D: Disk + Drop, A: Allocator> Store<D, A> {
         ensures room { result ≡ self.now.geometry.slots - self.now.next % self.now.geometry.slots }
         ensures some { 1 ≤ result }
         ensures recording { (r : Recording) → StandsFor D.medium self.now r
-            → result ≡ room (ring_of self.now.geometry) r }
+            → result ≡ room (ring_in self.now) r }
     {
         let slots = self.index.ring.geometry.slots;
         slots - (self.index.next % u64::from(slots)) as u32
@@ -79,7 +79,7 @@ impl<D: Disk + Drop, A: Allocator> Store<D, A> {
 
     /// The number that no frame gets, since its block would reach 2^62: where it comes next, no number is left.
     pub fn last_number(&self) -> u64
-        ensures last { result ≡ last_number (ring_of self.now.geometry) }
+        ensures last { result ≡ last_number (ring_in self.now) }
         ensures low { result ≤ numbers_end }
     {
         last_number(&self.index.ring.geometry)
@@ -114,7 +114,7 @@ impl<D: Disk + Drop, A: Allocator> Store<D, A> {
     /// that isn't the newest's. Nothing where none may go. Where the store must be reopened, it is that of
     /// before the call that failed.
     pub fn victim(&self) -> Option<u64>
-        ensures { (r : Recording) → StandsFor D.medium self.now r → result ≡ victim (ring_of self.now.geometry) r }
+        ensures { (r : Recording) → StandsFor D.medium self.now r → result ≡ victim (ring_in self.now) r }
     {
         self.index.table.victim()
     }

@@ -10,7 +10,7 @@ use Rattle.std.specs.Io.KnownBytes.{Appends}
 use Rattle.std.specs.List.{All, filter}
 use Rattle.loop_disk.specs.Medium.{piece}
 use Rattle.loop_record.specs.declared.geometry.Geometry.{Geometry}
-use Rattle.loop_record.specs.Recording.{Picture, Recording, RiseBetween, frame_under, holds}
+use Rattle.loop_record.specs.Recording.{Picture, Recording, RiseBetween, frame_under, holds, ring_of}
 use Rattle.loop_record.proofs.Decided.{clash, equal, equal_test}
 use Rattle.loop_record.proofs.Rising.{among-range, held-among}
 use Rattle.loop_store.specs.declared.fault.StoreFault.{StoreFault}
@@ -218,12 +218,12 @@ running r = record { recording = r; must_reopen = false }
 -- a read of a held frame is refused only where the disk failed or isn't honest
 pub part_refused : (H K : Type 0) → (H → K) → (g : Geometry) (r : Recording) (number at : ℕ) (p : Picture)
     (fault : StoreFault) (held : Option (List ℕ)) (bytes : List ℕ) → frame_under r.frames number ≡ Some p
-    → IsAnswered K g (running r) (was_read_part number at (Err fault)) → Stopped H (Store fault) held held bytes
+    → IsAnswered K (ring_of g) (running r) (was_read_part number at (Err fault)) → Stopped H (Store fault) held held bytes
 part_refused H K to g r number at p fault held bytes there said =
-    go fault (due-some (first_of (checks g (running r) (was_read_part number at (Err fault))))
+    go fault (due-some (first_of (checks (ring_of g) (running r) (was_read_part number at (Err fault))))
     (was_read_part number at (Err fault)) (ReadFails K fault) said)
   where
-    none : first_of (checks g (running r) (was_read_part number at (Err fault))) ≡ None
+    none : first_of (checks (ring_of g) (running r) (was_read_part number at (Err fault))) ≡ None
     none = passed (not (holds r number)) NotHeld [] (ap (λ (o : Option Picture). not (is_some o)) there)
 
     apart : (f : StoreFault) → let x : Option StoreFault = None in x ≡ Some f → ⊥
@@ -233,8 +233,8 @@ part_refused H K to g r number at p fault held bytes there said =
     failed (store.Disk f) e = λ h. nothing_yet held bytes
     failed f e = absurd cc
 
-    go : (f : StoreFault) → (first_of (checks g (running r) (was_read_part number at (Err fault))) ≡ Some f)
-        ⊎ ((first_of (checks g (running r) (was_read_part number at (Err fault))) ≡ None) × ReadFails K f)
+    go : (f : StoreFault) → (first_of (checks (ring_of g) (running r) (was_read_part number at (Err fault))) ≡ Some f)
+        ⊎ ((first_of (checks (ring_of g) (running r) (was_read_part number at (Err fault))) ≡ None) × ReadFails K f)
         → Stopped H (Store f) held held bytes
     go f (inl e) = absurd (apart f (sym none ∙ e))
     go f (inr x) = fails x.1
@@ -245,9 +245,9 @@ part_refused H K to g r number at p fault held bytes there said =
 
 -- a part that was read of an honest disk is one of the frame
 pub part_given : (H : Type 0) (g : Geometry) (r : Recording) (number at : ℕ) (bytes : List ℕ)
-    → IsAnswered H g (running r) (was_read_part number at (Ok bytes)) → H → IsPart r number at bytes
+    → IsAnswered H (ring_of g) (running r) (was_read_part number at (Ok bytes)) → H → IsPart r number at bytes
 part_given H g r number at bytes said =
-    (due-none (first_of (checks g (running r) (was_read_part number at (Ok bytes))))
+    (due-none (first_of (checks (ring_of g) (running r) (was_read_part number at (Ok bytes))))
     (was_read_part number at (Ok bytes)) (H → IsPart r number at bytes) said refl).1
 
 -- the bytes that were read are those of the frame

@@ -11,7 +11,7 @@ returns g c =
     let formatted = c.in-Ok.ensures.formatted in
     subst (λ (h : Geometry). Stands g.D.Disk.medium c.append.new.self
     (record {
-      recording = plain (ring_of h) empty (steps_asked h empty (pictures c.args.frames.now));
+      recording = plain (ring_of h) empty (steps_asked (ring_of h) empty (pictures c.args.frames.now));
       must_reopen = false;
     })) formatted.geometry
     (c.in_ok-append-in-Ok.ensures.goes.stands (record { recording = empty; must_reopen = false })
