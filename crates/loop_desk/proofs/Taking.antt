@@ -12,7 +12,6 @@ use Rattle.loop_record.specs.Turns.{EachIn, after_all, told_in}
 use Rattle.loop_record.proofs.Turned.{after-behind, told-behind}
 use Rattle.loop_vb2.specs.declared.buffer.Buffer.{Buffer}
 use Rattle.loop_vb2.specs.declared.reason.Errno.{Errno}
-use Rattle.loop_vb2.specs.declared.planes.PlaneSet.{PlaneSet}
 use Rattle.loop_vb2.specs.declared.reason.Reason.{Reason}
 use Rattle.loop_vb2.specs.declared.reason.Reason.TheVariants.{BadType}
 use Rattle.loop_vb2.specs.declared.reason.Refused.{Refused}

@@ -120,7 +120,7 @@ goes-none medium store one sound = record {
 pub record GoesOnce {D : Type 0} (medium : D → Medium) (old new : Seen D) (c : Call) : Type 0 where
   pub one : TellsOne old
   pub answers : (s : StoreState) → TellsState old s → IsAnswered ((medium old.disk).honest × Stands medium old s)
-      old.geometry s c
+      (ring_of old.geometry) s c
   pub tells : (s : StoreState) → TellsState old s → TellsState new (after_store_call (ring_of old.geometry) s c)
   pub stands : (s : StoreState) → Stands medium old s → Stands medium new (after_store_call (ring_of old.geometry) s c)
   pub leaves : (s : StoreState) → Stands medium old s → (medium old.disk).honest → s.must_reopen ≡ false

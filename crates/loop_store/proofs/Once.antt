@@ -105,7 +105,7 @@ pub record Done {D : Type 0} (medium : D → Medium) (old new : Seen D) (c : Cal
   pub begun_none : (s : StoreState) → begun_by (ring_of old.geometry) s c ≡ []
   pub one : TellsOne old
   pub answers : (s : StoreState) → TellsState old s → IsAnswered ((medium old.disk).honest × Stands medium old s)
-      old.geometry s c
+      (ring_of old.geometry) s c
   pub moments : (r : Recording) → StandsFor medium old r → (medium old.disk).honest → LeavesOnly (medium old.disk)
       (medium new.disk) (HoldsSome old.geometry r (steps r))
   pub tells : (r : Recording) → Tells old r → Tells new (plain (ring_of old.geometry) r (steps r))
@@ -157,7 +157,7 @@ pub record Failed {D : Type 0} (medium : D → Medium) (old new : Seen D) (c : C
   pub begun_all : (s : StoreState) → begun_by (ring_of old.geometry) s c ≡ steps s.recording
   pub one : TellsOne old
   pub answers : (s : StoreState) → TellsState old s → IsAnswered ((medium old.disk).honest × Stands medium old s)
-      old.geometry s c
+      (ring_of old.geometry) s c
   pub moments : (r : Recording) → StandsFor medium old r → (medium old.disk).honest → LeavesOnly (medium old.disk)
       (medium new.disk) (HoldsSome old.geometry r (steps r))
 

@@ -48,7 +48,7 @@ look-part number at result = record { steps = λ g s. made-either (fault_in resu
 pub record Looked {D : Type 0} (medium : D → Medium) (old : Seen D) (disk : D) (c : Call) : Type 0 where
   pub one : TellsOne old
   pub answers : (s : StoreState) → TellsState old s → IsAnswered ((medium old.disk).honest × Stands medium old s)
-      old.geometry s c
+      (ring_of old.geometry) s c
   pub stays : (medium old.disk).honest → Stays (medium old.disk) (medium disk)
   pub called : Called (medium old.disk) (medium disk) (failed_for c)
   pub unmoved : was_refused c ≡ true → disk ≡ old.disk

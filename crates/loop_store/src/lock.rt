@@ -1,7 +1,6 @@
 //! Locks and unlocks: which are refused, what they write, and what is noted of them.
 
 ghost use Rattle.std.specs.Prelude.{◌≡◌, ◌≢◌, ◌<◌, ◌≤◌, ◌∷◌, ℕ, [], Err, IfErr, IfOk, List, None, Ok, OnErr, OnOk, Some, false, slice_index_or};
-ghost use Rattle.loop_disk.specs.Medium.{IsSettled};
 ghost use Rattle.loop_record.specs.Geometry.{disk_size};
 ghost use Rattle.loop_record.specs.Recording.{Recording, clip_of, first_free, holds, lock, ring_of, unlock};
 ghost use Rattle.loop_store.specs.Calls.{locked, missing, unlocked};
