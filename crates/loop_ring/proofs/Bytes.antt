@@ -3,7 +3,6 @@ use Rattle.std.proofs.Common.{◌≡◌, ◌≢◌, inl, inr, ℕ, zero, suc, �
 use Rattle.std.proofs.lemmas.List.{length-drop, length-take, get_or-take, get_or-drop, ext_get_or}
 use Rattle.std.specs.Prelude.{slice_range}
 use Rattle.std.specs.List.{range_with_len, prefix_len}
-use Rattle.byteorder.specs.Endian.{little_from}
 use Rattle.loop_disk.specs.Medium.{SameOutside, with_bytes_at}
 use Rattle.loop_disk.specs.Steps.{TornInTurn}
 use Rattle.loop_record.specs.declared.geometry.Geometry.{Geometry}

@@ -1,5 +1,5 @@
 -- The block that goes, found by the headers of a store's segments.
-use Rattle.std.proofs.Common.{◌≡◌, ◌⊎◌, inl, inr, ℕ, ◌<◌, ◌≤◌, Bool, true, false, not, ◌&&◌, cond, eqb, ltb, min, max, Option, Some, None, List, [], ◌∷◌, get_or, refl, sym, ap, ◌∙◌, subst, arith}
+use Rattle.std.proofs.Common.{◌≡◌, ◌⊎◌, inl, inr, ℕ, suc, ◌<◌, ◌≤◌, Bool, true, false, not, ◌&&◌, cond, eqb, ltb, min, max, Option, Some, None, List, [], ◌∷◌, get_or, refl, sym, ap, ◌∙◌, subst, arith}
 use Rattle.std.proofs.lemmas.Bool.{cases_lt}
 use Rattle.std.proofs.lemmas.List.Folds.{list_any_at}
 use Rattle.std.proofs.lemmas.List.Quantifiers.{position-Some}
@@ -10,11 +10,11 @@ use Rattle.loop_record.specs.declared.geometry.Geometry.{Geometry}
 use Rattle.loop_record.specs.declared.segment.SegmentHead.{SegmentHead}
 use Rattle.loop_record.specs.Reading.{Holds}
 use Rattle.loop_record.specs.Recording.{Recording, Ring, ring_of, block, held_blocks, older_blocks, is_locked, victim}
-use Rattle.loop_record.proofs.Decided.{clash, both, not_true, equal, equal_test, differ, differ_test}
+use Rattle.loop_record.proofs.Decided.{at_most, at_most_test, clash, both, not_true, equal, equal_test}
 use Rattle.loop_record.proofs.Form.{reading-well_formed}
 use Rattle.loop_record.proofs.Rising.{Among}
 use Rattle.loop_record.proofs.Victim.{RiseFrom, blocks-rise, RiseFrom-front, FirstOf, find-first, find-none, front-below, below-front}
-use Rattle.loop_ring.specs.Heads.{IsPlaceOf, going_block, going_first, held_block, heads_of, is_going, is_of, least_going}
+use Rattle.loop_ring.specs.Heads.{IsPlaceOf, floor_block, going_block, going_first, held_block, heads_of, is_going, is_of, least_going}
 use Rattle.loop_ring.proofs.Heads.{any-index, position-none}
 use Rattle.loop_ring.proofs.Held.{or_true, sorted, is_held, held-any, any-held_block}
 
@@ -170,22 +170,22 @@ filter-among p b (x ∷ xs) e passes = go (p x) refl (λ k. filter-among p b xs 
 -- ---- the victim
 
 -- the blocks that may go are those of all held ones that pass
-going-are : (ring : Ring) (clips : List (Option Span)) (newest : ℕ) (hs : List (Option SegmentHead))
-    → filter_map (going_block ring clips newest) hs ≡ filter (is_going ring clips newest) (filter_map held_block hs)
-going-are ring clips newest [] = refl
-going-are ring clips newest (None ∷ hs) = going-are ring clips newest hs
-going-are ring clips newest (Some h ∷ hs) = go (ltb 0 h.frames) (is_going ring clips newest h.block) refl (going-are ring clips newest hs)
+going-are : (ring : Ring) (clips : List (Option Span)) (floor : ℕ) (hs : List (Option SegmentHead))
+    → filter_map (going_block ring clips floor) hs ≡ filter (is_going ring clips floor) (filter_map held_block hs)
+going-are ring clips floor [] = refl
+going-are ring clips floor (None ∷ hs) = going-are ring clips floor hs
+going-are ring clips floor (Some h ∷ hs) = go (ltb 0 h.frames) (is_going ring clips floor h.block) refl (going-are ring clips floor hs)
   where
-    go : (t u : Bool) → is_going ring clips newest h.block ≡ u
-        → filter_map (going_block ring clips newest) hs ≡ filter (is_going ring clips newest) (filter_map held_block hs)
-        → cons_option (cond (t && u) (Some h.block) None) (filter_map (going_block ring clips newest) hs) ≡ filter
-        (is_going ring clips newest) (cons_option (cond t (Some h.block) None) (filter_map held_block hs))
+    go : (t u : Bool) → is_going ring clips floor h.block ≡ u
+        → filter_map (going_block ring clips floor) hs ≡ filter (is_going ring clips floor) (filter_map held_block hs)
+        → cons_option (cond (t && u) (Some h.block) None) (filter_map (going_block ring clips floor) hs) ≡ filter
+        (is_going ring clips floor) (cons_option (cond t (Some h.block) None) (filter_map held_block hs))
     go true true is ih = ap (λ (bs : List ℕ). h.block ∷ bs) ih
-        ∙ sym (ap (λ (t : Bool). cond t (h.block ∷ filter (is_going ring clips newest) (filter_map held_block hs))
-        (filter (is_going ring clips newest) (filter_map held_block hs))) is)
+        ∙ sym (ap (λ (t : Bool). cond t (h.block ∷ filter (is_going ring clips floor) (filter_map held_block hs))
+        (filter (is_going ring clips floor) (filter_map held_block hs))) is)
     go true false is ih = ih ∙ sym
-        (ap (λ (t : Bool). cond t (h.block ∷ filter (is_going ring clips newest) (filter_map held_block hs))
-        (filter (is_going ring clips newest) (filter_map held_block hs))) is)
+        (ap (λ (t : Bool). cond t (h.block ∷ filter (is_going ring clips floor) (filter_map held_block hs))
+        (filter (is_going ring clips floor) (filter_map held_block hs))) is)
     go false u is ih = ih
 
 -- what is known of the blocks of an image's headers
@@ -203,114 +203,96 @@ blocks g r image e = record {
   from = λ b at. headers-among b (heads_of g image) (held-any g r image b e at);
 }
 
+older-held : (g : Geometry) (r : Recording) (image : List ℕ) (b : ℕ) → Blocks g r image
+    → Among b (older_blocks (ring_of g) r) → Among b (held_blocks (ring_of g) r)
+older-held g r image b k at = (front-below k.low b (held_blocks (ring_of g) r) k.rises at).0
+
+-- the victim is the first older block that no clip meets
+first-older : (g : Geometry) (r : Recording) (image : List ℕ) (c : ℕ) → Blocks g r image → victim (ring_of g) r ≡ Some c
+    → FirstOf (λ b. not (is_locked (ring_of g) r b)) (older_blocks (ring_of g) r) c
+first-older g r image c k e = find-first (λ b. not (is_locked (ring_of g) r b)) k.low c (older_blocks (ring_of g) r)
+    (RiseFrom-front k.low (held_blocks (ring_of g) r) k.rises) e
+
+-- the older blocks are the held ones below the floor
+record IsFloor (ring : Ring) (r : Recording) (floor : ℕ) : Type 0 where
+  below : (b : ℕ) → Among b (older_blocks ring r) → b < floor
+  older : (b : ℕ) → Among b (held_blocks ring r) → b < floor → Among b (older_blocks ring r)
+
+floor-is : (g : Geometry) (r : Recording) (image : List ℕ) (floor : ℕ) → Blocks g r image
+    → floor_block (heads_of g image) ≡ Some floor → IsFloor (ring_of g) r floor
+floor-is g r image floor k e =
+    let top = greatest (filter_map held_block (heads_of g image)) floor e in record {
+      below = λ b at.
+          let x = front-below k.low b (held_blocks (ring_of g) r) k.rises at in
+          let high = top.most x.1.0 (k.from x.1.0 x.1.1.0) in omega (arith, high, x.1.1.1);
+      older = λ b at below.
+          below-front k.low b floor (held_blocks (ring_of g) r) k.rises at (k.to floor top.among) below;
+    }
+
+-- without a floor there is no older block
+floor-none : (g : Geometry) (r : Recording) (image : List ℕ) (b : ℕ) → Blocks g r image
+    → floor_block (heads_of g image) ≡ None → Among b (older_blocks (ring_of g) r) → ⊥
+floor-none g r image b k e at =
+    none-greatest (filter_map held_block (heads_of g image)) b e (k.from b (older-held g r image b k at))
+
 -- an older block that no clip meets is one that may go
-going-older : (g : Geometry) (r : Recording) (image : List ℕ) (newest b : ℕ) → Blocks g r image
-    → Greatest (filter_map held_block (heads_of g image)) newest → Among b (older_blocks (ring_of g) r)
-    → is_locked (ring_of g) r b ≡ false
-    → Among b (filter (is_going (ring_of g) r.clips newest) (filter_map held_block (heads_of g image)))
-going-older g r image newest b k top at free =
-    let x = front-below k.low b (held_blocks (ring_of g) r) k.rises at in
-    let high = top.most x.1.0 (k.from x.1.0 x.1.1.0) in
-    let apart : eqb b newest ≡ false = differ_test b newest (λ is. absurd (omega (arith, is, high, x.1.1.1))) in
-    let passes : is_going (ring_of g) r.clips newest b ≡ true = λ i. not (apart i) && not (free i) in
-    filter-among (is_going (ring_of g) r.clips newest) b (filter_map held_block (heads_of g image)) (k.from b x.0) passes
+going-older : (g : Geometry) (r : Recording) (image : List ℕ) (floor b : ℕ) → Blocks g r image
+    → IsFloor (ring_of g) r floor → Among b (older_blocks (ring_of g) r) → is_locked (ring_of g) r b ≡ false
+    → Among b (filter (is_going (ring_of g) r.clips floor) (filter_map held_block (heads_of g image)))
+going-older g r image floor b k f at free =
+    let low : ltb b floor ≡ true = at_most_test (suc b) floor (f.below b at) in
+    let passes : is_going (ring_of g) r.clips floor b ≡ true = λ i. low i && not (free i) in
+    filter-among (is_going (ring_of g) r.clips floor) b (filter_map held_block (heads_of g image))
+    (k.from b (older-held g r image b k at)) passes
 
-older-going : (g : Geometry) (r : Recording) (image : List ℕ) (newest b : ℕ) → Blocks g r image
-    → Greatest (filter_map held_block (heads_of g image)) newest
-    → Among b (filter (is_going (ring_of g) r.clips newest) (filter_map held_block (heads_of g image)))
+older-going : (g : Geometry) (r : Recording) (image : List ℕ) (floor b : ℕ) → Blocks g r image
+    → IsFloor (ring_of g) r floor
+    → Among b (filter (is_going (ring_of g) r.clips floor) (filter_map held_block (heads_of g image)))
     → Among b (older_blocks (ring_of g) r) × (is_locked (ring_of g) r b ≡ false)
-older-going g r image newest b k top at =
-    let x = among-filter (is_going (ring_of g) r.clips newest) b (filter_map held_block (heads_of g image)) at in
-    let y = both (not (eqb b newest)) (not (is_locked (ring_of g) r b)) x.1 in
-    let below = strictly b newest (top.most b x.0) (differ b newest (not_true (eqb b newest) y.0)) in
-    (below-front k.low b newest (held_blocks (ring_of g) r) k.rises (k.to b x.0) (k.to newest top.among) below, not_true (is_locked (ring_of g) r b) y.1)
-  where
-    strictly : (m n : ℕ) → m ≤ n → (m ≡ n → ⊥) → m < n
-    strictly m n l apart = go (cases_lt m n)
-      where
-        go : (m < n) ⊎ (n ≤ m) → m < n
-        go (inl k) = k
-        go (inr k) = absurd (apart (omega (arith, l, k)))
+older-going g r image floor b k f at =
+    let x = among-filter (is_going (ring_of g) r.clips floor) b (filter_map held_block (heads_of g image)) at in
+    let y = both (ltb b floor) (not (is_locked (ring_of g) r b)) x.1 in
+    (f.older b (k.to b x.0) (at_most (suc b) floor y.0), not_true (is_locked (ring_of g) r b) y.1)
 
-oldest-is : (g : Geometry) (r : Recording) (image : List ℕ) (newest : ℕ) → Blocks g r image
-    → Greatest (filter_map held_block (heads_of g image)) newest
-    → reduce min (filter (is_going (ring_of g) r.clips newest) (filter_map held_block (heads_of g image))) ≡ victim (ring_of g) r
-oldest-is g r image newest k top = go (reduce min ys) refl (victim ring r) refl
+oldest-is : (g : Geometry) (r : Recording) (image : List ℕ) (floor : ℕ) → Blocks g r image
+    → IsFloor (ring_of g) r floor
+    → reduce min (filter (is_going (ring_of g) r.clips floor) (filter_map held_block (heads_of g image))) ≡ victim (ring_of g) r
+oldest-is g r image floor k f = go (reduce min ys) refl (victim (ring_of g) r) refl
   where
-    ring : Ring
-    ring = ring_of g
-
     ys : List ℕ
-    ys = filter (is_going (ring_of g) r.clips newest) (filter_map held_block (heads_of g image))
-
-    free : ℕ → Bool
-    free c = not (is_locked (ring_of g) r c)
-
-    first : (c : ℕ) → victim (ring_of g) r ≡ Some c → FirstOf (λ c. not (is_locked (ring_of g) r c))
-        (older_blocks (ring_of g) r) c
-    first c e = find-first (λ c. not (is_locked (ring_of g) r c)) k.low c (older_blocks (ring_of g) r)
-        (RiseFrom-front k.low (held_blocks (ring_of g) r) k.rises) e
+    ys = filter (is_going (ring_of g) r.clips floor) (filter_map held_block (heads_of g image))
 
     go : (o : Option ℕ) → reduce min ys ≡ o → (v : Option ℕ) → victim (ring_of g) r ≡ v → o ≡ v
-    go None e None f = refl
-    go None e (Some c) f =
-        let x = first c f in
-        absurd (none-least ys c e (going-older g r image newest c k top x.there (not_true (is_locked (ring_of g) r c) x.passes)))
-    go (Some b) e None f =
-        let y = older-going g r image newest b k top (least ys b e).among in
-        absurd (find-none (λ c. not (is_locked (ring_of g) r c)) b (older_blocks (ring_of g) r) f y.0 (ap not y.1))
-    go (Some b) e (Some c) f =
+    go None e None is = refl
+    go None e (Some c) is =
+        let x = first-older g r image c k is in
+        absurd (none-least ys c e (going-older g r image floor c k f x.there (not_true (is_locked (ring_of g) r c) x.passes)))
+    go (Some b) e None is =
+        let y = older-going g r image floor b k f (least ys b e).among in
+        absurd (find-none (λ c. not (is_locked (ring_of g) r c)) b (older_blocks (ring_of g) r) is y.0 (ap not y.1))
+    go (Some b) e (Some c) is =
         let l = least ys b e in
-        let y = older-going g r image newest b k top l.among in
-        let x = first c f in
+        let y = older-going g r image floor b k f l.among in
+        let x = first-older g r image c k is in
         let low = x.least b y.0 (ap not y.1) in
-        let high = l.least c (going-older g r image newest c k top x.there (not_true (is_locked (ring_of g) r c) x.passes)) in
+        let high = l.least c (going-older g r image floor c k f x.there (not_true (is_locked (ring_of g) r c) x.passes)) in
         ap (λ (n : ℕ). Some n) (omega (arith, low, high))
 
--- the least of the blocks that may go is the victim
-victim-oldest : (g : Geometry) (r : Recording) (image : List ℕ) (heads : List (Option SegmentHead))
-    (clips : List (Option Span)) (newest : ℕ) (result : Option ℕ) → Holds g r image → heads ≡ heads_of g image
-    → clips ≡ r.clips
-    → Some newest ≡ reduce max (filter_map held_block heads)
-    → result ≡ reduce min (filter_map (going_block (ring_of g) clips newest) heads) → result ≡ victim (ring_of g) r
-victim-oldest g r image heads clips newest result e is same top chosen =
-    let xs = filter_map held_block (heads_of g image) in
-    chosen ∙ (λ i. reduce min (filter_map (going_block (ring_of g) (same i) newest) (is i)))
-    ∙ ap (reduce min) (going-are (ring_of g) r.clips newest (heads_of g image))
-    ∙ oldest-is g r image newest (blocks g r image e)
-    (greatest xs newest (ap (λ (hs : List (Option SegmentHead)). reduce max (filter_map held_block hs)) (sym is)
-    ∙ sym top))
-
--- where no frame is held, there is no victim
-victim-nothing : (g : Geometry) (r : Recording) (image : List ℕ) (heads : List (Option SegmentHead)) → Holds g r image
-    → heads ≡ heads_of g image → None ≡ reduce max (filter_map held_block heads) → None ≡ victim (ring_of g) r
-victim-nothing g r image heads e is none = go (victim (ring_of g) r) refl
+-- what the headers and the clips say of the block that goes is the victim
+pub victim-first : (g : Geometry) (r : Recording) (image : List ℕ) (heads : List (Option SegmentHead)) → Holds g r image
+    → heads ≡ heads_of g image → going_first (ring_of g) r.clips heads ≡ victim (ring_of g) r
+victim-first g r image heads e is =
+    ap (going_first (ring_of g) r.clips) is ∙ go (floor_block (heads_of g image)) refl (victim (ring_of g) r) refl
   where
     k : Blocks g r image
     k = blocks g r image e
 
-    go : (v : Option ℕ) → victim (ring_of g) r ≡ v → None ≡ v
-    go None f = refl
-    go (Some c) f =
-        let x = find-first (λ b. not (is_locked (ring_of g) r b)) k.low c (older_blocks (ring_of g) r)
-        (RiseFrom-front k.low (held_blocks (ring_of g) r) k.rises) f in
-        let y = front-below k.low c (held_blocks (ring_of g) r) k.rises x.there in
-        absurd (none-greatest (filter_map held_block (heads_of g image)) c
-        (ap (λ (hs : List (Option SegmentHead)). reduce max (filter_map held_block hs)) (sym is) ∙ sym none)
-        (k.from c y.0))
-
--- what the headers and the clips say of the block that goes is the victim
-pub victim-first : (g : Geometry) (r : Recording) (image : List ℕ) (heads : List (Option SegmentHead))
-    (clips : List (Option Span)) → Holds g r image → heads ≡ heads_of g image → clips ≡ r.clips
-    → going_first (ring_of g) clips heads ≡ victim (ring_of g) r
-victim-first g r image heads clips e is same = go (reduce max (filter_map held_block heads)) refl
-  where
-    go : (newest : Option ℕ) → newest ≡ reduce max (filter_map held_block heads)
-        → going_first (ring_of g) clips heads ≡ victim (ring_of g) r
-    go None none = ap (least_going (ring_of g) clips heads) (sym none) ∙ victim-nothing g r image heads e is none
-    go (Some newest) top = ap (least_going (ring_of g) clips heads) (sym top)
-        ∙ victim-oldest g r image heads clips newest
-        (reduce min (filter_map (going_block (ring_of g) clips newest) heads)) e is same top refl
+    go : (floor : Option ℕ) → floor_block (heads_of g image) ≡ floor → (v : Option ℕ) → victim (ring_of g) r ≡ v
+        → least_going (ring_of g) r.clips (heads_of g image) floor ≡ v
+    go None none None f = refl
+    go None none (Some c) f = absurd (floor-none g r image c k none (first-older g r image c k f).there)
+    go (Some floor) top v f = ap (reduce min) (going-are (ring_of g) r.clips floor (heads_of g image))
+        ∙ oldest-is g r image floor k (floor-is g r image floor k top) ∙ f
 
 -- ---- its segment
 
@@ -342,9 +324,8 @@ victim-held : (g : Geometry) (r : Recording) (image : List ℕ) (heads : List (O
     → Holds g r image → heads ≡ heads_of g image → victim (ring_of g) r ≡ Some b → list_any (is_held b) heads ≡ true
 victim-held g r image heads b e is chosen =
     let k = blocks g r image e in
-    let x = find-first (λ c. not (is_locked (ring_of g) r c)) k.low b (older_blocks (ring_of g) r)
-    (RiseFrom-front k.low (held_blocks (ring_of g) r) k.rises) chosen in
-    ap (list_any (is_held b)) is ∙ held-any g r image b e (front-below k.low b (held_blocks (ring_of g) r) k.rises x.there).0
+    ap (list_any (is_held b)) is
+    ∙ held-any g r image b e (older-held g r image b k (first-older g r image b k chosen).there)
 
 -- the victim's segment
 pub victim-placed : (g : Geometry) (r : Recording) (image : List ℕ) (heads : List (Option SegmentHead)) (b : ℕ)

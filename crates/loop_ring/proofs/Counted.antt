@@ -13,7 +13,7 @@ use Rattle.loop_record.specs.Reading.{Holds}
 use Rattle.loop_record.specs.Recording.{Recording, Ring, meets, ring_of, victim}
 use Rattle.loop_record.proofs.Decided.{at_most_test, differ_test}
 use Rattle.loop_ring.proofs.Chosen.{victim-first}
-use Rattle.loop_ring.specs.Heads.{Segments, clip_counts, clips_on, free_block, going_block, going_first, going_free, grown, has_frame, held_block, heads_of, least_free, least_going, meets_head, without_one, with_one}
+use Rattle.loop_ring.specs.Heads.{Segments, clip_counts, clips_on, floor_block, free_block, going_block, going_first, going_free, grown, has_frame, held_block, heads_of, least_free, least_going, meets_head, without_one, with_one}
 
 abbrev mark : Bool → ℕ
 mark t = cond t 1 0
@@ -255,15 +255,15 @@ none-any p (c ∷ clips) = go (p c) refl (none-any p clips)
 -- by the counts of some clips the block goes that goes by the clips
 pub free-first : (ring : Ring) (clips : List (Option Span)) (s : Segments) → s.clips ≡ clip_counts ring clips s.heads
     → going_free s ≡ going_first ring clips s.heads
-free-first ring clips s counted = go (reduce max (filter_map held_block s.heads))
+free-first ring clips s counted = go (floor_block s.heads)
   where
-    one : (newest : ℕ) (o : Option SegmentHead) → free_block newest o (clips_on ring clips o) ≡ going_block ring clips
-        newest o
-    one newest None = refl
-    one newest (Some h) =
+    one : (floor : ℕ) (o : Option SegmentHead) → free_block floor o (clips_on ring clips o) ≡ going_block ring clips
+        floor o
+    one floor None = refl
+    one floor (Some h) =
         let each : (a b n m : Bool) → n ≡ m → cond ((a && b) && n) (Some h.block) None ≡ cond (a && (b && m))
         (Some h.block) None = λ a b n m is. pick a b n m is in
-        each (ltb 0 h.frames) (not (eqb h.block newest)) (eqb (count_by (meets ring h.block) clips) 0)
+        each (ltb 0 h.frames) (ltb h.block floor) (eqb (count_by (meets ring h.block) clips) 0)
         (not (list_any (meets ring h.block) clips)) (none-any (meets ring h.block) clips)
       where
         pick : (a b n m : Bool) → n ≡ m → cond ((a && b) && n) (Some h.block) None ≡ cond (a && (b && m))
@@ -272,36 +272,36 @@ free-first ring clips s counted = go (reduce max (filter_map held_block s.heads)
         pick true false n m is = refl
         pick false b n m is = refl
 
-    blocks : (newest : ℕ) (heads : List (Option SegmentHead)) → filter_map (λ x. free_block newest x.0 x.1)
-        (zip heads (clip_counts ring clips heads)) ≡ filter_map (going_block ring clips newest) heads
-    blocks newest [] = refl
-    blocks newest (o ∷ heads) = λ i. cons_option (one newest o i) (blocks newest heads i)
+    blocks : (floor : ℕ) (heads : List (Option SegmentHead)) → filter_map (λ x. free_block floor x.0 x.1)
+        (zip heads (clip_counts ring clips heads)) ≡ filter_map (going_block ring clips floor) heads
+    blocks floor [] = refl
+    blocks floor (o ∷ heads) = λ i. cons_option (one floor o i) (blocks floor heads i)
 
     go : (o : Option ℕ) → least_free s o ≡ least_going ring clips s.heads o
     go None = refl
-    go (Some newest) = ap (λ (cs : List ℕ). reduce min (filter_map (λ x. free_block newest x.0 x.1) (zip s.heads cs)))
-        counted ∙ ap (reduce min) (blocks newest s.heads)
+    go (Some floor) = ap (λ (cs : List ℕ). reduce min (filter_map (λ x. free_block floor x.0 x.1) (zip s.heads cs)))
+        counted ∙ ap (reduce min) (blocks floor s.heads)
 
 -- and where these are the headers and the clips of a recording, that block is the victim
 pub free-victim : (g : Geometry) (r : Recording) (image : List ℕ) (s : Segments) → Holds g r image
     → s.heads ≡ heads_of g image → s.clips ≡ clip_counts (ring_of g) r.clips s.heads
     → going_free s ≡ victim (ring_of g) r
-free-victim g r image s held is counted = free-first (ring_of g) r.clips s counted ∙ victim-first g r image s.heads r.clips held is refl
+free-victim g r image s held is counted = free-first (ring_of g) r.clips s counted ∙ victim-first g r image s.heads held is
 
 -- ---- a block that grows
 
 -- the segment has a frame, and has another count of them now
 record IsGrown (old new : Option SegmentHead) : Type 0 where
   held : held_block new ≡ held_block old
-  free : (newest count : ℕ) → free_block newest new count ≡ free_block newest old count
+  free : (floor count : ℕ) → free_block floor new count ≡ free_block floor old count
   has : has_frame new ≡ has_frame old
 
 grown-is : (o : Option SegmentHead) (frames : ℕ) → has_frame o ≡ true → 0 < frames → IsGrown o (grown frames o)
-grown-is None frames some more = record { held = refl; free = λ newest count. refl; has = refl }
+grown-is None frames some more = record { held = refl; free = λ floor count. refl; has = refl }
 grown-is (Some h) frames some more =
     let lit : ltb 0 frames ≡ ltb 0 h.frames = at_most_test 1 frames (omega (arith, more)) ∙ sym some in record {
       held = ap (λ (t : Bool). cond t (Some h.block) None) lit;
-      free = λ newest count. ap (λ (t : Bool). cond ((t && not (eqb h.block newest)) && eqb count 0) (Some h.block) None) lit;
+      free = λ floor count. ap (λ (t : Bool). cond ((t && ltb h.block floor) && eqb count 0) (Some h.block) None) lit;
       has = lit;
     }
 
@@ -312,14 +312,14 @@ held-set [] j h e = refl
 held-set (o ∷ heads) zero h e = ap (λ b. cons_option b (filter_map held_block heads)) e
 held-set (o ∷ heads) (suc j) h e = ap (cons_option (held_block o)) (held-set heads j h e)
 
-free-set : (newest : ℕ) (heads : List (Option SegmentHead)) (clips : List ℕ) (j : ℕ) (h : Option SegmentHead)
-    → ((count : ℕ) → free_block newest h count ≡ free_block newest (get_or heads j None) count)
-    → filter_map (λ x. free_block newest x.0 x.1) (zip (set heads j h) clips) ≡ filter_map (λ x. free_block newest x.0 x.1) (zip heads clips)
-free-set newest [] clips j h e = refl
-free-set newest (o ∷ heads) [] zero h e = refl
-free-set newest (o ∷ heads) [] (suc j) h e = refl
-free-set newest (o ∷ heads) (c ∷ clips) zero h e = ap (λ b. cons_option b (filter_map (λ x. free_block newest x.0 x.1) (zip heads clips))) (e c)
-free-set newest (o ∷ heads) (c ∷ clips) (suc j) h e = ap (cons_option (free_block newest o c)) (free-set newest heads clips j h e)
+free-set : (floor : ℕ) (heads : List (Option SegmentHead)) (clips : List ℕ) (j : ℕ) (h : Option SegmentHead)
+    → ((count : ℕ) → free_block floor h count ≡ free_block floor (get_or heads j None) count)
+    → filter_map (λ x. free_block floor x.0 x.1) (zip (set heads j h) clips) ≡ filter_map (λ x. free_block floor x.0 x.1) (zip heads clips)
+free-set floor [] clips j h e = refl
+free-set floor (o ∷ heads) [] zero h e = refl
+free-set floor (o ∷ heads) [] (suc j) h e = refl
+free-set floor (o ∷ heads) (c ∷ clips) zero h e = ap (λ b. cons_option b (filter_map (λ x. free_block floor x.0 x.1) (zip heads clips))) (e c)
+free-set floor (o ∷ heads) (c ∷ clips) (suc j) h e = ap (cons_option (free_block floor o c)) (free-set floor heads clips j h e)
 
 -- the same block goes
 pub grown-goes : (s : Segments) (j frames : ℕ) → has_frame (get_or s.heads j None) ≡ true → 0 < frames
@@ -328,12 +328,12 @@ grown-goes s j frames some more =
     let k = grown-is (get_or s.heads j None) frames some more in
     ap (λ (bs : List ℕ). least_free (record s { heads = set s.heads j (grown frames (get_or s.heads j None)) })
     (reduce max bs)) (held-set s.heads j (grown frames (get_or s.heads j None)) k.held)
-    ∙ go k (reduce max (filter_map held_block s.heads))
+    ∙ go k (floor_block s.heads)
   where
     go : IsGrown (get_or s.heads j None) (grown frames (get_or s.heads j None)) → (o : Option ℕ)
         → least_free (record s { heads = set s.heads j (grown frames (get_or s.heads j None)) }) o ≡ least_free s o
     go k None = refl
-    go k (Some newest) = ap (reduce min) (free-set newest s.heads s.clips j (grown frames (get_or s.heads j None)) (k.free newest))
+    go k (Some floor) = ap (reduce min) (free-set floor s.heads s.clips j (grown frames (get_or s.heads j None)) (k.free floor))
 
 -- and as many have a frame
 pub grown-held : (heads : List (Option SegmentHead)) (j frames : ℕ) → has_frame (get_or heads j None) ≡ true

@@ -103,38 +103,38 @@ held-picked heads = record {
         at-head None is gives = absurd cc
         at-head (Some h) is gives = there h is (ltb 0 h.frames) refl gives
 
--- those that may go, where this is the newest block
+-- those that may go, where this is the floor
 abbrev pub is_free_at : ℕ → List (Option SegmentHead) → List ℕ → ℕ → Bool
-is_free_at newest heads clips s = is_free newest (get_or heads s None) (get_or clips s 0)
+is_free_at floor heads clips s = is_free floor (get_or heads s None) (get_or clips s 0)
 
 abbrev free_of : ℕ → Option SegmentHead × ℕ → Option ℕ
-free_of newest x = free_block newest x.0 x.1
+free_of floor x = free_block floor x.0 x.1
 
-pub free-picked : (newest : ℕ) (heads : List (Option SegmentHead)) (clips : List ℕ) → length clips ≡ length heads
-    → ArePicked heads (is_free_at newest heads clips) (filter_map (λ x. free_block newest x.0 x.1) (zip heads clips))
-free-picked newest heads clips same = record {
-  from = λ s h l at passes. kept-among (free_of newest) (zip heads clips) s h.block (None, 0) (long s l)
-      (ap (free_of newest) (get_or-zip heads clips s (None, 0) l (omega (arith, l, same)))
-      ∙ ap (λ (o : Option SegmentHead). free_block newest o (get_or clips s 0)) at
+pub free-picked : (floor : ℕ) (heads : List (Option SegmentHead)) (clips : List ℕ) → length clips ≡ length heads
+    → ArePicked heads (is_free_at floor heads clips) (filter_map (λ x. free_block floor x.0 x.1) (zip heads clips))
+free-picked floor heads clips same = record {
+  from = λ s h l at passes. kept-among (free_of floor) (zip heads clips) s h.block (None, 0) (long s l)
+      (ap (free_of floor) (get_or-zip heads clips s (None, 0) l (omega (arith, l, same)))
+      ∙ ap (λ (o : Option SegmentHead). free_block floor o (get_or clips s 0)) at
       ∙ ap (λ (t : Bool). cond t (Some h.block) None)
-      (ap (λ (o : Option SegmentHead). is_free newest o (get_or clips s 0)) (sym at) ∙ passes));
-  to = λ b at. of b (among-kept (free_of newest) (zip heads clips) b at);
+      (ap (λ (o : Option SegmentHead). is_free floor o (get_or clips s 0)) (sym at) ∙ passes));
+  to = λ b at. of b (among-kept (free_of floor) (zip heads clips) b at);
 }
   where
     long : (s : ℕ) → s < length heads → s < length (zip heads clips)
     long s l = omega (arith, l, same, length-zip heads clips)
 
-    of : (b : ℕ) → Kept (free_of newest) (zip heads clips) b → Picked heads (is_free_at newest heads clips) b
+    of : (b : ℕ) → Kept (free_of floor) (zip heads clips) b → Picked heads (is_free_at floor heads clips) b
     of b k = at-head (get_or heads k.place None) refl
-        (sym (ap (free_of newest) (get_or-zip heads clips k.place (None, 0) inside (omega (arith, inside, same))))
+        (sym (ap (free_of floor) (get_or-zip heads clips k.place (None, 0) inside (omega (arith, inside, same))))
         ∙ k.gives (None, 0))
       where
         inside : k.place < length heads
         inside = omega (arith, k.within, same, length-zip heads clips)
 
         there : (h : SegmentHead) → get_or heads k.place None ≡ Some h → (t : Bool)
-            → is_free newest (Some h) (get_or clips k.place 0) ≡ t → cond t (Some h.block) None ≡ Some b
-            → Picked heads (is_free_at newest heads clips) b
+            → is_free floor (Some h) (get_or clips k.place 0) ≡ t → cond t (Some h.block) None ≡ Some b
+            → Picked heads (is_free_at floor heads clips) b
         there h is false free gives = absurd cc
         there h is true free gives = record {
           place = k.place;
@@ -144,13 +144,13 @@ free-picked newest heads clips same = record {
           block =
               same-block h.block b gives;
           passes =
-              ap (λ (o : Option SegmentHead). is_free newest o (get_or clips k.place 0)) is ∙ free;
+              ap (λ (o : Option SegmentHead). is_free floor o (get_or clips k.place 0)) is ∙ free;
         }
 
         at-head : (o : Option SegmentHead) → get_or heads k.place None ≡ o
-            → free_block newest o (get_or clips k.place 0) ≡ Some b → Picked heads (is_free_at newest heads clips) b
+            → free_block floor o (get_or clips k.place 0) ≡ Some b → Picked heads (is_free_at floor heads clips) b
         at-head None is gives = absurd cc
-        at-head (Some h) is gives = there h is (is_free newest (Some h) (get_or clips k.place 0)) refl gives
+        at-head (Some h) is gives = there h is (is_free floor (Some h) (get_or clips k.place 0)) refl gives
 
 -- ---- their entries
 

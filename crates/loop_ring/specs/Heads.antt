@@ -32,24 +32,28 @@ abbrev pub held_block : Option SegmentHead → Option ℕ
 held_block None = None
 held_block (Some head) = if nat_lt 0 head.frames then Some head.block else None
 
--- the block may go, where this is the newest one: it is another, and no clip meets it
+-- the block from which on no block may go, that of the newest held frame, if a frame is held
+abbrev pub floor_block : List (Option SegmentHead) → Option ℕ
+floor_block heads = reduce max (filter_map held_block heads)
+
+-- the block may go, where this is the floor: it is below, and no clip meets it
 abbrev pub is_going : Ring → List (Option Span) → ℕ → ℕ → Bool
-is_going ring clips newest block = not (block == newest) && not (list_any (meets ring block) clips)
+is_going ring clips floor block = nat_lt block floor && not (list_any (meets ring block) clips)
 
 -- the block of a segment that is open and has a whole frame, if that block may go
 abbrev pub going_block : Ring → List (Option Span) → ℕ → Option SegmentHead → Option ℕ
-going_block ring clips newest None = None
-going_block ring clips newest (Some head) =
-    if nat_lt 0 head.frames && is_going ring clips newest head.block then Some head.block else None
+going_block ring clips floor None = None
+going_block ring clips floor (Some head) =
+    if nat_lt 0 head.frames && is_going ring clips floor head.block then Some head.block else None
 
--- the least block that may go, where this is the newest block, if there is one
+-- the least block that may go, where this is the floor, if there is one
 abbrev pub least_going : Ring → List (Option Span) → List (Option SegmentHead) → Option ℕ → Option ℕ
 least_going ring clips heads None = None
-least_going ring clips heads (Some newest) = reduce min (filter_map (going_block ring clips newest) heads)
+least_going ring clips heads (Some floor) = reduce min (filter_map (going_block ring clips floor) heads)
 
 -- the block that goes when room is needed, by the headers and the clips alone
 abbrev pub going_first : Ring → List (Option Span) → List (Option SegmentHead) → Option ℕ
-going_first ring clips heads = least_going ring clips heads (reduce max (filter_map held_block heads))
+going_first ring clips heads = least_going ring clips heads (floor_block heads)
 
 -- ---- the count of clips of each segment
 
@@ -86,24 +90,24 @@ with_clip ring span s = record s { clips = map (λ x. with_one ring span x.0 x.1
 abbrev pub without_clip : Ring → Span → Segments → Segments
 without_clip ring span s = record s { clips = map (λ x. without_one ring span x.0 x.1) (zip s.heads s.clips) }
 
--- the segment has a whole frame, its block isn't the newest one, and no clip meets it
+-- the segment has a whole frame, its block is below the floor, and no clip meets it
 abbrev pub is_free : ℕ → Option SegmentHead → ℕ → Bool
-is_free newest None count = false
-is_free newest (Some head) count = nat_lt 0 head.frames && not (head.block == newest) && (count == 0)
+is_free floor None count = false
+is_free floor (Some head) count = nat_lt 0 head.frames && nat_lt head.block floor && (count == 0)
 
 -- the block of such a segment
 abbrev pub free_block : ℕ → Option SegmentHead → ℕ → Option ℕ
-free_block newest None count = None
-free_block newest (Some head) count = if is_free newest (Some head) count then Some head.block else None
+free_block floor None count = None
+free_block floor (Some head) count = if is_free floor (Some head) count then Some head.block else None
 
--- the least of these blocks, where this is the newest one, if there is one
+-- the least of these blocks, where this is the floor, if there is one
 abbrev pub least_free : Segments → Option ℕ → Option ℕ
 least_free s None = None
-least_free s (Some newest) = reduce min (filter_map (λ x. free_block newest x.0 x.1) (zip s.heads s.clips))
+least_free s (Some floor) = reduce min (filter_map (λ x. free_block floor x.0 x.1) (zip s.heads s.clips))
 
 -- the block that goes when room is needed, by the headers and the counts alone
 abbrev pub going_free : Segments → Option ℕ
-going_free s = least_free s (reduce max (filter_map held_block s.heads))
+going_free s = least_free s (floor_block s.heads)
 
 -- the segment with so many frames
 abbrev pub grown : ℕ → Option SegmentHead → Option SegmentHead

@@ -1,8 +1,8 @@
 // Which block goes when room is needed, by the segments and how many clips meet the block of each.
-ghost use Rattle.std.specs.Prelude.{◌≡◌, length, max, min};
+ghost use Rattle.std.specs.Prelude.{◌≡◌, length, min};
 ghost use Rattle.std.specs.List.{filter_map, reduce, zip};
 ghost use Rattle.loop_ring.specs.Entries.{IsIndexed};
-ghost use Rattle.loop_ring.specs.Heads.{free_block, going_free, has_frame, held_block, is_free};
+ghost use Rattle.loop_ring.specs.Heads.{floor_block, free_block, going_free, has_frame, is_free};
 
 use crate::entry::Entry;
 use loop_record::SegmentHead;
@@ -19,8 +19,8 @@ pub(crate) fn victim_of(
     requires counted { length clips.now ≡ length heads.now }
     ensures { result ≡ going_free (record { heads = heads.now; clips = clips.now }) }
 {
-    let newest = newest_block(heads, entries)?;
-    oldest_free(heads, clips, entries, newest)
+    let floor = floor_block(heads, entries)?;
+    oldest_free(heads, clips, entries, floor)
 }
 
 // Whether a segment is open and has a whole frame.
@@ -30,17 +30,18 @@ pub(crate) fn has_frame(head: Option<SegmentHead>) -> bool
     head.is_some_and(|head| head.frames > 0)
 }
 
-// Whether a segment has a whole frame, holds another block than the newest one, and no clip meets its block.
-fn is_free(head: Option<SegmentHead>, clips: u32, newest: u64) -> bool
-    ensures { result ≡ is_free newest head clips }
+// Whether a segment has a whole frame, its block is below the floor, and no clip meets its block.
+fn is_free(head: Option<SegmentHead>, clips: u32, floor: u64) -> bool
+    ensures { result ≡ is_free floor head clips }
 {
-    head.is_some_and(|head| head.frames > 0 && head.block != newest && clips == 0)
+    head.is_some_and(|head| head.frames > 0 && head.block < floor && clips == 0)
 }
 
-// The greatest block of a held frame: the last one in the order of the blocks.
-fn newest_block(heads: &[Option<SegmentHead>], entries: &[Entry]) -> Option<u64>
+// The block from which on no block may go: the greatest block of a held frame, which is the last one in the order
+// of the blocks.
+fn floor_block(heads: &[Option<SegmentHead>], entries: &[Entry]) -> Option<u64>
     requires { IsIndexed heads.now entries.now (length heads.now) }
-    ensures { result ≡ reduce max (filter_map held_block heads.now) }
+    ensures { result ≡ floor_block heads.now }
 {
     for entry in entries.iter().rev() {
         if has_frame(heads[entry.segment as usize]) {
@@ -50,21 +51,20 @@ fn newest_block(heads: &[Option<SegmentHead>], entries: &[Entry]) -> Option<u64>
     None
 }
 
-// The least block of a held frame that no clip meets, where this is the newest block: the first one in the order
-// of the blocks.
+// The least block of a held frame below the floor that no clip meets: the first one in the order of the blocks.
 fn oldest_free(
     heads: &[Option<SegmentHead>],
     clips: &[u32],
     entries: &[Entry],
-    newest: u64,
+    floor: u64,
 ) -> Option<u64>
     requires order { IsIndexed heads.now entries.now (length heads.now) }
     requires counted { length clips.now ≡ length heads.now }
-    ensures { result ≡ reduce min (filter_map (λ x. free_block newest x.0 x.1) (zip heads.now clips.now)) }
+    ensures { result ≡ reduce min (filter_map (λ x. free_block floor x.0 x.1) (zip heads.now clips.now)) }
 {
     for entry in entries {
         let segment = entry.segment as usize;
-        if is_free(heads[segment], clips[segment], newest) {
+        if is_free(heads[segment], clips[segment], floor) {
             return Some(entry.block);
         }
     }

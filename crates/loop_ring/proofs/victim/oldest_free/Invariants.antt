@@ -5,4 +5,4 @@ use Rattle.loop_ring.proofs.victim.oldest_free.Given as goal
 
 -- none of the entries so far may go
 abbrev pub invariant-loop-entry : goal.invariant-loop-entry
-invariant-loop-entry l = (k : ℕ) (d : Entry) → k < l.entry-index → is_free_at l.fn.newest l.fn.heads l.fn.clips (get_or l.fn.entries k d).segment ≡ false
+invariant-loop-entry l = (k : ℕ) (d : Entry) → k < l.entry-index → is_free_at l.fn.floor l.fn.heads l.fn.clips (get_or l.fn.entries k d).segment ≡ false

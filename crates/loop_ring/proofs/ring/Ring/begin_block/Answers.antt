@@ -1,4 +1,4 @@
-use Rattle.std.proofs.Common.{◌≡◌, ℕ, ◌+◌, ◌≤◌, ◌<◌, List, [], ◌∷◌, length, take, drop, ap, arith}
+use Rattle.std.proofs.Common.{◌≡◌, ℕ, ◌+◌, ◌≤◌, List, [], ◌∷◌, length, take, drop, ap, arith}
 use Rattle.loop_record.specs.Geometry.{segment_at}
 use Rattle.loop_record.proofs.Bounds.{limits, place-lt}
 use Rattle.loop_record.proofs.Parts.{apart}

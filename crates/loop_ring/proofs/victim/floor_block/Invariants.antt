@@ -1,5 +1,5 @@
 use Rattle.loop_ring.proofs.Oldest.{IsLeft, is_held_at}
-use Rattle.loop_ring.proofs.victim.newest_block.Given as goal
+use Rattle.loop_ring.proofs.victim.floor_block.Given as goal
 
 -- none of the entries behind the rest has a frame
 abbrev pub invariant-loop-entry : goal.invariant-loop-entry

@@ -1,7 +1,7 @@
 use Rattle.std.proofs.Common.{arith, sym, subst, ◌∙◌, length}
 use Rattle.loop_ring.proofs.Indexed.{IsOpen, there-entry}
 use Rattle.loop_ring.proofs.Oldest.{IsLast, IsLeft, greatest-last, greatest-none, held-picked, is_held_at, left-all, left-last, left-less}
-use Rattle.loop_ring.proofs.victim.newest_block.Goals as goal
+use Rattle.loop_ring.proofs.victim.floor_block.Goals as goal
 
 pub loop-entry-init : goal.loop-entry-init
 loop-entry-init c =
