@@ -1,4 +1,5 @@
 use Rattle.std.proofs.Common.{sym, ap, ◌∙◌, subst}
+use Rattle.loop_desk.proofs.Gone.{store-goes}
 use Rattle.lane_text.proofs.Recorded.{exported}
 use Rattle.lane_text.proofs.record_and_export.Goals as goal
 
@@ -10,7 +11,8 @@ returns-in-Ok-export g c = λ s stands now.
     let lane = c.lane_run.new.lane in
     let new = lane.desk in
     let medium = g.D.Disk.medium in
-    let honest = ran.desk.store.called.honest.0 now in
+    let went = store-goes medium c.args.lane.desk new ran.calls ran.desk in
+    let honest = went.called.honest.0 now in
     let fine = sym c.status.ensures.must_reopen ∙ c.if-status.false in
     let image = (medium c.into_disk.result).bytes in
     let there = subst (λ d. (medium d).honest) (sym c.into_disk.ensures) honest in
@@ -21,7 +23,7 @@ returns-in-Ok-export g c = λ s stands now.
         ran,
         exported medium new.store c.args.lane.desk.store.geometry _ store image c.args.from c.args.to
             c.in-Ok-export.field-0 (g.W.Write.contents c.args.out.now) (g.W.Write.contents c.export.new.out)
-            kept.recording fine honest ran.desk.store.geometry (ap (λ d. (medium d).bytes) c.into_disk.ensures) (c.in-Ok-open.ensures.opened there) opened
+            kept.recording fine honest went.geometry (ap (λ d. (medium d).bytes) c.into_disk.ensures) (c.in-Ok-open.ensures.opened there) opened
             c.in-Ok-export.ensures.exported,
       ),
     )
