@@ -83,7 +83,7 @@ def read(image):
         return Refused("refused 4 NotFormatted")
     version, *numbers = struct.unpack_from("<III4sIIIII", image, 8)
     geometry = Geometry(*numbers)
-    if version != 1 or not is_good(geometry) or any(image[44:512]):
+    if version != 1 or not is_good(geometry) or any(image[45:512]):
         return Refused("refused 5 Damaged 2")
     if len(image) != segment_at(geometry, geometry.segments):
         return Refused("refused 5 Damaged 1")

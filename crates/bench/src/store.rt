@@ -134,7 +134,7 @@ pub(crate) fn append_file(
 fn lock_and_unlock<D: Disk + Drop>(store: &mut Store<D>, rounds: u32) -> Result<u64> {
     let newest = store.next().checked_sub(1).context("no frame is there")?;
     for _ in 0..rounds {
-        let id = store.lock(newest, newest).map_err(refused)?;
+        let id = store.lock(newest, newest, 0).map_err(refused)?;
         store.unlock(id).map_err(refused)?;
     }
     Ok(store.next())

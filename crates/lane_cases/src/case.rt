@@ -169,6 +169,7 @@ pub(crate) fn asks<D: Disk + Drop>(
         Verb::Flush => desk::flush(&mut case.lane.desk, out)?,
         Verb::Lock => desk::lock(&mut case.lane.desk, call, out)?,
         Verb::Unlock => desk::unlock(&mut case.lane.desk, call, out)?,
+        Verb::Upgrade => desk::upgrade(&mut case.lane.desk, out)?,
         Verb::Read => desk::read(alloc, &mut case.lane.desk, call, out)?,
         Verb::Status => desk::status(&case.lane.desk, out)?,
         Verb::Outline => desk::outline(alloc, &case.lane.desk, out)?,

@@ -46,13 +46,14 @@ pub(crate) fn flush<D: Disk + Drop>(desk: &mut Desk<D>, out: &mut Vec<u8>) -> io
     told::flushed(out, &desk.flush())
 }
 
-/// Locks the frames from a number to another.
+/// Locks the frames from a number to another, with a tag, which is 0 where there is none.
 pub(crate) fn lock<D: Disk + Drop>(
     desk: &mut Desk<D>,
     call: &Call,
     out: &mut Vec<u8>,
 ) -> io::Result<()> {
-    told::locked(out, desk.lock_clip(call.number(0), call.number(1)))
+    let done = desk.lock_clip(call.number(0), call.number(1), call.number(2));
+    told::locked(out, done)
 }
 
 /// Unlocks the clip of an id.
@@ -62,6 +63,15 @@ pub(crate) fn unlock<D: Disk + Drop>(
     out: &mut Vec<u8>,
 ) -> io::Result<()> {
     told::unlocked(out, desk.unlock_clip(call.small(0)))
+}
+
+/// Makes version 2 of the layout.
+pub(crate) fn upgrade<D: Disk + Drop>(desk: &mut Desk<D>, out: &mut Vec<u8>) -> io::Result<()> {
+    match desk.upgrade() {
+        Ok(true) => out.write_all(b"upgraded"),
+        Ok(false) => out.write_all(b"already 2"),
+        Err(fault) => told::fault(out, fault),
+    }
 }
 
 /// Reads the frame of a number.
@@ -101,6 +111,9 @@ pub(crate) fn clips(out: &mut Vec<u8>, clips: &[Clip]) -> io::Result<()> {
         told::named(out, ", clip", u64::from(clip.id))?;
         told::named(out, ":", clip.from)?;
         told::named(out, " to", clip.to)?;
+        if clip.tag != 0 {
+            told::named(out, " tag", clip.tag)?;
+        }
     }
     Ok(())
 }
@@ -115,6 +128,7 @@ pub(crate) fn outline<D: Disk + Drop>(
         Ok(outline) => {
             told::named(out, "next", outline.next)?;
             told::named(out, ", waiting", u64::from(outline.pending))?;
+            told::named(out, ", version", u64::from(outline.version))?;
             out.write_all(b", ")?;
             frames(out, &outline.frames)?;
             clips(out, &outline.clips)

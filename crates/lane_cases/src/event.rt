@@ -169,6 +169,7 @@ pub(crate) fn lane_event(
         Verb::Lock => Some(LaneEvent::Lock(Span {
             from: call.number(0),
             to: call.number(1),
+            tag: call.number(2),
         })),
         Verb::Unlock => Some(LaneEvent::Unlock(call.small(0))),
         Verb::Read => Some(LaneEvent::Read(call.number(0))),

@@ -7,6 +7,8 @@ use std::alloc::{AllocError, Global};
 pub(crate) enum Verb {
     /// An empty recording, three segments with two slots for frames of 12 bytes.
     Format,
+    /// The same in version 1 of the layout.
+    FormatV1,
     /// A lane over the recording: how many frames may wait.
     Lane,
     /// A desk over the recording: how many frames may wait, and how many a group has.
@@ -60,6 +62,8 @@ pub(crate) enum Verb {
     Flush,
     Lock,
     Unlock,
+    /// Version 2 of the layout is made of version 1.
+    Upgrade,
     Read,
     Status,
     Outline,
@@ -70,8 +74,9 @@ pub(crate) enum Verb {
 }
 
 // Each call with its name, and how many numbers it needs.
-const VERBS: [Row; 41] = [
+const VERBS: [Row; 43] = [
     ("format", Verb::Format, 0),
+    ("format1", Verb::FormatV1, 0),
     ("lane", Verb::Lane, 1),
     ("desk", Verb::Desk, 2),
     ("queue", Verb::Queue, 3),
@@ -107,6 +112,7 @@ const VERBS: [Row; 41] = [
     ("flush", Verb::Flush, 0),
     ("lock", Verb::Lock, 2),
     ("unlock", Verb::Unlock, 1),
+    ("upgrade", Verb::Upgrade, 0),
     ("read", Verb::Read, 1),
     ("status", Verb::Status, 0),
     ("outline", Verb::Outline, 0),

@@ -10,7 +10,7 @@ use anyhow::{Result, anyhow};
 use loop_disk::MemDisk;
 use loop_plane::Memory;
 use loop_record::{Geometry, PixelFormat};
-use loop_store::format;
+use loop_store::{OpenRefused, Store, format, format_v1};
 use std::alloc::Global;
 use std::io::{BufRead, Write};
 
@@ -58,9 +58,14 @@ impl Session {
     }
 }
 
-// A freshly formatted image.
-fn formats(alloc: Global, session: &mut Session, out: &mut Vec<u8>) -> Result<()> {
-    match format(alloc, MemDisk::new(alloc, 4360)?, SMALL) {
+// What was formatted is an image.
+fn formats(
+    alloc: Global,
+    session: &mut Session,
+    formatted: Result<Store<MemDisk>, OpenRefused<MemDisk>>,
+    out: &mut Vec<u8>,
+) -> Result<()> {
+    match formatted {
         Ok(store) => {
             let disk = store.into_disk();
             session.image = disk.bytes().to_vec(alloc)?;
@@ -208,7 +213,14 @@ fn does(
     out: &mut Vec<u8>,
 ) -> Result<()> {
     match call.verb {
-        Verb::Format => formats(alloc, session, out),
+        Verb::Format => {
+            let disk = MemDisk::new(alloc, 4360)?;
+            formats(alloc, session, format(alloc, disk, SMALL), out)
+        }
+        Verb::FormatV1 => {
+            let disk = MemDisk::new(alloc, 4360)?;
+            formats(alloc, session, format_v1(alloc, disk, SMALL), out)
+        }
         Verb::Lane | Verb::Desk => begins(alloc, session, &call, out),
         Verb::Queue => begins_queue(alloc, session, &call, out),
         Verb::Close => closes(alloc, session, out),

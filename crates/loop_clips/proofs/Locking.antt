@@ -1,10 +1,9 @@
 -- What a lock and an unlock make of the clip table.
-use Rattle.std.proofs.Common.{◌≡◌, ◌≢◌, inl, inr, ℕ, ◌+◌, ◌<◌, ◌≤◌, Bool, true, false, not, suc, cond, eqb, ltb, is_some, Option, None, Some, Result, OnOk, List, [], ◌∷◌, length, drop, get_or, refl, sym, ap, ◌∙◌, subst, arith}
+use Rattle.std.proofs.Common.{◌≡◌, ◌≢◌, inl, inr, ℕ, ◌+◌, ◌<◌, ◌≤◌, Bool, true, false, not, zero, suc, cond, eqb, ltb, is_some, Option, None, Some, Result, OnOk, List, [], ◌∷◌, length, drop, get_or, refl, sym, ap, ◌∙◌, subst, arith}
+use Rattle.std.proofs.lemmas.List.{get_or-drop}
 use Rattle.std.proofs.lemmas.List.Sums.{prefix_len-le-length}
 use Rattle.std.specs.List.{position}
 use Rattle.std.proofs.lemmas.Result.{on_ok_weaker}
-use Rattle.byteorder.specs.Endian.{little_from}
-use Rattle.byteorder.specs.Numbers.{little_number-reads_back}
 use Rattle.loop_disk.specs.declared.fault.DiskFault.{DiskFault}
 use Rattle.loop_disk.specs.Medium.{Medium, with_bytes_at, SameOutside, IsSettled, LeavesOnly}
 use Rattle.loop_disk.specs.Steps.{Stores, StoresInTurn, TornInTurn}
@@ -13,25 +12,22 @@ use Rattle.loop_disk.proofs.Images.{both, get_or-written_there, length-written, 
 use Rattle.loop_record.specs.declared.clip.Span.{Span}
 use Rattle.loop_record.specs.Change.{ShowsClip}
 use Rattle.loop_record.specs.Geometry.{clip_at}
-use Rattle.loop_record.specs.Layout.{clip_in, entry_bytes, is_open}
+use Rattle.loop_record.specs.Layout.{clip_in, entry_at, entry_bytes, is_open, version_in}
+use Rattle.loop_record.specs.Laws.{FitsEntry}
 use Rattle.loop_record.specs.Recording.{first_free}
-use Rattle.loop_record.proofs.Decided.{at_most, not_below}
-use Rattle.loop_record.proofs.Fields.{moved_number}
+use Rattle.loop_record.proofs.Decided.{at_most, equal, not_below}
+use Rattle.loop_record.proofs.Framing.{moved_entry}
+use Rattle.loop_record.proofs.Parts.{version-outside}
+use Rattle.loop_record.proofs.Fresh.{written-entry}
 use Rattle.loop_clips.specs.Table.{IsFirstFree, ShowsClipOrNot}
 
 -- what the entry of a clip has behind its gate
-pub record IsEntry (s : Span) (entry : List ℕ) : Type 0 where
-  pub size : length entry ≡ 31
-  pub from : little_from 7 8 entry ≡ s.from
-  pub to : little_from 15 8 entry ≡ s.to
+pub record IsEntry (version : ℕ) (s : Span) (entry : List ℕ) : Type 0 where
+  pub is : entry ≡ drop 1 (entry_bytes s)
+  pub fits : FitsEntry version s
 
-pub is_entry : (s : Span) (entry : List ℕ) → s.from < 18446744073709551616 → s.to < 18446744073709551616
-    → entry ≡ drop 1 (entry_bytes s) → IsEntry s entry
-is_entry s entry from to is = record {
-  size = ap length is;
-  from = ap (little_from 7 8) is ∙ little_number-reads_back 8 s.from [] from;
-  to = ap (little_from 15 8) is ∙ little_number-reads_back 8 s.to [] to;
-}
+entry-size : (version : ℕ) (s : Span) (entry : List ℕ) → IsEntry version s entry → length entry ≡ 31
+entry-size version s entry e = ap length e.is
 
 -- an entry is open where its gate is
 closed_none : (c : List ℕ) (id : ℕ) → is_open c (clip_at id) ≡ false → clip_in c id ≡ None
@@ -59,50 +55,58 @@ entry_outside id entry old size fits =
     widened (clip_at id + 1) (length entry) (clip_at id) 32 old _
     (written_outside (clip_at id + 1) entry old (omega (arith, size, fits))) (omega arith) (omega (arith, size))
 
-locked_there : (id : ℕ) (s : Span) (entry old c : List ℕ) → IsEntry s entry → clip_at id + 32 ≤ length old
-    → SameOutside (clip_at id) 1 (with_bytes_at (clip_at id + 1) entry old) c
+locked_there : (id : ℕ) (s : Span) (entry old c : List ℕ) → IsEntry (version_in old) s entry
+    → clip_at id + 32 ≤ length old → SameOutside (clip_at id) 1 (with_bytes_at (clip_at id + 1) entry old) c
+    → SameOutside (clip_at id) 32 old c
     → is_open c (clip_at id) ≡ true → clip_in c id ≡ Some s
-locked_there id s entry old c e fits torn gate =
-    let at : (p k : ℕ) → p + k < 31 → get_or c (clip_at id + (p + 1) + k) 0 ≡ get_or entry (p + k) 0 = λ p k l.
-    let place : clip_at id + (p + 1) + k ≡ clip_at id + 1 + (p + k) = omega arith in
-    ap (λ (x : ℕ). get_or c x 0) place ∙ entry_there id (p + k) entry old c e.size fits torn l in
-    let from : little_from (clip_at id + 8) 8 c ≡ s.from = moved_number 8 (clip_at id + 8) 7 c entry (λ k l. at 7 k (omega (arith, l))) ∙ e.from in
-    let to : little_from (clip_at id + 16) 8 c ≡ s.to = moved_number 8 (clip_at id + 16) 15 c entry (λ k l. at 15 k (omega (arith, l))) ∙ e.to in
-    λ i. cond (gate i) (Some (record { from = from i; to = to i })) None
+locked_there id s entry old c e fits torn outside gate =
+    let at = clip_at id in
+    ap (λ (v : ℕ). entry_at v c at) (version-outside (clip_at id) 32 old c (omega arith) outside)
+    ∙ moved_entry (version_in old) at 0 c (entry_bytes s) byte ∙ written-entry (version_in old) s e.fits
+  where
+    byte : (k : ℕ) → k < 32 → get_or c (clip_at id + k) 0 ≡ get_or (entry_bytes s) (0 + k) 0
+    byte zero l =
+        let here : clip_at id + 0 ≡ clip_at id = omega arith in
+        ap (λ (x : ℕ). get_or c x 0) here ∙ equal (get_or c (clip_at id) 0) 0xA5 gate
+    byte (suc k) l =
+        let place : clip_at id + suc k ≡ clip_at id + 1 + k = omega arith in
+        let first : 0 + suc k ≡ 1 + k = omega arith in
+        ap (λ (x : ℕ). get_or c x 0) place ∙ entry_there id k entry old c (entry-size (version_in old) s entry e) fits torn (omega (arith, l))
+        ∙ ap (λ (b : List ℕ). get_or b k 0) e.is ∙ get_or-drop 1 (entry_bytes s) k 0 ∙ ap (λ (x : ℕ). get_or (entry_bytes s) x 0) (sym first)
 
-lock_torn : (id : ℕ) (s : Span) (entry old c : List ℕ) → IsEntry s entry → clip_at id + 32 ≤ length old
-    → clip_in old id ≡ None
+lock_torn : (id : ℕ) (s : Span) (entry old c : List ℕ) → IsEntry (version_in old) s entry
+    → clip_at id + 32 ≤ length old → clip_in old id ≡ None
     → TornInTurn (clip_at id + 1) entry (clip_at id) 1 old c → ShowsClipOrNot id (Some s) old c
 lock_torn id s entry old c e fits closed (inl torn) =
     let outside : SameOutside (clip_at id) 32 old c = widened (clip_at id + 1) (length entry)
-    (clip_at id) 32 old c torn (omega arith) (omega (arith, e.size)) in
+    (clip_at id) 32 old c torn (omega arith) (omega (arith, entry-size (version_in old) s entry e)) in
     let gate : is_open c (clip_at id) ≡ false = ap (λ (k : ℕ). eqb k 0xA5) (torn.before (clip_at id) (omega arith)) ∙ none_closed old id closed in
     inl (record { outside = outside; holds = closed_none c id gate ∙ sym closed })
 lock_torn id s entry old c e fits closed (inr torn) = go (is_open c (clip_at id)) refl
   where
     outside : SameOutside (clip_at id) 32 old c
-    outside = both (clip_at id) 32 old _ c (entry_outside id entry old e.size fits)
+    outside = both (clip_at id) 32 old _ c (entry_outside id entry old (entry-size (version_in old) s entry e) fits)
         (widened (clip_at id) 1 (clip_at id) 32 _ c torn (omega arith) (omega arith))
 
     go : (t : Bool) → is_open c (clip_at id) ≡ t → ShowsClipOrNot id (Some s) old c
-    go true o = inr (record { outside = outside; holds = locked_there id s entry old c e fits torn o })
+    go true o = inr (record { outside = outside; holds = locked_there id s entry old c e fits torn outside o })
     go false o = inl (record { outside = outside; holds = closed_none c id o ∙ sym closed })
 
 -- both stores done
-lock_done : (id : ℕ) (s : Span) (entry old : List ℕ) → IsEntry s entry → clip_at id + 32 ≤ length old
+lock_done : (id : ℕ) (s : Span) (entry old : List ℕ) → IsEntry (version_in old) s entry → clip_at id + 32 ≤ length old
     → ShowsClip id (Some s) old (with_bytes_at (clip_at id) (165 ∷ []) (with_bytes_at (clip_at id + 1) entry old))
 lock_done id s entry old e fits =
     let at = clip_at id in
+    let long = entry-size (version_in old) s entry e in
     let mid = with_bytes_at (at + 1) entry old in
-    let size = length-written (at + 1) entry old (omega (arith, e.size, fits)) in
-    let torn : SameOutside at 1 mid (with_bytes_at at (165 ∷ []) mid) = written_outside at (165 ∷ []) mid (omega (arith, e.size, fits, size)) in
+    let size = length-written (at + 1) entry old (omega (arith, long, fits)) in
+    let torn : SameOutside at 1 mid (with_bytes_at at (165 ∷ []) mid) = written_outside at (165 ∷ []) mid (omega (arith, long, fits, size)) in
     let there : at ≡ at + 0 = omega arith in
     let gate : get_or (with_bytes_at at (165 ∷ []) mid) at 0 ≡ 165 =
     ap (λ (k : ℕ). get_or (with_bytes_at at (165 ∷ []) mid) k 0) there ∙ get_or-written_there at (165 ∷ []) mid 0
-    (omega (arith, fits, size)) (omega arith) in record {
-      outside = both at 32 old mid _ (entry_outside id entry old e.size fits) (widened at 1 at 32 mid _ torn (omega arith) (omega arith));
-      holds = locked_there id s entry old _ e fits torn (ap (λ (k : ℕ). eqb k 0xA5) gate);
-    }
+    (omega (arith, fits, size)) (omega arith) in
+    let outside = both at 32 old mid _ (entry_outside id entry old long fits) (widened at 1 at 32 mid _ torn (omega arith) (omega arith)) in
+    record { outside = outside; holds = locked_there id s entry old _ e fits torn outside (ap (λ (k : ℕ). eqb k 0xA5) gate) }
 
 -- the gate behind its entry
 stores_there : {T : Type 0} (id at : ℕ) (entry gate : List ℕ) (old new : Medium) (r : Result T DiskFault)
@@ -113,14 +117,15 @@ stores_there id at entry gate old new r is opens stores =
     (subst (λ (bytes : List ℕ). StoresInTurn (at + 1) entry at bytes old new r) opens stores)
 
 pub lock_moments : {T : Type 0} (id : ℕ) (s : Span) (at : ℕ) (entry gate : List ℕ) (old new : Medium)
-    (r : Result T DiskFault) → at ≡ clip_at id → gate ≡ 165 ∷ [] → IsEntry s entry
+    (r : Result T DiskFault) → at ≡ clip_at id → gate ≡ 165 ∷ [] → IsEntry (version_in old.bytes) s entry
     → clip_at id + 32 ≤ length old.bytes → clip_in old.bytes id ≡ None
     → StoresInTurn (at + 1) entry at gate old new r → LeavesOnly old new (ShowsClipOrNot id (Some s) old.bytes)
 lock_moments id s at entry gate old new r is opens e fits closed stores =
     weaker old new _ _ (stores_there id at entry gate old new r is opens stores).moments (λ c torn. lock_torn id s entry old.bytes c e fits closed torn)
 
 pub lock_ok : {T : Type 0} (id : ℕ) (s : Span) (at : ℕ) (entry gate : List ℕ) (old new : Medium)
-    (r : Result T DiskFault) → at ≡ clip_at id → gate ≡ 165 ∷ [] → IsEntry s entry → clip_at id + 32 ≤ length old.bytes
+    (r : Result T DiskFault) → at ≡ clip_at id → gate ≡ 165 ∷ [] → IsEntry (version_in old.bytes) s entry
+    → clip_at id + 32 ≤ length old.bytes
     → StoresInTurn (at + 1) entry at gate old new r → OnOk r (ShowsClip id (Some s) old.bytes new.bytes)
 lock_ok id s at entry gate old new r is opens e fits stores =
     on_ok_weaker r (λ (d : new.bytes ≡ with_bytes_at (clip_at id) (165 ∷ [])
@@ -143,15 +148,21 @@ unlock_torn id old c some torn = go (is_open c (clip_at id)) refl
     wide : SameOutside (clip_at id) 32 old c
     wide = widened (clip_at id) 1 (clip_at id) 32 old c torn (omega arith) (omega arith)
 
-    field : (p : ℕ) → little_from (clip_at id + (p + 1)) 8 c ≡ little_from (clip_at id + (p + 1)) 8 old
-    field p = moved_number 8 (clip_at id + (p + 1)) (clip_at id + (p + 1)) c old (λ k l. torn.behind (clip_at id + (p + 1) + k) (omega arith))
-
     go : (t : Bool) → is_open c (clip_at id) ≡ t → ShowsClipOrNot id None old c
     go false o = inr (record { outside = wide; holds = closed_none c id o })
-    go true o =
-        let from = field 7 in
-        let to = field 15 in
-        inl (record { outside = wide; holds = λ i. cond ((o ∙ sym (some_open old id some)) i) (Some (record { from = from i; to = to i })) None })
+    go true o = inl (record {
+      outside = wide;
+      holds = ap (λ (v : ℕ). entry_at v c (clip_at id))
+          (version-outside (clip_at id) 32 old c (omega arith) wide) ∙ moved_entry (version_in old) (clip_at id)
+          (clip_at id) c old byte;
+    })
+      where
+        byte : (k : ℕ) → k < 32 → get_or c (clip_at id + k) 0 ≡ get_or old (clip_at id + k) 0
+        byte zero l =
+            let here : clip_at id + 0 ≡ clip_at id = omega arith in
+            let gate = equal (get_or c (clip_at id) 0) 0xA5 o ∙ sym (equal (get_or old (clip_at id) 0) 0xA5 (some_open old id some)) in
+            ap (λ (x : ℕ). get_or c x 0) here ∙ gate ∙ ap (λ (x : ℕ). get_or old x 0) (sym here)
+        byte (suc k) l = torn.behind (clip_at id + suc k) (omega arith)
 
 unlock_done : (id : ℕ) (old : List ℕ) → clip_at id + 32 ≤ length old
     → ShowsClip id None old (with_bytes_at (clip_at id) (0 ∷ []) old)

@@ -10,7 +10,7 @@ use Rattle.loop_record.specs.Recording.{first_free}
 abbrev pub clip_list : ℕ → List (Option Span) → List Clip
 clip_list id [] = []
 clip_list id (None ∷ clips) = clip_list (id + 1) clips
-clip_list id (Some s ∷ clips) = record { id = id; from = s.from; to = s.to } ∷ clip_list (id + 1) clips
+clip_list id (Some s ∷ clips) = record { id = id; from = s.from; to = s.to; tag = s.tag } ∷ clip_list (id + 1) clips
 
 -- the least id of these without a clip, or none where each has one
 abbrev pub IsFirstFree : List (Option Span) → Option ℕ → Type 0

@@ -8,4 +8,6 @@ pub struct Clip {
     pub from: u64,
     /// The number of its last frame.
     pub to: u64,
+    /// What its maker calls it; 0 in version 1 of the layout.
+    pub tag: u64,
 }

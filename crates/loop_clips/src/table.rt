@@ -7,7 +7,7 @@ ghost use Rattle.loop_disk.specs.Steps.{Changes};
 ghost use Rattle.loop_record.specs.Change.{ShowsClip};
 ghost use Rattle.loop_record.specs.declared.clip.Span.{Span};
 ghost use Rattle.loop_record.specs.Geometry.{clip_at, is_good};
-ghost use Rattle.loop_record.specs.Layout.{clip_in};
+ghost use Rattle.loop_record.specs.Layout.{clip_in, has_tag_place, version_in};
 ghost use Rattle.loop_record.specs.Recording.{meets, ring_of};
 
 use crate::Clip;
@@ -80,14 +80,16 @@ impl ClipTable {
         }
     }
 
-    /// Writes a clip under an id that has none: the entry behind its gate, a sync, the gate, a sync. At Ok it
-    /// stands; after a failure, as at each moment before, it stands on the disk or it doesn't. What the table
-    /// has in memory is another call's: `set`.
+    /// Writes a clip under an id that has none, with a tag other than 0 only in version 2 of the layout: the entry
+    /// behind its gate, a sync, the gate, a sync. At Ok it stands; after a failure, as at each moment before, it stands on
+    /// the disk or it doesn't. What the table has in memory is another call's: `set`.
     pub fn lock<D: Disk>(&self, disk: &mut D, id: u32, span: Span) -> Result<(), DiskFault>
         requires extent { 2560 ≤ (D.medium disk.old).size }
         requires id { id < 64 }
         requires settled { (D.medium disk.old).honest → IsSettled (D.medium disk.old) }
         requires closed { (D.medium disk.old).honest → clip_in (D.medium disk.old).bytes id ≡ None }
+        requires tag { (D.medium disk.old).honest
+            → IsTrue (has_tag_place (version_in (D.medium disk.old).bytes) span) }
         ensures { let old = D.medium disk.old in
             Changes (ShowsClipOrNot id (Some span) old.bytes) (ShowsClip id (Some span) old.bytes) old
             (D.medium disk.new) result }
@@ -138,6 +140,7 @@ impl ClipTable {
                     id: id as u32,
                     from: span.from,
                     to: span.to,
+                    tag: span.tag,
                 });
             }
         }
@@ -153,7 +156,7 @@ fn free_place(clips: &[Option<Span>]) -> Option<usize>
 }
 
 // Where the entry of an id lies on a disk.
-fn entry_place(id: u32) -> u64
+pub(crate) fn entry_place(id: u32) -> u64
     requires { id < 64 }
     ensures { result ≡ clip_at id }
 {

@@ -2,7 +2,7 @@
 ghost use Rattle.std.specs.Prelude.{IsTrue};
 ghost use Rattle.loop_record.specs.Geometry.{is_good};
 
-use crate::on_store::{Target, Told, export_along, export_apart, list, lock, unlock};
+use crate::on_store::{Target, Told, export_along, export_apart, list, lock, unlock, upgrade};
 use loop_ahead::AheadDisk;
 use loop_disk::Disk;
 use loop_file::{FileDisk, FileFault, FilePlace};
@@ -143,8 +143,9 @@ fn print_command<'a, R: AllocGlobal + Files<File = File>, W: Write>(
     match command {
         FileCommand::Format(geometry) => print_format(rt, path, geometry, out),
         FileCommand::List => ended(list(&open(rt, path)?, rt.alloc(), out)),
-        FileCommand::Lock(from, to) => ended(lock(&mut open(rt, path)?, from, to, out)),
+        FileCommand::Lock(span) => ended(lock(&mut open(rt, path)?, span, out)),
         FileCommand::Unlock(id) => ended(unlock(&mut open(rt, path)?, id, out)),
+        FileCommand::Upgrade => ended(upgrade(&mut open(rt, path)?, out)),
         FileCommand::Export(from, to, target) => print_export(rt, path, (from, to), target, out),
     }
 }

@@ -6,16 +6,18 @@ ghost use Rattle.std.specs.Prelude.{IfErr, IfOk, IfSome, IsSome, OnErr, OnOk};
 ghost use Rattle.std.specs.Io.KnownBytes.{Appends, Keeps};
 ghost use Rattle.loop_clips.specs.Table.{clip_list};
 ghost use Rattle.loop_record.specs.Recording.{Recording};
-ghost use Rattle.loop_store.specs.Calls.{locked, unlocked};
+ghost use Rattle.loop_store.specs.Calls.{locked, unlocked, upgraded};
 ghost use Rattle.loop_store.specs.Goes.{Goes};
 ghost use Rattle.loop_store.specs.Seen.{StandsFor};
 ghost use Rattle.loop_y4m.specs.Export.{OnlyRead, failed_export, frames_between};
 ghost use Rattle.loop_y4m.specs.Text.{text};
+ghost use Rattle.loop_script.specs.Upgrade.{told_of_upgrade};
 ghost use Rattle.loop_commands.specs.Told.{HoldsNone, IsUntouched, IsText, IsPrinted, fault_of, line_of};
 
 use crate::even::EvenWriter;
 use loop_disk::Disk;
-use loop_script::Listing;
+use loop_record::Span;
+use loop_script::{Listing, upgrade_words};
 use loop_store::{Store, StoreFault};
 use loop_y4m::{ExportFault, export};
 use std::alloc::Allocator;
@@ -80,17 +82,16 @@ pub fn list<D: Disk + Drop, A: Allocator + Copy, W: Write>(
     }
 }
 
-/// Locks the frames from a number to another, as `Store::lock`, and prints the id of the clip.
+/// Locks the frames of a span, as `Store::lock`, and prints the id of the clip.
 pub fn lock<D: Disk + Drop, A: Allocator, W: Write>(
     store: &mut Store<D, A>,
-    from: u64,
-    to: u64,
+    span: Span,
     out: &mut W,
 ) -> Told<u32>
-    ensures goes { Goes D.medium store.old store.new (locked (record { from = from; to = to }) result.answer ∷ []) }
+    ensures goes { Goes D.medium store.old store.new (locked span result.answer ∷ []) }
     ensures told { IsPrinted W.contents out.old out.new (line_of (codes "locked")) result.answer result.printed }
 {
-    match store.lock(from, to) {
+    match store.lock(span.from, span.to, span.tag) {
         Ok(id) => Told {
             answer: Ok(id),
             printed: print_number(out, "locked", u64::from(id)),
@@ -122,6 +123,35 @@ pub fn unlock<D: Disk + Drop, A: Allocator, W: Write>(
             printed: Ok(()),
         },
     }
+}
+
+/// Makes version 2 of a layout of version 1, as `Store::upgrade`, and prints whether it did or that it was there.
+pub fn upgrade<D: Disk + Drop, A: Allocator, W: Write>(
+    store: &mut Store<D, A>,
+    out: &mut W,
+) -> Told<bool>
+    ensures goes { Goes D.medium store.old store.new (upgraded result.answer ∷ []) }
+    ensures told { IsPrinted W.contents out.old out.new (λ made. told_of_upgrade made ++ 10 ∷ [])
+        result.answer result.printed }
+{
+    match store.upgrade() {
+        Ok(made) => Told {
+            answer: Ok(made),
+            printed: print_upgrade(out, made),
+        },
+        Err(fault) => Told {
+            answer: Err(fault),
+            printed: Ok(()),
+        },
+    }
+}
+
+// Prints whether version 2 was made, on a line.
+fn print_upgrade<W: Write>(out: &mut W, made: bool) -> io::Result<()>
+    ensures { OnOk result (Appends (W.contents out.old) (W.contents out.new) (told_of_upgrade made ++ 10 ∷ [])) }
+{
+    let words = upgrade_words(made);
+    writeln!(out, "{words}")
 }
 
 /// Why frames weren't exported.

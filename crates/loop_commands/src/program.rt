@@ -24,8 +24,8 @@ const FAILED: u8 = 1;
 const BAD_WORDS: u8 = 2;
 
 /// The commands of the program.
-const COMMANDS: [&str; 7] = [
-    "simulate", "format", "record", "list", "lock", "unlock", "export",
+const COMMANDS: [&str; 8] = [
+    "simulate", "format", "record", "list", "lock", "unlock", "upgrade", "export",
 ];
 
 /// Does what the words behind the program's name ask for, and answers the status with which the program ends:

@@ -2,10 +2,10 @@
 ghost use Rattle.std.specs.Prelude.{◌≡◌};
 ghost use Rattle.loop_script.specs.Sessions.{stored_since};
 
-use loop_record::Geometry;
+use loop_record::Span;
 use loop_script::{
     Command, Listing, MAX_LINE, Session, next_line, print_line, print_parts, print_refusal,
-    read_command,
+    read_command, upgrade_words,
 };
 use loop_store::{ReadFrame, StoreFault};
 use std::alloc::Allocator;
@@ -156,22 +156,33 @@ impl<A: Allocator + Copy> Simulation<A> {
     // Does what a line asks for and prints what came of it, refusals too. Only a failed write is an error.
     fn run<W: Write>(&mut self, command: Command, out: &mut W) -> io::Result<()> {
         match (command, &mut self.session) {
-            (Command::Format(geometry), _) => self.format(geometry, out),
+            (Command::Format(geometry), _) => self.begin(
+                Session::format(self.alloc, geometry),
+                out,
+            ),
+            (Command::FormatV1(geometry), _) => {
+                self.begin(Session::format_v1(self.alloc, geometry), out)
+            }
             (Command::Reopen, _) => self.reopen(out),
             (_, None) => print_refusal(out, StoreFault::NotFormatted),
             (Command::Store(count), Some(session)) => store(session, self.alloc, count, out),
             (Command::Submit(count), Some(session)) => submit(session, self.alloc, count, out),
             (Command::Flush, Some(session)) => flush(session, out),
             (Command::Read(number), Some(session)) => read(session, self.alloc, number, out),
-            (Command::Lock(from, to), Some(session)) => lock(session, from, to, out),
+            (Command::Lock(span), Some(session)) => lock(session, span, out),
             (Command::Unlock(id), Some(session)) => unlock(session, id, out),
+            (Command::Upgrade, Some(session)) => upgrade(session, out),
             (Command::List, Some(session)) => list(session, self.alloc, out),
         }
     }
 
     // Takes a fresh store in place of the one that is there; refused, it keeps that one.
-    fn format<W: Write>(&mut self, geometry: Geometry, out: &mut W) -> io::Result<()> {
-        match Session::format(self.alloc, geometry) {
+    fn begin<W: Write>(
+        &mut self,
+        formatted: Result<Session<A>, StoreFault>,
+        out: &mut W,
+    ) -> io::Result<()> {
+        match formatted {
             Err(fault) => print_refusal(out, fault),
             Ok(session) => {
                 self.session = Some(session);
@@ -347,11 +358,10 @@ fn print_bytes<W: Write>(bytes: &[u8], out: &mut W) -> io::Result<()> {
 // Locks a clip, and prints its id.
 fn lock<A: Allocator + Copy, W: Write>(
     session: &mut Session<A>,
-    from: u64,
-    to: u64,
+    span: Span,
     out: &mut W,
 ) -> io::Result<()> {
-    match session.lock(from, to) {
+    match session.lock(span.from, span.to, span.tag) {
         Err(fault) => print_refusal(out, fault),
         Ok(id) => print_line(out, "locked", &[(" ", u64::from(id))]),
     }
@@ -366,6 +376,14 @@ fn unlock<A: Allocator + Copy, W: Write>(
     match session.unlock(id) {
         Err(fault) => print_refusal(out, fault),
         Ok(()) => print_line(out, "unlocked", &[(" ", u64::from(id))]),
+    }
+}
+
+// Makes version 2 of the layout, and prints whether it did or that it was there.
+fn upgrade<A: Allocator + Copy, W: Write>(session: &mut Session<A>, out: &mut W) -> io::Result<()> {
+    match session.upgrade() {
+        Err(fault) => print_refusal(out, fault),
+        Ok(made) => print_line(out, upgrade_words(made), &[]),
     }
 }
 

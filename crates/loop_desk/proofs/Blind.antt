@@ -8,14 +8,15 @@ use Rattle.loop_clips.specs.Table.{clip_list}
 use Rattle.loop_disk.specs.Medium.{Medium}
 use Rattle.loop_record.specs.declared.geometry.Geometry.{Geometry}
 use Rattle.loop_record.specs.Geometry.{frame_bytes}
+use Rattle.loop_record.specs.Layout.{has_tag_place}
 use Rattle.loop_record.specs.Recording.{Picture, Recording, Ring, Step, after_step as stepped, block, blocks_of, frame_under, free_id, holds, is_locked, last_number, lock, needs_recycling, plain, recycle, recycling_first, ring_of, steps, store, stores_after, unlock, victim, with_block}
 use Rattle.loop_store.specs.declared.fault.StoreFault.{StoreFault}
-use Rattle.loop_store.specs.Calls.{AnswersDue, AreAnswered, Call, IsAnswered, AnswersOtherwise, StoreState, after_store_call as stored, after_calls, appended, steps_asked, checks, due, fault_answered, first_of, has_failed, lacks_victim, locked, made_by, steps_of, unlocked, was_read, was_read_part}
+use Rattle.loop_store.specs.Calls.{AnswersDue, AreAnswered, Call, IsAnswered, AnswersOtherwise, StoreState, after_store_call as stored, after_calls, appended, steps_asked, checks, due, fault_answered, first_of, has_failed, lacks_victim, locked, made_by, steps_of, unlocked, upgraded, version_after, was_read, was_read_part}
 use Rattle.loop_store.specs.Steps.{if_answered, steps_or_none}
 use Rattle.loop_desk.specs.declared.limits.Flushed.{Flushed}
 use Rattle.loop_desk.specs.declared.limits.Outline.{Outline}
 use Rattle.loop_desk.specs.Bare.{IsBlind, IsOutlineOf, bare, bare_call, bare_frame, bare_read, bare_recording, bare_state, bare_store}
-use Rattle.loop_desk.specs.Desk.{AreDeskAnswers, DeskCall, DeskState, IsDeskAnswer, IsDeskTold, IsFlush, Rules, append_of, clip_locked, clip_unlocked, desk_after, desk_after_calls, flushed, frame_read, group_of, pending_after, status_told, store_calls, submitted}
+use Rattle.loop_desk.specs.Desk.{AreDeskAnswers, DeskCall, DeskState, IsDeskAnswer, IsDeskTold, IsFlush, Rules, append_of, clip_locked, clip_unlocked, desk_after, desk_after_calls, flushed, frame_read, group_of, layout_upgraded, pending_after, status_told, store_calls, submitted}
 use Rattle.loop_desk.specs.Seen.{SeenDesk, StandsAt, TellsOutline}
 
 abbrev bare_step : Step → Step
@@ -35,6 +36,7 @@ bare_stored (locked span result) = locked span result
 bare_stored (unlocked id result) = unlocked id result
 bare_stored (was_read number result) = was_read number (bare_read result)
 bare_stored (was_read_part number at result) = was_read_part number at (bare_part result)
+bare_stored (upgraded result) = upgraded result
 
 -- ---- the recording
 
@@ -133,8 +135,10 @@ checks-bare g s (locked span result) =
     λ i. due s.must_reopen StoreFault.MustReopen ∷ due (nat_lt span.to span.from) StoreFault.ClipEmpty
     ∷ option_map StoreFault.ClipNotHeld
     (find (λ n. not (holds-bare s.recording n i)) (range_with_len span.from (span.to + 1 - span.from)))
-    ∷ due (free_id s.recording == 64) StoreFault.ClipTableFull ∷ []
+    ∷ due (free_id s.recording == 64) StoreFault.ClipTableFull
+    ∷ due (not (has_tag_place s.version span)) StoreFault.OldLayout ∷ []
 checks-bare g s (unlocked id result) = refl
+checks-bare g s (upgraded result) = refl
 checks-bare g s (was_read number result) = λ i. due s.must_reopen StoreFault.MustReopen ∷ due (not (holds-bare s.recording number i)) StoreFault.NotHeld ∷ []
 checks-bare g s (was_read_part number at result) = λ i. due s.must_reopen StoreFault.MustReopen
     ∷ due (not (holds-bare s.recording number i)) StoreFault.NotHeld ∷ []
@@ -147,42 +151,45 @@ fault-bare (was_read number (Ok x)) = refl
 fault-bare (was_read number (Err fault)) = refl
 fault-bare (was_read_part number at (Ok bytes)) = refl
 fault-bare (was_read_part number at (Err fault)) = refl
+fault-bare (upgraded result) = refl
 
-given-bare : (r : Recording) (c : Call) → AnswersOtherwise (Unit {0}) r c
-    → AnswersOtherwise (Unit {0}) (bare_recording r) (bare_stored c)
-given-bare r (appended ps (Ok number)) is = is
-given-bare r (appended ps (Err fault)) is = is
-given-bare r (locked span (Ok id)) is = is
-given-bare r (locked span (Err fault)) is = is
-given-bare r (unlocked id (Ok x)) is = is
-given-bare r (unlocked id (Err fault)) is = is
-given-bare r (was_read number (Ok x)) given = λ now. let is = given now in
+given-bare : (s : StoreState) (c : Call) → AnswersOtherwise (Unit {0}) s c
+    → AnswersOtherwise (Unit {0}) (bare_store s) (bare_stored c)
+given-bare s (appended ps (Ok number)) is = is
+given-bare s (appended ps (Err fault)) is = is
+given-bare s (locked span (Ok id)) is = is
+given-bare s (locked span (Err fault)) is = is
+given-bare s (unlocked id (Ok x)) is = is
+given-bare s (unlocked id (Err fault)) is = is
+given-bare s (was_read number (Ok x)) given = λ now. let is = given now in
     record {
       picture = bare is.picture;
-      there = under-bare r.frames number ∙ ap (option_map bare) is.there;
+      there = under-bare s.recording.frames number ∙ ap (option_map bare) is.there;
       head_is =
           is.head_is;
       bytes_are = refl;
     }
-given-bare r (was_read number (Err fault)) is = is
-given-bare r (was_read_part number at (Ok bytes)) given = λ now. let is = given now in
+given-bare s (was_read number (Err fault)) is = is
+given-bare s (was_read_part number at (Ok bytes)) given = λ now. let is = given now in
     record {
       picture = bare is.picture;
-      there = under-bare r.frames number ∙ ap (option_map bare) is.there;
+      there = under-bare s.recording.frames number ∙ ap (option_map bare) is.there;
       bytes_are = refl;
     }
-given-bare r (was_read_part number at (Err fault)) is = is
+given-bare s (was_read_part number at (Err fault)) is = is
+given-bare s (upgraded (Ok made)) is = is
+given-bare s (upgraded (Err fault)) is = is
 
 stored-answer : (g : Geometry) (s : StoreState) (c : Call) → IsAnswered (Unit {0}) (ring_of g) s c
     → IsAnswered (Unit {0}) (ring_of g) (bare_store s) (bare_stored c)
 stored-answer g s c said =
     subst (λ (l : List (Option StoreFault)). AnswersDue (first_of l) (bare_stored c)
-    (AnswersOtherwise (Unit {0}) (bare_recording s.recording) (bare_stored c))) (sym (checks-bare g s c))
+    (AnswersOtherwise (Unit {0}) (bare_store s) (bare_stored c))) (sym (checks-bare g s c))
     (go (first_of (checks (ring_of g) s c)) said)
   where
-    go : (o : Option StoreFault) → AnswersDue o c (AnswersOtherwise (Unit {0}) s.recording c)
-        → AnswersDue o (bare_stored c) (AnswersOtherwise (Unit {0}) (bare_recording s.recording) (bare_stored c))
-    go None is = given-bare s.recording c is
+    go : (o : Option StoreFault) → AnswersDue o c (AnswersOtherwise (Unit {0}) s c)
+        → AnswersDue o (bare_stored c) (AnswersOtherwise (Unit {0}) (bare_store s) (bare_stored c))
+    go None is = given-bare s c is
     go (Some fault) is = fault-bare c ∙ is
 
 -- ---- the state of the store after a call
@@ -200,6 +207,7 @@ steps-of-bare g s (locked span result) = refl
 steps-of-bare g s (unlocked id result) = refl
 steps-of-bare g s (was_read number result) = refl
 steps-of-bare g s (was_read_part number at result) = refl
+steps-of-bare g s (upgraded result) = refl
 
 made-bare : (g : Geometry) (s : StoreState) (c : Call) → made_by (ring_of g) (bare_store s)
     (bare_stored c) ≡ map bare_step
@@ -215,6 +223,15 @@ failed-bare (locked span result) = refl
 failed-bare (unlocked id result) = refl
 failed-bare (was_read number result) = refl
 failed-bare (was_read_part number at result) = refl
+failed-bare (upgraded result) = refl
+
+version-bare : (v : ℕ) (c : Call) → version_after v (bare_stored c) ≡ version_after v c
+version-bare v (appended ps result) = refl
+version-bare v (locked span result) = refl
+version-bare v (unlocked id result) = refl
+version-bare v (was_read number result) = refl
+version-bare v (was_read_part number at result) = refl
+version-bare v (upgraded result) = refl
 
 stored-bare : (g : Geometry) (s : StoreState) (c : Call) → stored (ring_of g) (bare_store s)
     (bare_stored c) ≡ bare_store
@@ -223,7 +240,8 @@ stored-bare g s c =
     let ring = ring_of g in
     let recording = ap (plain ring (bare_recording s.recording)) (made-bare g s c) ∙ plain-bare ring s.recording (made_by (ring_of g) s c) in
     let failed = failed-bare c in
-    λ i. record { recording = recording i; must_reopen = s.must_reopen || failed i }
+    let version = version-bare s.version c in
+    λ i. record { recording = recording i; version = version i; must_reopen = s.must_reopen || failed i }
 
 -- calls of the store
 record IsStoreBlind (g : Geometry) (s : StoreState) (calls : List Call) : Type 0 where
@@ -263,6 +281,7 @@ calls-bare k s (clip_locked span result) = refl
 calls-bare k s (clip_unlocked id result) = refl
 calls-bare k s (frame_read number result) = refl
 calls-bare k s (status_told status) = refl
+calls-bare k s (layout_upgraded result) = refl
 
 flush-bare : (s : DeskState) (group : List Picture) (result : Result Flushed StoreFault) → IsFlush s group result
     → IsFlush (bare_state s) (map bare group) result
@@ -292,6 +311,7 @@ call-bare k s c said = (
     told (clip_locked span result) is = tt
     told (clip_unlocked id result) is = tt
     told (frame_read number result) is = tt
+    told (layout_upgraded result) is = tt
     told (status_told status) is =
         record {
           next = is.next;
@@ -311,6 +331,7 @@ pending-bare waiting (clip_locked span result) = refl
 pending-bare waiting (clip_unlocked id result) = refl
 pending-bare waiting (frame_read number result) = refl
 pending-bare waiting (status_told status) = refl
+pending-bare waiting (layout_upgraded result) = refl
 
 after-bare : (k : Rules) (s : DeskState) (c : DeskCall) → desk_after k (bare_state s) (bare_call c) ≡ bare_state
     (desk_after k s c)
@@ -341,6 +362,7 @@ pub outline-tells : {D A : Type 0} (medium : D → Medium) (d : SeenDesk D) (out
 outline-tells medium d outline s told stands now =
     let tells = stands.store.recording.told in
     record {
+      version = told.version ∙ stands.store.version;
       next = told.next ∙ tells.next_is;
       frames = told.frames s.store.recording stands.store.recording;
       clips = told.clips ∙ ap (clip_list 0) tells.clips_are;
@@ -350,6 +372,7 @@ outline-tells medium d outline s told stands now =
 pub outline-bare : {A : Type 0} (s : DeskState) (outline : Outline A) → IsOutlineOf s outline
     → IsOutlineOf (bare_state s) outline
 outline-bare s outline is = record {
+  version = is.version;
   next = is.next;
   frames = is.frames ∙ sym (numbers-bare s.store.recording.frames);
   clips = is.clips;

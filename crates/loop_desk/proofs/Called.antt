@@ -1,5 +1,5 @@
 -- One call of a desk, by what the store's own call says.
-use Rattle.std.proofs.Common.{◌≡◌, ℕ, ◌+◌, ◌-◌, ◌<◌, true, false, min, Result, Ok, Err, List, [], ◌∷◌, length, take, drop, refl, sym, ap, ◌∙◌, subst, arith}
+use Rattle.std.proofs.Common.{◌≡◌, ℕ, ◌+◌, ◌-◌, ◌<◌, Bool, true, false, min, Result, Ok, Err, List, [], ◌∷◌, length, take, drop, refl, sym, ap, ◌∙◌, subst, arith}
 use Rattle.std.proofs.lemmas.List.{append-nil, length-take-le, take_min}
 use Rattle.std.proofs.Math.Seq.{take-nil}
 use Rattle.std.specs.Prelude.{◌%◌, ◌==◌}
@@ -10,14 +10,14 @@ use Rattle.loop_record.specs.Geometry.{frame_bytes}
 use Rattle.loop_record.specs.Recording.{Picture, last_number, ring_of}
 use Rattle.loop_store.specs.declared.fault.StoreFault.{StoreFault}
 use Rattle.loop_store.specs.declared.fault.StoreFault.TheVariants.{MustReopen, NumbersSpent, PendingFull, WrongSize}
-use Rattle.loop_store.specs.Calls.{Call, after_calls, appended, locked, unlocked, was_read}
+use Rattle.loop_store.specs.Calls.{Call, after_calls, appended, locked, unlocked, upgraded, was_read}
 use Rattle.loop_store.specs.Goes.{Goes, Stands, TellsState}
 use Rattle.loop_store.specs.Reopen.{TellsOne}
 use Rattle.loop_store.specs.Seen.{Seen}
 use Rattle.loop_store.proofs.Gone.{goes-none}
 use Rattle.loop_store.proofs.Putting.{answered-fine, answered-number}
 use Rattle.loop_desk.specs.declared.limits.Flushed.{Flushed}
-use Rattle.loop_desk.specs.Desk.{DeskCall, DeskState, IsFlush, IsDeskTold, append_of, appended_as, clip_locked, clip_unlocked, flushed, frame_read, group_of, pending_after, status_told, store_calls, submit_answer, submitted}
+use Rattle.loop_desk.specs.Desk.{DeskCall, DeskState, IsFlush, IsDeskTold, append_of, appended_as, clip_locked, clip_unlocked, flushed, frame_read, group_of, layout_upgraded, pending_after, status_told, store_calls, submit_answer, submitted}
 use Rattle.loop_desk.specs.declared.limits.Status.{Status}
 use Rattle.loop_desk.specs.Seen.{DeskGoes, SeenDesk, TellsDesk, TellsStatus, rules_of}
 
@@ -65,6 +65,11 @@ module _ {D : Type 0} (medium : D → Medium) (d : SeenDesk D) where
       → Goes medium d.store new (unlocked id result ∷ []) → DeskGoes medium d (with_store d new d.pending)
       (clip_unlocked id result ∷ [])
   goes-unlocked new id result goes = called new d.pending (clip_unlocked id result) (unlocked id result ∷ []) goes (λ s at. (refl, tt)) refl
+
+  pub goes-upgraded : (new : Seen D) (result : Result Bool StoreFault)
+      → Goes medium d.store new (upgraded result ∷ []) → DeskGoes medium d (with_store d new d.pending)
+      (layout_upgraded result ∷ [])
+  goes-upgraded new result goes = called new d.pending (layout_upgraded result) (upgraded result ∷ []) goes (λ s at. (refl, tt)) refl
 
   pub goes-read : (new : Seen D) (number : ℕ) (result : Result (FrameHead × List ℕ) StoreFault)
       → Goes medium d.store new (was_read number result ∷ []) → DeskGoes medium d (with_store d new d.pending)

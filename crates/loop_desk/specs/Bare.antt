@@ -6,7 +6,7 @@ use Rattle.loop_record.specs.Recording.{Picture, Recording}
 use Rattle.loop_store.specs.declared.fault.StoreFault.{StoreFault}
 use Rattle.loop_store.specs.Calls.{StoreState}
 use Rattle.loop_desk.specs.declared.limits.Outline.{Outline}
-use Rattle.loop_desk.specs.Desk.{AreDeskAnswers, DeskCall, DeskState, Rules, clip_locked, clip_unlocked, desk_after_calls, flushed, frame_read, status_told, submitted}
+use Rattle.loop_desk.specs.Desk.{AreDeskAnswers, DeskCall, DeskState, Rules, clip_locked, clip_unlocked, desk_after_calls, flushed, frame_read, layout_upgraded, status_told, submitted}
 
 -- a frame without its bytes
 abbrev pub bare : Picture → Picture
@@ -20,7 +20,7 @@ abbrev pub bare_recording : Recording → Recording
 bare_recording r = record r { frames = map bare_frame r.frames }
 
 abbrev pub bare_store : StoreState → StoreState
-bare_store s = record { recording = bare_recording s.recording; must_reopen = s.must_reopen }
+bare_store s = record { recording = bare_recording s.recording; version = s.version; must_reopen = s.must_reopen }
 
 abbrev pub bare_state : DeskState → DeskState
 bare_state s = record { store = bare_store s.store; pending = map bare s.pending }
@@ -37,6 +37,7 @@ bare_call (clip_locked span result) = clip_locked span result
 bare_call (clip_unlocked id result) = clip_unlocked id result
 bare_call (frame_read number result) = frame_read number (bare_read result)
 bare_call (status_told status) = status_told status
+bare_call (layout_upgraded result) = layout_upgraded result
 
 -- Calls that were answered so, were so without pixels too, and end in the same state without them.
 pub record IsBlind (k : Rules) (s : DeskState) (calls : List DeskCall) : Type 0 where
@@ -45,6 +46,7 @@ pub record IsBlind (k : Rules) (s : DeskState) (calls : List DeskCall) : Type 0 
 
 -- the outline says what the state is
 pub record IsOutlineOf {A : Type 0} (s : DeskState) (outline : Outline A) : Type 0 where
+  pub version : outline.version ≡ s.store.version
   pub next : outline.next ≡ s.store.recording.next
   pub frames : outline.frames.items ≡ map (λ f. f.0) s.store.recording.frames
   pub clips : outline.clips.items ≡ clip_list 0 s.store.recording.clips

@@ -1,6 +1,6 @@
 -- The desk: frames that wait before a store, and what each call makes of them. What a call makes of the store is
 -- said by the store's own calls.
-use Rattle.std.specs.Prelude.{◌≡◌, ℕ, ◌+◌, ◌-◌, ◌%◌, ◌==◌, not, min, true, false, if◌then◌else◌, Option, None, Result, Ok, Err, List, [], ◌∷◌, ◌++◌, length, take, drop}
+use Rattle.std.specs.Prelude.{◌≡◌, ℕ, ◌+◌, ◌-◌, ◌%◌, ◌==◌, not, min, Bool, true, false, if◌then◌else◌, Option, None, Result, Ok, Err, List, [], ◌∷◌, ◌++◌, length, take, drop}
 use Rattle.std.specs.List.{flat_map}
 use Rattle.loop_disk.specs.declared.fault.DiskFault.{DiskFault}
 use Rattle.loop_record.specs.declared.clip.Span.{Span}
@@ -9,7 +9,7 @@ use Rattle.loop_record.specs.declared.geometry.Geometry.{Geometry}
 use Rattle.loop_record.specs.Geometry.{frame_bytes}
 use Rattle.loop_record.specs.Recording.{Picture, Step, last_number, lock, recycle, ring_of, store, unlock}
 use Rattle.loop_record.specs.Turns.{after_all, told_in, EachIn, Machine}
-use Rattle.loop_store.specs.Calls.{AreAnswered, Call, StoreState, after_calls, appended, locked, unlocked, was_read}
+use Rattle.loop_store.specs.Calls.{AreAnswered, Call, StoreState, after_calls, appended, locked, unlocked, upgraded, was_read}
 use Rattle.loop_store.specs.Faults.{failed_in}
 use Rattle.loop_store.specs.declared.fault.StoreFault.{StoreFault}
 use Rattle.loop_store.specs.declared.fault.StoreFault.TheVariants.{MustReopen, NumbersSpent, PendingFull, WrongSize}
@@ -31,8 +31,9 @@ pub data DeskCall : Type 0 where
   clip_unlocked : ℕ → Result (Unit {0}) StoreFault → DeskCall
   frame_read : ℕ → Result (FrameHead × List ℕ) StoreFault → DeskCall
   status_told : Status → DeskCall
+  layout_upgraded : Result Bool StoreFault → DeskCall
 
--- what is recorded, whether a call that writes has failed, and what waits
+-- what is recorded and in which version of the layout, whether a call that writes has failed, and what waits
 pub record DeskState : Type 0 where
   pub store : StoreState
   pub pending : List Picture
@@ -63,6 +64,7 @@ store_calls k s (clip_locked span result) = locked span result ∷ []
 store_calls k s (clip_unlocked id result) = unlocked id result ∷ []
 store_calls k s (frame_read number result) = was_read number result ∷ []
 store_calls k s (status_told status) = []
+store_calls k s (layout_upgraded result) = upgraded result ∷ []
 
 -- the call of the disk that failed, if the answer says that one did
 abbrev pub desk_failed_for : DeskCall → Option DiskFault
@@ -72,6 +74,7 @@ desk_failed_for (clip_locked span result) = failed_in result
 desk_failed_for (clip_unlocked id result) = failed_in result
 desk_failed_for (frame_read number result) = failed_in result
 desk_failed_for (status_told status) = None
+desk_failed_for (layout_upgraded result) = failed_in result
 
 -- ---- a desk after a call
 

@@ -48,12 +48,13 @@ pub record Opens {D : Type 0} (medium : D → Medium) (d : SeenDesk D) : Type 0 
   pub stands : (now : (medium d.store.disk).honest) → StandsFor medium d.store (recording now)
   pub writable : d.store.must_reopen ≡ false
 
--- What calls, one after the other, make of a desk, whatever its disk, from each state of which it tells, and it tells of
--- one. All that they leave on the disk, and what they are answered of it, is said by the store's calls.
+-- What calls, one after the other, make of a desk, whatever its disk, from each state of which it tells, and it tells
+-- of one. All that they leave on the disk, and what they are answered of it, is said by the store's calls.
 pub record DeskGoes {D : Type 0} (medium : D → Medium) (old new : SeenDesk D) (calls : List DeskCall) : Type 0 where
   pub one : TellsOne old.store
   -- the store went on by its own calls
-  pub store : (s : DeskState) → TellsDesk old s → Goes medium old.store new.store (store_calls_in (rules_of old) s calls)
+  pub store : (s : DeskState) → TellsDesk old s
+      → Goes medium old.store new.store (store_calls_in (rules_of old) s calls)
   -- each answer is the model's, and the desk tells of the state after them
   pub plays : Plays (desk_model (rules_of old)) (TellsDesk old) (TellsDesk new) calls
   pub limits : new.limits ≡ old.limits
@@ -68,6 +69,7 @@ pub record TellsStatus {D : Type 0} (medium : D → Medium) (d : SeenDesk D) (st
   pub held : (r : Recording) → StandsFor medium d.store r → status.held ≡ length r.frames
 
 pub record TellsOutline {D A : Type 0} (medium : D → Medium) (d : SeenDesk D) (outline : Outline A) : Type 0 where
+  pub version : outline.version ≡ d.store.version
   pub next : outline.next ≡ d.store.next
   pub pending : outline.pending ≡ length d.pending
   pub clips : outline.clips.items ≡ clip_list 0 d.store.clips

@@ -1,11 +1,11 @@
 //! A desk: frames that wait, before a store.
 
-ghost use Rattle.std.specs.Prelude.{◌≡◌, ◌≢◌, ◌≤◌, ◌+◌, ◌∷◌, [], Err, IfErr, IfOk, drop, false, length, true};
+ghost use Rattle.std.specs.Prelude.{◌≡◌, ◌≢◌, ◌≤◌, ◌+◌, ◌∷◌, [], Err, Ok, IfErr, IfOk, drop, false, length, true};
 ghost use Rattle.circular_buffer.specs.Buffer.{buffer};
 ghost use Rattle.loop_record.specs.Geometry.{frame_bytes};
 ghost use Rattle.loop_record.specs.Plain.{pictures};
 ghost use Rattle.loop_record.specs.Recording.{last_number, picture, ring_of};
-ghost use Rattle.loop_desk.specs.Desk.{DeskState, clip_locked, clip_unlocked, flushed, frame_read, submit_answer, submitted};
+ghost use Rattle.loop_desk.specs.Desk.{DeskState, clip_locked, clip_unlocked, flushed, frame_read, layout_upgraded, submit_answer, submitted};
 ghost use Rattle.loop_desk.specs.Seen.{DeskGoes, IsDesk, Opens, OutlineRefuses, SeenDesk, TellsDesk, TellsOutline, TellsStatus, answer_of, rules_of};
 ghost use Rattle.loop_store.specs.Reopen.{TellsOne};
 ghost use Rattle.loop_store.specs.Runs.{read_of};
@@ -212,14 +212,14 @@ impl<D: Disk + Drop, A: Allocator> Desk<D, A> {
         }
     }
 
-    /// Locks the frames from a number to another, as `Store::lock`, and answers the clip's id. A frame that waits
-    /// isn't held yet.
-    pub fn lock_clip(&mut self, from: u64, to: u64) -> Result<u32, StoreFault>
+    /// Locks the frames from a number to another, with a tag, as `Store::lock`, and answers the clip's id. A frame that
+    /// waits isn't held yet.
+    pub fn lock_clip(&mut self, from: u64, to: u64, tag: u64) -> Result<u32, StoreFault>
         ensures goes { DeskGoes D.medium self.old self.new
-            (clip_locked (record { from = from; to = to }) result ∷ []) }
+            (clip_locked (record { from = from; to = to; tag = tag }) result ∷ []) }
         ensures refused { Refused self.old.store self.new.store result }
     {
-        self.store.lock(from, to)
+        self.store.lock(from, to, tag)
     }
 
     /// Unlocks the clip of an id, as `Store::unlock`.
@@ -228,6 +228,23 @@ impl<D: Disk + Drop, A: Allocator> Desk<D, A> {
         ensures refused { Refused self.old.store self.new.store result }
     {
         self.store.unlock(id)
+    }
+
+    /// The version of the layout.
+    pub fn version(&self) -> u32
+        ensures { result ≡ self.now.store.version }
+    {
+        self.store.version()
+    }
+
+    /// Makes version 2 of a layout of version 1, as `Store::upgrade`, and answers whether it did. What waits isn't
+    /// looked at.
+    pub fn upgrade(&mut self) -> Result<bool, StoreFault>
+        ensures goes { DeskGoes D.medium self.old self.new (layout_upgraded result ∷ []) }
+        ensures refused { Refused self.old.store self.new.store result }
+        ensures unmoved { result ≡ Ok false → self.new ≡ self.old }
+    {
+        self.store.upgrade()
     }
 
     /// How the desk stands. It takes no memory, makes no call of the disk and is never refused; where the store
@@ -269,7 +286,8 @@ impl<D: Disk + Drop, A: Allocator + Copy> Desk<D, A> {
         self.store.read_frame_in(alloc, spare, number)
     }
 
-    /// What the desk holds: the next number, the numbers of the held frames, the clips, and how many frames wait.
+    /// What the desk holds: the version of the layout, the next number, the numbers of the held frames, the clips, and
+    /// how many frames wait.
     /// `MustReopen` where a call that writes has failed; otherwise `NoMemory`.
     pub fn outline(&self, alloc: A) -> Result<Outline<A>, StoreFault>
         ensures outline { IfOk result (TellsOutline D.medium self.now) }
@@ -279,6 +297,7 @@ impl<D: Disk + Drop, A: Allocator + Copy> Desk<D, A> {
         let frames = self.store.frames(alloc)?;
         let clips = self.store.clips(alloc)?;
         Ok(Outline {
+            version: self.store.version(),
             next: self.store.next(),
             frames,
             clips,

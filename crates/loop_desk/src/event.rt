@@ -20,7 +20,7 @@ pub enum LaneEvent<P = Box<dyn PlaneMemory + Send>, A: Allocator = Global> {
     Requeue,
     /// Flush the desk.
     Flush,
-    /// Lock the frames of a span.
+    /// Lock the frames of a span, with its tag.
     Lock(Span),
     /// Unlock the clip of an id.
     Unlock(u32),

@@ -114,7 +114,7 @@ fn answer<D: Disk + Drop, P: PlaneMemory, A: Allocator + Copy>(
         LaneEvent::Submit => LaneReply::Submit(submit(&mut lane.hand, &mut lane.desk)),
         LaneEvent::Requeue => LaneReply::Requeue(requeue(&mut lane.queue, &mut lane.hand)),
         LaneEvent::Flush => LaneReply::Flush(lane.desk.flush()),
-        LaneEvent::Lock(span) => LaneReply::Lock(lane.desk.lock_clip(span.from, span.to)),
+        LaneEvent::Lock(span) => LaneReply::Lock(lane.desk.lock_clip(span.from, span.to, span.tag)),
         LaneEvent::Unlock(id) => LaneReply::Unlock(lane.desk.unlock_clip(id)),
         LaneEvent::Read(number) => LaneReply::Read(lane.desk.read_frame(alloc, number)),
     }

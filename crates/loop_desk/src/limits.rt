@@ -41,6 +41,8 @@ pub struct Status {
 /// What a desk holds, without pixels.
 #[derive(Drop)]
 pub struct Outline<A: Allocator = Global> {
+    /// The version of the layout.
+    pub version: u32,
     /// The number that the next stored frame gets.
     pub next: u64,
     /// The numbers of the held frames, which rise.

@@ -44,5 +44,6 @@ pub record IsCounting (failures : Failures) : Type 0 where
 pub record IsTorn {T : Type 0} (harsh : Type 0) (at : ℕ) (bytes : List ℕ) (keep : ℕ) (old new : Medium)
     (result : Result T DiskFault) : Type 0 where
   pub fails : IsErr result
-  pub kept : IsCounting old.failures → new.failures ≡ old.failures → new.bytes ≡ with_bytes_at at (take keep bytes) old.bytes
+  pub kept : IsCounting old.failures → new.failures ≡ old.failures
+      → new.bytes ≡ with_bytes_at at (take keep bytes) old.bytes
   pub loose : harsh → IsCounting old.failures → new.failures ≡ old.failures → LeavesEachTorn at (length bytes) old new

@@ -182,8 +182,8 @@ impl<D: Disk> Disk for OnceDisk<D> {
 fn tear<D: Disk>(disk: &mut D, at: u64, bytes: &[u8], keep: usize) -> Result<(), DiskFault>
     requires { at + length bytes.now ≤ (D.medium disk.old).size }
     ensures disk { (D.medium disk.old).honest
-        → Tears at (length bytes.now) (with_bytes_at at (take keep bytes.now) (D.medium disk.old).bytes) (D.medium disk.old)
-        (D.medium disk.new) result }
+        → Tears at (length bytes.now) (with_bytes_at at (take keep bytes.now) (D.medium disk.old).bytes)
+        (D.medium disk.old) (D.medium disk.new) result }
     ensures harsh { D.harsh disk.old → D.harsh disk.new }
     ensures each { (D.medium disk.old).honest → D.harsh disk.old
         → OnOk result (LeavesEachTorn at (length bytes.now) (D.medium disk.old) (D.medium disk.new)) }

@@ -21,7 +21,8 @@ pub parts-clip : (g : Geometry) (id : ℕ) (c : Option Span) (old new : List ℕ
     → ShowsClip id c old new
     → parts_of g new ≡ record { segments = (parts_of g old).segments; clips = set (parts_of g old).clips id c }
 parts-clip g id c old new few l s =
-    let other : (i : ℕ) → (i < 0 + id) ⊎ (0 + id < i) → clip_in new i ≡ clip_in old i = λ i o. same_clip new old i (within i o) in
+    let other : (i : ℕ) → (i < 0 + id) ⊎ (0 + id < i) → clip_in new i ≡ clip_in old i =
+    λ i o. same_clip new old i (within_before (clip_at id) 32 44 45 old new s.outside (omega arith)) (within i o) in
     let at : 0 + id ≡ id = omega arith in
     let clips = map_range-set (clip_in new) (clip_in old) 0 64 id c l other (ap (clip_in new) at ∙ s.holds) in
     let segments = map_range (segment_in g new) (segment_in g old) 0 g.segments
@@ -43,7 +44,8 @@ reading-clip g r s id c old new e l shows is =
     let limit = limits g (geometry-good g old was.geometry) in
     let parts = parts-clip g id c old new limit.slots.1 l shows in
     stages-reading g s new (record {
-      geometry = same_geometry new old (within_before (clip_at id) 32 0 512 old new shows.outside (omega arith)) ∙ was.geometry;
+      geometry = same_geometry new old (within_before (clip_at id) 32 0 44 old new shows.outside (omega arith))
+          (within_before (clip_at id) 32 45 512 old new shows.outside (omega arith)) ∙ was.geometry;
       size = shows.outside.size ∙ was.size;
       recording = ap (shown_by g) parts ∙ is;
     })

@@ -1,5 +1,5 @@
 -- Open segments as their headers were found.
-use Rattle.std.proofs.Common.{◌≡◌, ℕ, zero, suc, ◌+◌, ◌-◌, ◌*◌, ◌^◌, ◌<◌, ◌≤◌, Bool, true, false, not, ◌&&◌, cond, eqb, leb, Option, Some, None, Result, Ok, Err, List, [], ◌∷◌, ◌++◌, length, take, drop, set, map, refl, sym, ap, ◌∙◌, subst, arith}
+use Rattle.std.proofs.Common.{◌≡◌, ℕ, zero, suc, ◌+◌, ◌-◌, ◌*◌, ◌^◌, ◌<◌, ◌≤◌, Bool, true, false, not, ◌&&◌, cond, eqb, leb, Option, Some, None, Result, Ok, Err, List, [], ◌∷◌, ◌++◌, length, take, drop, get_or, set, replicate, map, refl, sym, ap, ◌∙◌, subst, arith}
 use Rattle.std.proofs.lemmas.List.{length-map, take_all, map-append}
 use Rattle.std.proofs.Math.Seq.{take-suc-set}
 use Rattle.std.proofs.lemmas.List.Folds.{list_any-append}
@@ -17,7 +17,7 @@ use Rattle.loop_record.specs.declared.segment.SegmentHead.{SegmentHead}
 use Rattle.loop_record.specs.Geometry.{frame_bytes, segment_at, segment_size, slot_at, disk_size}
 use Rattle.loop_record.specs.Layout.{Slot, Segment, slot_head, is_open, is_slot_of, is_too_high, slot_in, segment_in, whole_frames, entry_at, clip_in, geometry_in, header_at, checked_header}
 use Rattle.loop_record.specs.Reading.{reading, Contents, Holds, contents, with_geometry, shown_by, recording_or_damage, recording_of, is_bad_clip, has_bad_clip, parts_of, open_segments, by_block, in_place, repeats, lacks_frame, hold_from, is_bad_slot, is_high, next_after, all_frames}
-use Rattle.loop_record.specs.Plain.{segment_of, segments_of, found_of, found_at, held_clip, lacks_number, table_clips, with_segment, IsIn, AreIn, IsSomeHigh}
+use Rattle.loop_record.specs.Plain.{IsTagFit, segment_of, segments_of, found_of, found_at, held_clip, lacks_number, table_clips, with_segment, IsIn, AreIn, IsSomeHigh}
 use Rattle.loop_record.proofs.Fresh.{header_at-slice, entry_at-slice}
 use Rattle.std.proofs.Math.Nat.{mul-le-mul_right, add-mul}
 use Rattle.loop_record.proofs.Framing.{prefix_range-le, slot_within}
@@ -366,9 +366,9 @@ block-fits g b low =
 abbrev pub some_bad : List (ℕ × Picture) → List (Option Span) → Bool
 some_bad frames clips = list_any (is_bad_clip (record empty { frames = frames })) clips
 
-entry-cut : (table cut : List ℕ) (id : ℕ) → cut ≡ slice_range table (id * 32) (id * 32 + 32)
-    → entry_at cut 0 ≡ entry_at table (id * 32)
-entry-cut table cut id is = ap (λ (c : List ℕ). entry_at c 0) is ∙ entry_at-slice table (id * 32)
+entry-cut : (version : ℕ) (table cut : List ℕ) (id : ℕ) → cut ≡ slice_range table (id * 32) (id * 32 + 32)
+    → entry_at version cut 0 ≡ entry_at version table (id * 32)
+entry-cut version table cut id is = ap (λ (c : List ℕ). entry_at version c 0) is ∙ entry_at-slice version table (id * 32)
 
 any-range : (p : Option Span → Bool) (f : ℕ → Option Span) (lo n j : ℕ) → lo ≤ j → j < lo + n → p (f j) ≡ true
     → list_any p (map f (range_with_len lo n)) ≡ true
@@ -389,14 +389,15 @@ any-range p f lo (suc n) j low up e = pick (eqb lo j) refl (λ l. any-range p f 
         beyond e = grind (arith, nat_tests, e, low)
 
 -- the entries of a clip table
-abbrev pub entries : List ℕ → ℕ → Option Span
-entries table id = entry_at table (id * 32)
+abbrev pub entries : ℕ → List ℕ → ℕ → Option Span
+entries version table id = entry_at version table (id * 32)
 
-pub clip-wrong : (g : Geometry) (fs : List Found) (table cut : List ℕ) (id : ℕ) (d : Damage) → id < 64
+pub clip-wrong : (g : Geometry) (version : ℕ) (fs : List Found) (table cut : List ℕ) (id : ℕ) (d : Damage) → id < 64
     → cut ≡ slice_range table (id * 32) (id * 32 + 32)
-    → (let r : Result (Option Span) Damage = Err d in r) ≡ held_clip g fs (entry_at cut 0)
-    → (d ≡ ClipRange) × (list_any (lacks_number g fs) (table_clips table) ≡ true)
-clip-wrong g fs table cut id d l is e = go (lacks_number g fs (entries table id)) refl (e ∙ ap (held_clip g fs) (entry-cut table cut id is))
+    → (let r : Result (Option Span) Damage = Err d in r) ≡ held_clip g fs (entry_at version cut 0)
+    → (d ≡ ClipRange) × (list_any (lacks_number g fs) (table_clips version table) ≡ true)
+clip-wrong g version fs table cut id d l is e = go (lacks_number g fs (entries version table id)) refl
+    (e ∙ ap (held_clip g fs) (entry-cut version table cut id is))
   where
     err : Damage → Result (Option Span) Damage
     err x = Err x
@@ -404,52 +405,73 @@ clip-wrong g fs table cut id d l is e = go (lacks_number g fs (entries table id)
     same : err d ≡ err ClipRange → d ≡ ClipRange
     same e = cc
 
-    go : (t : Bool) → lacks_number g fs (entries table id) ≡ t → err d ≡ cond t (Err ClipRange)
-        (Ok (entries table id)) → (d ≡ ClipRange) × (list_any (lacks_number g fs) (table_clips table) ≡ true)
-    go true bad e = (same e, any-range (lacks_number g fs) (entries table) 0 64 id (omega arith) (omega (arith, l)) bad)
+    go : (t : Bool) → lacks_number g fs (entries version table id) ≡ t → err d ≡ cond t (Err ClipRange)
+        (Ok (entries version table id)) → (d ≡ ClipRange)
+        × (list_any (lacks_number g fs) (table_clips version table) ≡ true)
+    go true bad e = (same e, any-range (lacks_number g fs) (entries version table) 0 64 id (omega arith) (omega (arith, l)) bad)
     go false bad e = absurd cc
 
-pub clips-more : (g : Geometry) (fs : List Found) (table cut : List ℕ) (clips : List (Option Span)) (id : ℕ)
-    (c : Option Span) → id < length clips → cut ≡ slice_range table (id * 32) (id * 32 + 32)
-    → (let r : Result (Option Span) Damage = Ok c in r) ≡ held_clip g fs (entry_at cut 0)
-    → take id clips ≡ map (entries table) (range_with_len 0 id) → list_any (lacks_number g fs) (map (entries table) (range_with_len 0 id)) ≡ false
-    → (take (id + 1) (set clips id c) ≡ map (entries table) (range_with_len 0 (id + 1)))
-    × (list_any (lacks_number g fs) (map (entries table) (range_with_len 0 (id + 1))) ≡ false)
-clips-more g fs table cut clips id c l is e so_far good = go (lacks_number g fs (entries table id)) refl (e ∙ ap (held_clip g fs) (entry-cut table cut id is))
+pub clips-more : (g : Geometry) (version : ℕ) (fs : List Found) (table cut : List ℕ) (clips : List (Option Span))
+    (id : ℕ) (c : Option Span) → id < length clips → cut ≡ slice_range table (id * 32) (id * 32 + 32)
+    → (let r : Result (Option Span) Damage = Ok c in r) ≡ held_clip g fs (entry_at version cut 0)
+    → take id clips ≡ map (entries version table) (range_with_len 0 id) → list_any (lacks_number g fs)
+    (map (entries version table) (range_with_len 0 id)) ≡ false
+    → (take (id + 1) (set clips id c) ≡ map (entries version table) (range_with_len 0 (id + 1)))
+    × (list_any (lacks_number g fs) (map (entries version table) (range_with_len 0 (id + 1))) ≡ false)
+clips-more g version fs table cut clips id c l is e so_far good =
+    go (lacks_number g fs (entries version table id)) refl (e ∙ ap (held_clip g fs) (entry-cut version table cut id is))
   where
     ok : Option Span → Result (Option Span) Damage
     ok x = Ok x
 
-    same : ok c ≡ ok (entries table id) → c ≡ entries table id
+    same : ok c ≡ ok (entries version table id) → c ≡ entries version table id
     same e = cc
 
-    split : map (entries table) (range_with_len 0 (id + 1)) ≡ map (entries table) (range_with_len 0 id)
-        ++ entries table id ∷ []
+    split : map (entries version table) (range_with_len 0 (id + 1)) ≡ map (entries version table)
+        (range_with_len 0 id) ++ entries version table id ∷ []
     split =
         let at : 0 + id ≡ id = omega arith in
-        ap (map (entries table)) (range_append 0 id 1) ∙ map-append (entries table) (range_with_len 0 id)
-        (range_with_len (0 + id) 1) ∙ ap (λ (k : ℕ). map (entries table) (range_with_len 0 id) ++ entries table k
-        ∷ []) at
+        ap (map (entries version table)) (range_append 0 id 1) ∙ map-append (entries version table)
+        (range_with_len 0 id) (range_with_len (0 + id) 1)
+        ∙ ap (λ (k : ℕ). map (entries version table) (range_with_len 0 id) ++ entries version table k ∷ []) at
 
-    go : (t : Bool) → lacks_number g fs (entries table id) ≡ t → ok c ≡ cond t (Err ClipRange) (Ok (entries table id))
-        → (take (id + 1) (set clips id c) ≡ map (entries table) (range_with_len 0 (id + 1)))
-        × (list_any (lacks_number g fs) (map (entries table) (range_with_len 0 (id + 1))) ≡ false)
+    go : (t : Bool) → lacks_number g fs (entries version table id) ≡ t → ok c ≡ cond t (Err ClipRange)
+        (Ok (entries version table id))
+        → (take (id + 1) (set clips id c) ≡ map (entries version table) (range_with_len 0 (id + 1)))
+        × (list_any (lacks_number g fs) (map (entries version table) (range_with_len 0 (id + 1))) ≡ false)
     go true bad e = absurd cc
     go false bad e =
         let n : id + 1 ≡ suc id = omega arith in (
           ap (λ (k : ℕ). take k (set clips id c)) n ∙ take-suc-set clips id c l ∙ (λ i. so_far i ++ same e i ∷ []) ∙ sym split,
           ap (list_any (lacks_number g fs)) split ∙ list_any-append (lacks_number g fs)
-              (map (entries table) (range_with_len 0 id)) (entries table id ∷ []) ∙ (λ i. good i || (bad i || false)),
+              (map (entries version table) (range_with_len 0 id)) (entries version table id ∷ [])
+              ∙ (λ i. good i || (bad i || false)),
         )
 
-pub clips-all : (g : Geometry) (fs : List Found) (table : List ℕ) (clips : List (Option Span)) (id : ℕ) → id ≡ 64
-    → length clips ≡ 64 → take id clips ≡ map (entries table) (range_with_len 0 id) → list_any (lacks_number g fs)
-    (map (entries table) (range_with_len 0 id)) ≡ false
-    → (clips ≡ table_clips table) × (list_any (lacks_number g fs) (table_clips table) ≡ false)
-clips-all g fs table clips id last size are good = (
+-- without a clip there is no tag
+pub tags-none : (count i : ℕ) → IsTagFit (get_or (replicate count None) i None)
+tags-none zero i = tt
+tags-none (suc count) zero = tt
+tags-none (suc count) (suc i) = tags-none count i
+
+-- each clip has a tag of 64 bits, and one more does
+pub tags-set : (clips : List (Option Span)) (id : ℕ) (c : Option Span) → ((i : ℕ) → IsTagFit (get_or clips i None))
+    → IsTagFit c → (i : ℕ) → IsTagFit (get_or (set clips id c) i None)
+tags-set [] id c all one i = all i
+tags-set (d ∷ clips) zero c all one zero = one
+tags-set (d ∷ clips) zero c all one (suc i) = all (suc i)
+tags-set (d ∷ clips) (suc id) c all one zero = all zero
+tags-set (d ∷ clips) (suc id) c all one (suc i) = tags-set clips id c (λ k. all (suc k)) one i
+
+pub clips-all : (g : Geometry) (version : ℕ) (fs : List Found) (table : List ℕ) (clips : List (Option Span)) (id : ℕ)
+    → id ≡ 64 → length clips ≡ 64 → take id clips ≡ map (entries version table) (range_with_len 0 id)
+    → list_any (lacks_number g fs) (map (entries version table) (range_with_len 0 id)) ≡ false
+    → (clips ≡ table_clips version table) × (list_any (lacks_number g fs) (table_clips version table) ≡ false)
+clips-all g version fs table clips id last size are good = (
   sym (take_all id clips (omega (arith, last, size))) ∙ are
-      ∙ ap (λ (n : ℕ). map (entries table) (range_with_len 0 n)) last,
-  ap (λ (n : ℕ). list_any (lacks_number g fs) (map (entries table) (range_with_len 0 n))) (sym last) ∙ good,
+      ∙ ap (λ (n : ℕ). map (entries version table) (range_with_len 0 n)) last,
+  ap (λ (n : ℕ). list_any (lacks_number g fs) (map (entries version table) (range_with_len 0 n))) (sym last)
+      ∙ good,
 )
 
 -- ---- the whole

@@ -1,7 +1,7 @@
 -- What a freshly formatted image reads as, and what a part reads as once it has been written.
-use Rattle.std.proofs.Common.{◌≡◌, inr, ℕ, zero, suc, ◌+◌, ◌-◌, ◌^◌, ◌<◌, ◌≤◌, true, false, cond, ◌&&◌, eqb, leb, IsTrue, Option, Some, None, Ok, Err, List, [], ◌∷◌, ◌++◌, length, take, drop, get_or, map, replicate, refl, sym, ap, ◌∙◌, arith}
+use Rattle.std.proofs.Common.{◌≡◌, inr, ℕ, zero, suc, ◌+◌, ◌-◌, ◌^◌, ◌<◌, ◌≤◌, Bool, true, false, cond, ◌&&◌, eqb, leb, Option, Some, None, Ok, Err, List, [], ◌∷◌, ◌++◌, length, take, drop, get_or, map, replicate, refl, sym, ap, ◌∙◌, arith}
 use Rattle.std.proofs.lemmas.List.{length-take, length-drop, take_all, append-nil, take-append-drop, get_or-take, get_or-drop, drop-take, drop-drop, take-take}
-use Rattle.std.specs.Prelude.{slice_range}
+use Rattle.std.specs.Prelude.{slice_range, ◌||◌}
 use Rattle.std.specs.List.{list_all, range_with_len}
 use Rattle.byteorder.specs.Endian.{little_from}
 use Rattle.byteorder.specs.Numbers.{little_number-reads_back}
@@ -9,19 +9,18 @@ use Rattle.loop_record.specs.declared.clip.Span.{Span}
 use Rattle.loop_record.specs.declared.damage.Damage.TheVariants.{SlotHead, Superblock}
 use Rattle.loop_record.specs.declared.damage.LayoutFault.TheVariants.{NotFormatted, Damaged}
 use Rattle.loop_record.specs.declared.geometry.PixelFormat.{PixelFormat}
-use Rattle.loop_record.specs.declared.geometry.PixelFormat.TheVariants.{Grey, Ym12, Ym16, Ym24}
 use Rattle.loop_record.specs.declared.geometry.Geometry.{Geometry}
 use Rattle.loop_record.specs.Geometry.{format_named, frame_bytes, is_good, segment_at, slot_at, clip_at}
 use Rattle.loop_record.specs.Recording.{Picture, empty, head}
-use Rattle.loop_record.specs.Layout.{magic, has_bytes, format_at, geometry_fields, checked_geometry, is_open, open_gates, whole_frames, segment_in, entry_at, clip_in, header_at, super_bytes, header_bytes, entry_bytes, geometry_in, slot_in, slot_bytes, slot_head}
-use Rattle.loop_record.specs.Reading.{recording_or_damage, by_block, open_segments, empty_segment, Holds, IsFreshImage}
-use Rattle.loop_record.specs.Laws.{FitsSlot, WrittenIsRead}
+use Rattle.loop_record.specs.Layout.{magic, has_bytes, format_at, geometry_fields, checked_geometry, is_open, open_gates, whole_frames, segment_in, entry_at, clip_in, header_at, super_bytes, header_bytes, entry_bytes, geometry_in, version_in, with_version, super_in, slot_in, slot_bytes, slot_head}
+use Rattle.loop_record.specs.Reading.{recording_or_damage, by_block, open_segments, empty_segment}
+use Rattle.loop_record.specs.Laws.{FitsSlot, FitsEntry, WrittenIsRead, FreshImagesAreEmpty}
 use Rattle.loop_record.proofs.Bounds.{limits}
-use Rattle.loop_record.proofs.Decided.{equal_test, at_most_test}
-use Rattle.loop_record.proofs.Framing.{map_range, prefix_range}
+use Rattle.loop_record.proofs.Decided.{equal, equal_test, at_most_test}
+use Rattle.loop_record.proofs.Framing.{map_range, prefix_range, moved_entry}
 use Rattle.loop_record.proofs.Gates.{open_gates-are}
 use Rattle.loop_record.proofs.Parts.{stages-reading}
-use Rattle.loop_record.proofs.Written.{slot_in-slot_bytes, geometry_in-super_bytes, little_from-slice}
+use Rattle.loop_record.proofs.Written.{slot_in-slot_bytes, geometry_in-super_bytes, version_in-super_bytes, little_from-slice}
 
 -- ---- a fresh image
 
@@ -37,18 +36,22 @@ none_opened g image lo (suc n) closed =
 abbrev no_clip : ℕ → Option Span
 no_clip id = None
 
--- a freshly formatted image reads as the empty recording
-pub reading-fresh : (g : Geometry) (image : List ℕ) → IsTrue (is_good g) → IsFreshImage g image → Holds g empty image
-reading-fresh g image good f =
-    let whole : image ≡ super_bytes g ++ drop 512 image = sym (take-append-drop 512 image) ∙ ap (λ (bs : List ℕ). bs ++ drop 512 image) f.superblock in
+-- a freshly formatted image reads as the empty recording, in its version
+pub reading-fresh : FreshImagesAreEmpty
+reading-fresh h image is good f =
+    let g = h.geometry in
+    let whole : image ≡ super_bytes h ++ drop 512 image = sym (take-append-drop 512 image) ∙ ap (λ (bs : List ℕ). bs ++ drop 512 image) f.superblock in
     let segments = none_opened g image 0 g.segments (λ j low high. f.segments j (omega (arith, high))) in
     let clips : map (clip_in image) (range_with_len 0 64) ≡ replicate 64 None = map_range (clip_in image) no_clip 0 64
     (λ id low high. closed id (f.clips id (omega (arith, high)))) in
-    stages-reading g empty image (record {
-      geometry = ap geometry_in whole ∙ geometry_in-super_bytes g (drop 512 image) good;
-      size = f.size;
-      recording = λ i. recording_or_damage g (by_block (segments i)) (clips i);
-    })
+    record {
+      held = stages-reading g empty image (record {
+        geometry = ap geometry_in whole ∙ geometry_in-super_bytes h (drop 512 image) good;
+        size = f.size;
+        recording = λ i. recording_or_damage g (by_block (segments i)) (clips i);
+      });
+      version_is = ap version_in whole ∙ version_in-super_bytes h (drop 512 image) is;
+    }
   where
     closed : (id : ℕ) → is_open image (clip_at id) ≡ false → clip_in image id ≡ None
     closed id e = rw e refl
@@ -56,8 +59,8 @@ reading-fresh g image good f =
 -- ---- parts that were written
 
 -- a byte of a part of the image
-byte-slice : (at n i : ℕ) (image : List ℕ) → i < n → get_or image (at + i) 0 ≡ get_or (slice_range image at (at + n))
-    i 0
+pub byte-slice : (at n i : ℕ) (image : List ℕ) → i < n → get_or image (at + i) 0 ≡ get_or
+    (slice_range image at (at + n)) i 0
 byte-slice at n i image l =
     let size : at + n - at ≡ n = omega arith in
     sym (get_or-drop at image i 0) ∙ sym (get_or-take (at + n - at) (drop at image) i 0 (omega (arith, size)))
@@ -80,28 +83,14 @@ segment_in-header_bytes g image j b fits some e =
     ap (λ (n : ℕ). map (λ i. slot_in (frame_bytes g) image (slot_at g j i)) (range_with_len 0 n)) whole in
     λ i. cond (gate i) (Some (record { block = number i; slots = slots i })) None
 
--- an entry that was written holds its clip
-pub clip_in-entry_bytes : (image : List ℕ) (id : ℕ) (s : Span) → s.from < 2 ^ 64 → s.to < 2 ^ 64
-    → slice_range image (clip_at id) (clip_at id + 32) ≡ entry_bytes s → clip_in image id ≡ Some s
-clip_in-entry_bytes image id s low high e =
-    let at = clip_at id in
-    let gate : is_open image at ≡ true = ap (λ (k : ℕ). is_open image k) (omega arith)
-    ∙ ap (λ (x : ℕ). eqb x 0xA5) (byte-slice at 32 0 image (omega arith) ∙ ap (λ (bs : List ℕ). get_or bs 0 0) e) in
-    let from : little_from (at + 8) 8 image ≡ s.from = little_from-slice at (at + 32) 8 8 image (omega arith)
-    ∙ ap (little_from 8 8) e ∙ little_number-reads_back 8 s.from [] low in
-    let to : little_from (at + 16) 8 image ≡ s.to = little_from-slice at (at + 32) 16 8 image (omega arith)
-    ∙ ap (little_from 16 8) e ∙ little_number-reads_back 8 s.to [] high in
-    λ i. cond (gate i) (Some (record { from = from i; to = to i })) None
-
 -- ---- a part by itself
 
 -- the number at a place of a part
-pub number-slice : (at n i m : ℕ) (image : List ℕ) → i + m ≤ n
+number-slice : (at n i m : ℕ) (image : List ℕ) → i + m ≤ n
     → little_from i m (slice_range image at (at + n)) ≡ little_from (at + i) m image
 number-slice at n i m image h = sym (little_from-slice at (at + n) i m image (omega (arith, h)))
 
-pub open-slice : (at n i : ℕ) (image : List ℕ) → i < n → is_open (slice_range image at (at + n)) i ≡ is_open image
-    (at + i)
+open-slice : (at n i : ℕ) (image : List ℕ) → i < n → is_open (slice_range image at (at + n)) i ≡ is_open image (at + i)
 open-slice at n i image l = ap (λ (x : ℕ). eqb x 0xA5) (sym (byte-slice at n i image l))
 
 bytes-slice : (at n : ℕ) (image : List ℕ) (i : ℕ) (bs : List ℕ) → i + length bs ≤ n
@@ -115,8 +104,7 @@ bytes-slice at n image i (b ∷ bs) h =
     λ j. first j && rest j
 
 -- the superblock, cut out of its image, says what it says in it
-pub geometry_in-slice : (image : List ℕ) → 512 ≤ length image
-    → geometry_in (slice_range image 0 512) ≡ geometry_in image
+geometry_in-slice : (image : List ℕ) → 512 ≤ length image → geometry_in (slice_range image 0 512) ≡ geometry_in image
 geometry_in-slice image room = λ i. cond (whole i && gate i && name i) (geometry i) (Err NotFormatted)
   where
     cut : List ℕ
@@ -140,8 +128,8 @@ geometry_in-slice image room = λ i. cond (whole i && gate i && name i) (geometr
         let here : 0 + at ≡ at = omega arith in
         number-slice 0 512 at 4 image h ∙ ap (λ (k : ℕ). little_from k 4 image) here
 
-    zeros : slice_range cut 44 512 ≡ slice_range image 44 512
-    zeros = ap (take 468) (drop-take 44 468 image) ∙ take-take 468 468 (drop 44 image) (omega arith)
+    zeros : slice_range cut 45 512 ≡ slice_range image 45 512
+    zeros = ap (take 467) (drop-take 45 467 image) ∙ take-take 467 467 (drop 45 image) (omega arith)
 
     of_format : (o : Option PixelFormat) → checked_geometry cut o ≡ checked_geometry image o
     of_format None = refl
@@ -157,13 +145,19 @@ geometry_in-slice image room = λ i. cond (whole i && gate i && name i) (geometr
           segments = field 32 (omega arith) i;
           slots = field 36 (omega arith) i;
         } in
-        let version = field 8 (omega arith) in
+        let mark = field 8 (omega arith) in
         let size = field 40 (omega arith) in
-        λ i. cond (eqb (version i) 1 && is_good (fields i) && eqb (size i) (frame_bytes (fields i)) && list_all
+        λ i. cond (eqb (mark i) 1 && is_good (fields i) && eqb (size i) (frame_bytes (fields i)) && list_all
         (λ x. eqb x 0) (zeros i)) (Ok (fields i)) (Err (Damaged Superblock))
 
     geometry : checked_geometry cut (format_at cut 20) ≡ checked_geometry image (format_at image 20)
     geometry = ap (λ (o : Option PixelFormat). checked_geometry cut o) format ∙ of_format (format_at image 20)
+
+pub super_in-slice : (image : List ℕ) → 512 ≤ length image → super_in (slice_range image 0 512) ≡ super_in image
+super_in-slice image room =
+    let gate = open-slice 0 512 44 image (omega arith) in
+    let geometry = geometry_in-slice image room in
+    λ i. with_version (cond (gate i) 2 1) (geometry i)
 
 -- the header of a segment, cut out of its image, says what it says in it
 pub header_at-slice : (g : Geometry) (image : List ℕ) (at : ℕ) → g.slots ≤ 256
@@ -178,13 +172,11 @@ header_at-slice g image at few =
     λ i. cond (gate i) (Some (record { block = block i; frames = frames i })) None
 
 -- a clip entry, cut out of its image, holds what it holds in it
-pub entry_at-slice : (image : List ℕ) (at : ℕ) → entry_at (slice_range image at (at + 32)) 0 ≡ entry_at image at
-entry_at-slice image at =
-    let gate : is_open (slice_range image at (at + 32)) 0 ≡ is_open image at = open-slice at 32 0 image (omega arith)
-    ∙ ap (λ (k : ℕ). is_open image k) (omega arith) in
-    let from = number-slice at 32 8 8 image (omega arith) in
-    let to = number-slice at 32 16 8 image (omega arith) in
-    λ i. cond (gate i) (Some (record { from = from i; to = to i })) None
+pub entry_at-slice : (version : ℕ) (image : List ℕ) (at : ℕ)
+    → entry_at version (slice_range image at (at + 32)) 0 ≡ entry_at version image at
+entry_at-slice version image at = moved_entry version 0 at (slice_range image at (at + 32)) image (λ k l.
+    let here : 0 + k ≡ k = omega arith in
+    ap (λ (x : ℕ). get_or (slice_range image at (at + 32)) x 0) here ∙ sym (byte-slice at 32 k image l))
 
 -- a slot, cut out of its image, holds what it holds in it
 pub slot_in-slice : (n at : ℕ) (image : List ℕ) → slot_in n (slice_range image at (at + 32 + n)) 0 ≡ slot_in n image at
@@ -223,16 +215,29 @@ written_slot number p f =
     let second = equal_test (length p.bytes) (length p.bytes) refl in
     ap (slot_head (length p.bytes) number) is ∙ (λ i. cond (first i && second i) (Ok (head number p)) (Err SlotHead))
 
+-- an entry that was written holds its clip
+pub written-entry : (version : ℕ) (s : Span) → FitsEntry version s → entry_at version (entry_bytes s) 0 ≡ Some s
+written-entry version s f =
+    let from = little_number-reads_back 8 s.from [] f.from in
+    let to = little_number-reads_back 8 s.to [] f.to in
+    let tag = tagged (eqb version 2) (eqb s.tag 0) refl f.placed in
+    λ i. Some (record { from = from i; to = to i; tag = tag i })
+  where
+    tagged : (t u : Bool) → eqb s.tag 0 ≡ u → (t || u) ≡ true → cond t (little_from 24 8 (entry_bytes s)) 0 ≡ s.tag
+    tagged true u is e = little_number-reads_back 8 s.tag [] f.tag
+    tagged false true is e = sym (equal s.tag 0 is)
+    tagged false false is e = absurd cc
+
 -- what was written is read again
 pub written : WrittenIsRead
 written = record {
   slot = written_slot;
-  superblock = λ g good. ap geometry_in (sym (append-nil (super_bytes g))) ∙ geometry_in-super_bytes g [] good;
+  superblock = λ h is good.
+      let geometry = geometry_in-super_bytes h [] good in
+      let version_is = version_in-super_bytes h [] is in
+      ap super_in (sym (append-nil (super_bytes h))) ∙ (λ i. with_version (version_is i) (geometry i));
   header = λ g b good fits. header g b (limits g good).slots.0 fits;
-  entry = λ s low high.
-      let from = little_number-reads_back 8 s.from [] low in
-      let to = little_number-reads_back 8 s.to [] high in
-      λ i. Some (record { from = from i; to = to i });
+  entry = written-entry;
 }
   where
     header : (g : Geometry) (b : ℕ) → 1 ≤ g.slots → b < 2 ^ 64 → header_at g (header_bytes b) 0 ≡ Some (record { block = b; frames = 0 })

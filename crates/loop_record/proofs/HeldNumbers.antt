@@ -1,5 +1,5 @@
 -- Which numbers the open segments hold, told by their headers alone.
-use Rattle.std.proofs.Common.{◌≡◌, ℕ, suc, ◌+◌, ◌-◌, ◌*◌, ◌/◌, ◌%◌, ◌<◌, ◌≤◌, Bool, true, false, not, ◌&&◌, cond, eqb, leb, ltb, is_some, Option, Some, None, Result, Ok, Err, List, [], ◌∷◌, ◌++◌, length, map, refl, sym, ap, ◌∙◌, arith}
+use Rattle.std.proofs.Common.{◌≡◌, ℕ, suc, ◌+◌, ◌-◌, ◌*◌, ◌/◌, ◌%◌, ◌<◌, ◌≤◌, Bool, true, false, not, ◌&&◌, cond, eqb, leb, ltb, is_some, Option, Some, None, Result, Ok, Err, List, [], ◌∷◌, ◌++◌, length, map, get_or, refl, sym, ap, ◌∙◌, arith}
 use Rattle.std.proofs.Math.Nat.{mul-le-mul_right, add-mul, mod-lt}
 use Rattle.std.proofs.lemmas.Nat.{div-add-mod'}
 use Rattle.std.proofs.lemmas.List.{length-map}
@@ -12,13 +12,12 @@ use Rattle.loop_record.specs.Recording.{Picture, empty, frame_under}
 use Rattle.loop_record.specs.Reading.{frames_of, all_frames, is_bad_clip}
 use Rattle.loop_record.specs.Plain.{segment_of, segments_of, found_number, lacks_number, held_clip, table_clips, AreIn}
 use Rattle.loop_record.specs.Geometry.{clip_at}
-use Rattle.loop_record.specs.Layout.{is_open, entry_at, clip_in, checked_clip}
+use Rattle.loop_record.specs.Layout.{entry_at, clip_in, version_in, checked_clip}
 use Rattle.loop_record.specs.declared.clip.Span.{Span}
 use Rattle.loop_record.specs.declared.damage.Damage.{Damage}
 use Rattle.loop_record.specs.declared.damage.Damage.TheVariants.{ClipRange}
-use Rattle.byteorder.specs.Endian.{little_from}
-use Rattle.loop_record.proofs.Framing.{map_range}
-use Rattle.loop_record.proofs.Fresh.{number-slice, open-slice}
+use Rattle.loop_record.proofs.Framing.{map_range, moved_entry}
+use Rattle.loop_record.proofs.Fresh.{byte-slice}
 use Rattle.loop_record.proofs.Decided.{equal, not_below, not_below_test}
 use Rattle.loop_record.proofs.FoundSegments.{length-slots}
 
@@ -103,20 +102,12 @@ pub held-all : (g : Geometry) (image : List ℕ) (fs : List Found) (from count :
     (range_with_len from count) ≡ list_all (λ n. list_any (found_number g n) fs) (range_with_len from count)
 held-all g image fs from count some h = λ i. list_all (λ n. held-number g image fs n some h i) (range_with_len from count)
 
--- an entry of the table is the image's
-entry-within : (image : List ℕ) (id : ℕ) → id < 64 → entry_at (slice_range image 512 2560) (id * 32) ≡ clip_in image id
-entry-within image id l =
-    let cut = slice_range image 512 2560 in
-    let at = clip_at id in
-    let place : (k : ℕ) → 512 + (id * 32 + k) ≡ at + k = λ k. omega arith in
-    let gate : is_open cut (id * 32) ≡ is_open image at = open-slice 512 2048 (id * 32) image (omega (arith, l)) in
-    let from : little_from (id * 32 + 8) 8 cut ≡ little_from (at + 8) 8 image =
-    number-slice 512 2048 (id * 32 + 8) 8 image (omega (arith, l)) ∙ ap (λ (k : ℕ). little_from k 8 image)
-    (place 8) in
-    let to : little_from (id * 32 + 16) 8 cut ≡ little_from (at + 16) 8 image =
-    number-slice 512 2048 (id * 32 + 16) 8 image (omega (arith, l)) ∙ ap (λ (k : ℕ). little_from k 8 image)
-    (place 16) in
-    λ i. cond (gate i) (Some (record { from = from i; to = to i })) None
+-- the entry of an id, in the clip table of an image
+entry-within : (version : ℕ) (image : List ℕ) (id : ℕ) → id < 64 → entry_at version (slice_range image 512 2560)
+    (id * 32) ≡ entry_at version image (clip_at id)
+entry-within version image id l = moved_entry version (id * 32) (clip_at id) (slice_range image 512 2560) image (λ k u.
+    let place : 512 + (id * 32 + k) ≡ clip_at id + k = omega arith in
+    sym (byte-slice 512 2048 (id * 32 + k) image (omega (arith, l, u))) ∙ ap (λ (x : ℕ). get_or image x 0) place)
 
 -- so for each number of a clip
 pub lacks-bad : (g : Geometry) (image : List ℕ) (fs : List Found) (c : Option Span) → 1 ≤ g.slots → AreIn g fs
@@ -127,13 +118,13 @@ lacks-bad g image fs (Some s) some h =
     λ i. ltb s.to s.from || not (all i)
 
 -- the clips of an image are those of its clip table, and some is bad where the table has one that lacks a number
-pub clips-table : (image : List ℕ) → table_clips (slice_range image 512 2560) ≡ map (clip_in image)
+pub clips-table : (image : List ℕ) → table_clips (version_in image) (slice_range image 512 2560) ≡ map (clip_in image)
     (range_with_len 0 64)
-clips-table image = map_range (λ id. entry_at (slice_range image 512 2560) (id * 32)) (clip_in image) 0 64
-    (λ id low high. entry-within image id (omega (arith, high)))
+clips-table image = map_range (λ id. entry_at (version_in image) (slice_range image 512 2560) (id * 32))
+    (clip_in image) 0 64 (λ id low high. entry-within (version_in image) image id (omega (arith, high)))
 
 pub bad-lacks : (g : Geometry) (image : List ℕ) (fs : List Found) (t : Bool) → 1 ≤ g.slots → AreIn g fs
-    → list_any (lacks_number g fs) (table_clips (slice_range image 512 2560)) ≡ t
+    → list_any (lacks_number g fs) (table_clips (version_in image) (slice_range image 512 2560)) ≡ t
     → list_any (is_bad_clip (record empty { frames = all_frames g (segments_of g image fs) })) (map (clip_in image) (range_with_len 0 64)) ≡ t
 bad-lacks g image fs t some h e =
     (λ i. list_any (λ c. lacks-bad g image fs c some h i) (map (clip_in image) (range_with_len 0 64)))

@@ -9,14 +9,15 @@ use Rattle.loop_record.specs.declared.damage.LayoutFault.{LayoutFault}
 use Rattle.loop_record.specs.declared.damage.LayoutFault.TheVariants.{Damaged, NotFormatted}
 use Rattle.loop_record.specs.declared.geometry.Geometry.{Geometry}
 use Rattle.loop_record.specs.declared.geometry.PixelFormat.{PixelFormat}
+use Rattle.loop_record.specs.declared.superblock.SuperHead.{SuperHead}
 use Rattle.loop_record.specs.Geometry.{is_good, disk_size, segment_at, segment_size, clip_at}
 use Rattle.loop_record.specs.Recording.{Recording}
 use Rattle.loop_disk.specs.Medium.{SameOutside}
 use Rattle.loop_record.specs.Change.{ShowsSegment}
-use Rattle.loop_record.specs.Layout.{Segment, segment_in, clip_in, geometry_in, checked_geometry, geometry_fields, format_at, is_formatted, is_super_of}
+use Rattle.loop_record.specs.Layout.{Segment, segment_in, clip_in, geometry_in, version_in, with_version, super_in, checked_geometry, geometry_fields, format_at, is_formatted, is_super_of}
 use Rattle.loop_record.specs.Reading.{parts_of, shown_by, Contents, with_geometry, contents, reading}
 use Rattle.loop_record.proofs.Bounds.{limits}
-use Rattle.loop_record.proofs.Framing.{SameWithin, map_range, same_segment, same_clip, same_geometry}
+use Rattle.loop_record.proofs.Framing.{SameWithin, map_range, same_segment, same_clip, same_geometry, same_version}
 
 -- ---- parts of one image and of the other
 
@@ -48,6 +49,11 @@ map_range-set f h lo (suc n) (suc j) x l same is =
     moved i (inl a) = inl (omega (arith, a))
     moved i (inr a) = inr (omega (arith, a))
 
+-- a change behind the superblock leaves the version
+pub version-outside : (at n : ℕ) (old new : List ℕ) → 45 ≤ at → SameOutside at n old new
+    → version_in new ≡ version_in old
+version-outside at n old new behind s = same_version new old (within_before at n 44 45 old new s behind)
+
 -- segments don't overlap
 pub apart : (g : Geometry) (i j : ℕ) → i < j → segment_at g i + segment_size g ≤ segment_at g j
 apart g i j l =
@@ -64,7 +70,8 @@ parts-shows g j part old new few l s =
     let at : 0 + j ≡ j = omega arith in
     let segments = map_range-set (segment_in g new) (segment_in g old) 0 g.segments j part l other (ap (segment_in g new) at ∙ s.holds) in
     let clips = map_range (clip_in new) (clip_in old) 0 64
-    (λ id low high. same_clip new old id (within_before (segment_at g j) (segment_size g) (clip_at id)
+    (λ id low high. same_clip new old id (within_before (segment_at g j) (segment_size g) 44 45 old new s.outside
+    (omega arith)) (within_before (segment_at g j) (segment_size g) (clip_at id)
     (clip_at id + 32) old new s.outside (omega (arith, high)))) in
     λ i. record { segments = segments i; clips = clips i }
   where
@@ -160,6 +167,38 @@ geometry-good g image e = go (is_formatted image) e
     go true e = named (format_at image 20) e
     go false e = absurd cc
 
+-- what a superblock says is the geometry and the version of its image
+pub super-parts : (h : SuperHead) (image : List ℕ) → super_in image ≡ Ok h → (geometry_in image ≡ Ok h.geometry)
+    × (version_in image ≡ h.version)
+super-parts h image e = go (geometry_in image) refl e
+  where
+    ok_is : SuperHead → Result SuperHead LayoutFault
+    ok_is s = Ok s
+
+    same_head : (s t : SuperHead) → ok_is s ≡ ok_is t → s ≡ t
+    same_head s t e = cc
+
+    go : (o : Result Geometry LayoutFault) → geometry_in image ≡ o → with_version (version_in image) o ≡ Ok h
+        → (geometry_in image ≡ Ok h.geometry) × (version_in image ≡ h.version)
+    go (Ok g) is e =
+        let same = same_head (record { geometry = g; version = version_in image }) h e in
+        (is ∙ (λ i. Ok (same i).geometry), ap (λ (s : SuperHead). s.version) same)
+    go (Err d) is e = absurd cc
+
+pub super-fault : (fault : LayoutFault) (image : List ℕ) → super_in image ≡ Err fault → geometry_in image ≡ Err fault
+super-fault fault image e = go (geometry_in image) refl e
+  where
+    err_is : LayoutFault → Result SuperHead LayoutFault
+    err_is f = Err f
+
+    same_fault : (a b : LayoutFault) → err_is a ≡ err_is b → a ≡ b
+    same_fault a b e = cc
+
+    go : (o : Result Geometry LayoutFault) → geometry_in image ≡ o → with_version (version_in image) o ≡ Err fault
+        → geometry_in image ≡ Err fault
+    go (Ok g) is e = absurd cc
+    go (Err d) is e = is ∙ (λ i. Err (same_fault d fault e i))
+
 -- ---- the whole
 
 -- where segment j of an image has changed, the rest read the same
@@ -171,7 +210,9 @@ reading-shows g r s j part old new e l shows is =
     let limit = limits g (geometry-good g old was.geometry) in
     let parts = parts-shows g j part old new limit.slots.1 l shows in
     stages-reading g s new (record {
-      geometry = same_geometry new old (within_before (segment_at g j) (segment_size g) 0 512 old new shows.outside (omega arith)) ∙ was.geometry;
+      geometry = same_geometry new old (within_before (segment_at g j) (segment_size g) 0 44 old new shows.outside
+          (omega arith)) (within_before (segment_at g j) (segment_size g) 45 512 old new shows.outside (omega arith))
+          ∙ was.geometry;
       size = shows.outside.size ∙ was.size;
       recording = ap (shown_by g) parts ∙ is;
     })

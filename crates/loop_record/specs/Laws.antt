@@ -2,10 +2,12 @@
 use Rattle.std.specs.Prelude.{◌≡◌, ◌↔◌, ℕ, ◌≤◌, ◌<◌, ◌^◌, IsTrue, Some, None, Ok, List, [], ◌∷◌, length}
 use Rattle.loop_record.specs.declared.clip.Span.{Span}
 use Rattle.loop_record.specs.declared.geometry.Geometry.{Geometry}
+use Rattle.loop_record.specs.declared.superblock.SuperHead.{SuperHead}
 use Rattle.loop_record.specs.Geometry.{is_good}
 use Rattle.loop_record.specs.Recording.{Picture, Recording, Ring, Step, head, empty, victim, is_legal, after_step, steps, IsWellFormed, MayGo, IsVictim}
-use Rattle.loop_record.specs.Layout.{super_bytes, slot_bytes, header_bytes, entry_bytes, geometry_in, slot_in, slot_head, header_at, entry_at}
-use Rattle.loop_record.specs.Reading.{Holds, IsFreshImage}
+use Rattle.loop_record.specs.Layout.{super_bytes, slot_bytes, header_bytes, entry_bytes, IsVersion, super_in, slot_in, slot_head, header_at, entry_at, has_tag_place}
+use Rattle.loop_record.specs.Reading.{Holds, HoldsIn, IsFreshImage, reading}
+use Rattle.loop_record.specs.Change.{KeepsClips}
 
 -- the victim is the least block that may go, and where there is none, no block may go
 pub record VictimIsLeast (ring : Ring) (r : Recording) : Type 0 where
@@ -37,9 +39,16 @@ AppendsAreLegal =
 abbrev pub ReadingsAreWellFormed : Type 0
 ReadingsAreWellFormed = (g : Geometry) (r : Recording) (image : List ℕ) → Holds g r image → IsWellFormed r
 
--- a freshly formatted image reads as the empty recording
+-- a freshly formatted image reads as the empty recording, in its version
 abbrev pub FreshImagesAreEmpty : Type 0
-FreshImagesAreEmpty = (g : Geometry) (image : List ℕ) → IsTrue (is_good g) → IsFreshImage g image → Holds g empty image
+FreshImagesAreEmpty =
+    (h : SuperHead) (image : List ℕ) → IsVersion h.version → IsTrue (is_good h.geometry) → IsFreshImage h image
+    → HoldsIn h empty image
+
+-- where the version's gate and the clip table have changed, and each id has the clip that it had, an image reads the
+-- same
+abbrev pub KeptClipsReadTheSame : Type 0
+KeptClipsReadTheSame = (old new : List ℕ) → KeepsClips old new → reading new ≡ reading old
 
 -- a number, a frame's head and its count of bytes have room in a slot
 pub record FitsSlot (number : ℕ) (p : Picture) : Type 0 where
@@ -49,12 +58,20 @@ pub record FitsSlot (number : ℕ) (p : Picture) : Type 0 where
   pub timestamp : p.timestamp < 2 ^ 64
   pub bytes : length p.bytes < 2 ^ 32
 
--- a slot that was written is read as its frame's, a superblock as its geometry, a header as its block, an entry
--- as its clip
+-- a clip has room in an entry of this version
+pub record FitsEntry (version : ℕ) (s : Span) : Type 0 where
+  pub from : s.from < 2 ^ 64
+  pub to : s.to < 2 ^ 64
+  pub tag : s.tag < 2 ^ 64
+  pub placed : IsTrue (has_tag_place version s)
+
+-- a slot that was written is read as its frame's, a superblock as its geometry and version, a header as its
+-- block, an entry as its clip
 pub record WrittenIsRead : Type 0 where
   pub slot : (number : ℕ) (p : Picture) → FitsSlot number p
       → slot_head (length p.bytes) number (slot_in (length p.bytes) (slot_bytes number p) 0) ≡ Ok (head number p)
-  pub superblock : (g : Geometry) → IsTrue (is_good g) → geometry_in (super_bytes g) ≡ Ok g
+  pub superblock : (h : SuperHead) → IsVersion h.version → IsTrue (is_good h.geometry)
+      → super_in (super_bytes h) ≡ Ok h
   pub header : (g : Geometry) (block : ℕ) → IsTrue (is_good g) → block < 2 ^ 64
       → header_at g (header_bytes block) 0 ≡ Some (record { block = block; frames = 0 })
-  pub entry : (s : Span) → s.from < 2 ^ 64 → s.to < 2 ^ 64 → entry_at (entry_bytes s) 0 ≡ Some s
+  pub entry : (version : ℕ) (s : Span) → FitsEntry version s → entry_at version (entry_bytes s) 0 ≡ Some s

@@ -1,5 +1,5 @@
 -- Frames without where their bytes lie, and what the headers and the clip table of an image say together.
-use Rattle.std.specs.Prelude.{◌<◌, ◌≤◌, ◌≡◌, ℕ, ◌+◌, ◌-◌, ◌*◌, ◌/◌, ◌%◌, ◌==◌, ◌||◌, Bool, true, false, not, [], ◌∷◌, ◌&&◌, nat_lt, if◌then◌else◌, Option, Some, None, Result, Ok, Err, List, map}
+use Rattle.std.specs.Prelude.{◌<◌, ◌≤◌, ◌≡◌, ℕ, ◌+◌, ◌-◌, ◌*◌, ◌/◌, ◌%◌, ◌^◌, IfSome, ◌==◌, ◌||◌, Bool, true, false, not, [], ◌∷◌, ◌&&◌, nat_lt, if◌then◌else◌, Option, Some, None, Result, Ok, Err, List, map}
 use Rattle.std.specs.List.{list_all, list_any, range_with_len}
 use Rattle.loop_record.specs.declared.clip.Span.{Span}
 use Rattle.loop_record.specs.declared.frame.Frame.{Frame}
@@ -76,6 +76,10 @@ lacks_number g fs (Some s) =
 abbrev pub held_clip : Geometry → List Found → Option Span → Result (Option Span) Damage
 held_clip g fs clip = if lacks_number g fs clip then Err ClipRange else Ok clip
 
--- the clip of each id in a clip table
-abbrev pub table_clips : List ℕ → List (Option Span)
-table_clips table = map (λ id. entry_at table (id * 32)) (range_with_len 0 64)
+-- the tag of a clip, if there is one, is a number of 64 bits
+abbrev pub IsTagFit : Option Span → Type 0
+IsTagFit clip = IfSome clip (λ s. s.tag < 2 ^ 64)
+
+-- the clip of each id in a clip table of this version
+abbrev pub table_clips : ℕ → List ℕ → List (Option Span)
+table_clips version table = map (λ id. entry_at version table (id * 32)) (range_with_len 0 64)

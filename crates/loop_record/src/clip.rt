@@ -1,10 +1,12 @@
 //! Clips, and the entries of the clip table.
 
-ghost use Rattle.std.specs.Prelude.{◌≡◌, ◌≤◌, length};
-ghost use Rattle.loop_record.specs.Layout.{entry_at, entry_bytes, checked_clip};
+ghost use Rattle.std.specs.Prelude.{◌≡◌, ◌≤◌, IfOk, length};
+ghost use Rattle.loop_record.specs.Layout.{entry_at, entry_bytes, checked_clip, tag_at};
+ghost use Rattle.loop_record.specs.Plain.{IsTagFit};
 
 use crate::Damage;
 use crate::numbers::{OPEN, put, put_u64, u64_at};
+use crate::superblock::TAGGED;
 
 /// The bytes of an entry of the clip table.
 pub const CLIP_SIZE: usize = 32;
@@ -19,9 +21,11 @@ pub struct Span {
     pub from: u64,
     /// The last number.
     pub to: u64,
+    /// What its maker calls it, in version 2 of the layout; in version 1 it is 0.
+    pub tag: u64,
 }
 
-/// Writes the open entry of a clip into 32 bytes.
+/// Writes the open entry of a clip into 32 bytes. In version 1 of the layout the tag is 0, and these are its zeros.
 pub fn encode_clip(span: Span, out: &mut [u8])
     requires { length out.old ≡ 32 }
     ensures { out.new ≡ entry_bytes span }
@@ -30,14 +34,15 @@ pub fn encode_clip(span: Span, out: &mut [u8])
     put(out, 1, &[0; 7]);
     put_u64(out, 8, span.from);
     put_u64(out, 16, span.to);
-    put(out, 24, &[0; 8]);
+    put_u64(out, 24, span.tag);
 }
 
-/// The clip in an entry, of which the first 32 bytes are looked at: nothing where its gate is closed, `ClipRange`
-/// where `from` is above `to`.
-pub fn decode_clip(bytes: &[u8]) -> Result<Option<Span>, Damage>
+/// The clip in an entry of this version, of which the first 32 bytes are looked at: nothing where its gate is closed,
+/// `ClipRange` where `from` is above `to`.
+pub fn decode_clip(version: u32, bytes: &[u8]) -> Result<Option<Span>, Damage>
     requires { 32 ≤ length bytes.now }
-    ensures { result ≡ checked_clip (entry_at bytes.now 0) }
+    ensures clip { result ≡ checked_clip (entry_at version bytes.now 0) }
+    ensures tag { IfOk result IsTagFit }
 {
     if bytes[0] != OPEN {
         return Ok(None);
@@ -45,9 +50,22 @@ pub fn decode_clip(bytes: &[u8]) -> Result<Option<Span>, Damage>
     let span = Span {
         from: u64_at(bytes, 8),
         to: u64_at(bytes, 16),
+        tag: tag_in(version, bytes),
     };
     if span.to < span.from {
         return Err(Damage::ClipRange);
     }
     Ok(Some(span))
+}
+
+/// The tag in an entry of this version.
+fn tag_in(version: u32, bytes: &[u8]) -> u64
+    requires { 32 ≤ length bytes.now }
+    ensures { result ≡ tag_at version bytes.now 24 }
+{
+    if version == TAGGED {
+        u64_at(bytes, 24)
+    } else {
+        0
+    }
 }

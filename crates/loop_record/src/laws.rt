@@ -1,6 +1,6 @@
 //! What follows from the definitions. Each function does nothing: its contract is the law.
 
-ghost use Rattle.loop_record.specs.Laws.{VictimsAreLeast, LegalStepsKeepForm, AppendsAreLegal, ReadingsAreWellFormed, FreshImagesAreEmpty, WrittenIsRead};
+ghost use Rattle.loop_record.specs.Laws.{VictimsAreLeast, LegalStepsKeepForm, AppendsAreLegal, ReadingsAreWellFormed, FreshImagesAreEmpty, KeptClipsReadTheSame, WrittenIsRead};
 
 /// In a recording whose numbers rise, the victim is the least block of a held frame that no clip meets and that isn't
 /// the block of the newest held frame; where there is none, there is no such block.
@@ -24,9 +24,15 @@ pub fn readings_are_well_formed()
     ensures { ReadingsAreWellFormed }
 {}
 
-/// A freshly formatted image reads as the empty recording, whatever its slots hold.
+/// A freshly formatted image reads as the empty recording, in its version, whatever its slots hold.
 pub fn fresh_images_are_empty()
     ensures { FreshImagesAreEmpty }
+{}
+
+/// Where the version's gate and the clip table have changed, and each id has the clip that it had, an image reads the
+/// same.
+pub fn kept_clips_read_the_same()
+    ensures { KeptClipsReadTheSame }
 {}
 
 /// What was written of a slot, a superblock, a header or a clip entry is read again.

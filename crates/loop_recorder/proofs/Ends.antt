@@ -14,6 +14,7 @@ use Rattle.loop_recorder.proofs.Apart.{all-read, tied-apart}
 module _ {D A B : Type 0} (medium : D → Medium) (one : Outline A) (other : Outline B) (same : SameOutline one other) where
   tells-same : (d : SeenDesk D) → TellsOutline medium d one → TellsOutline medium d other
   tells-same d tells = record {
+    version = sym same.version ∙ tells.version;
     next = sym same.next ∙ tells.next;
     pending = sym same.pending ∙ tells.pending;
     clips = sym same.clips ∙ tells.clips;

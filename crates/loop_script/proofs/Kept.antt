@@ -14,13 +14,14 @@ use Rattle.loop_record.specs.Geometry.{frame_bytes, is_good}
 use Rattle.loop_record.specs.Recording.{Picture, last_number, ring_of}
 use Rattle.loop_store.specs.declared.fault.StoreFault.{StoreFault}
 use Rattle.loop_store.specs.declared.fault.StoreFault.TheVariants.{AllLocked, Damaged, Disk, MustReopen, NoMemory, NotHeld, NumbersSpent, PendingFull, WrongSize}
-use Rattle.loop_store.specs.Calls.{Call, appended, failed_for, has_failed, locked, unlocked, was_read, was_read_part}
+use Rattle.loop_store.specs.Calls.{AnswersDue, AnswersOtherwise, Call, StoreState, appended, due, failed_for, first_of, has_failed, locked, unlocked, upgraded, was_read, was_read_part}
 use Rattle.loop_store.specs.Faults.{answers_disk, failed_by, failed_in, is_disk}
 use Rattle.loop_store.specs.Goes.{Goes, Stands}
 use Rattle.loop_store.specs.Reopen.{TellsOne}
 use Rattle.loop_store.specs.declared.command.ReadFrame.{ReadFrame}
 use Rattle.loop_store.specs.Runs.{read_of}
 use Rattle.loop_store.specs.Seen.{Refused, Seen}
+use Rattle.loop_store.proofs.Checked.{write-disk}
 use Rattle.loop_store.proofs.Gone as store
 use Rattle.loop_store.proofs.NextNumber.{count_stored, next-one}
 use Rattle.loop_store.proofs.Putting.{answered-refusal}
@@ -28,7 +29,7 @@ use Rattle.loop_store.proofs.Reading.{read-refusal}
 use Rattle.loop_record.specs.declared.damage.Damage.TheVariants.{SlotHead}
 use Rattle.loop_record.proofs.Decided.{equal_test}
 use Rattle.loop_desk.specs.declared.limits.Flushed.{Flushed}
-use Rattle.loop_desk.specs.Desk.{IsFlush, append_of, flushed, frame_read, group_of, submitted}
+use Rattle.loop_desk.specs.Desk.{IsFlush, append_of, flushed, frame_read, group_of, layout_upgraded, submitted}
 use Rattle.loop_desk.specs.Seen.{DeskGoes, SeenDesk, rules_of}
 use Rattle.loop_desk.proofs.Gone.{state-of, state-told, store-goes, told-one, told-then}
 use Rattle.loop_desk.proofs.Kept.{below}
@@ -54,6 +55,7 @@ fine-call : (call : Call) → failed_for call ≡ None → has_failed call ≡ f
 fine-call (appended group result) e = fine-answer result e
 fine-call (locked span result) e = fine-answer result e
 fine-call (unlocked id result) e = fine-answer result e
+fine-call (upgraded result) e = fine-answer result e
 fine-call (was_read number result) e = refl
 fine-call (was_read_part number at result) e = refl
 
@@ -311,6 +313,26 @@ module _ {D : Type 0} {medium : D → Medium} (never : (d : D) → (medium d).fa
           ]
         ]
       ]
+
+-- ---- an upgrade
+
+upgrade-told : (H : Type 0) (s : StoreState) (result : Result Bool StoreFault) → failed_in result ≡ None
+    → AnswersOtherwise H s (upgraded result) → result ≡ Ok (not (s.version == 2))
+upgrade-told H s (Ok made) none told = ap (λ (b : Bool). Ok b) told
+upgrade-told H s (Err fault) none told = absurd (false≢true (sym (fine-fault fault none) ∙ write-disk fault told.1))
+
+-- it is made where the version isn't 2, and never refused
+pub upgrade-answer : {D : Type 0} {medium : D → Medium} (old new : SeenDesk D) (result : Result Bool StoreFault)
+    → DeskGoes medium old new (layout_upgraded result ∷ []) → ((d : D) → (medium d).failures ≡ no_failures)
+    → IsSession old → result ≡ Ok (not (old.store.version == 2))
+upgrade-answer {medium = medium} old new result goes never kept =
+    let store = store-goes medium old new (layout_upgraded result ∷ []) goes in
+    let s = state-of old goes.one in
+    let H = (medium old.store.disk).honest × Stands medium old.store s.store in
+    upgrade-told H s.store result (none-failed old.store new.store (upgraded result) store never)
+    (subst (λ (b : Bool). AnswersDue (first_of (due b MustReopen ∷ [])) (upgraded result)
+    (AnswersOtherwise H s.store (upgraded result))) kept.fine
+    (store.answers s.store (state-told old goes.one).store).0)
 
 -- ---- a refusal changes nothing
 

@@ -7,7 +7,7 @@ use Rattle.std.proofs.lemmas.Bool.{false≢true}
 use denote.Ref.{Bor}
 use Rattle.std.proofs.lemmas.List.Splits.{slice_split_first, slice_split_none}
 use Rattle.std.proofs.lemmas.Grind.{common_steps}
-use Rattle.loop_script.specs.Script.{behind, geometry_said, lock_said, said, words}
+use Rattle.loop_script.specs.Script.{behind, counted_said, geometry_said, said, span_said, words}
 
 -- a line with a space: its first word, and the words behind that space
 pub words-parted : (line word rest : List ℕ) → word ≡ before_first (λ b. b == 32) line
@@ -32,21 +32,23 @@ words-some (b ∷ line) =
       | false ↦ (b ∷ some.0, some.1, ap (onto_first b) some.2)
     ]
 
--- a name and more words than a number can't be read, but for a geometry and a lock
-pub said-long : (name argument rest : List ℕ) → bytes_eq name (codes "format") ≡ false
-    → bytes_eq name (codes "lock") ≡ false → said (name ∷ argument ∷ words rest) ≡ None
-said-long name argument rest other also = let some = words-some rest in rw (some.2, other, also) refl
+-- a name that takes no more than a number, with words behind it
+pub said-counted : (name rest : List ℕ) → bytes_eq name (codes "format") ≡ false
+    → bytes_eq name (codes "format1") ≡ false → bytes_eq name (codes "lock") ≡ false
+    → said (name ∷ words rest) ≡ counted_said name (words rest)
+said-counted name rest first second third = let some = words-some rest in rw (some.2, first, second, third) refl
 
--- a lock's two numbers
-pub said-lock : (name argument rest : List ℕ) → bytes_eq name (codes "format") ≡ false
-    → bytes_eq name (codes "lock") ≡ true → said (name ∷ argument ∷ words rest) ≡ lock_said argument (words rest)
-said-lock name argument rest other is = let some = words-some rest in rw (some.2, other, is) refl
+-- more than two words and a tag name no span
+pub span-long : (from to tag : List ℕ) (rest : Option (Bor (List ℕ))) → is_some rest ≡ true
+    → span_said (from ∷ to ∷ tag ∷ behind rest) ≡ None
+span-long from to tag None there = absurd (false≢true there)
+span-long from to tag (Some rest) there = let some = words-some rest.now in rw some.2 refl
 
--- more than one word behind the first number name no lock
-pub lock-long : (from to : List ℕ) (rest : Option (Bor (List ℕ))) → is_some rest ≡ true
-    → lock_said from (to ∷ behind rest) ≡ None
-lock-long from to None there = absurd (false≢true there)
-lock-long from to (Some rest) there = let some = words-some rest.now in rw some.2 refl
+-- more than one word behind a name is no number
+pub counted-long : (name argument : List ℕ) (rest : Option (Bor (List ℕ))) → is_some rest ≡ true
+    → counted_said name (argument ∷ behind rest) ≡ None
+counted-long name argument None there = absurd (false≢true there)
+counted-long name argument (Some rest) there = let some = words-some rest.now in rw some.2 refl
 
 -- more than six words name no geometry
 pub geometry-long : (a b c d e f : List ℕ) (rest : Option (Bor (List ℕ))) → is_some rest ≡ true

@@ -3,3 +3,4 @@ pub mod Refusals
 pub mod Script
 pub mod Sessions
 pub mod Tasks
+pub mod Upgrade

@@ -7,7 +7,8 @@ use Rattle.std.specs.Str.{bytes_eq}
 use Rattle.std.specs.Str.Parse.{digits_value}
 use denote.Ref.{Bor}
 use Rattle.loop_script.specs.declared.command.Command.{Command}
-use Rattle.loop_script.specs.declared.command.Command.TheVariants.{Format, Store, Submit, Flush, Read, Lock, Unlock, List as ListAll, Reopen}
+use Rattle.loop_script.specs.declared.command.Command.TheVariants.{Format, FormatV1, Store, Submit, Flush, Read, Lock, Unlock, List as ListAll, Upgrade, Reopen}
+use Rattle.loop_record.specs.declared.clip.Span.{Span}
 use Rattle.loop_record.specs.declared.geometry.Geometry.{Geometry}
 use Rattle.loop_record.specs.declared.geometry.PixelFormat.{PixelFormat}
 use Rattle.loop_record.specs.Geometry.{format_named}
@@ -64,32 +65,43 @@ geometry_said (width ∷ height ∷ format ∷ rate ∷ segments ∷ slots ∷ [
     (small_number segments) (small_number slots)
 geometry_said _ = None
 
--- what two words ask for: a name and a number
-abbrev pub counted_said : List ℕ → List ℕ → Option Command
-counted_said name argument =
+-- the span of these parts, where there is each of them
+abbrev pub span_of : Option ℕ → Option ℕ → Option ℕ → Option Span
+span_of (Some from) (Some to) (Some tag) = Some (record { from = from; to = to; tag = tag })
+span_of _ _ _ = None
+
+-- the span that words name: its first and its last number, and a tag, which is 0 where it is left out
+abbrev pub span_said : List (List ℕ) → Option Span
+span_said (from ∷ to ∷ []) = span_of (number from) (number to) (Some 0)
+span_said (from ∷ to ∷ tag ∷ []) = span_of (number from) (number to) (number tag)
+span_said _ = None
+
+-- what a name and one word ask for, a number
+abbrev pub counted_said : List ℕ → List (List ℕ) → Option Command
+counted_said name (argument ∷ []) =
     if bytes_eq name (codes "store") then option_map Store (number argument)
     else if bytes_eq name (codes "submit") then option_map Submit (number argument)
     else if bytes_eq name (codes "read") then option_map Read (number argument)
     else if bytes_eq name (codes "unlock") then option_map Unlock (small_number argument) else None
-
--- a lock of a first number and of the words behind it, where they are one more number
-abbrev pub lock_said : List ℕ → List (List ℕ) → Option Command
-lock_said from (to ∷ []) = option_map (λ span. Lock span.0 span.1) (option_zip (number from) (number to))
-lock_said from _ = None
+counted_said name _ = None
 
 -- what a name alone asks for
 abbrev pub named_said : List ℕ → Option Command
 named_said name =
     if bytes_eq name (codes "list") then Some ListAll
     else if bytes_eq name (codes "reopen") then Some Reopen
-    else if bytes_eq name (codes "flush") then Some Flush else None
+    else if bytes_eq name (codes "flush") then Some Flush
+    else if bytes_eq name (codes "upgrade") then Some Upgrade else None
+
+-- what a name and the words behind it ask for
+abbrev pub behind_said : List ℕ → List (List ℕ) → Option Command
+behind_said name more =
+    if bytes_eq name (codes "format") then option_map Format (geometry_said more)
+    else if bytes_eq name (codes "format1") then option_map FormatV1 (geometry_said more)
+    else if bytes_eq name (codes "lock") then option_map Lock (span_said more) else counted_said name more
 
 -- what the words of a line ask for, if they can be read
 abbrev pub said : List (List ℕ) → Option Command
 said [] = None
 said (name ∷ []) = named_said name
-said (name ∷ argument ∷ []) =
-    if bytes_eq name (codes "format") then None else counted_said name argument
-said (name ∷ argument ∷ second ∷ more) =
-    if bytes_eq name (codes "format") then option_map Format (geometry_said (argument ∷ second ∷ more))
-    else if bytes_eq name (codes "lock") then lock_said argument (second ∷ more) else None
+said (name ∷ argument ∷ more) = behind_said name (argument ∷ more)

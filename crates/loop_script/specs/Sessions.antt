@@ -4,11 +4,15 @@ use Rattle.loop_desk.specs.declared.limits.DeskLimits.{DeskLimits}
 use Rattle.loop_desk.specs.declared.limits.Flushed.{Flushed}
 use Rattle.loop_desk.specs.Desk.{DeskCall, flushed, submitted}
 use Rattle.loop_desk.specs.Seen.{SeenDesk}
+use Rattle.loop_disk.specs.Medium.{Medium}
 use Rattle.loop_record.specs.declared.geometry.Geometry.{Geometry}
+use Rattle.loop_record.specs.declared.superblock.SuperHead.{SuperHead}
 use Rattle.loop_record.specs.Geometry.{frame_bytes, is_good}
-use Rattle.loop_record.specs.Recording.{last_number, ring_of}
+use Rattle.loop_record.specs.Recording.{empty, last_number, ring_of}
 use Rattle.loop_store.specs.declared.fault.StoreFault.{StoreFault}
 use Rattle.loop_store.specs.declared.fault.StoreFault.TheVariants.{NoMemory, NumbersSpent, PendingFull}
+use Rattle.loop_store.specs.Make.{IsFormatted}
+use Rattle.loop_store.specs.Seen.{StandsFor}
 use Rattle.loop_script.specs.Pattern.{pattern_picture}
 
 -- its desk, and how many frames were accepted since that was formatted
@@ -24,6 +28,13 @@ script_limits = record { pending = 64; group = 8; calls = 1000000 }
 pub record IsNewDesk {D : Type 0} (d : SeenDesk D) : Type 0 where
   pub pending : d.pending ≡ []
   pub limits : d.limits ≡ script_limits
+
+-- it was formatted so, its store stands for the empty recording, and no frame was accepted yet
+pub record IsFresh {D : Type 0} (medium : D → Medium) (h : SuperHead) (s : Shown D) : Type 0 where
+  pub formatted : IsFormatted h s.desk.store
+  pub stands : StandsFor medium s.desk.store empty
+  pub desk : IsNewDesk s.desk
+  pub accepted : s.accepted ≡ 0
 
 -- ---- a frame more
 

@@ -4,21 +4,23 @@ use Rattle.std.specs.Option.{option_zip}
 use Rattle.std.specs.Str.{bytes_eq}
 use denote.Ref.{Bor}
 use Rattle.loop_script.specs.declared.task.FileCommand.{FileCommand}
-use Rattle.loop_script.specs.declared.task.FileCommand.TheVariants.{Export, Format, List as ListAll, Lock, Unlock}
+use Rattle.loop_script.specs.declared.task.FileCommand.TheVariants.{Export, Format, List as ListAll, Lock, Unlock, Upgrade}
 use Rattle.loop_script.specs.declared.task.Task.{Task}
 use Rattle.loop_script.specs.declared.task.Task.TheVariants.{OnFile, Record, Simulate}
 use Rattle.loop_record.specs.Geometry.{format_named}
-use Rattle.loop_script.specs.Script.{geometry_of, number, rate_said, small_number}
+use Rattle.loop_script.specs.Script.{geometry_of, number, rate_said, small_number, span_of}
 
 -- what a name and the words behind the path of a file ask for
 abbrev pub on_file_said : List ℕ → List (Bor (List ℕ)) → Option FileCommand
-on_file_said name [] = if bytes_eq name (codes "list") then Some ListAll else None
+on_file_said name [] =
+    if bytes_eq name (codes "list") then Some ListAll
+    else if bytes_eq name (codes "upgrade") then Some Upgrade else None
 on_file_said name (id ∷ []) = if bytes_eq name (codes "unlock") then option_map Unlock (small_number id.now) else None
 on_file_said name (from ∷ to ∷ []) =
-    if bytes_eq name (codes "lock") then option_map (λ span. Lock span.0 span.1)
-    (option_zip (number from.now) (number to.now)) else None
-on_file_said name (from ∷ to ∷ out ∷ []) =
-    if bytes_eq name (codes "export") then option_map (λ span. Export span.0 span.1 out)
+    if bytes_eq name (codes "lock") then option_map Lock (span_of (number from.now) (number to.now) (Some 0)) else None
+on_file_said name (from ∷ to ∷ third ∷ []) =
+    if bytes_eq name (codes "lock") then option_map Lock (span_of (number from.now) (number to.now) (number third.now))
+    else if bytes_eq name (codes "export") then option_map (λ range. Export range.0 range.1 third)
     (option_zip (number from.now) (number to.now)) else None
 on_file_said name (width ∷ height ∷ format ∷ rate ∷ segments ∷ slots ∷ []) =
     if bytes_eq name (codes "format") then option_map Format

@@ -1,16 +1,18 @@
 // The lines of a script.
 ghost use Rattle.std.specs.Prelude.{◌≡◌, ◌∷◌};
 ghost use Rattle.loop_record.specs.Geometry.{format_named};
-ghost use Rattle.loop_script.specs.Script.{behind, counted_said, geometry_of, geometry_said, lock_said, named_said, rate_said, said, small_number as said_number, words};
+ghost use Rattle.loop_script.specs.Script.{behind, counted_said, geometry_of, geometry_said, named_said, number as said_number, rate_said, said, small_number as said_small_number, span_of, span_said, words};
 
 use crate::number::{number, small_number};
-use loop_record::{Geometry, PixelFormat};
+use loop_record::{Geometry, PixelFormat, Span};
 
 /// What a line of a script asks for.
 #[derive(Clone, Copy, Debug, PartialEq, Eq)]
 pub enum Command {
     /// `format W H X N:D S F`: a fresh store. The geometry isn't checked yet.
     Format(Geometry),
+    /// `format1 W H X N:D S F`: the same in version 1 of the layout.
+    FormatV1(Geometry),
     /// `store K`: so many frames of the pattern, each submitted and flushed.
     Store(u64),
     /// `submit K`: so many frames of the pattern, which then wait.
@@ -19,12 +21,14 @@ pub enum Command {
     Flush,
     /// `read N`: the frame of that number.
     Read(u64),
-    /// `lock A B`: a clip of the frames from A to B.
-    Lock(u64, u64),
+    /// `lock A B T`: a clip of the frames from A to B, with the tag T, which is 0 where it is left out.
+    Lock(Span),
     /// `unlock ID`: the clip of that id.
     Unlock(u32),
     /// `list`: the next number, the held ones and the clips.
     List,
+    /// `upgrade`: version 2 of the layout is made of version 1.
+    Upgrade,
     /// `reopen`: the store's disk is taken out, and the store found on it again.
     Reopen,
 }
@@ -37,14 +41,9 @@ pub fn read_command(line: &str) -> Option<Command>
     match rest {
         None => named(name),
         Some(rest) if name == "format" => Some(Command::Format(geometry(rest)?)),
-        Some(rest) => {
-            let (argument, rest) = first_word(rest);
-            match rest {
-                None => counted(name, argument),
-                Some(rest) if name == "lock" => lock(argument, rest),
-                _ => None,
-            }
-        }
+        Some(rest) if name == "format1" => Some(Command::FormatV1(geometry(rest)?)),
+        Some(rest) if name == "lock" => Some(Command::Lock(span(rest)?)),
+        Some(rest) => counted(name, rest),
     }
 }
 
@@ -56,14 +55,19 @@ fn named(name: &str) -> Option<Command>
         "list" => Some(Command::List),
         "reopen" => Some(Command::Reopen),
         "flush" => Some(Command::Flush),
+        "upgrade" => Some(Command::Upgrade),
         _ => None,
     }
 }
 
 // What a name and a number ask for.
-fn counted(name: &str, argument: &str) -> Option<Command>
-    ensures { result ≡ counted_said name.now argument.now }
+fn counted(name: &str, text: &str) -> Option<Command>
+    ensures { result ≡ counted_said name.now (words text.now) }
 {
+    let (argument, rest) = first_word(text);
+    if rest.is_some() {
+        return None;
+    }
     match name {
         "store" => Some(Command::Store(number(argument)?)),
         "submit" => Some(Command::Submit(number(argument)?)),
@@ -73,15 +77,33 @@ fn counted(name: &str, argument: &str) -> Option<Command>
     }
 }
 
-// The lock of a first number and of the words behind it.
-fn lock(from: &str, text: &str) -> Option<Command>
-    ensures { result ≡ lock_said from.now (words text.now) }
+// The span that the words `A B` name, or `A B T`.
+fn span(text: &str) -> Option<Span>
+    ensures { result ≡ span_said (words text.now) }
 {
-    let (to, rest) = first_word(text);
-    if rest.is_some() {
-        return None;
+    let (from, rest) = first_word(text);
+    let (to, rest) = first_word(rest?);
+    match rest {
+        None => span_in(from, to, Some(0)),
+        Some(rest) => {
+            let (tag, rest) = first_word(rest);
+            if rest.is_some() {
+                return None;
+            }
+            span_in(from, to, number(tag))
+        }
     }
-    Some(Command::Lock(number(from)?, number(to)?))
+}
+
+/// The span of two numbers and a tag.
+pub fn span_in(from: &str, to: &str, tag: Option<u64>) -> Option<Span>
+    ensures { result ≡ span_of (said_number from.now) (said_number to.now) tag }
+{
+    Some(Span {
+        from: number(from)?,
+        to: number(to)?,
+        tag: tag?,
+    })
 }
 
 // The first word, and what stands behind the space that ends it.
@@ -119,8 +141,8 @@ pub fn geometry_in(
     segments: &str,
     slots: &str,
 ) -> Option<Geometry>
-    ensures { result ≡ geometry_of (said_number width.now) (said_number height.now) (format_named format.now)
-        (rate_said rate.now) (said_number segments.now) (said_number slots.now) }
+    ensures { result ≡ geometry_of (said_small_number width.now) (said_small_number height.now) (format_named format.now)
+        (rate_said rate.now) (said_small_number segments.now) (said_small_number slots.now) }
 {
     let width = small_number(width)?;
     let height = small_number(height)?;

@@ -4,7 +4,7 @@ ghost use Rattle.loop_clips.specs.Table.{clip_list};
 ghost use Rattle.loop_record.specs.Recording.{Recording};
 ghost use Rattle.loop_store.specs.Seen.{StandsFor};
 
-use crate::print::print_line;
+use crate::print::{print_line, print_parts};
 use crate::runs::run_length;
 use loop_desk::Outline;
 use loop_disk::Disk;
@@ -37,7 +37,7 @@ impl<A: Allocator + Copy> Listing<A> {
         })
     }
 
-    /// What is listed of a desk's outline, which is all but how many frames wait.
+    /// What is listed of a desk's outline, which is all but how many frames wait and the version of the layout.
     pub fn of_outline(outline: Outline<A>) -> Self
         ensures { result
             ≡ record { next = outline.next; numbers = outline.frames; clips = outline.clips } }
@@ -47,6 +47,7 @@ impl<A: Allocator + Copy> Listing<A> {
             frames,
             clips,
             pending: _,
+            version: _,
         } = outline;
         Listing {
             next,
@@ -65,14 +66,23 @@ impl<A: Allocator + Copy> Listing<A> {
 
 // Prints each clip.
 fn print_clips<W: Write>(clips: &[Clip], out: &mut W) -> io::Result<()> {
-    for Clip { id, from, to } in clips {
-        print_line(
+    for Clip { id, from, to, tag } in clips {
+        print_parts(
             out,
             "clip",
             &[(" ", u64::from(*id)), (" ", *from), ("..", *to)],
         )?;
+        print_tag(*tag, out)?;
     }
     Ok(())
+}
+
+// Ends the line of a clip, by its tag where that isn't 0.
+fn print_tag<W: Write>(tag: u64, out: &mut W) -> io::Result<()> {
+    if tag == 0 {
+        return print_line(out, "", &[]);
+    }
+    print_line(out, " tag ", &[("", tag)])
 }
 
 // Prints each longest run of numbers that follow one another.

@@ -1,17 +1,16 @@
 // A formatted store behind a desk, and the frames that a script makes for it.
-ghost use Rattle.std.specs.Prelude.{◌≡◌, ◌⊎◌, ◌↔◌, ◌∷◌, [], Err, IfErr, IfOk, IsTrue, OnErr, false, length};
-ghost use Rattle.loop_desk.specs.Desk.{clip_locked, clip_unlocked, flushed, frame_read};
+ghost use Rattle.std.specs.Prelude.{◌≡◌, ◌⊎◌, ◌↔◌, ◌∷◌, ◌==◌, [], Ok, Err, IfErr, IfOk, IsTrue, OnErr, false, length, not};
+ghost use Rattle.loop_desk.specs.Desk.{clip_locked, clip_unlocked, flushed, frame_read, layout_upgraded};
 ghost use Rattle.loop_desk.specs.Seen.{DeskGoes, TellsOutline};
 ghost use Rattle.loop_record.specs.declared.damage.Damage.TheVariants.{SlotHead};
-ghost use Rattle.loop_record.specs.Geometry.{frame_bytes, is_good};
-ghost use Rattle.loop_record.specs.Recording.{Recording, empty, picture};
+ghost use Rattle.loop_record.specs.Geometry.{disk_size, frame_bytes, is_good};
+ghost use Rattle.loop_record.specs.Recording.{Recording, picture};
 ghost use Rattle.loop_store.specs.Faults.{is_disk};
-ghost use Rattle.loop_store.specs.Make.{IsFormatted};
 ghost use Rattle.loop_store.specs.Reopen.{IsOpened, IsRefusedOpen};
 ghost use Rattle.loop_store.specs.Runs.{read_of};
 ghost use Rattle.loop_store.specs.Seen.{StandsFor};
 ghost use Rattle.loop_script.specs.Pattern.{pattern_picture};
-ghost use Rattle.loop_script.specs.Sessions.{IsNewDesk, RefusesFrame, accepted_after, calls_of_store, calls_of_submit, script_limits};
+ghost use Rattle.loop_script.specs.Sessions.{IsFresh, IsNewDesk, RefusesFrame, accepted_after, calls_of_store, calls_of_submit, script_limits};
 
 use crate::pattern::pattern_frame;
 use loop_desk::{Desk, DeskLimits, Flushed, Outline};
@@ -55,21 +54,28 @@ impl<A: Allocator + Copy> Session<A> {
         ensures bad { (result ≡ Err StoreFault.BadGeometry) ↔ (is_good geometry ≡ false) }
         ensures refusals { IfErr result (λ fault. (fault ≡ StoreFault.BadGeometry)
             ⊎ (fault ≡ StoreFault.NoMemory)) }
-        ensures formatted { IfOk result (λ s. IsFormatted geometry s.desk.store × (s.accepted ≡ 0)) }
-        ensures stands { IfOk result (λ s. StandsFor ⟦<MemDisk<A> as Disk>⟧.medium s.desk.store empty) }
-        ensures desk { IfOk result (λ s. IsNewDesk s.desk) }
+        ensures fresh { IfOk result (IsFresh ⟦<MemDisk<A> as Disk>⟧.medium
+            (record { geometry = geometry; version = 2 })) }
     {
-        match geometry.check() {
-            Ok(()) => (),
-            Err(_) => return Err(StoreFault::BadGeometry),
-        }
-        let disk = MemDisk::new(alloc, geometry.disk_size())?;
+        let disk = disk_for(alloc, &geometry)?;
         match loop_store::format(alloc, disk, geometry) {
             Err(OpenRefused { fault, disk: _ }) => Err(fault),
-            Ok(store) => match desk_before(alloc, store) {
-                Err(fault) => Err(fault),
-                Ok(desk) => Ok(Session { desk, accepted: 0 }),
-            },
+            Ok(store) => session_before(alloc, store, 0),
+        }
+    }
+
+    /// As `format`, in version 1 of the layout.
+    pub fn format_v1(alloc: A, geometry: Geometry) -> Result<Self, StoreFault>
+        ensures bad { (result ≡ Err StoreFault.BadGeometry) ↔ (is_good geometry ≡ false) }
+        ensures refusals { IfErr result (λ fault. (fault ≡ StoreFault.BadGeometry)
+            ⊎ (fault ≡ StoreFault.NoMemory)) }
+        ensures fresh { IfOk result (IsFresh ⟦<MemDisk<A> as Disk>⟧.medium
+            (record { geometry = geometry; version = 1 })) }
+    {
+        let disk = disk_for(alloc, &geometry)?;
+        match loop_store::format_v1(alloc, disk, geometry) {
+            Err(OpenRefused { fault, disk: _ }) => Err(fault),
+            Ok(store) => session_before(alloc, store, 0),
         }
     }
 
@@ -124,16 +130,16 @@ impl<A: Allocator + Copy> Session<A> {
         }
     }
 
-    /// Locks the frames from a number to another; answers the clip's id. It answers ClipEmpty, ClipNotHeld or
-    /// ClipTableFull, and then has changed nothing. A frame that waits isn't held yet.
-    pub fn lock(&mut self, from: u64, to: u64) -> Result<u32, StoreFault>
+    /// Locks the frames from a number to another, with a tag; answers the clip's id. It answers ClipEmpty, ClipNotHeld,
+    /// ClipTableFull or OldLayout, and then has changed nothing. A frame that waits isn't held yet.
+    pub fn lock(&mut self, from: u64, to: u64, tag: u64) -> Result<u32, StoreFault>
         ensures goes { DeskGoes ⟦<MemDisk<A> as Disk>⟧.medium self.old.desk self.new.desk
-            (clip_locked (record { from = from; to = to }) result ∷ []) }
+            (clip_locked (record { from = from; to = to; tag = tag }) result ∷ []) }
         ensures fine { IfErr result (λ fault. is_disk fault ≡ false) }
         ensures unchanged { OnErr result (self.new ≡ self.old) }
         ensures accepted { self.new.accepted ≡ self.old.accepted }
     {
-        self.desk.lock_clip(from, to)
+        self.desk.lock_clip(from, to, tag)
     }
 
     /// Unlocks the clip of an id. It answers NoSuchClip, and then has changed nothing.
@@ -145,6 +151,16 @@ impl<A: Allocator + Copy> Session<A> {
         ensures accepted { self.new.accepted ≡ self.old.accepted }
     {
         self.desk.unlock_clip(id)
+    }
+
+    /// Makes version 2 of a layout of version 1, as `Store::upgrade`, and answers whether it did. It isn't refused.
+    pub fn upgrade(&mut self) -> Result<bool, StoreFault>
+        ensures goes { DeskGoes ⟦<MemDisk<A> as Disk>⟧.medium self.old.desk self.new.desk
+            (layout_upgraded result ∷ []) }
+        ensures answer { result ≡ Ok (not (self.old.desk.store.version == 2)) }
+        ensures accepted { self.new.accepted ≡ self.old.accepted }
+    {
+        self.desk.upgrade()
     }
 
     /// Takes the disk out of the desk and finds the store on it again; what waited is lost, and the frames that were
@@ -174,10 +190,7 @@ impl<A: Allocator + Copy> Session<A> {
                 if store.geometry() != geometry {
                     return Err(StoreFault::BadGeometry);
                 }
-                match desk_before(alloc, store) {
-                    Err(fault) => Err(fault),
-                    Ok(desk) => Ok(Session { desk, accepted }),
-                }
+                session_before(alloc, store, accepted)
             }
         }
     }
@@ -226,16 +239,37 @@ fn next_frame<A: Allocator + Copy>(
     pattern_frame(alloc, spare, &geometry, n)
 }
 
-// A desk before a store, with the limits of a script. It answers NoMemory.
-fn desk_before<A: Allocator + Copy>(
+// A fresh disk of the right size for a geometry. It answers BadGeometry or NoMemory.
+fn disk_for<A: Allocator>(alloc: A, geometry: &Geometry) -> Result<MemDisk<A>, StoreFault>
+    ensures bad { (result ≡ Err StoreFault.BadGeometry) ↔ (is_good geometry.now ≡ false) }
+    ensures refusals { IfErr result (λ fault. (fault ≡ StoreFault.BadGeometry) ⊎ (fault ≡ StoreFault.NoMemory)) }
+    ensures good { IfOk result (λ _. IsTrue (is_good geometry.now)) }
+    ensures size { IfOk result (λ disk. (⟦<MemDisk<A> as Disk>⟧.medium disk).size ≡ disk_size geometry.now) }
+{
+    match geometry.check() {
+        Ok(()) => (),
+        Err(_) => return Err(StoreFault::BadGeometry),
+    }
+    let disk = MemDisk::new(alloc, geometry.disk_size())?;
+    Ok(disk)
+}
+
+// A session before a store, of so many accepted frames. It answers NoMemory.
+fn session_before<A: Allocator + Copy>(
     alloc: A,
     store: Store<MemDisk<A>, A>,
-) -> Result<Desk<MemDisk<A>, A>, StoreFault>
-    ensures made { IfOk result (λ desk. desk ≡ record { store = store; pending = []; limits = script_limits }) }
+    accepted: u64,
+) -> Result<Session<A>, StoreFault>
+    requires good { IsTrue (is_good store.geometry) }
+    requires fine { store.must_reopen ≡ false }
+    ensures made { IfOk result (λ s. s ≡ record {
+      desk = record { store = store; pending = []; limits = script_limits };
+      accepted = accepted;
+    }) }
     ensures refused { IfErr result (λ fault. fault ≡ StoreFault.NoMemory) }
 {
     match Desk::new(alloc, store, LIMITS) {
-        Ok(desk) => Ok(desk),
+        Ok(desk) => Ok(Session { desk, accepted }),
         Err(_) => Err(StoreFault::NoMemory),
     }
 }

@@ -2,9 +2,9 @@
 ghost use Rattle.std.specs.Prelude.{◌≡◌, ◌∷◌, []};
 ghost use Rattle.loop_script.specs.Tasks.{on_file_said, recording_said, task_said};
 
-use crate::command::geometry_in;
+use crate::command::{geometry_in, span_in};
 use crate::number::{number, small_number};
-use loop_record::Geometry;
+use loop_record::{Geometry, Span};
 use std::marker::Model;
 
 /// What the words ask for.
@@ -49,10 +49,12 @@ pub enum FileCommand<'a> {
     Format(Geometry),
     /// `list PATH`: as the line of a script.
     List,
-    /// `lock PATH A B`: as the line of a script.
-    Lock(u64, u64),
+    /// `lock PATH A B T`: as the line of a script.
+    Lock(Span),
     /// `unlock PATH ID`: as the line of a script.
     Unlock(u32),
+    /// `upgrade PATH`: as the line of a script.
+    Upgrade,
     /// `export PATH A B OUT`: the held frames from A to B, as YUV4MPEG2, into the file or pipe OUT.
     Export(u64, u64, &'a str),
 }
@@ -94,7 +96,7 @@ fn read_file_command<'a>(name: &str, words: &[&'a str]) -> Option<FileCommand<'a
         [] => alone(name),
         [id] => with_id(name, id),
         [from, to] => with_range(name, from, to),
-        [from, to, out] => with_target(name, from, to, out),
+        [from, to, third] => with_third(name, from, to, third),
         [width, height, format, rate, segments, slots] if name == "format" => {
             let geometry = geometry_in(width, height, format, rate, segments, slots)?;
             Some(FileCommand::Format(geometry))
@@ -107,10 +109,11 @@ fn read_file_command<'a>(name: &str, words: &[&'a str]) -> Option<FileCommand<'a
 fn alone<'a>(name: &str) -> Option<FileCommand<'a>>
     ensures { result ≡ on_file_said name.now [] }
 {
-    if name == "list" {
-        return Some(FileCommand::List);
+    match name {
+        "list" => Some(FileCommand::List),
+        "upgrade" => Some(FileCommand::Upgrade),
+        _ => None,
     }
-    None
 }
 
 // What a name and one word behind the path ask for.
@@ -130,15 +133,16 @@ fn with_range<'a>(name: &str, from: &'a str, to: &'a str) -> Option<FileCommand<
     if name != "lock" {
         return None;
     }
-    Some(FileCommand::Lock(number(from)?, number(to)?))
+    Some(FileCommand::Lock(span_in(from, to, Some(0))?))
 }
 
 // What a name and three words behind the path ask for.
-fn with_target<'a>(name: &str, from: &'a str, to: &'a str, out: &'a str) -> Option<FileCommand<'a>>
-    ensures { result ≡ on_file_said name.now (from.entry ∷ to.entry ∷ out.entry ∷ []) }
+fn with_third<'a>(name: &str, from: &'a str, to: &'a str, third: &'a str) -> Option<FileCommand<'a>>
+    ensures { result ≡ on_file_said name.now (from.entry ∷ to.entry ∷ third.entry ∷ []) }
 {
-    if name != "export" {
-        return None;
+    match name {
+        "lock" => Some(FileCommand::Lock(span_in(from, to, number(third))?)),
+        "export" => Some(FileCommand::Export(number(from)?, number(to)?, third)),
+        _ => None,
     }
-    Some(FileCommand::Export(number(from)?, number(to)?, out))
 }

@@ -3,10 +3,11 @@ use Rattle.std.proofs.Common.{◌≡◌, inl, inr, ℕ, ◌+◌, ◌-◌, Bool, 
 use Rattle.std.specs.List.{find, range_with_len}
 use Rattle.loop_record.specs.declared.clip.Span.{Span}
 use Rattle.loop_record.specs.declared.geometry.Geometry.{Geometry}
+use Rattle.loop_record.specs.Layout.{has_tag_place}
 use Rattle.loop_record.specs.Recording.{Picture, Recording, Ring, Step, after_step, clip_of, first_free, free_id, lock, needs_recycling, plain, recycling_first, ring_of, store, unlock, victim}
 use Rattle.loop_record.proofs.Steps.{plain-append}
 use Rattle.loop_store.specs.declared.fault.StoreFault.{StoreFault}
-use Rattle.loop_store.specs.declared.fault.StoreFault.TheVariants.{ClipEmpty, ClipNotHeld, ClipTableFull}
+use Rattle.loop_store.specs.declared.fault.StoreFault.TheVariants.{ClipEmpty, ClipNotHeld, ClipTableFull, OldLayout}
 use Rattle.loop_store.specs.Calls.{due, first_of, missing, span_checks}
 use Rattle.loop_store.specs.Place.{RefusesPlace, steps_before}
 use Rattle.loop_store.specs.Steps.{steps_or_none}
@@ -20,10 +21,11 @@ missing-same r t span same = λ i. find (λ n. not (holds-same r t n same i)) (r
 pub free-same : (r t : Recording) → IsSame r t → free_id r ≡ free_id t
 free-same r t same = ap first_free same.clips
 
-pub span-same : (r t : Recording) (span : Span) → IsSame r t → first_of (span_checks r span) ≡ first_of
-    (span_checks t span)
-span-same r t span same = λ i. first_of (due (ltb span.to span.from) ClipEmpty
-    ∷ option_map ClipNotHeld (missing-same r t span same i) ∷ due (eqb (free-same r t same i) 64) ClipTableFull ∷ [])
+pub span-same : (v : ℕ) (r t : Recording) (span : Span) → IsSame r t
+    → first_of (span_checks v r span) ≡ first_of (span_checks v t span)
+span-same v r t span same = λ i. first_of (due (ltb span.to span.from) ClipEmpty
+    ∷ option_map ClipNotHeld (missing-same r t span same i) ∷ due (eqb (free-same r t same i) 64) ClipTableFull
+    ∷ due (not (has_tag_place v span)) OldLayout ∷ [])
 
 pub clip-same : (r t : Recording) (id : ℕ) → IsSame r t → clip_of r id ≡ clip_of t id
 clip-same r t id same = ap (λ (cs : List (Option Span)). get_or cs id None) same.clips

@@ -283,6 +283,7 @@ kept-grown medium old new was now place n j ps must kept fine at placed noted si
   present = λ f honest.
       let back = grew.back honest in record {
         recorded = recorded honest;
+        version = (grew.grown back).version ∙ (kept.present fine back).version ∙ sym noted.version;
         settled = grew.settled back;
         unstray = subst (λ (h : Geometry). HasNoneStray h (medium new).bytes) (sym (ap (λ (x : LoopRing). x.geometry) noted.ring)) (grew.grown back).unstray;
       };
@@ -345,4 +346,7 @@ stands-grown medium old new was now place n j ps must r kept fine stands at plac
           subst (λ (l : List Step). IsIndexOf now (plain (ring_of g) r l) (medium new).bytes) same
           (grown-known medium old new was now n j ps r noted grew back known) in
           after.held;
+      version_is = λ still there.
+          let back = grew.back there in
+          (grew.grown back).version ∙ stands.version_is fine back ∙ sym noted.version;
     }

@@ -38,4 +38,5 @@ failed-stands {D} medium old new r failed stands = record {
   told = failed-told old new r failed stands.told;
   settled = λ fine now. absurd (clash new.must_reopen (ap (λ (s : Seen D). s.must_reopen) failed) fine);
   held = λ fine now. absurd (clash new.must_reopen (ap (λ (s : Seen D). s.must_reopen) failed) fine);
+  version_is = λ fine now. absurd (clash new.must_reopen (ap (λ (s : Seen D). s.must_reopen) failed) fine);
 }

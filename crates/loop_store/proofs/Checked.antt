@@ -1,12 +1,12 @@
--- What the checks (ring_of of) a call say of its answer.
+-- What the checks of a call say of its answer.
 use Rattle.std.proofs.Common.{◌≡◌, ◌⊎◌, inl, inr, Bool, true, false, Option, Some, None, Ok, Err, List, [], ◌∷◌, refl, sym, ◌∙◌, subst}
 use Rattle.loop_record.specs.declared.geometry.Geometry.{Geometry}
 use Rattle.loop_store.specs.declared.fault.StoreFault.{StoreFault}
 use Rattle.loop_store.specs.declared.fault.StoreFault.TheVariants as kind
 use Rattle.loop_store.specs.Faults.{is_disk, is_write_fault}
 use Rattle.loop_store.specs.declared.fault.StoreFault.TheVariants.{MustReopen}
-use Rattle.loop_record.specs.Recording.{Recording, ring_of}
-use Rattle.loop_store.specs.Calls.{AnswersDue, AreAnswered, Call, IsAnswered, AnswersOtherwise, StoreState, after_store_call, appended, locked, unlocked, was_read, was_read_part, checks, checks_on, due, fault_answered, first_of}
+use Rattle.loop_record.specs.Recording.{ring_of}
+use Rattle.loop_store.specs.Calls.{AnswersDue, AreAnswered, Call, IsAnswered, AnswersOtherwise, StoreState, after_store_call, appended, locked, unlocked, was_read, was_read_part, upgraded, checks, checks_on, due, fault_answered, first_of}
 
 -- ---- which is the first
 
@@ -69,57 +69,59 @@ refused o c Given fault first is = subst (λ (x : Option StoreFault). AnswersDue
 -- each call is refused so
 pub must-first : (g : Geometry) (s : StoreState) (c : Call) → s.must_reopen ≡ true
     → first_of (checks (ring_of g) s c) ≡ Some MustReopen
-must-first g s c must = failed s.must_reopen MustReopen (checks_on (ring_of g) s.recording c) must
+must-first g s c must = failed s.must_reopen MustReopen (checks_on (ring_of g) s c) must
 
 pub must-answer : (H : Type 0) (g : Geometry) (s : StoreState) (c : Call) → s.must_reopen ≡ true
     → IsAnswered H (ring_of g) s c
     → fault_answered c ≡ Some MustReopen
 must-answer H g s c must said = go (first_of (checks (ring_of g) s c)) (must-first g s c must) said
   where
-    go : (o : Option StoreFault) → o ≡ Some MustReopen → AnswersDue o c (AnswersOtherwise H s.recording c)
+    go : (o : Option StoreFault) → o ≡ Some MustReopen → AnswersDue o c (AnswersOtherwise H s c)
         → fault_answered c ≡ Some MustReopen
     go None e x = absurd cc
     go (Some fault) e x = x ∙ e
 
--- where it needn't, the checks (ring_of on) what is recorded decide
+-- where it needn't, the checks on what is recorded decide
 pub fine-first : (g : Geometry) (s : StoreState) (c : Call) → s.must_reopen ≡ false
-    → first_of (checks (ring_of g) s c) ≡ first_of (checks_on (ring_of g) s.recording c)
-fine-first g s c fine = passed s.must_reopen MustReopen (checks_on (ring_of g) s.recording c) fine
+    → first_of (checks (ring_of g) s c) ≡ first_of (checks_on (ring_of g) s c)
+fine-first g s c fine = passed s.must_reopen MustReopen (checks_on (ring_of g) s c) fine
 
 pub answer-given : (H : Type 0) (g : Geometry) (s : StoreState) (c : Call) → s.must_reopen ≡ false
-    → first_of (checks_on (ring_of g) s.recording c) ≡ None → AnswersOtherwise H s.recording c → IsAnswered H (ring_of g) s c
-answer-given H g s c fine none is = given (first_of (checks (ring_of g) s c)) c (AnswersOtherwise H s.recording c) (fine-first g s c fine ∙ none) is
+    → first_of (checks_on (ring_of g) s c) ≡ None → AnswersOtherwise H s c → IsAnswered H (ring_of g) s c
+answer-given H g s c fine none is = given (first_of (checks (ring_of g) s c)) c (AnswersOtherwise H s c) (fine-first g s c fine ∙ none) is
 
 pub answer-due : (H : Type 0) (g : Geometry) (s : StoreState) (c : Call) (fault : StoreFault) → s.must_reopen ≡ false
-    → first_of (checks_on (ring_of g) s.recording c) ≡ Some fault → fault_answered c ≡ Some fault → IsAnswered H (ring_of g) s c
+    → first_of (checks_on (ring_of g) s c) ≡ Some fault → fault_answered c ≡ Some fault → IsAnswered H (ring_of g) s c
 answer-due H g s c fault fine first is = refused (first_of (checks (ring_of g) s c)) c
-    (AnswersOtherwise H s.recording c) fault (fine-first g s c fine ∙ first) is
+    (AnswersOtherwise H s c) fault (fine-first g s c fine ∙ first) is
 
 -- ---- honest disks
 
-otherwise-as : (H K : Type 0) (r : Recording) (c : Call) → (K → H) → AnswersOtherwise H r c → AnswersOtherwise K r c
-otherwise-as H K r (appended group (Ok number)) f x = x
-otherwise-as H K r (locked span (Ok id)) f x = x
-otherwise-as H K r (unlocked id (Ok done)) f x = x
-otherwise-as H K r (was_read number (Ok read)) f x = λ k. x (f k)
-otherwise-as H K r (was_read_part number at (Ok bytes)) f x = λ k. x (f k)
-otherwise-as H K r (was_read number (Err fault)) f (inl x) = inl x
-otherwise-as H K r (was_read number (Err fault)) f (inr (inl x)) = inr (inl x)
-otherwise-as H K r (was_read number (Err fault)) f (inr (inr x)) = inr (inr (x.0, λ k. x.1 (f k)))
-otherwise-as H K r (was_read_part number at (Err fault)) f (inl x) = inl x
-otherwise-as H K r (was_read_part number at (Err fault)) f (inr x) = inr (x.0, λ k. x.1 (f k))
-otherwise-as H K r (appended group (Err fault)) f x = x
-otherwise-as H K r (locked span (Err fault)) f x = x
-otherwise-as H K r (unlocked id (Err fault)) f x = x
+otherwise-as : (H K : Type 0) (s : StoreState) (c : Call) → (K → H) → AnswersOtherwise H s c → AnswersOtherwise K s c
+otherwise-as H K s (appended group (Ok number)) f x = x
+otherwise-as H K s (locked span (Ok id)) f x = x
+otherwise-as H K s (unlocked id (Ok done)) f x = x
+otherwise-as H K s (was_read number (Ok read)) f x = λ k. x (f k)
+otherwise-as H K s (was_read_part number at (Ok bytes)) f x = λ k. x (f k)
+otherwise-as H K s (was_read number (Err fault)) f (inl x) = inl x
+otherwise-as H K s (was_read number (Err fault)) f (inr (inl x)) = inr (inl x)
+otherwise-as H K s (was_read number (Err fault)) f (inr (inr x)) = inr (inr (x.0, λ k. x.1 (f k)))
+otherwise-as H K s (was_read_part number at (Err fault)) f (inl x) = inl x
+otherwise-as H K s (was_read_part number at (Err fault)) f (inr x) = inr (x.0, λ k. x.1 (f k))
+otherwise-as H K s (appended group (Err fault)) f x = x
+otherwise-as H K s (locked span (Err fault)) f x = x
+otherwise-as H K s (unlocked id (Err fault)) f x = x
+otherwise-as H K s (upgraded (Ok made)) f x = x
+otherwise-as H K s (upgraded (Err fault)) f x = x
 
 -- an answer of one disk is one of another that is honest only where the first is
 pub answered-as : (H K : Type 0) (g : Geometry) (s : StoreState) (c : Call) → (K → H) → IsAnswered H (ring_of g) s c
     → IsAnswered K (ring_of g) s c
 answered-as H K g s c f said = go (first_of (checks (ring_of g) s c)) said
   where
-    go : (o : Option StoreFault) → AnswersDue o c (AnswersOtherwise H s.recording c)
-        → AnswersDue o c (AnswersOtherwise K s.recording c)
-    go None x = otherwise-as H K s.recording c f x
+    go : (o : Option StoreFault) → AnswersDue o c (AnswersOtherwise H s c)
+        → AnswersDue o c (AnswersOtherwise K s c)
+    go None x = otherwise-as H K s c f x
     go (Some fault) x = x
 
 pub are-answered-as : (H K : Type 0) (g : Geometry) (s : StoreState) (calls : List Call) → (K → H)
@@ -148,3 +150,4 @@ write-disk kind.PendingFull e = absurd cc
 write-disk kind.WrongSize e = absurd cc
 write-disk kind.HandFull e = absurd cc
 write-disk kind.HandEmpty e = absurd cc
+write-disk kind.OldLayout e = absurd cc

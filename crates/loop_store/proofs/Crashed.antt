@@ -4,6 +4,7 @@ use Rattle.loop_disk.specs.Medium.{Medium}
 use Rattle.loop_record.specs.declared.damage.LayoutFault.{LayoutFault}
 use Rattle.loop_record.specs.declared.frame.FrameHead.{FrameHead}
 use Rattle.loop_record.specs.declared.geometry.Geometry.{Geometry}
+use Rattle.loop_record.specs.Layout.{version_in}
 use Rattle.loop_record.specs.Reading.{Contents, Holds}
 use Rattle.loop_record.specs.Recording.{holds, ring_of}
 use Rattle.loop_store.specs.declared.fault.StoreFault.{StoreFault}
@@ -39,6 +40,7 @@ opened-same medium other old new image s stands fine honest left opened still =
       geometry = ap (λ (x : Contents). x.geometry) one;
       stands = record {
         recording = subst (λ (x : Contents). StandsFor other new x.recording) one opened.stands;
+        version = sym opened.version_is ∙ ap version_in same ∙ stands.recording.version_is kept honest ∙ stands.version;
         must_reopen = still ∙ sym fine;
       };
     }
@@ -52,7 +54,7 @@ read-held H g s number (Ok h) out honest fine there said =
     (H → IsHeldFrame s.recording number h out) said refl).1 honest
 read-held H g s number (Err fault) out honest fine there said =
     go (due-some (first_of (checks (ring_of g) s (was_read number (Err fault)))) (was_read number (Err fault))
-    (AnswersOtherwise H s.recording (was_read number (Err fault))) said)
+    (AnswersOtherwise H s (was_read number (Err fault))) said)
   where
     none : first_of (checks (ring_of g) s (was_read number (Err fault))) ≡ None
     none = passed s.must_reopen MustReopen _ fine ∙ passed (not (holds s.recording number)) NotHeld [] (ap not there)
@@ -61,7 +63,7 @@ read-held H g s number (Err fault) out honest fine there said =
     apart e = absurd cc
 
     go : (first_of (checks (ring_of g) s (was_read number (Err fault))) ≡ Some fault)
-        ⊎ ((first_of (checks (ring_of g) s (was_read number (Err fault))) ≡ None) × AnswersOtherwise H s.recording
+        ⊎ ((first_of (checks (ring_of g) s (was_read number (Err fault))) ≡ None) × AnswersOtherwise H s
         (was_read number (Err fault))) → (fault ≡ NoMemory) ⊎ (is_disk fault ≡ true)
     go (inl e) = absurd (apart (sym none ∙ e))
     go (inr x) = failed x.1

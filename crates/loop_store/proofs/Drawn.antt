@@ -12,33 +12,24 @@ use Rattle.byteorder.specs.Endian.{little_from}
 use Rattle.byteorder.specs.Numbers.{little_number-reads_back}
 use Rattle.loop_record.specs.declared.clip.Span.{Span}
 use Rattle.loop_record.specs.declared.geometry.Geometry.{Geometry}
-use Rattle.loop_record.specs.declared.geometry.PixelFormat.{PixelFormat}
-use Rattle.loop_record.specs.declared.geometry.PixelFormat.TheVariants.{Grey, Ym12, Ym16, Ym24}
 use Rattle.loop_record.specs.declared.segment.SegmentHead.{SegmentHead}
 use Rattle.loop_record.specs.Geometry.{clip_at, disk_size, frame_bytes, is_good, segment_at, segment_size, slot_at, slot_size}
-use Rattle.loop_record.specs.Layout.{Slot, Segment, clip_in, entry_bytes, geometry_in, header_at, header_bytes, is_open, is_slot_of, open_gates, segment_in, slot_bytes, slot_in, super_bytes, whole_frames}
+use Rattle.loop_record.specs.Layout.{Slot, Segment, clip_in, entry_at, entry_bytes, entry_fields, version_in, geometry_in, header_at, header_bytes, is_open, is_slot_of, open_gates, segment_in, slot_bytes, slot_in, super_bytes, whole_frames}
+use Rattle.loop_record.specs.Laws.{FitsEntry}
 use Rattle.loop_record.specs.Reading.{by_block, hold_from, is_bad_slot, open_segments, parts_of}
 use Rattle.loop_record.proofs.Bounds.{limits}
 use Rattle.loop_record.proofs.Decided.{at_most_test, equal_test, not_below_test}
 use Rattle.loop_record.proofs.Fields.{moved_number}
-use Rattle.loop_record.proofs.Framing.{map_range}
+use Rattle.loop_record.proofs.Framing.{map_range, moved_entry}
+use Rattle.loop_record.proofs.Fresh.{written-entry}
 use Rattle.loop_record.proofs.Gates.{open_gates-are, slots_from}
 use Rattle.loop_record.proofs.Segments.{any-by_block}
-use Rattle.loop_record.proofs.Written.{geometry_in-super_bytes}
+use Rattle.loop_record.proofs.Written.{geometry_in-super_bytes, length-super_bytes, version_in-super_bytes}
 use Rattle.loop_ring.specs.Heads.{heads_of}
 use Rattle.loop_ring.proofs.Bytes.{closed_none}
-use Rattle.loop_store.specs.Drawn.{blank, drawn_image, drawn_byte, entry_byte, segment_byte, slot_byte}
+use Rattle.loop_store.specs.Drawn.{blank, drawn_image, drawn_byte, drawn_super, entry_byte, segment_byte, slot_byte}
 
 -- ---- its bytes
-
-super_sized : (f : PixelFormat) (g : Geometry) → length (super_bytes (record g { format = f })) ≡ 512
-super_sized Grey g = refl
-super_sized Ym12 g = refl
-super_sized Ym16 g = refl
-super_sized Ym24 g = refl
-
-pub super-length : (g : Geometry) → length (super_bytes g) ≡ 512
-super-length g = super_sized g.format g
 
 abbrev pub Heads : Type 0
 Heads = List (Option SegmentHead)
@@ -49,24 +40,28 @@ Clips = List (Option Span)
 pub drawn-length : (g : Geometry) (heads : Heads) (clips : Clips) → length (drawn_image g heads clips) ≡ disk_size g
 drawn-length g heads clips = omega (
   arith,
-  length-append (super_bytes g) (map (drawn_byte g heads clips) (range_with_len 512 (disk_size g - 512))),
-  super-length g,
+  length-append (super_bytes (drawn_super g))
+      (map (drawn_byte g heads clips) (range_with_len 512 (disk_size g - 512))),
+  length-super_bytes (drawn_super g),
   length-map-range_with_len (drawn_byte g heads clips) 512 (disk_size g - 512),
 )
 
 pub drawn-geometry : (g : Geometry) (heads : Heads) (clips : Clips) → IsTrue (is_good g)
     → geometry_in (drawn_image g heads clips) ≡ Ok g
-drawn-geometry g heads clips good = geometry_in-super_bytes g (map (drawn_byte g heads clips) (range_with_len 512 (disk_size g - 512))) good
+drawn-geometry g heads clips good = geometry_in-super_bytes (drawn_super g) (map (drawn_byte g heads clips) (range_with_len 512 (disk_size g - 512))) good
 
 pub byte-front : (g : Geometry) (heads : Heads) (clips : Clips) (k : ℕ) → k < 512
-    → get_or (drawn_image g heads clips) k 0 ≡ get_or (super_bytes g) k 0
-byte-front g heads clips k l = get_or_append_left (super_bytes g)
-    (map (drawn_byte g heads clips) (range_with_len 512 (disk_size g - 512))) 0 k (omega (arith, l, super-length g))
+    → get_or (drawn_image g heads clips) k 0 ≡ get_or (super_bytes (drawn_super g)) k 0
+byte-front g heads clips k l = get_or_append_left (super_bytes (drawn_super g))
+    (map (drawn_byte g heads clips) (range_with_len 512 (disk_size g - 512))) 0 k
+    (omega (arith, l, length-super_bytes (drawn_super g)))
 
 pub byte-behind : (g : Geometry) (heads : Heads) (clips : Clips) (k : ℕ) → 512 ≤ k → k < disk_size g
     → get_or (drawn_image g heads clips) k 0 ≡ drawn_byte g heads clips k
 byte-behind g heads clips k low high =
-    get_or-append_right (super_bytes g) (map (drawn_byte g heads clips) (range_with_len 512 (disk_size g - 512))) 512 k 0 (super-length g) low
+    get_or-append_right (super_bytes (drawn_super g))
+    (map (drawn_byte g heads clips) (range_with_len 512 (disk_size g - 512))) 512 k 0
+    (length-super_bytes (drawn_super g)) low
     ∙ get_or-map-range_with_len (drawn_byte g heads clips) 512 (disk_size g - 512) (k - 512) k 0 (omega (arith, low, high)) (omega (arith, low))
 
 -- ---- its segments
@@ -358,45 +353,31 @@ closed-entry g heads clips id l none =
     ∙ ap (λ (b : ℕ). eqb b 0xA5) (byte-clip g heads clips id 0 l (omega arith)
     ∙ ap (λ (o : Option Span). entry_byte o 0) none)
 
--- a clip whose numbers an entry takes
-abbrev pub FitsEntry : Option Span → Type 0
-FitsEntry None = Unit {0}
-FitsEntry (Some s) = (s.from < 2 ^ 64) × (s.to < 2 ^ 64)
+-- a clip that has room in an entry of version 2
+abbrev pub FitsDrawn : Option Span → Type 0
+FitsDrawn None = Unit {0}
+FitsDrawn (Some s) = FitsEntry 2 s
+
+drawn-version : (g : Geometry) (heads : Heads) (clips : Clips) → version_in (drawn_image g heads clips) ≡ 2
+drawn-version g heads clips = version_in-super_bytes (drawn_super g) (map (drawn_byte g heads clips) (range_with_len 512 (disk_size g - 512))) (inr refl)
 
 pub clip-drawn : (g : Geometry) (heads : Heads) (clips : Clips) (id : ℕ) (c : Option Span) → id < 64
-    → get_or clips id None ≡ c → FitsEntry c → clip_in (drawn_image g heads clips) id ≡ c
-clip-drawn g heads clips id c l is fits = go c refl fits
+    → get_or clips id None ≡ c → FitsDrawn c → clip_in (drawn_image g heads clips) id ≡ c
+clip-drawn g heads clips id c l is fits = ap (λ (v : ℕ). entry_at v image (clip_at id)) (drawn-version g heads clips) ∙ go c refl fits
   where
     image : List ℕ
     image = drawn_image g heads clips
 
-    at : clip_at id ≡ clip_at id + 0
-    at = omega arith
-
     byte : (o : ℕ) → o < 32 → get_or image (clip_at id + o) 0 ≡ entry_byte c o
     byte o u = byte-clip g heads clips id o l u ∙ ap (λ (x : Option Span). entry_byte x o) is
 
-    gate : is_open image (clip_at id) ≡ eqb (entry_byte c 0) 0xA5
-    gate = ap (λ (k : ℕ). is_open image k) at ∙ ap (λ (b : ℕ). eqb b 0xA5) (byte 0 (omega arith))
-
-    go : (x : Option Span) → c ≡ x → FitsEntry x → clip_in image id ≡ x
-    go None e fits = let closed : is_open image (clip_at id) ≡ false = gate
-        ∙ ap (λ (y : Option Span). eqb (entry_byte y 0) 0xA5) e in
-        λ i. cond (closed i) (Some (record {
-          from = little_from (clip_at id + 8) 8 image;
-          to =
-              little_from (clip_at id + 16) 8 image;
-        })) None
+    go : (x : Option Span) → c ≡ x → FitsDrawn x → entry_at 2 image (clip_at id) ≡ x
+    go None e fits =
+        let at : clip_at id ≡ clip_at id + 0 = omega arith in
+        let closed : is_open image (clip_at id) ≡ false = ap (λ (k : ℕ). is_open image k) at
+        ∙ ap (λ (b : ℕ). eqb b 0xA5) (byte 0 (omega arith) ∙ ap (λ (y : Option Span). entry_byte y 0) e) in
+        λ i. cond (closed i) (Some (entry_fields 2 image (clip_at id))) None
     go (Some s) e fits =
-        let opens : is_open image (clip_at id) ≡ true = gate ∙ ap (λ (y : Option Span). eqb (entry_byte y 0) 0xA5) e in
-        let from : little_from (clip_at id + 8) 8 image ≡ s.from =
-        moved_number 8 (clip_at id + 8) 8 image (entry_bytes s) (λ k u.
-        let there : clip_at id + 8 + k ≡ clip_at id + (8 + k) = omega arith in
-        ap (λ (n : ℕ). get_or image n 0) there ∙ byte (8 + k) (omega (arith, u))
-        ∙ ap (λ (y : Option Span). entry_byte y (8 + k)) e) ∙ little_number-reads_back 8 s.from [] fits.0 in
-        let to : little_from (clip_at id + 16) 8 image ≡ s.to =
-        moved_number 8 (clip_at id + 16) 16 image (entry_bytes s) (λ k u.
-        let there : clip_at id + 16 + k ≡ clip_at id + (16 + k) = omega arith in
-        ap (λ (n : ℕ). get_or image n 0) there ∙ byte (16 + k) (omega (arith, u))
-        ∙ ap (λ (y : Option Span). entry_byte y (16 + k)) e) ∙ little_number-reads_back 8 s.to [] fits.1 in
-        λ i. cond (opens i) (Some (record { from = from i; to = to i })) None
+        moved_entry 2 (clip_at id) 0 image (entry_bytes s) (λ k u.
+        let at : k ≡ 0 + k = omega arith in
+        byte k u ∙ ap (λ (y : Option Span). entry_byte y k) e ∙ ap (λ (x : ℕ). get_or (entry_bytes s) x 0) at) ∙ written-entry 2 s fits

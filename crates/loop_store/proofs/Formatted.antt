@@ -11,14 +11,13 @@ use Rattle.loop_disk.specs.Steps.{Stores}
 use Rattle.loop_disk.proofs.Images.{get_or-written_there, written_outside}
 use Rattle.loop_disk.proofs.Moments.{started, goes_on, joined, stored, weaker}
 use Rattle.loop_record.specs.declared.damage.LayoutFault.TheVariants.{NotFormatted}
-use Rattle.loop_record.specs.declared.geometry.Geometry.{Geometry}
-use Rattle.loop_record.specs.declared.geometry.PixelFormat.{PixelFormat}
-use Rattle.loop_record.specs.declared.geometry.PixelFormat.TheVariants.{Grey, Ym12, Ym16, Ym24}
+use Rattle.loop_record.specs.declared.superblock.SuperHead.{SuperHead}
 use Rattle.loop_record.specs.Geometry.{clip_at, is_good, segment_at}
-use Rattle.loop_record.specs.Layout.{checked_geometry, format_at, has_bytes, is_open, magic, super_bytes}
+use Rattle.loop_record.specs.Layout.{IsVersion, checked_geometry, format_at, has_bytes, is_open, magic, super_bytes}
 use Rattle.loop_record.specs.Reading.{IsFreshImage, contents, reading}
 use Rattle.loop_record.proofs.Decided.{equal}
 use Rattle.loop_record.proofs.Fresh.{reading-fresh}
+use Rattle.loop_record.proofs.Written.{length-super_bytes}
 use Rattle.loop_store.specs.Fresh.{LeavesClosed, IsClosed, IsLaid, WasOrClosed}
 use Rattle.loop_store.specs.Make.{NoneOrEmpty, WasOrEmpty}
 
@@ -33,70 +32,65 @@ closed-none image closed = λ i. contents image (cond (all i) (checked_geometry 
     all : (leb 512 (length image) && is_open image 0 && has_bytes image 1 magic) ≡ false
     all = (λ i. leb 512 (length image) && closed i && has_bytes image 1 magic) ∙ go (leb 512 (length image)) (has_bytes image 1 magic)
 
-super_length : (f : PixelFormat) (g : Geometry) → length (super_bytes (record g { format = f })) ≡ 512
-super_length Grey g = refl
-super_length Ym12 g = refl
-super_length Ym16 g = refl
-super_length Ym24 g = refl
-
 -- what was laid out, with its gate open
-pub opened-fresh : (g : Geometry) (old c : List ℕ) → IsLaid g g.segments old → SameOutside 0 1 old c
-    → is_open c 0 ≡ true → IsFreshImage g c
-opened-fresh g old c laid torn gate = record {
+pub opened-fresh : (h : SuperHead) (old c : List ℕ) → IsLaid h h.geometry.segments old → SameOutside 0 1 old c
+    → is_open c 0 ≡ true → IsFreshImage h c
+opened-fresh h old c laid torn gate = record {
   size = torn.size ∙ laid.size;
-  superblock = ext_get_or 0 (take 512 c) (super_bytes g) (omega (arith, length-take 512 c, torn.size, laid.size, super_size)) (λ i l.
+  superblock = ext_get_or 0 (take 512 c) (super_bytes h) (omega (arith, length-take 512 c, torn.size, laid.size, super_size)) (λ i l.
       let within : i < 512 = omega (arith, l, length-take 512 c) in
       get_or-take 512 c i 0 within ∙ place i within (cases_lt i 1));
   clips = λ id l. ap (λ (b : ℕ). eqb b 165) (torn.behind (clip_at id) (omega arith)) ∙ laid.clips id l;
-  segments = λ j l. ap (λ (b : ℕ). eqb b 165) (torn.behind (segment_at g j) (omega arith)) ∙ laid.segments j l;
+  segments = λ j l. ap (λ (b : ℕ). eqb b 165) (torn.behind (segment_at h.geometry j) (omega arith)) ∙ laid.segments j l;
 }
   where
-    super_size : length (super_bytes g) ≡ 512
-    super_size = super_length g.format g
+    super_size : length (super_bytes h) ≡ 512
+    super_size = length-super_bytes h
 
-    first : get_or (super_bytes g) 0 0 ≡ 165
+    first : get_or (super_bytes h) 0 0 ≡ 165
     first = refl
 
-    place : (i : ℕ) → i < 512 → (i < 1) ⊎ (1 ≤ i) → get_or c i 0 ≡ get_or (super_bytes g) i 0
-    place i h (inl l) =
+    place : (i : ℕ) → i < 512 → (i < 1) ⊎ (1 ≤ i) → get_or c i 0 ≡ get_or (super_bytes h) i 0
+    place i below (inl l) =
         let zero_is : i ≡ 0 = omega (arith, l) in
-        ap (λ (k : ℕ). get_or c k 0) zero_is ∙ equal (get_or c 0 0) 165 gate ∙ sym first ∙ ap (λ (k : ℕ). get_or (super_bytes g) k 0) (sym zero_is)
-    place i h (inr l) =
+        ap (λ (k : ℕ). get_or c k 0) zero_is ∙ equal (get_or c 0 0) 165 gate ∙ sym first ∙ ap (λ (k : ℕ). get_or (super_bytes h) k 0) (sym zero_is)
+    place i below (inr l) =
         let at : 1 + (i - 1) ≡ i = omega (arith, l) in
         torn.behind i (omega (arith, l)) ∙ ap (λ (k : ℕ). get_or old k 0) (sym at)
-        ∙ sym (get_or-take 511 (drop 1 old) (i - 1) 0 (omega (arith, l, h)) ∙ get_or-drop 1 old (i - 1) 0)
-        ∙ ap (λ (b : List ℕ). get_or b (i - 1) 0) laid.superblock ∙ get_or-drop 1 (super_bytes g) (i - 1) 0 ∙ ap (λ (k : ℕ). get_or (super_bytes g) k 0) at
+        ∙ sym (get_or-take 511 (drop 1 old) (i - 1) 0 (omega (arith, l, below)) ∙ get_or-drop 1 old (i - 1) 0)
+        ∙ ap (λ (b : List ℕ). get_or b (i - 1) 0) laid.superblock ∙ get_or-drop 1 (super_bytes h) (i - 1) 0 ∙ ap (λ (k : ℕ). get_or (super_bytes h) k 0) at
 
 -- an image in which the gate may be torn
-opening-torn : (g : Geometry) (old c : List ℕ) → IsTrue (is_good g) → IsLaid g g.segments old → SameOutside 0 1 old c → NoneOrEmpty g c
-opening-torn g old c good laid torn = go (is_open c 0) refl
+opening-torn : (h : SuperHead) (old c : List ℕ) → IsVersion h.version → IsTrue (is_good h.geometry) → IsLaid h h.geometry.segments old → SameOutside 0 1 old c → NoneOrEmpty h c
+opening-torn h old c is good laid torn = go (is_open c 0) refl
   where
-    go : (t : Bool) → is_open c 0 ≡ t → NoneOrEmpty g c
-    go true e = inr (reading-fresh g c good (opened-fresh g old c laid torn e))
+    go : (t : Bool) → is_open c 0 ≡ t → NoneOrEmpty h c
+    go true e = inr (reading-fresh h c is good (opened-fresh h old c laid torn e))
     go false e = inl (closed-none c e)
 
-pub opening-moments : {T : Type 0} (g : Geometry) (old new : Medium) (r : Result T DiskFault) → IsTrue (is_good g)
-    → IsSettled old → IsLaid g g.segments old.bytes → Stores 0 (165 ∷ []) old new r → LeavesOnly old new (NoneOrEmpty g)
-opening-moments g old new r good settled laid stores = stored 0 (165 ∷ []) old new r (NoneOrEmpty g) settled stores (λ c torn. opening-torn g old.bytes c good laid torn)
+pub opening-moments : {T : Type 0} (h : SuperHead) (old new : Medium) (r : Result T DiskFault) → IsVersion h.version
+    → IsTrue (is_good h.geometry) → IsSettled old → IsLaid h h.geometry.segments old.bytes
+    → Stores 0 (165 ∷ []) old new r → LeavesOnly old new (NoneOrEmpty h)
+opening-moments h old new r is good settled laid stores = stored 0 (165 ∷ []) old new r (NoneOrEmpty h) settled stores (λ c torn. opening-torn h old.bytes c is good laid torn)
 
-pub opening-fresh : {T : Type 0} (g : Geometry) (old new : Medium) (r : Result T DiskFault)
-    → IsLaid g g.segments old.bytes → Stores 0 (165 ∷ []) old new r → OnOk r (IsFreshImage g new.bytes)
-opening-fresh g old new r laid stores =
+pub opening-fresh : {T : Type 0} (h : SuperHead) (old new : Medium) (r : Result T DiskFault)
+    → IsLaid h h.geometry.segments old.bytes → Stores 0 (165 ∷ []) old new r → OnOk r (IsFreshImage h new.bytes)
+opening-fresh h old new r laid stores =
     let fits : 0 + 1 ≤ length old.bytes = omega (arith, laid.size) in
     let gate : get_or (with_bytes_at 0 (165 ∷ []) old.bytes) 0 0 ≡ 165 = get_or-written_there 0 (165 ∷ []) old.bytes 0 (omega arith) (omega arith) in
     on_ok_weaker r (λ (done : new.bytes ≡ with_bytes_at 0 (165 ∷ []) old.bytes). subst
-    (λ (image : List ℕ). IsFreshImage g image) (sym done)
-    (opened-fresh g old.bytes (with_bytes_at 0 (165 ∷ []) old.bytes) laid
+    (λ (image : List ℕ). IsFreshImage h image) (sym done)
+    (opened-fresh h old.bytes (with_bytes_at 0 (165 ∷ []) old.bytes) laid
     (written_outside 0 (165 ∷ []) old.bytes fits) (ap (λ (b : ℕ). eqb b 165) gate))) stores.done
 
 -- ---- the whole
 
 -- a sync behind a closed gate
-pub sync-none : (g : Geometry) (old new : Medium) → IsSound old → LeavesClosed old → Stays old new
-    → LeavesOnly old new (NoneOrEmpty g)
-sync-none g old new sound closed stays =
-    goes_on old old new (NoneOrEmpty g) old.may_leave
-    (started old (NoneOrEmpty g) sound (λ c left. inl (closed-none c (closed c left)))) stays.time
+pub sync-none : (h : SuperHead) (old new : Medium) → IsSound old → LeavesClosed old → Stays old new
+    → LeavesOnly old new (NoneOrEmpty h)
+sync-none h old new sound closed stays =
+    goes_on old old new (NoneOrEmpty h) old.may_leave
+    (started old (NoneOrEmpty h) sound (λ c left. inl (closed-none c (closed c left)))) stays.time
     (λ c left. inl (closed-none c (closed c left)))
 
 -- what closed the gate, and then a write behind it
@@ -104,16 +98,16 @@ pub closed-on : (old mid new : Medium) → LeavesOnly old mid (WasOrClosed old) 
     → LeavesOnly old new (WasOrClosed old)
 closed-on old mid new first second = joined old mid new (WasOrClosed old) first (weaker mid new IsClosed (WasOrClosed old) second (λ c closed. inr closed))
 
-pub closed-or_empty : (g : Geometry) (old new : Medium) → LeavesOnly old new (WasOrClosed old)
-    → LeavesOnly old new (WasOrEmpty g old)
-closed-or_empty g old new run = weaker old new (WasOrClosed old) (WasOrEmpty g old) run go
+pub closed-or_empty : (h : SuperHead) (old new : Medium) → LeavesOnly old new (WasOrClosed old)
+    → LeavesOnly old new (WasOrEmpty h old)
+closed-or_empty h old new run = weaker old new (WasOrClosed old) (WasOrEmpty h old) run go
   where
-    go : (c : List ℕ) → WasOrClosed old c → WasOrEmpty g old c
+    go : (c : List ℕ) → WasOrClosed old c → WasOrEmpty h old c
     go c (inl left) = inl left
     go c (inr closed) = inr (inl (closed-none c closed))
 
 -- and then what opened it
-pub empty-on : (g : Geometry) (old mid new : Medium) → LeavesOnly old mid (WasOrClosed old)
-    → LeavesOnly mid new (NoneOrEmpty g) → LeavesOnly old new (WasOrEmpty g old)
-empty-on g old mid new first second = joined old mid new (WasOrEmpty g old) (closed-or_empty g old mid first)
-    (weaker mid new (NoneOrEmpty g) (WasOrEmpty g old) second (λ c none. inr none))
+pub empty-on : (h : SuperHead) (old mid new : Medium) → LeavesOnly old mid (WasOrClosed old)
+    → LeavesOnly mid new (NoneOrEmpty h) → LeavesOnly old new (WasOrEmpty h old)
+empty-on h old mid new first second = joined old mid new (WasOrEmpty h old) (closed-or_empty h old mid first)
+    (weaker mid new (NoneOrEmpty h) (WasOrEmpty h old) second (λ c none. inr none))

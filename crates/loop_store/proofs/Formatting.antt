@@ -9,7 +9,7 @@ use Rattle.loop_disk.specs.Medium.{Medium, IsSound, IsSettled, LeavesOnly, SameO
 use Rattle.loop_disk.specs.Steps.{Stores}
 use Rattle.loop_disk.proofs.Images.{get_or-written_before, get_or-written_there, length-written, get_or-piece}
 use Rattle.loop_disk.proofs.Moments.{each_now, started, goes_on, joined, stored}
-use Rattle.loop_record.specs.declared.geometry.Geometry.{Geometry}
+use Rattle.loop_record.specs.declared.superblock.SuperHead.{SuperHead}
 use Rattle.loop_record.specs.Geometry.{clip_at, disk_size, segment_at}
 use Rattle.loop_record.specs.Layout.{is_open, super_bytes}
 use Rattle.loop_record.proofs.Decided.{differ_test, equal}
@@ -77,11 +77,11 @@ writing-closed at bytes old new r behind sound closed writes =
 -- ---- the bytes
 
 -- the superblock and the clip table
-pub laid-front : (g : Geometry) (bytes old : List ℕ) → length bytes ≡ 2559 → length old ≡ disk_size g
-    → ((i : ℕ) → i < 511 → get_or bytes i 0 ≡ get_or (super_bytes g) (i + 1) 0)
+pub laid-front : (h : SuperHead) (bytes old : List ℕ) → length bytes ≡ 2559 → length old ≡ disk_size h.geometry
+    → ((i : ℕ) → i < 511 → get_or bytes i 0 ≡ get_or (super_bytes h) (i + 1) 0)
     → ((i : ℕ) → 511 ≤ i → i < 2559 → get_or bytes i 0 ≡ 0)
-    → length (super_bytes g) ≡ 512 → IsLaid g 0 (with_bytes_at 1 bytes old)
-laid-front g bytes old long whole front rest super_size = record {
+    → length (super_bytes h) ≡ 512 → IsLaid h 0 (with_bytes_at 1 bytes old)
+laid-front h bytes old long whole front rest super_size = record {
   size = length-written 1 bytes old (omega (arith, long, whole)) ∙ whole;
   superblock =
       ext_get_or 0 _ _ (omega (
@@ -90,14 +90,14 @@ laid-front g bytes old long whole front rest super_size = record {
         length-drop 1 new,
         length-written 1 bytes old (omega (arith, long, whole)),
         whole,
-        length-drop 1 (super_bytes g),
+        length-drop 1 (super_bytes h),
         super_size,
       ))
       (λ i l.
       let below : i < 511 = omega (arith, l, length-take 511 (drop 1 new)) in
       let at : 1 + i ≡ i + 1 = omega arith in
       get_or-take 511 (drop 1 new) i 0 below ∙ get_or-drop 1 new i 0 ∙ there i (omega (arith, below)) ∙ front i below
-      ∙ sym (get_or-drop 1 (super_bytes g) i 0 ∙ ap (λ (k : ℕ). get_or (super_bytes g) k 0) at));
+      ∙ sym (get_or-drop 1 (super_bytes h) i 0 ∙ ap (λ (k : ℕ). get_or (super_bytes h) k 0) at));
   clips = λ id l.
       let at : 512 + id * 32 ≡ 1 + (511 + id * 32) = omega arith in
       let none : get_or new (512 + id * 32) 0 ≡ 0 = ap (λ (k : ℕ). get_or new k 0) at
@@ -113,9 +113,9 @@ laid-front g bytes old long whole front rest super_size = record {
     there i l = get_or-written_there 1 bytes old i (omega (arith, whole)) (omega (arith, long, l))
 
 -- one header more
-pub laid-header : (g : Geometry) (count : ℕ) (old : List ℕ) → count < g.segments → IsLaid g count old
-    → IsLaid g (count + 1) (with_bytes_at (segment_at g count) (replicate 512 0) old)
-laid-header g count old below laid = record {
+pub laid-header : (h : SuperHead) (count : ℕ) (old : List ℕ) → count < h.geometry.segments → IsLaid h count old
+    → IsLaid h (count + 1) (with_bytes_at (segment_at h.geometry count) (replicate 512 0) old)
+laid-header h count old below laid = record {
   size = length-written at zeros old fits ∙ laid.size;
   superblock =
       ext_get_or 0 _ _ (omega (
@@ -134,7 +134,7 @@ laid-header g count old below laid = record {
 }
   where
     at : ℕ
-    at = segment_at g count
+    at = segment_at h.geometry count
 
     zeros : List ℕ
     zeros = replicate 512 0
@@ -143,20 +143,20 @@ laid-header g count old below laid = record {
     new = with_bytes_at at zeros old
 
     fits : at + length zeros ≤ length old
-    fits = omega (arith, laid.size, apart g count g.segments below, length-replicate {A = ℕ} 512 0)
+    fits = omega (arith, laid.size, apart h.geometry count h.geometry.segments below, length-replicate {A = ℕ} 512 0)
 
     before : (i : ℕ) → i < at → get_or new i 0 ≡ get_or old i 0
     before i l = get_or-written_before at zeros old i (omega (arith, fits)) l
 
-    segment : (j : ℕ) → (j < count) ⊎ (count ≤ j) → j < count + 1 → is_open new (segment_at g j) ≡ false
-    segment j (inl l) h = ap (λ (b : ℕ). eqb b 165) (before (segment_at g j) (omega (arith, apart g j count l))) ∙ laid.segments j l
-    segment j (inr l) h =
-        let same : j ≡ count = omega (arith, l, h) in
+    segment : (j : ℕ) → (j < count) ⊎ (count ≤ j) → j < count + 1 → is_open new (segment_at h.geometry j) ≡ false
+    segment j (inl l) u = ap (λ (b : ℕ). eqb b 165) (before (segment_at h.geometry j) (omega (arith, apart h.geometry j count l))) ∙ laid.segments j l
+    segment j (inr l) u =
+        let same : j ≡ count = omega (arith, l, u) in
         let here : at ≡ at + 0 = omega arith in
         let none : get_or new at 0 ≡ 0 = ap (λ (k : ℕ). get_or new k 0) here ∙ get_or-written_there at zeros old 0
         (omega (arith, fits)) (omega (arith, length-replicate {A = ℕ} 512 0))
         ∙ get_or-replicate 512 0 0 0 (omega arith) in
-        ap (λ (k : ℕ). is_open new (segment_at g k)) same ∙ ap (λ (b : ℕ). eqb b 165) none
+        ap (λ (k : ℕ). is_open new (segment_at h.geometry k)) same ∙ ap (λ (b : ℕ). eqb b 165) none
 
 -- a gate that was read as open
 pub gate-read : (image gate : List ℕ) → gate ≡ piece 0 1 image → get_or gate 0 0 ≡ 165 → is_open image 0 ≡ true
@@ -164,61 +164,61 @@ gate-read image gate is opened = ap (λ (b : ℕ). eqb b 165) (sym (get_or-piece
     ∙ sym (ap (λ (bytes : List ℕ). get_or bytes 0 0) is) ∙ opened)
 
 -- the superblock at the front of zeros, but for its gate
-pub laid-super : (g : Geometry) (front old : List ℕ) → front ≡ super_bytes g ++ drop 512 (replicate 2560 0)
-    → length front ≡ 2560 → length old ≡ disk_size g → IsLaid g 0 (with_bytes_at 1 (drop 1 front) old)
-laid-super g front old is long whole = laid-front g (drop 1 front) old (omega (arith, length-drop 1 front, long)) whole head rest super_size
+pub laid-super : (h : SuperHead) (front old : List ℕ) → front ≡ super_bytes h ++ drop 512 (replicate 2560 0)
+    → length front ≡ 2560 → length old ≡ disk_size h.geometry → IsLaid h 0 (with_bytes_at 1 (drop 1 front) old)
+laid-super h front old is long whole = laid-front h (drop 1 front) old (omega (arith, length-drop 1 front, long)) whole head rest super_size
   where
     zeros : List ℕ
     zeros = replicate 2560 0
 
-    super_size : length (super_bytes g) ≡ 512
+    super_size : length (super_bytes h) ≡ 512
     super_size = omega (
       arith,
       ap (λ (b : List ℕ). length b) is,
       long,
-      length-append (super_bytes g) (drop 512 zeros),
+      length-append (super_bytes h) (drop 512 zeros),
       length-drop 512 zeros,
       length-replicate {A = ℕ} 2560 0,
     )
 
-    head : (i : ℕ) → i < 511 → get_or (drop 1 front) i 0 ≡ get_or (super_bytes g) (i + 1) 0
+    head : (i : ℕ) → i < 511 → get_or (drop 1 front) i 0 ≡ get_or (super_bytes h) (i + 1) 0
     head i l =
         let at : 1 + i ≡ i + 1 = omega arith in
         get_or-drop 1 front i 0 ∙ ap (λ (k : ℕ). get_or front k 0) at ∙ ap (λ (b : List ℕ). get_or b (i + 1) 0) is
-        ∙ get_or_append_left (super_bytes g) (drop 512 zeros) 0 (i + 1) (omega (arith, l, super_size))
+        ∙ get_or_append_left (super_bytes h) (drop 512 zeros) 0 (i + 1) (omega (arith, l, super_size))
 
     rest : (i : ℕ) → 511 ≤ i → i < 2559 → get_or (drop 1 front) i 0 ≡ 0
     rest i low high =
-        get_or-drop 1 front i 0 ∙ ap (λ (b : List ℕ). get_or b (1 + i) 0) is ∙ get_or-append_right (super_bytes g)
+        get_or-drop 1 front i 0 ∙ ap (λ (b : List ℕ). get_or b (1 + i) 0) is ∙ get_or-append_right (super_bytes h)
         (drop 512 zeros) 512 (1 + i) 0 super_size (omega (arith, low))
         ∙ get_or-drop 512 zeros (1 + i - 512) 0 ∙ get_or-replicate 2560 (512 + (1 + i - 512)) 0 0 (omega (arith, low, high))
 
 -- ---- what the writes say
 
-pub front-laid : {T : Type 0} (g : Geometry) (front bytes : List ℕ) (old new : Medium) (r : Result T DiskFault)
-    → front ≡ super_bytes g ++ drop 512 (replicate 2560 0) → length front ≡ 2560 → bytes ≡ drop 1 front → IsSound old
-    → old.size ≡ disk_size g
-    → Writes 1 bytes old new r → OnOk r (IsLaid g 0 new.bytes)
-front-laid g front bytes old new r is long behind sound whole writes =
+pub front-laid : {T : Type 0} (h : SuperHead) (front bytes : List ℕ) (old new : Medium) (r : Result T DiskFault)
+    → front ≡ super_bytes h ++ drop 512 (replicate 2560 0) → length front ≡ 2560 → bytes ≡ drop 1 front → IsSound old
+    → old.size ≡ disk_size h.geometry
+    → Writes 1 bytes old new r → OnOk r (IsLaid h 0 new.bytes)
+front-laid h front bytes old new r is long behind sound whole writes =
     on_ok_weaker r (λ (done : new.bytes ≡ with_bytes_at 1 bytes old.bytes).
-    subst (λ (image : List ℕ). IsLaid g 0 image) (sym (done ∙ (λ i. with_bytes_at 1 (behind i) old.bytes)))
-    (laid-super g front old.bytes is long (sound.length_is ∙ whole))) writes.done
+    subst (λ (image : List ℕ). IsLaid h 0 image) (sym (done ∙ (λ i. with_bytes_at 1 (behind i) old.bytes)))
+    (laid-super h front old.bytes is long (sound.length_is ∙ whole))) writes.done
 
-pub header-laid : {T : Type 0} (g : Geometry) (at count : ℕ) (old new : Medium) (r : Result T DiskFault)
-    → at ≡ segment_at g count → count < g.segments → IsLaid g count old.bytes → Writes at (replicate 512 0) old new r
-    → OnOk r (IsLaid g (count + 1) new.bytes)
-header-laid g at count old new r is below laid writes =
+pub header-laid : {T : Type 0} (h : SuperHead) (at count : ℕ) (old new : Medium) (r : Result T DiskFault)
+    → at ≡ segment_at h.geometry count → count < h.geometry.segments → IsLaid h count old.bytes
+    → Writes at (replicate 512 0) old new r → OnOk r (IsLaid h (count + 1) new.bytes)
+header-laid h at count old new r is below laid writes =
     on_ok_weaker r (λ (done : new.bytes ≡ with_bytes_at at (replicate 512 0) old.bytes).
-    subst (λ (image : List ℕ). IsLaid g (count + 1) image)
+    subst (λ (image : List ℕ). IsLaid h (count + 1) image)
     (sym (done ∙ (λ i. with_bytes_at (is i) (replicate 512 0) old.bytes)))
-    (laid-header g count old.bytes below laid)) writes.done
+    (laid-header h count old.bytes below laid)) writes.done
 
 -- a write behind the closed gate brings the disk to this
-pub brings-laid : {T : Type 0} (g : Geometry) (count : ℕ) (old new : Medium) (r : Result T DiskFault)
+pub brings-laid : {T : Type 0} (h : SuperHead) (count : ℕ) (old new : Medium) (r : Result T DiskFault)
     → (old.honest → IsSound new) → (old.honest → LeavesOnly old new IsClosed)
-    → (old.honest → OnOk r (IsLaid g count new.bytes)) → Called old new (failed_call r)
-    → Brings IsClosed (IsLaidClosed g count) old new r
-brings-laid g count old new r sound moments laid called = record {
+    → (old.honest → OnOk r (IsLaid h count new.bytes)) → Called old new (failed_call r)
+    → Brings IsClosed (IsLaidClosed h count) old new r
+brings-laid h count old new r sound moments laid called = record {
   moments = moments;
   such = λ honest. on_ok_weaker r (λ is. (each_now old new IsClosed (sound honest) (moments honest), is)) (laid honest);
   called = called;

@@ -38,3 +38,4 @@ pub mod Same
 pub mod Regrown
 pub mod Alike
 pub mod Opening
+pub mod Upgraded

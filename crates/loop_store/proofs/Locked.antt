@@ -25,7 +25,7 @@ use Rattle.loop_record.proofs.Form.{reading-well_formed}
 use Rattle.loop_record.proofs.Rising.{all_range-each, among-range as rising-range, held-among}
 use Rattle.loop_record.proofs.Decided.{at_most, at_most_test, both, equal}
 use Rattle.loop_record.proofs.Framing.{same_open, same_segment, same_whole_frames}
-use Rattle.loop_record.proofs.Parts.{reading-stages, within_behind}
+use Rattle.loop_record.proofs.Parts.{reading-stages, version-outside, within_behind}
 use Rattle.loop_record.proofs.Readings.{get_or-map_range, length-range}
 use Rattle.loop_clips.specs.Table.{ShowsClipOrNot}
 use Rattle.loop_ring.specs.declared.ring.Ring.{Ring as LoopRing}
@@ -34,8 +34,8 @@ use Rattle.loop_ring.proofs.Heads.{head_of, heads-are, heads-length}
 use Rattle.loop_store.specs.declared.index.Index.{Index}
 use Rattle.loop_store.specs.declared.fault.StoreFault.{StoreFault}
 use Rattle.loop_store.specs.declared.fault.StoreFault.TheVariants.{NoSuchClip}
-use Rattle.loop_store.specs.Calls.{Call, IsAnswered, AnswersOtherwise, StoreState, begun_by, checks, failed_for, first_of, has_failed, is_look, locked, made_by, span_checks, unlocked, was_refused}
-use Rattle.loop_store.specs.Faults.{failed_by, is_disk, is_early}
+use Rattle.loop_store.specs.Calls.{Call, IsAnswered, AnswersOtherwise, StoreState, begun_by, checks, failed_for, first_of, has_failed, is_look, locked, made_by, span_checks, unlocked, version_after, was_refused}
+use Rattle.loop_store.specs.Faults.{failed_by, is_disk}
 use Rattle.loop_store.specs.Goes.{Goes, Stands}
 use Rattle.loop_store.specs.Reopen.{TellsOne}
 use Rattle.loop_store.specs.Drawn.{drawn_image}
@@ -50,7 +50,7 @@ use Rattle.loop_store.specs.Numbers.{is_among}
 use Rattle.loop_store.proofs.Grown.{held-some}
 use Rattle.loop_store.proofs.Looked.{missing-behind}
 use Rattle.loop_store.proofs.Alike.{clip-same, free-same, locked-same, span-same, unlocked-same}
-use Rattle.loop_store.proofs.Drawn.{FitsEntry}
+use Rattle.loop_store.proofs.Drawn.{FitsDrawn}
 use Rattle.loop_store.proofs.Looks.{alike-by, known-by, one-kept, same-tells, there-held, told-by}
 use Rattle.loop_store.proofs.Missing.{fits-legal}
 use Rattle.loop_store.proofs.Redrawn.{drawn-clip}
@@ -78,6 +78,7 @@ segments-kept g id c old new few l shows clean = record {
       (within_behind (clip_at id) 32 (gate_at g j i) (gate_at g j i + 1) old new shows.outside (omega (arith, l)))
       in
       gate ∙ clean j in_ring (λ none. there (same ∙ none)) i (omega (arith, whole, frames)) in_slots;
+  version = version-outside (clip_at id) 32 old new (omega arith) shows.outside;
 }
 
 -- an image whose entry is as it was reads the same
@@ -96,14 +97,15 @@ one-step : (g : Geometry) (r : Recording) (step : Step) (c : List ℕ) → Holds
     → HoldsSome g r (step ∷ []) c
 one-step g r step c held = record { count = 1; enough = omega arith; few = omega arith; held = held }
 
-pub lock-held : (g : Geometry) (r : Recording) (span : Span) (id : ℕ) (old c : List ℕ) → Holds g r old
-    → CanTake g span id r → ShowsClip id (Some span) old c → Holds g (after_step (ring_of g) r (lock span)) c
-lock-held g r span id old c held takes shows = reading-lock g r span old c held takes.legal (subst (λ (k : ℕ). ShowsClip k (Some span) old c) takes.id_is shows)
+pub lock-held : (v : ℕ) (g : Geometry) (r : Recording) (span : Span) (id : ℕ) (old c : List ℕ) → Holds g r old
+    → CanTake v g span id r → ShowsClip id (Some span) old c → Holds g (after_step (ring_of g) r (lock span)) c
+lock-held v g r span id old c held takes shows = reading-lock g r span old c held takes.legal
+    (subst (λ (k : ℕ). ShowsClip k (Some span) old c) takes.id_is shows)
 
-pub lock-some : (g : Geometry) (r : Recording) (span : Span) (id : ℕ) (old c : List ℕ) → Holds g r old → id < 64
-    → CanTake g span id r → ShowsClipOrNot id (Some span) old c → HoldsSome g r (lock span ∷ []) c
-lock-some g r span id old c held l takes (inl same) = held-some g r (lock span ∷ []) c (same-held g r id old c held l same)
-lock-some g r span id old c held l takes (inr shows) = one-step g r (lock span) c (lock-held g r span id old c held takes shows)
+pub lock-some : (v : ℕ) (g : Geometry) (r : Recording) (span : Span) (id : ℕ) (old c : List ℕ) → Holds g r old → id < 64
+    → CanTake v g span id r → ShowsClipOrNot id (Some span) old c → HoldsSome g r (lock span ∷ []) c
+lock-some v g r span id old c held l takes (inl same) = held-some g r (lock span ∷ []) c (same-held g r id old c held l same)
+lock-some v g r span id old c held l takes (inr shows) = one-step g r (lock span) c (lock-held v g r span id old c held takes shows)
 
 pub unlock-held : (g : Geometry) (r : Recording) (id : ℕ) (old c : List ℕ) → Holds g r old → id < 64
     → ShowsClip id None old c → Holds g (after_step (ring_of g) r (unlock id)) c
@@ -116,13 +118,14 @@ unlock-some g r id old c held l (inr shows) = one-step g r (unlock id) c (unlock
 
 -- ---- the calls
 
-pub lock-makes : {T : Type 0} (g : Geometry) (span : Span) (id : ℕ) (old new : Medium) (result : Result T DiskFault)
+pub lock-makes : {T : Type 0} (v : ℕ) (g : Geometry) (span : Span) (id : ℕ) (old new : Medium)
+    (result : Result T DiskFault)
     → g.slots ≤ 256 → id < 64 → (old.honest → HasNoneStray g old.bytes)
     → Changes (ShowsClipOrNot id (Some span) old.bytes) (ShowsClip id (Some span) old.bytes) old new result
-    → Makes g (CanTake g span id) (λ r. lock span ∷ []) (KeepsSegments g old.bytes) old new result
-lock-makes g span id old new result few l clean changes = record {
-  moments = λ r one honest held. weaker old new _ _ (changes.moments honest) (λ image some. lock-some g r span id old.bytes image held l one some);
-  held = λ r one honest held. on_ok_weaker result (λ shows. lock-held g r span id old.bytes new.bytes held one shows) (changes.such honest);
+    → Makes g (CanTake v g span id) (λ r. lock span ∷ []) (KeepsSegments g old.bytes) old new result
+lock-makes v g span id old new result few l clean changes = record {
+  moments = λ r one honest held. weaker old new _ _ (changes.moments honest) (λ image some. lock-some v g r span id old.bytes image held l one some);
+  held = λ r one honest held. on_ok_weaker result (λ shows. lock-held v g r span id old.bytes new.bytes held one shows) (changes.such honest);
   such = λ honest. on_ok_weaker result (λ shows. segments-kept g id (Some span) old.bytes new.bytes few l shows (clean honest)) (changes.such honest);
   settled = changes.settled;
   fault = changes.fault;
@@ -153,7 +156,7 @@ free-none clips l = go (get_or clips (first_free clips) None) (prefix_len_stops 
     go (Some s) e = absurd cc
 
 -- what an index says of an id stands in the entry
-entry-is : {A : Type 0} (index : Index A) (m : Medium) (id : ℕ) → IsPresent index m → id < 64
+pub entry-is : {A : Type 0} (index : Index A) (m : Medium) (id : ℕ) → IsPresent index m → id < 64
     → clip_in m.bytes id ≡ get_or index.clips id None
 entry-is index m id present l =
     let known = present.recorded.known in
@@ -178,7 +181,7 @@ entry-open index m id present l some none = some (sym (entry-is index m id prese
 -- what a clip that is noted makes of an image, and of recordings with the same numbers
 pub record IsRedrawn (g : Geometry) (id : ℕ) (clip : Option Span) (IsOne : Recording → Type 0) (step : Step) : Type 0 where
   pub low : id < 64
-  pub fits : (r : Recording) → IsOne r → IsWellFormed r → r.next ≤ 2 ^ 62 → FitsEntry clip
+  pub fits : (r : Recording) → IsOne r → IsWellFormed r → r.next ≤ 2 ^ 62 → FitsDrawn clip
   pub shown : (r : Recording) (old new : List ℕ) → IsOne r → Holds g r old → ShowsClip id clip old new
       → Holds g (after_step (ring_of g) r step) new
   pub alike : (r t : Recording) → IsSame r t → IsOne r → IsOne t
@@ -267,6 +270,7 @@ kept-noted {A = A} medium old new was now id clip IsOne step must kept fine one 
       present = λ f honest.
           let back = n.called.honest.1 honest in record {
             recorded = recorded honest;
+            version = (n.segments back).version ∙ (kept.present fine back).version ∙ sym n.noted.version;
             settled = n.settled back;
             unstray = subst (λ (h : Geometry). HasNoneStray h (medium new).bytes) (sym same) (n.segments back).unstray;
           };
@@ -314,12 +318,15 @@ stands-noted medium old new was now id clip IsOne step must r kept fine stands o
           let back = n.called.honest.1 there in
           let known = known-by medium old was must r kept stands fine back in
           (known-noted medium old new was now id clip IsOne step r n (one r (medium old).bytes known) back known).held;
+      version_is = λ still there.
+          let back = n.called.honest.1 there in
+          (n.segments back).version ∙ stands.version_is fine back ∙ sym n.noted.version;
     }
 
 -- a lock and an unlock
-pub lock-redrawn : (g : Geometry) (id : ℕ) (span : Span) → id < 64 → IsRedrawn g id (Some span) (CanTake g span id)
-    (lock span)
-lock-redrawn g id span low = record {
+pub lock-redrawn : (v : ℕ) (g : Geometry) (id : ℕ) (span : Span) → id < 64 → span.tag < 2 ^ 64
+    → IsRedrawn g id (Some span) (CanTake v g span id) (lock span)
+lock-redrawn v g id span low tag = record {
   low = low;
   fits = λ r one formed next.
       let k = both (leb span.from span.to && holds_all r span) (ltb (free_id r) 64) one.legal in
@@ -327,12 +334,12 @@ lock-redrawn g id span low = record {
       let order = at_most span.from span.to m.0 in
       let last = all_range-each (holds r) span.from (span.to + 1 - span.from) span.to m.1 order (omega (arith, order)) in
       let top = (rising-range 0 r.next span.to r.frames formed.rising (held-among span.to r.frames last)).1 in
-      (omega (arith, order, top, next), omega (arith, top, next));
-  shown = λ r old new one held shows. lock-held g r span id old new held one shows;
+      record { from = omega (arith, order, top, next); to = omega (arith, top, next); tag = tag; placed = refl };
+  shown = λ r old new one held shows. lock-held v g r span id old new held one shows;
   alike = λ r t same one.
-      let first = sym (span-same r t span same) ∙ one.fits in
+      let first = sym (span-same v r t span same) ∙ one.fits in
       let is = one.id_is ∙ free-same r t same in
-      record { fits = first; legal = fits-legal (ring_of g) t span first (subst (λ (n : ℕ). n < 64) is low); id_is = is };
+      record { fits = first; legal = fits-legal v (ring_of g) t span first (subst (λ (n : ℕ). n < 64) is low); id_is = is };
   stepped = λ r t same. locked-same (ring_of g) r t span same;
 }
 
@@ -393,10 +400,12 @@ run-ends g r image table j n end h held same within l there has is = go (cases_l
 -- ---- a store
 
 -- a call that adds a clip or takes one away, by what it says where it is answered, and of a recording of which it may be made
-pub record IsClipCall (H : Type 0) (g : Geometry) (c : Call) (IsOne : Recording → Type 0) : Type 0 where
+pub record IsClipCall (H : Type 0) (version : ℕ) (g : Geometry) (c : Call) (IsOne : Recording → Type 0) : Type 0 where
+  pub leaves : (v : ℕ) → version_after v c ≡ v
   pub writes : is_look c ≡ false
   pub late : was_refused c ≡ false
-  pub answers : (s : StoreState) → s.must_reopen ≡ false → IsOne s.recording → IsAnswered H (ring_of g) s c
+  pub answers : (s : StoreState) → s.must_reopen ≡ false → version ≡ s.version → IsOne s.recording
+      → IsAnswered H (ring_of g) s c
 
 pub goes-noted : {D A : Type 0} (medium : D → Medium) (old new : D) (was now : Index A) (must : Bool) (id : ℕ)
     (clip : Option Span) (IsOne : Recording → Type 0) (step : Step) (c : Call) → IsKept medium old was must
@@ -405,7 +414,7 @@ pub goes-noted : {D A : Type 0} (medium : D → Medium) (old new : D) (was now :
     → ((r : Recording) → IsOne r → (medium old).honest → Holds was.ring.geometry r (medium old).bytes
     → LeavesOnly (medium old) (medium new) (HoldsSome was.ring.geometry r (step ∷ [])))
     → ((r : Recording) (image : List ℕ) → IsIndexOf was r image → IsOne r)
-    → ((H : Type 0) → IsClipCall H was.ring.geometry c IsOne) → has_failed c ≡ false → failed_for c ≡ None
+    → ((H : Type 0) → IsClipCall H was.version was.ring.geometry c IsOne) → has_failed c ≡ false → failed_for c ≡ None
     → ((s : StoreState) → made_by (ring_of was.ring.geometry) s c ≡ step ∷ [])
     → ((s : StoreState) → begun_by (ring_of was.ring.geometry) s c ≡ [])
     → Goes medium (seen_with old was must) (seen_with new now must) (c ∷ [])
@@ -417,13 +426,14 @@ goes-noted medium old new was now must id clip IsOne step c kept fine n moments 
       fine = fine;
       still = fine;
       geometry = geometry-same was now id clip n.noted;
+      version = λ v e. n.noted.version ∙ e ∙ sym ((call (Unit {0})).leaves v);
       called = n.called;
       unfailed = unfailed;
       none = none;
       made_all = made_all;
       begun_none = begun_none;
       answers = λ s told.
-          (call ((medium old).honest × Stands medium (seen_with old was must) s)).answers s (sym told.must_reopen ∙ fine)
+          (call ((medium old).honest × Stands medium (seen_with old was must) s)).answers s (sym told.must_reopen ∙ fine) told.version
           (n.redrawn.alike kept.known.recording s.recording
           (alike-by medium old was must s.recording kept told.recording)
           (one kept.known.recording (drawn_image was.ring.geometry was.table.heads was.clips) kept.known.known));
@@ -440,7 +450,7 @@ pub goes-unnoted : {D A : Type 0} (medium : D → Medium) (old new : D) (was now
     → ((r : Recording) → IsOne r → (medium old).honest → Holds was.ring.geometry r (medium old).bytes
     → LeavesOnly (medium old) (medium new) (HoldsSome was.ring.geometry r (step ∷ [])))
     → ((r : Recording) (image : List ℕ) → IsIndexOf was r image → IsOne r)
-    → ((H : Type 0) → IsClipCall H was.ring.geometry c IsOne) → has_failed c ≡ true → failed_for c ≡ Some fault
+    → ((H : Type 0) → IsClipCall H was.version was.ring.geometry c IsOne) → has_failed c ≡ true → failed_for c ≡ Some fault
     → ((s : StoreState) → made_by (ring_of was.ring.geometry) s c ≡ [])
     → ((s : StoreState) → begun_by (ring_of was.ring.geometry) s c ≡ step ∷ [])
     → Goes medium (seen_with old was must) (seen_with new now true) (c ∷ [])
@@ -451,6 +461,7 @@ goes-unnoted medium old new was now must IsOne step c fault kept fine same alike
       one = one-kept medium old was must kept;
       fine = fine;
       failed = λ i. seen_with new (same i) true;
+      version = (call (Unit {0})).leaves;
       called = called;
       sound = sound;
       has = has;
@@ -458,7 +469,7 @@ goes-unnoted medium old new was now must IsOne step c fault kept fine same alike
       made_none = made_none;
       begun_all = begun_all;
       answers = λ s told.
-          (call ((medium old).honest × Stands medium (seen_with old was must) s)).answers s (sym told.must_reopen ∙ fine)
+          (call ((medium old).honest × Stands medium (seen_with old was must) s)).answers s (sym told.must_reopen ∙ fine) told.version
           (alike kept.known.recording s.recording (alike-by medium old was must s.recording kept told.recording)
           (one kept.known.recording (drawn_image was.ring.geometry was.table.heads was.clips) kept.known.known));
       moments = λ r stands honest. let known = known-by medium old was must r kept stands fine honest in
@@ -469,34 +480,32 @@ goes-unnoted medium old new was now must IsOne step c fault kept fine same alike
 
 -- a span that is refused says nothing of the disk
 pub record IsSpanQuiet (fault : StoreFault) : Type 0 where
-  pub early : is_early (Some fault) ≡ true
   pub unfailed : is_disk fault ≡ false
   pub none : failed_by fault ≡ None
 
+quiet-as : (fault is : StoreFault) → fault ≡ is → IsSpanQuiet is → IsSpanQuiet fault
+quiet-as fault is e quiet = subst IsSpanQuiet (sym e) quiet
+
 span-quiet : (span : Span) (clips : List (Option Span)) (fault : StoreFault) → CanRefuseSpan span clips fault
     → IsSpanQuiet fault
-span-quiet span clips fault (inl x) = let e = x.0 in record {
-  early = ap (λ (f : StoreFault). is_early (Some f)) e;
-  unfailed = ap is_disk e;
-  none = ap failed_by e;
-}
-span-quiet span clips fault (inr (inl x)) = let e = x.0.1.0 in
-    record { early = ap (λ (f : StoreFault). is_early (Some f)) e; unfailed = ap is_disk e; none = ap failed_by e }
-span-quiet span clips fault (inr (inr x)) = let e = x.0 in
-    record { early = ap (λ (f : StoreFault). is_early (Some f)) e; unfailed = ap is_disk e; none = ap failed_by e }
+span-quiet span clips fault (inl x) = quiet-as fault _ x.0 (record { unfailed = refl; none = refl })
+span-quiet span clips fault (inr (inl x)) = quiet-as fault _ x.0.1.0 (record { unfailed = refl; none = refl })
+span-quiet span clips fault (inr (inr (inl x))) = quiet-as fault _ x.0 (record { unfailed = refl; none = refl })
+span-quiet span clips fault (inr (inr (inr x))) = quiet-as fault _ x.0 (record { unfailed = refl; none = refl })
 
 pub lock-refused : {D : Type 0} (medium : D → Medium) (s : Seen D) (span : Span) (fault : StoreFault) → TellsOne s
     → ((medium s.disk).honest → IsSound (medium s.disk)) → s.must_reopen ≡ false → CanRefuseSpan span s.clips fault
-    → ((r : Recording) → Tells s r → first_of (span_checks r span) ≡ Some fault) → Goes medium s s (locked span (Err fault) ∷ [])
+    → ((r : Recording) → Tells s r → first_of (span_checks s.version r span) ≡ Some fault) → Goes medium s s (locked span (Err fault) ∷ [])
 lock-refused medium s span fault one sound fine can first =
     let quiet = span-quiet span s.clips fault can in
     goes-refused medium s (locked span (Err fault)) one sound (record {
-      early = quiet.early;
+      version = λ v. refl;
       unfailed = quiet.unfailed;
       none = quiet.none;
       made_none = λ g t. refl;
       begun_none = λ g t. ap (λ (b : Bool). if b then lock span ∷ [] else []) quiet.unfailed;
-    }) (λ H t told. answer-due H s.geometry t (locked span (Err fault)) fault (sym told.must_reopen ∙ fine) (first t.recording told.recording) refl)
+    }) (λ H t told. answer-due H s.geometry t (locked span (Err fault)) fault (sym told.must_reopen ∙ fine)
+    (ap (λ (v : ℕ). first_of (span_checks v t.recording span)) (sym told.version) ∙ first t.recording told.recording) refl)
 
 -- the id that was answered is the least free one
 pub answered-id : (H : Type 0) (g : Geometry) (s : StoreState) (span : Span) (id : ℕ)
@@ -515,7 +524,7 @@ none-is (Some s) e = absurd cc
 
 -- a clip that stands may be taken away
 pub unlock-answered : (H : Type 0) (g : Geometry) (s : StoreState) (id : ℕ) (result : Result (Unit {0}) StoreFault)
-    → s.must_reopen ≡ false → clip_of s.recording id ≢ None → AnswersOtherwise H s.recording (unlocked id result)
+    → s.must_reopen ≡ false → clip_of s.recording id ≢ None → AnswersOtherwise H s (unlocked id result)
     → IsAnswered H (ring_of g) s (unlocked id result)
 unlock-answered H g s id result fine some is = answer-given H g s (unlocked id result) fine
     (passed (not (is_some (clip_of s.recording id))) NoSuchClip [] (some-is (clip_of s.recording id) some)) is
@@ -525,7 +534,7 @@ pub unlock-refused : {D : Type 0} (medium : D → Medium) (s : Seen D) (id : ℕ
     → ((r : Recording) → Tells s r → clip_of r id ≡ None) → Goes medium s s (unlocked id (Err NoSuchClip) ∷ [])
 unlock-refused medium s id one sound fine none =
     goes-refused medium s (unlocked id (Err NoSuchClip)) one sound (record {
-      early = refl;
+      version = λ v. refl;
       unfailed = refl;
       none = refl;
       made_none = λ g t. refl;

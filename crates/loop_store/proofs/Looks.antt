@@ -5,6 +5,7 @@ use Rattle.loop_disk.specs.Calls.{Stays}
 use Rattle.loop_disk.specs.Medium.{Medium, IsSettled}
 use Rattle.loop_record.specs.declared.geometry.Geometry.{Geometry}
 use Rattle.loop_record.specs.declared.segment.SegmentHead.{SegmentHead}
+use Rattle.loop_record.specs.Layout.{version_in}
 use Rattle.loop_record.specs.Reading.{Holds}
 use Rattle.loop_record.specs.Recording.{Picture, Recording, holds}
 use Rattle.loop_record.proofs.Bounds.{limits}
@@ -35,6 +36,7 @@ looked-present : {A : Type 0} (index : Index A) (old new : Medium) → Stays old
     → IsPresent index new
 looked-present index old new stays present = record {
   recorded = subst (λ (image : List ℕ). IsRecovered index image) (sym stays.bytes) present.recorded;
+  version = ap version_in stays.bytes ∙ present.version;
   settled = stays-settled old new stays present.settled;
   unstray = subst (λ (image : List ℕ). HasNoneStray index.ring.geometry image) (sym stays.bytes) present.unstray;
 }
@@ -66,6 +68,7 @@ looked-stands medium old disk r stands back stays = record {
   told = looked-told old disk r stands.told;
   settled = λ fine now. stays-settled (medium old.disk) (medium disk) (stays (back now)) (stands.settled fine (back now));
   held = λ fine now. subst (λ (image : List ℕ). Holds old.geometry r image) (sym (stays (back now)).bytes) (stands.held fine (back now));
+  version_is = λ fine now. ap version_in (stays (back now)).bytes ∙ stands.version_is fine (back now);
 }
 
 -- a number whose frame a segment has is held

@@ -4,10 +4,11 @@ use Rattle.std.proofs.lemmas.Bool.{cases_lt}
 use Rattle.std.specs.Prelude.{IsTrue}
 use Rattle.std.specs.List.{find, range_with_len}
 use Rattle.loop_record.specs.declared.clip.Span.{Span}
+use Rattle.loop_record.specs.Layout.{has_tag_place}
 use Rattle.loop_record.specs.Recording.{Recording, Ring, free_id, holds, holds_all, is_legal, lock}
 use Rattle.loop_record.proofs.Decided.{at_most_test, differ_test, equal_test, not_below, not_below_test, not_false}
 use Rattle.loop_record.proofs.Rising.{each-all_range}
-use Rattle.loop_store.specs.declared.fault.StoreFault.TheVariants.{ClipEmpty, ClipNotHeld, ClipTableFull}
+use Rattle.loop_store.specs.declared.fault.StoreFault.TheVariants.{ClipEmpty, ClipNotHeld, ClipTableFull, OldLayout}
 use Rattle.loop_store.specs.Calls.{due, first_of, missing, span_checks}
 use Rattle.loop_store.proofs.Checked.{failed, found, none-before, passed, passes, skipped}
 
@@ -75,39 +76,54 @@ none-missing r span none = each-all_range (holds r) span.from (span.to + 1 - spa
 
 -- ---- the checks of a span
 
-pub first-empty : (r : Recording) (span : Span) → span.to < span.from → first_of (span_checks r span) ≡ Some ClipEmpty
-first-empty r span less = failed (ltb span.to span.from) ClipEmpty _ (at_most_test (suc span.to) span.from less)
+pub first-empty : (v : ℕ) (r : Recording) (span : Span) → span.to < span.from
+    → first_of (span_checks v r span) ≡ Some ClipEmpty
+first-empty v r span less = failed (ltb span.to span.from) ClipEmpty _ (at_most_test (suc span.to) span.from less)
 
-behind-empty : (r : Recording) (span : Span) → span.from ≤ span.to → first_of (span_checks r span) ≡ first_of
-    (option_map ClipNotHeld (missing r span) ∷ due (eqb (free_id r) 64) ClipTableFull ∷ [])
-behind-empty r span some = passed (ltb span.to span.from) ClipEmpty _ (not_below_test span.to span.from some)
+behind-empty : (v : ℕ) (r : Recording) (span : Span) → span.from ≤ span.to
+    → first_of (span_checks v r span) ≡ first_of (option_map ClipNotHeld (missing r span)
+    ∷ due (eqb (free_id r) 64) ClipTableFull ∷ due (not (has_tag_place v span)) OldLayout ∷ [])
+behind-empty v r span some = passed (ltb span.to span.from) ClipEmpty _ (not_below_test span.to span.from some)
 
-pub first-missing : (r : Recording) (span : Span) (n : ℕ) → span.from ≤ span.to → Some n ≡ missing r span
-    → first_of (span_checks r span) ≡ Some (ClipNotHeld n)
-first-missing r span n some is = behind-empty r span some ∙ found (option_map ClipNotHeld (missing r span))
+pub first-missing : (v : ℕ) (r : Recording) (span : Span) (n : ℕ) → span.from ≤ span.to → Some n ≡ missing r span
+    → first_of (span_checks v r span) ≡ Some (ClipNotHeld n)
+first-missing v r span n some is = behind-empty v r span some ∙ found (option_map ClipNotHeld (missing r span))
     (ClipNotHeld n) _ (ap (option_map ClipNotHeld) (sym is))
 
-behind-missing : (r : Recording) (span : Span) → span.from ≤ span.to → None ≡ missing r span
-    → first_of (span_checks r span) ≡ first_of (due (eqb (free_id r) 64) ClipTableFull ∷ [])
-behind-missing r span some is = behind-empty r span some ∙ skipped (option_map ClipNotHeld (missing r span)) _ (ap (option_map ClipNotHeld) (sym is))
+behind-missing : (v : ℕ) (r : Recording) (span : Span) → span.from ≤ span.to → None ≡ missing r span
+    → first_of (span_checks v r span) ≡ first_of (due (eqb (free_id r) 64) ClipTableFull
+    ∷ due (not (has_tag_place v span)) OldLayout ∷ [])
+behind-missing v r span some is = behind-empty v r span some
+    ∙ skipped (option_map ClipNotHeld (missing r span)) _ (ap (option_map ClipNotHeld) (sym is))
 
-pub first-full : (r : Recording) (span : Span) → span.from ≤ span.to → None ≡ missing r span → free_id r ≡ 64
-    → first_of (span_checks r span) ≡ Some ClipTableFull
-first-full r span some is full = behind-missing r span some is ∙ failed (eqb (free_id r) 64) ClipTableFull [] (equal_test (free_id r) 64 full)
+pub first-full : (v : ℕ) (r : Recording) (span : Span) → span.from ≤ span.to → None ≡ missing r span → free_id r ≡ 64
+    → first_of (span_checks v r span) ≡ Some ClipTableFull
+first-full v r span some is full = behind-missing v r span some is
+    ∙ failed (eqb (free_id r) 64) ClipTableFull _ (equal_test (free_id r) 64 full)
 
-pub first-fits : (r : Recording) (span : Span) → span.from ≤ span.to → None ≡ missing r span → free_id r < 64
-    → first_of (span_checks r span) ≡ None
-first-fits r span some is free = behind-missing r span some is ∙ passed (eqb (free_id r) 64) ClipTableFull []
-    (differ_test (free_id r) 64 (λ e. omega (arith, e, free)))
+behind-full : (v : ℕ) (r : Recording) (span : Span) → span.from ≤ span.to → None ≡ missing r span → free_id r < 64
+    → first_of (span_checks v r span) ≡ first_of (due (not (has_tag_place v span)) OldLayout ∷ [])
+behind-full v r span some is free = behind-missing v r span some is
+    ∙ passed (eqb (free_id r) 64) ClipTableFull _ (differ_test (free_id r) 64 (λ e. omega (arith, e, free)))
+
+pub first-old : (v : ℕ) (r : Recording) (span : Span) → span.from ≤ span.to → None ≡ missing r span → free_id r < 64
+    → has_tag_place v span ≡ false → first_of (span_checks v r span) ≡ Some OldLayout
+first-old v r span some is free none = behind-full v r span some is free
+    ∙ failed (not (has_tag_place v span)) OldLayout [] (ap not none)
+
+pub first-fits : (v : ℕ) (r : Recording) (span : Span) → span.from ≤ span.to → None ≡ missing r span → free_id r < 64
+    → has_tag_place v span ≡ true → first_of (span_checks v r span) ≡ None
+first-fits v r span some is free place = behind-full v r span some is free
+    ∙ passed (not (has_tag_place v span)) OldLayout [] (ap not place)
 
 no-number : (o : Option ℕ) → option_map ClipNotHeld o ≡ None → o ≡ None
 no-number None e = refl
 no-number (Some n) e = absurd cc
 
 -- where none is due, the clip may be added
-pub fits-legal : (ring : Ring) (r : Recording) (span : Span) → first_of (span_checks r span) ≡ None → free_id r < 64
-    → IsTrue (is_legal ring r (lock span))
-fits-legal ring r span none free =
+pub fits-legal : (v : ℕ) (ring : Ring) (r : Recording) (span : Span) → first_of (span_checks v r span) ≡ None
+    → free_id r < 64 → IsTrue (is_legal ring r (lock span))
+fits-legal v ring r span none free =
     let a = passes (ltb span.to span.from) ClipEmpty _ none in
     let b = none-before (option_map ClipNotHeld (missing r span)) _ a.1 in
     let some = at_most_test span.from span.to (not_below span.to span.from a.0) in

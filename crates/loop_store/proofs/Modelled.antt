@@ -7,7 +7,7 @@ use Rattle.loop_record.proofs.Decided.{neither}
 use Rattle.loop_record.proofs.Steps.{plain-append}
 use Rattle.loop_store.specs.declared.fault.StoreFault.{StoreFault}
 use Rattle.loop_store.specs.Faults.{answers_disk}
-use Rattle.loop_store.specs.Calls.{AreAnswered, Call, IsAnswered, StoreState, appended, locked, unlocked, was_read, after_store_call, after_calls, steps_asked, begun_by, begun_in, has_failed, made_by, made_in, steps_of, was_read_part}
+use Rattle.loop_store.specs.Calls.{AreAnswered, Call, IsAnswered, StoreState, appended, locked, unlocked, was_read, after_store_call, after_calls, steps_asked, begun_by, begun_in, has_failed, made_by, made_in, steps_of, upgraded, was_read_part}
 use Rattle.loop_store.specs.Steps.{if_answered, if_failed}
 use Rattle.loop_store.proofs.Checked.{must-answer}
 
@@ -30,6 +30,7 @@ none-either false = refl
 
 begun-none : (g : Geometry) (s : StoreState) (c : Call) → has_failed c ≡ false → begun_by (ring_of g) s c ≡ []
 begun-none g s (was_read number result) fine = none-either (answers_disk result)
+begun-none g s (upgraded result) fine = none-either (answers_disk result)
 begun-none g s (locked span result) fine = ap (λ (b : Bool). if b then lock span ∷ [] else []) fine
 begun-none g s (unlocked id result) fine = ap (λ (b : Bool). if b then unlock id ∷ [] else []) fine
 begun-none g s (was_read_part number at result) fine = none-either (answers_disk result)

@@ -5,7 +5,7 @@ use Rattle.loop_disk.specs.Medium.{Medium}
 use Rattle.loop_record.specs.declared.geometry.Geometry.{Geometry}
 use Rattle.loop_record.specs.Recording.{Picture, Recording, Ring, after_step as stepped, last_number, needs_recycling, plain, recycle, recycling_first, ring_of, steps, store, stores_after, victim}
 use Rattle.loop_record.proofs.Steps.{plain-stores}
-use Rattle.loop_store.specs.Calls.{Call, IsAnswered, StoreState, after_store_call, appended, locked, unlocked, was_read, was_read_part}
+use Rattle.loop_store.specs.Calls.{Call, IsAnswered, StoreState, after_store_call, appended, locked, unlocked, upgraded, was_read, was_read_part}
 use Rattle.loop_store.specs.Goes.{Goes}
 use Rattle.loop_store.specs.Seen.{Seen}
 use Rattle.loop_store.specs.Steps.{steps_or_none}
@@ -45,6 +45,8 @@ after-next H g s (locked span (Ok id)) said = none-more s.recording.next
 after-next H g s (locked span (Err fault)) said = none-more s.recording.next
 after-next H g s (unlocked id (Ok x)) said = none-more s.recording.next
 after-next H g s (unlocked id (Err fault)) said = none-more s.recording.next
+after-next H g s (upgraded (Ok made)) said = none-more s.recording.next
+after-next H g s (upgraded (Err fault)) said = none-more s.recording.next
 after-next H g s (was_read number (Ok x)) said = none-more s.recording.next
 after-next H g s (was_read number (Err fault)) said = none-more s.recording.next
 after-next H g s (was_read_part number at (Ok bytes)) said = none-more s.recording.next

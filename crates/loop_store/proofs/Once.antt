@@ -10,7 +10,7 @@ use Rattle.loop_record.specs.declared.geometry.Geometry.{Geometry}
 use Rattle.loop_record.specs.Reading.{Holds}
 use Rattle.loop_record.specs.Recording.{Recording, Step, plain, ring_of}
 use Rattle.loop_record.proofs.Decided.{clash}
-use Rattle.loop_store.specs.Calls.{AnswersOtherwise, Call, IsAnswered, StoreState, begun_by, checks, failed_for, fault_answered, first_of, has_failed, is_look, made_by, was_refused}
+use Rattle.loop_store.specs.Calls.{AnswersOtherwise, Call, IsAnswered, StoreState, begun_by, checks, failed_for, fault_answered, first_of, has_failed, is_look, made_by, version_after, was_refused}
 use Rattle.loop_store.specs.Goes.{Goes, Stands, TellsState}
 use Rattle.loop_store.specs.Steps.{HoldsFrom, HoldsSome, LeavesSteps}
 use Rattle.loop_store.specs.Reopen.{TellsOne}
@@ -39,7 +39,7 @@ or-loud b t loud = ap (λ (x : Bool). b || x) loud ∙ or-true b
 
 -- the answer says that nothing was done, and that no call of the disk failed
 pub record IsQuiet (c : Call) : Type 0 where
-  pub early : was_refused c ≡ true
+  pub version : (v : ℕ) → version_after v c ≡ v
   pub unfailed : has_failed c ≡ false
   pub none : failed_for c ≡ None
   pub made_none : (g : Geometry) (s : StoreState) → made_by (ring_of g) s c ≡ []
@@ -53,11 +53,13 @@ goes-refused {D} medium s c one sound quiet answers = goes-once medium s s c (re
   answers = λ t told. answers ((medium s.disk).honest × Stands medium s t) t told;
   tells = λ t told. record {
     recording = subst (λ (steps : List Step). Tells s (plain (ring_of s.geometry) t.recording steps)) (sym (quiet.made_none s.geometry t)) told.recording;
+    version = told.version ∙ sym (quiet.version t.version);
     must_reopen = told.must_reopen ∙ sym (or-quiet t.must_reopen (has_failed c) quiet.unfailed);
   };
   stands = λ t stands. record {
     recording = subst (λ (steps : List Step). StandsFor medium s (plain (ring_of s.geometry) t.recording steps))
         (sym (quiet.made_none s.geometry t)) stands.recording;
+    version = stands.version ∙ sym (quiet.version t.version);
     must_reopen = stands.must_reopen ∙ sym (or-quiet t.must_reopen (has_failed c) quiet.unfailed);
   };
   leaves = λ t stands now fine.
@@ -78,7 +80,7 @@ pub goes-must : {D : Type 0} (medium : D → Medium) (s : Seen D) (c : Call) →
     → fault_answered c ≡ Some MustReopen → Goes medium s s (c ∷ [])
 goes-must medium s c one sound must quiet is =
     goes-refused medium s c one sound quiet
-    (λ H t told. refused (first_of (checks (ring_of s.geometry) t c)) c (AnswersOtherwise H t.recording c) MustReopen
+    (λ H t told. refused (first_of (checks (ring_of s.geometry) t c)) c (AnswersOtherwise H t c) MustReopen
     (must-first s.geometry t c (sym told.must_reopen ∙ must)) is)
 
 -- ---- done
@@ -98,6 +100,7 @@ pub record Done {D : Type 0} (medium : D → Medium) (old new : Seen D) (c : Cal
   pub fine : old.must_reopen ≡ false
   pub still : new.must_reopen ≡ false
   pub geometry : new.geometry ≡ old.geometry
+  pub version : (v : ℕ) → old.version ≡ v → new.version ≡ version_after v c
   pub called : Called (medium old.disk) (medium new.disk) None
   pub unfailed : has_failed c ≡ false
   pub none : failed_for c ≡ None
@@ -120,11 +123,13 @@ goes-done {D} medium old new c steps done = goes-once medium old new c (record {
   tells = λ s told. record {
     recording = subst (λ (l : List Step). Tells new (plain (ring_of old.geometry) s.recording l))
         (sym (done.made_all s)) (done.tells s.recording told.recording);
+    version = done.version s.version told.version;
     must_reopen = done.still ∙ sym (or-quiet s.must_reopen (has_failed c) done.unfailed ∙ sym told.must_reopen ∙ done.fine);
   };
   stands = λ s stands. record {
     recording = subst (λ (l : List Step). StandsFor medium new (plain (ring_of old.geometry) s.recording l))
         (sym (done.made_all s)) (done.stands s.recording stands.recording);
+    version = done.version s.version stands.version;
     must_reopen = done.still ∙ sym (or-quiet s.must_reopen (has_failed c) done.unfailed ∙ sym stands.must_reopen ∙ done.fine);
   };
   leaves = λ s stands now fine.
@@ -149,6 +154,7 @@ pub record Failed {D : Type 0} (medium : D → Medium) (old new : Seen D) (c : C
   pub late : was_refused c ≡ false
   pub fine : old.must_reopen ≡ false
   pub failed : HasFailed old new
+  pub version : (v : ℕ) → version_after v c ≡ v
   pub called : Called (medium old.disk) (medium new.disk) (Some fault)
   pub sound : (medium new.disk).honest → IsSound (medium new.disk)
   pub has : has_failed c ≡ true
@@ -169,12 +175,14 @@ goes-failed {D} medium old new c steps fault failed = goes-once medium old new c
   tells = λ s told. record {
     recording = subst (λ (l : List Step). Tells new (plain (ring_of old.geometry) s.recording l))
         (sym (failed.made_none s)) (failed-told old new s.recording failed.failed told.recording);
+    version = ap (λ (x : Seen D). x.version) failed.failed ∙ told.version ∙ sym (failed.version s.version);
     must_reopen = ap (λ (x : Seen D). x.must_reopen) failed.failed ∙ sym (or-loud s.must_reopen (has_failed c) failed.has);
   };
   stands = λ s stands. record {
     recording =
         subst (λ (l : List Step). StandsFor medium new (plain (ring_of old.geometry) s.recording l)) (sym (failed.made_none s))
         (failed-stands medium old new s.recording failed.failed stands.recording);
+    version = ap (λ (x : Seen D). x.version) failed.failed ∙ stands.version ∙ sym (failed.version s.version);
     must_reopen = ap (λ (x : Seen D). x.must_reopen) failed.failed ∙ sym (or-loud s.must_reopen (has_failed c) failed.has);
   };
   leaves = λ s stands now fine.

@@ -8,7 +8,7 @@ use Rattle.loop_record.specs.declared.geometry.Geometry.{Geometry}
 use Rattle.loop_record.specs.declared.image.Found.{Found}
 use Rattle.loop_record.specs.Geometry.{is_good}
 use Rattle.loop_record.specs.Layout.{clip_in}
-use Rattle.loop_record.specs.Plain.{AreIn, found_number, lacks_number, segments_of}
+use Rattle.loop_record.specs.Plain.{IsTagFit, AreIn, found_number, lacks_number, segments_of}
 use Rattle.loop_record.specs.Reading.{by_block, is_bad_slot, lacks_frame, next_after, open_segments, parts_of, repeats}
 use Rattle.loop_record.proofs.Bounds.{limits}
 use Rattle.loop_record.proofs.Decided.{at_most, both, equal, neither, not_below, not_false}
@@ -21,7 +21,7 @@ use Rattle.loop_store.specs.declared.index.Index.{Index}
 use Rattle.loop_store.specs.Drawn.{drawn_image}
 use Rattle.loop_store.specs.Found.{IsHeadIn, clips_of, some_bad_clip}
 use Rattle.loop_store.specs.Index.{IsOf, IsRecovered, SaysRecording}
-use Rattle.loop_store.proofs.Drawn.{Clips, FitsEntry, Heads, all-there, clip-drawn, drawn-geometry, drawn-length, heads-drawn, none-bad}
+use Rattle.loop_store.proofs.Drawn.{Clips, FitsDrawn, Heads, all-there, clip-drawn, drawn-geometry, drawn-length, heads-drawn, none-bad}
 use Rattle.loop_store.proofs.RecoveredWhole.{recovered}
 use Rattle.loop_store.proofs.Regrown.{all-stand}
 
@@ -46,24 +46,25 @@ below g (f ∷ fs) n some within e = go (found_number g n f) refl e (λ rest. be
     go false is e rest = rest e
 
 fits-held : (g : Geometry) (fs : List Found) (c : Option Span) → 1 ≤ g.slots → AreIn g fs
-    → lacks_number g fs c ≡ false → FitsEntry c
-fits-held g fs None some within e = tt
-fits-held g fs (Some s) some within e =
+    → lacks_number g fs c ≡ false → IsTagFit c → FitsDrawn c
+fits-held g fs None some within e tag = tt
+fits-held g fs (Some s) some within e tag =
     let k = neither (ltb s.to s.from) (not (list_all (λ n. list_any (found_number g n) fs) (range_with_len s.from (s.to + 1 - s.from)))) e in
     let order = not_below s.to s.from k.0 in
     let all = not_false (list_all (λ n. list_any (found_number g n) fs) (range_with_len s.from (s.to + 1 - s.from))) k.1 in
     let top = below g fs s.to some within (all_range-each (λ n. list_any (found_number g n) fs) s.from
     (s.to + 1 - s.from) s.to all order (omega (arith, order))) in
-    (omega (arith, order, top), omega (arith, top))
+    record { from = omega (arith, order, top); to = omega (arith, top); tag = tag; placed = refl }
 
 fits-all : (g : Geometry) (fs : List Found) (clips : Clips) (id : ℕ) → 1 ≤ g.slots → AreIn g fs
-    → list_any (lacks_number g fs) clips ≡ false → FitsEntry (get_or clips id None)
-fits-all g fs [] id some within e = tt
-fits-all g fs (c ∷ clips) zero some within e = fits-held g fs c some within (neither (lacks_number g fs c) (list_any (lacks_number g fs) clips) e).0
-fits-all g fs (c ∷ clips) (suc id) some within e = fits-all g fs clips id some within (neither (lacks_number g fs c) (list_any (lacks_number g fs) clips) e).1
+    → list_any (lacks_number g fs) clips ≡ false → IsTagFit (get_or clips id None) → FitsDrawn (get_or clips id None)
+fits-all g fs [] id some within e tag = tt
+fits-all g fs (c ∷ clips) zero some within e tag = fits-held g fs c some within (neither (lacks_number g fs c) (list_any (lacks_number g fs) clips) e).0 tag
+fits-all g fs (c ∷ clips) (suc id) some within e tag = fits-all g fs clips id some within
+    (neither (lacks_number g fs c) (list_any (lacks_number g fs) clips) e).1 tag
 
 clips-drawn : (g : Geometry) (heads : Heads) (clips : Clips) → length clips ≡ 64
-    → ((id : ℕ) → FitsEntry (get_or clips id None)) → clips_of (drawn_image g heads clips) ≡ clips
+    → ((id : ℕ) → FitsDrawn (get_or clips id None)) → clips_of (drawn_image g heads clips) ≡ clips
 clips-drawn g heads clips count fits =
     map_range (clip_in (drawn_image g heads clips)) (λ id. get_or clips id None) 0 64
     (λ id low high. clip-drawn g heads clips id (get_or clips id None) (omega (arith, high)) refl (fits id))
@@ -84,6 +85,7 @@ pub record IsChecked (g : Geometry) (heads : Heads) (clips : Clips) (fs xs : Lis
   pub full : (image : List ℕ) → lacks_frame g (segments_of g image xs) ≡ false
   pub ids : length clips ≡ 64
   pub held : list_any (lacks_number g xs) clips ≡ false
+  pub tags : (id : ℕ) → IsTagFit (get_or clips id None)
   pub next_is : (image : List ℕ) → next ≡ next_after g (segments_of g image xs)
 
 pub says-recording : {A : Type 0} (index : Index A) (g : Geometry) (heads : Heads) (clips : Clips)
@@ -106,7 +108,7 @@ says-recording index g heads clips fs xs next is c =
     heads_are = heads-drawn g heads clips c.good c.count (all-stand g heads c.count c.stand)
 
     clips_are : clips_of image ≡ clips
-    clips_are = clips-drawn g heads clips c.ids (λ id. fits-all g xs clips id some inside c.held)
+    clips_are = clips-drawn g heads clips c.ids (λ id. fits-all g xs clips id some inside c.held (c.tags id))
 
     found : IsFoundIn g image fs xs
     found = record {

@@ -8,8 +8,8 @@ use Rattle.loop_record.specs.Recording.{Picture, Recording, last_number, needs_r
 use Rattle.loop_record.proofs.Decided.{differ, differ_test, equal_test}
 use Rattle.loop_store.specs.declared.fault.StoreFault.{StoreFault}
 use Rattle.loop_store.specs.declared.fault.StoreFault.TheVariants.{AllLocked, Disk, MustReopen, NumbersSpent}
-use Rattle.loop_store.specs.Calls.{AnswersDue, Call, IsAnswered, AnswersOtherwise, StoreState, appended, steps_asked, checks, checks_on, due, first_of, lacks_victim, was_refused}
-use Rattle.loop_store.specs.Faults.{failed_by, is_disk, is_early, is_write_fault}
+use Rattle.loop_store.specs.Calls.{AnswersDue, Call, IsAnswered, AnswersOtherwise, StoreState, appended, steps_asked, checks, checks_on, due, first_of, lacks_victim}
+use Rattle.loop_store.specs.Faults.{failed_by, is_disk, is_write_fault}
 use Rattle.loop_store.specs.Goes.{Goes, Stands, TellsState}
 use Rattle.loop_store.specs.Steps.{HoldsSome}
 use Rattle.loop_store.specs.Place.{RefusesPlace}
@@ -24,9 +24,10 @@ use Rattle.loop_store.proofs.Once.{goes-done, goes-failed, goes-refused}
 -- ---- the checks
 
 -- where the numbers are spent
-first-spent : (g : Geometry) (r : Recording) (ps : List Picture) (result : Result ℕ StoreFault)
-    → r.next ≡ last_number (ring_of g) → first_of (checks_on (ring_of g) r (appended ps result)) ≡ Some NumbersSpent
-first-spent g r ps result spent = failed (eqb r.next (last_number (ring_of g))) NumbersSpent _ (equal_test r.next (last_number (ring_of g)) spent)
+first-spent : (g : Geometry) (s : StoreState) (ps : List Picture) (result : Result ℕ StoreFault)
+    → s.recording.next ≡ last_number (ring_of g) → first_of (checks_on (ring_of g) s (appended ps result)) ≡ Some NumbersSpent
+first-spent g s ps result spent = failed (eqb s.recording.next (last_number (ring_of g))) NumbersSpent _
+    (equal_test s.recording.next (last_number (ring_of g)) spent)
 
 lacks : (recycles : Bool) (v : Option ℕ) → recycling_first recycles v ≡ None → (recycles && not (is_some v)) ≡ true
 lacks false v e = absurd cc
@@ -39,20 +40,20 @@ has true None e = absurd (e refl)
 has true (Some b) e = refl
 
 -- where a block has to go and none may
-first-locked : (g : Geometry) (r : Recording) (ps : List Picture) (result : Result ℕ StoreFault)
-    → r.next ≢ last_number (ring_of g) → recycling_first (needs_recycling (ring_of g) r) (victim (ring_of g) r) ≡ None
-    → first_of (checks_on (ring_of g) r (appended ps result)) ≡ Some AllLocked
-first-locked g r ps result unspent none =
-    passed (eqb r.next (last_number (ring_of g))) NumbersSpent _ (differ_test r.next (last_number (ring_of g)) unspent)
-    ∙ failed (lacks_victim (ring_of g) r) AllLocked [] (lacks (needs_recycling (ring_of g) r) (victim (ring_of g) r) none)
+first-locked : (g : Geometry) (s : StoreState) (ps : List Picture) (result : Result ℕ StoreFault)
+    → s.recording.next ≢ last_number (ring_of g) → recycling_first (needs_recycling (ring_of g) s.recording) (victim (ring_of g) s.recording) ≡ None
+    → first_of (checks_on (ring_of g) s (appended ps result)) ≡ Some AllLocked
+first-locked g s ps result unspent none =
+    passed (eqb s.recording.next (last_number (ring_of g))) NumbersSpent _ (differ_test s.recording.next (last_number (ring_of g)) unspent)
+    ∙ failed (lacks_victim (ring_of g) s.recording) AllLocked [] (lacks (needs_recycling (ring_of g) s.recording) (victim (ring_of g) s.recording) none)
 
 -- where there is a place
-first-none : (g : Geometry) (r : Recording) (ps : List Picture) (result : Result ℕ StoreFault)
-    → r.next ≢ last_number (ring_of g) → recycling_first (needs_recycling (ring_of g) r) (victim (ring_of g) r) ≢ None
-    → first_of (checks_on (ring_of g) r (appended ps result)) ≡ None
-first-none g r ps result unspent some =
-    passed (eqb r.next (last_number (ring_of g))) NumbersSpent _ (differ_test r.next (last_number (ring_of g)) unspent)
-    ∙ passed (lacks_victim (ring_of g) r) AllLocked [] (has (needs_recycling (ring_of g) r) (victim (ring_of g) r) some)
+first-none : (g : Geometry) (s : StoreState) (ps : List Picture) (result : Result ℕ StoreFault)
+    → s.recording.next ≢ last_number (ring_of g) → recycling_first (needs_recycling (ring_of g) s.recording) (victim (ring_of g) s.recording) ≢ None
+    → first_of (checks_on (ring_of g) s (appended ps result)) ≡ None
+first-none g s ps result unspent some =
+    passed (eqb s.recording.next (last_number (ring_of g))) NumbersSpent _ (differ_test s.recording.next (last_number (ring_of g)) unspent)
+    ∙ passed (lacks_victim (ring_of g) s.recording) AllLocked [] (has (needs_recycling (ring_of g) s.recording) (victim (ring_of g) s.recording) some)
 
 some-first : (recycles : Bool) (v : Option ℕ) → (recycles && not (is_some v)) ≡ false
     → recycling_first recycles v ≢ None
@@ -65,7 +66,7 @@ pub answered-some : (H : Type 0) (g : Geometry) (s : StoreState) (ps : List Pict
     → IsAnswered H (ring_of g) s (appended ps (Ok number)) → steps (ring_of g) s.recording ps ≢ None
 answered-some H g s ps number said =
     let none = (due-none (first_of (checks (ring_of g) s (appended ps (Ok number)))) (appended ps (Ok number))
-    (AnswersOtherwise H s.recording (appended ps (Ok number))) said refl).0 in
+    (AnswersOtherwise H s (appended ps (Ok number))) said refl).0 in
     let a = passes s.must_reopen MustReopen _ none in
     let b = passes (eqb s.recording.next (last_number (ring_of g))) NumbersSpent _ a.1 in
     let c = passes (lacks_victim (ring_of g) s.recording) AllLocked [] b.1 in
@@ -85,7 +86,7 @@ pub answered-fine : (H : Type 0) (g : Geometry) (s : StoreState) (ps : List Pict
 answered-fine H g s ps number said =
     (passes s.must_reopen MustReopen _
     (due-none (first_of (checks (ring_of g) s (appended ps (Ok number)))) (appended ps (Ok number))
-    (AnswersOtherwise H s.recording (appended ps (Ok number))) said refl).0).0
+    (AnswersOtherwise H s (appended ps (Ok number))) said refl).0).0
 
 -- and where a number is left, it is refused since no block may go, or the disk failed
 pub answered-refusal : (H : Type 0) (g : Geometry) (s : StoreState) (ps : List Picture) (fault : StoreFault)
@@ -116,7 +117,7 @@ pub place-refused : {D : Type 0} (medium : D → Medium) (s : Seen D) (ps : List
     ⊎ (fault ≡ AllLocked)
     → ((r : Recording) → Tells s r → RefusesPlace s.geometry r fault) → Goes medium s s (appended ps (Err fault) ∷ [])
 place-refused {D} medium s ps fault one sound fine either known = goes-refused medium s (appended ps (Err fault)) one sound (record {
-  early = early either;
+  version = λ v. refl;
   unfailed = quiet either;
   none = none either;
   made_none = λ g t. refl;
@@ -125,10 +126,6 @@ place-refused {D} medium s ps fault one sound fine either known = goes-refused m
   where
     call : Call
     call = appended ps (Err fault)
-
-    early : (fault ≡ NumbersSpent) ⊎ (fault ≡ AllLocked) → was_refused call ≡ true
-    early (inl e) = ap (λ (f : StoreFault). is_early (Some f)) e
-    early (inr e) = ap (λ (f : StoreFault). is_early (Some f)) e
 
     quiet : (fault ≡ NumbersSpent) ⊎ (fault ≡ AllLocked) → is_disk fault ≡ false
     quiet (inl e) = ap is_disk e
@@ -141,9 +138,9 @@ place-refused {D} medium s ps fault one sound fine either known = goes-refused m
     refuses : (H : Type 0) (t : StoreState) → t.must_reopen ≡ false → RefusesPlace s.geometry t.recording fault
         → IsAnswered H (ring_of s.geometry) t call
     refuses H t still (inl x) = answer-due H s.geometry t call NumbersSpent still
-        (first-spent s.geometry t.recording ps (Err fault) x.1) (ap (λ (f : StoreFault). Some f) x.0)
+        (first-spent s.geometry t ps (Err fault) x.1) (ap (λ (f : StoreFault). Some f) x.0)
     refuses H t still (inr x) = answer-due H s.geometry t call AllLocked still
-        (first-locked s.geometry t.recording ps (Err fault) x.1.0 x.1.1) (ap (λ (f : StoreFault). Some f) x.0)
+        (first-locked s.geometry t ps (Err fault) x.1.0 x.1.1) (ap (λ (f : StoreFault). Some f) x.0)
 
     answers : (H : Type 0) (t : StoreState) → TellsState s t → IsAnswered H (ring_of s.geometry) t call
     answers H t told = refuses H t (sym told.must_reopen ∙ fine) (known t.recording told.recording)
@@ -156,9 +153,9 @@ pub record HasPlace (g : Geometry) (r : Recording) : Type 0 where
   pub some : recycling_first (needs_recycling (ring_of g) r) (victim (ring_of g) r) ≢ None
 
 placed : (H : Type 0) (g : Geometry) (s : StoreState) (ps : List Picture) (result : Result ℕ StoreFault)
-    → s.must_reopen ≡ false → HasPlace g s.recording → AnswersOtherwise H s.recording (appended ps result)
+    → s.must_reopen ≡ false → HasPlace g s.recording → AnswersOtherwise H s (appended ps result)
     → IsAnswered H (ring_of g) s (appended ps result)
-placed H g s ps result fine place is = answer-given H g s (appended ps result) fine (first-none g s.recording ps result place.unspent place.some) is
+placed H g s ps result fine place is = answer-given H g s (appended ps result) fine (first-none g s ps result place.unspent place.some) is
 
 -- what is known where the frames were stored
 pub record Stored {D : Type 0} (medium : D → Medium) (old new : Seen D) (ps : List Picture) : Type 0 where
@@ -166,6 +163,7 @@ pub record Stored {D : Type 0} (medium : D → Medium) (old new : Seen D) (ps : 
   pub still : new.must_reopen ≡ false
   pub one : TellsOne old
   pub geometry : new.geometry ≡ old.geometry
+  pub version : new.version ≡ old.version
   pub called : Called (medium old.disk) (medium new.disk) None
   pub place : (r : Recording) → Tells old r → HasPlace old.geometry r
   pub tells : (r : Recording) → Tells old r
@@ -184,6 +182,7 @@ put-stored medium old new ps stored = goes-done medium old new (appended ps (Ok 
   still = stored.still;
   one = stored.one;
   geometry = stored.geometry;
+  version = λ v e. stored.version ∙ e;
   called = stored.called;
   unfailed = refl;
   none = refl;
@@ -219,6 +218,7 @@ put-failed medium old new ps fault failed = goes-failed medium old new (appended
       fine = failed.fine;
       one = failed.one;
       failed = failed.has_failed;
+      version = λ v. refl;
       called = failed.called;
       sound = failed.sound;
       has = refl;

@@ -11,7 +11,7 @@ use Rattle.loop_record.specs.Recording.{Step, holds, plain, ring_of}
 use Rattle.loop_record.proofs.Decided.{clash}
 use Rattle.loop_store.specs.declared.fault.StoreFault.{StoreFault}
 use Rattle.loop_store.specs.declared.fault.StoreFault.TheVariants.{Damaged, MustReopen, NoMemory, NotHeld}
-use Rattle.loop_store.specs.Calls.{AnswersDue, Call, ReadFails, IsAnswered, StoreState, begun_by, checks_on, due, failed_for, first_of, has_failed, made_by, part_with, read_with, was_read, was_read_part, was_refused}
+use Rattle.loop_store.specs.Calls.{AnswersDue, Call, ReadFails, IsAnswered, StoreState, begun_by, checks_on, due, failed_for, first_of, has_failed, made_by, part_with, read_with, was_read, was_read_part, version_after, was_refused}
 use Rattle.loop_store.specs.Faults.{answers_disk, failed_in, fault_in, is_damage, is_disk, is_early}
 use Rattle.loop_store.specs.Goes.{Goes, Stands, TellsState}
 use Rattle.loop_store.specs.Reopen.{TellsOne}
@@ -32,17 +32,20 @@ made-either : (o : Option StoreFault) → if_answered o [] ≡ []
 made-either None = refl
 made-either (Some fault) = refl
 
--- a call that makes no step, begins none and fails none
+-- a call that makes no step, begins none and fails none, and leaves the version
 pub record IsLook (c : Call) : Type 0 where
   pub steps : (g : Geometry) (s : StoreState) → made_by (ring_of g) s c ≡ []
   pub begins : (g : Geometry) (s : StoreState) → begun_by (ring_of g) s c ≡ []
+  pub version : (v : ℕ) → version_after v c ≡ v
   pub fine : has_failed c ≡ false
 
 pub look-read : (number : ℕ) (result : Result (FrameHead × List ℕ) StoreFault) → IsLook (was_read number result)
-look-read number result = record { steps = λ g s. made-either (fault_in result); begins = λ g s. none-either (answers_disk result); fine = refl }
+look-read number result = record { steps = λ g s. made-either (fault_in result); begins =
+    λ g s. none-either (answers_disk result); version = λ v. refl; fine = refl }
 
 pub look-part : (number at : ℕ) (result : Result (List ℕ) StoreFault) → IsLook (was_read_part number at result)
-look-part number at result = record { steps = λ g s. made-either (fault_in result); begins = λ g s. none-either (answers_disk result); fine = refl }
+look-part number at result = record { steps = λ g s. made-either (fault_in result); begins =
+    λ g s. none-either (answers_disk result); version = λ v. refl; fine = refl }
 
 -- what is known of a read
 pub record Looked {D : Type 0} (medium : D → Medium) (old : Seen D) (disk : D) (c : Call) : Type 0 where
@@ -63,12 +66,14 @@ goes-looked {D} medium old disk c look sound looked = goes-once medium old (reco
     recording = subst (λ (l : List Step). Tells (record old { disk = disk })
         (plain (ring_of old.geometry) s.recording l)) (sym (look.steps old.geometry s))
         (looked-told old disk s.recording told.recording);
+    version = told.version ∙ sym (look.version s.version);
     must_reopen = told.must_reopen ∙ unfailed s.must_reopen;
   };
   stands = λ s stands. record {
     recording = subst (λ (l : List Step). StandsFor medium (record old { disk = disk })
         (plain (ring_of old.geometry) s.recording l)) (sym (look.steps old.geometry s))
         (looked-stands medium old disk s.recording stands.recording looked.called.honest.1 looked.stays);
+    version = stands.version ∙ sym (look.version s.version);
     must_reopen = stands.must_reopen ∙ unfailed s.must_reopen;
   };
   leaves = λ s stands now fine.
@@ -102,11 +107,11 @@ goes-unread medium s c look one sound none answers = goes-looked medium s s.disk
 -- ---- the checks
 
 held-none : (g : Geometry) (s : StoreState) (number : ℕ) (result : Result (FrameHead × List ℕ) StoreFault)
-    → holds s.recording number ≡ true → first_of (checks_on (ring_of g) s.recording (was_read number result)) ≡ None
+    → holds s.recording number ≡ true → first_of (checks_on (ring_of g) s (was_read number result)) ≡ None
 held-none g s number result held = passed (not (holds s.recording number)) NotHeld [] (ap not held)
 
 held-none-part : (g : Geometry) (s : StoreState) (number at : ℕ) (result : Result (List ℕ) StoreFault)
-    → holds s.recording number ≡ true → first_of (checks_on (ring_of g) s.recording (was_read_part number at result)) ≡ None
+    → holds s.recording number ≡ true → first_of (checks_on (ring_of g) s (was_read_part number at result)) ≡ None
 held-none-part g s number at result held = passed (not (holds s.recording number)) NotHeld [] (ap not held)
 
 -- a read that failed, where the call of an honest disk did

@@ -11,15 +11,17 @@ use Rattle.loop_record.specs.declared.frame.FrameHead.{FrameHead}
 use Rattle.loop_record.specs.declared.geometry.Geometry.{Geometry}
 use Rattle.loop_record.specs.declared.image.Found.{Found}
 use Rattle.loop_record.specs.declared.segment.SegmentHead.{SegmentHead}
+use Rattle.loop_record.specs.declared.superblock.SuperHead.{SuperHead}
 use Rattle.loop_record.specs.Geometry.{frame_bytes, is_good, segment_at, slot_at}
-use Rattle.loop_record.specs.Layout.{entry_at, Segment, Slot, open_gates, checked_header, geometry_in, header_at, is_open, is_slot_of, is_too_high, segment_in, slot_head, slot_in, whole_frames}
+use Rattle.loop_record.specs.Layout.{entry_at, Segment, Slot, open_gates, checked_header, super_in, version_in, header_at, is_open, is_slot_of, is_too_high, segment_in, slot_head, slot_in, whole_frames}
 use Rattle.loop_record.specs.Plain.{AreIn, IsSomeHigh, found_of, lacks_number, segment_of, segments_of, table_clips, with_segment}
 use Rattle.loop_record.specs.Reading.{by_block, hold_from, is_bad_slot, is_high, open_segments, parts_of, reading}
 use Rattle.std.proofs.lemmas.List.{length-map, map-append}
 use Rattle.loop_record.proofs.Gates.{range_append}
 use Rattle.loop_record.proofs.Bounds.{limits}
 use Rattle.loop_record.proofs.Framing.{prefix_range-le}
-use Rattle.loop_record.proofs.Fresh.{geometry_in-slice, header_at-slice}
+use Rattle.loop_record.proofs.Parts.{super-fault}
+use Rattle.loop_record.proofs.Fresh.{super_in-slice, header_at-slice}
 use Rattle.loop_record.proofs.FoundSegments.{found-high, opened-more, read_slots, reading-no_geometry, slots-bad, slots-hold, some-high}
 use Rattle.loop_record.proofs.HeldNumbers.{bad-lacks, clips-table}
 use Rattle.loop_record.proofs.Readings.{get_or-map_range}
@@ -85,6 +87,7 @@ recovers-as StoreFault.PendingFull P P' Q Q' h said = absurd said
 recovers-as StoreFault.WrongSize P P' Q Q' h said = absurd said
 recovers-as StoreFault.HandFull P P' Q Q' h said = absurd said
 recovers-as StoreFault.HandEmpty P P' Q Q' h said = absurd said
+recovers-as StoreFault.OldLayout P P' Q Q' h said = absurd said
 
 -- what was found where a callee refused, after reads
 pub finds-on : {T U : Type 0} (r : Result U StoreFault) (e : StoreFault) (P : T → Type 0) (P' : U → Type 0)
@@ -108,13 +111,14 @@ finds-after r P Q old mid new stays called inner = record {
 -- ---- the superblock
 
 -- what is decoded from the first 512 bytes is what the image says
-pub geometry-read : (image bytes : List ℕ) (said : Result Geometry LayoutFault) → 512 ≤ length image
-    → bytes ≡ piece 0 512 image → said ≡ geometry_in bytes → said ≡ geometry_in image
-geometry-read image bytes said room read is = is ∙ ap geometry_in read ∙ geometry_in-slice image room
+pub super-read : (image bytes : List ℕ) (said : Result SuperHead LayoutFault) → 512 ≤ length image
+    → bytes ≡ piece 0 512 image → said ≡ super_in bytes → said ≡ super_in image
+super-read image bytes said room read is = is ∙ ap super_in read ∙ super_in-slice image room
 
 pub refused-read : (image bytes : List ℕ) (fault : LayoutFault) → 512 ≤ length image → bytes ≡ piece 0 512 image
-    → (let r : Result Geometry LayoutFault = Err fault in r) ≡ geometry_in bytes → reading image ≡ Err fault
-refused-read image bytes fault room read is = reading-no_geometry image fault (geometry-read image bytes (Err fault) room read is)
+    → (let r : Result SuperHead LayoutFault = Err fault in r) ≡ super_in bytes → reading image ≡ Err fault
+refused-read image bytes fault room read is = reading-no_geometry image fault
+    (sym (super-fault fault image (sym (super-read image bytes (Err fault) room read is))))
 
 -- ---- headers
 
@@ -278,14 +282,15 @@ slots-right g image mid j i first number same counted held one =
 
 -- ---- the clip table
 
-pub table-bad : (g : Geometry) (image table : List ℕ) (fs : List Found) (t : Bool) → IsTrue (is_good g) → AreIn g fs
-    → table ≡ piece 512 2048 image → list_any (lacks_number g fs) (table_clips table) ≡ t → some_bad_clip g image fs ≡ t
-table-bad g image table fs t good within read e = bad-lacks g image fs t (limits g good).slots.0 within
-    (ap (λ (b : List ℕ). list_any (lacks_number g fs) (table_clips b)) (sym read) ∙ e)
+pub table-bad : (g : Geometry) (version : ℕ) (image table : List ℕ) (fs : List Found) (t : Bool) → IsTrue (is_good g)
+    → AreIn g fs → version_in image ≡ version → table ≡ piece 512 2048 image → list_any (lacks_number g fs)
+    (table_clips version table) ≡ t → some_bad_clip g image fs ≡ t
+table-bad g version image table fs t good within is read e = bad-lacks g image fs t (limits g good).slots.0 within
+    ((λ i. list_any (lacks_number g fs) (table_clips (is i) (sym read i))) ∙ e)
 
-pub table-read : (image table : List ℕ) (clips : List (Option Span)) → table ≡ piece 512 2048 image
-    → clips ≡ table_clips table → clips ≡ clips_of image
-table-read image table clips read are = are ∙ ap table_clips read ∙ clips-table image
+pub table-read : (version : ℕ) (image table : List ℕ) (clips : List (Option Span)) → version_in image ≡ version
+    → table ≡ piece 512 2048 image → clips ≡ table_clips version table → clips ≡ clips_of image
+table-read version image table clips is read are = are ∙ (λ i. table_clips (sym is i) (read i)) ∙ clips-table image
 
-pub table-length : (table : List ℕ) → length (table_clips table) ≡ 64
-table-length table = length-map (range_with_len 0 64) (λ id. entry_at table (id * 32)) ∙ length-range 0 64
+pub table-length : (version : ℕ) (table : List ℕ) → length (table_clips version table) ≡ 64
+table-length version table = length-map (range_with_len 0 64) (λ id. entry_at version table (id * 32)) ∙ length-range 0 64

@@ -18,7 +18,7 @@ use Rattle.loop_record.proofs.Gates.{segment_in-more, slots_from}
 use Rattle.loop_ring.proofs.Bytes.{closed_none}
 use Rattle.loop_ring.proofs.Heads.{there}
 use Rattle.loop_store.specs.Drawn.{drawn_image, drawn_byte, entry_byte, segment_byte, slot_byte}
-use Rattle.loop_store.proofs.Drawn.{Clips, FitsEntry, Heads, IsDrawn, MayStand, byte-behind, byte-front, byte-segment, clip-drawn, closed-header, drawn-length, head_in, segment-drawn, slots_byte}
+use Rattle.loop_store.proofs.Drawn.{Clips, FitsDrawn, Heads, IsDrawn, MayStand, byte-behind, byte-front, byte-segment, clip-drawn, closed-header, drawn-length, head_in, segment-drawn, slots_byte}
 
 -- ---- bytes that stay
 
@@ -164,7 +164,7 @@ drawn-grown g heads clips j count h good l is may =
 -- ---- one clip
 
 pub drawn-clip : (g : Geometry) (heads : Heads) (clips : Clips) (id : ℕ) (c : Option Span) → id < 64
-    → id < length clips → FitsEntry c → ShowsClip id c (drawn_image g heads clips)
+    → id < length clips → FitsDrawn c → ShowsClip id c (drawn_image g heads clips)
     (drawn_image g heads (set clips id c))
 drawn-clip g heads clips id c l u fits = record {
   outside = record {

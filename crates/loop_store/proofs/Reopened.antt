@@ -14,15 +14,15 @@ use Rattle.loop_record.specs.declared.geometry.Geometry.{Geometry}
 use Rattle.loop_record.specs.declared.image.Found.{Found}
 use Rattle.loop_record.specs.declared.segment.SegmentHead.{SegmentHead}
 use Rattle.loop_record.specs.Change.{ShowsSegment}
-use Rattle.loop_record.specs.Geometry.{frame_bytes, slot_at}
-use Rattle.loop_record.specs.Layout.{Segment, segment_in, slot_in, whole_frames}
+use Rattle.loop_record.specs.Geometry.{frame_bytes, segment_at, segment_size, slot_at}
+use Rattle.loop_record.specs.Layout.{Segment, segment_in, slot_in, version_in, whole_frames}
 use Rattle.loop_record.specs.Plain.{AreIn, IsIn, segments_of}
 use Rattle.loop_record.specs.Reading.{Holds, by_block, recording_or_damage, lacks_frame, next_after, open_segments, parts_of, reading}
 use Rattle.loop_record.specs.Recording.{Recording, last_number, ring_of}
 use Rattle.loop_record.proofs.Bounds.{limits}
 use Rattle.loop_record.proofs.Changes.{shown_of, is_overfull, next_after-behind}
 use Rattle.loop_record.proofs.Decided.{clash, differ, equal, equal_test, neither, not_below, not_false}
-use Rattle.loop_record.proofs.Parts.{reading-stages, geometry-good}
+use Rattle.loop_record.proofs.Parts.{reading-stages, geometry-good, version-outside}
 use Rattle.loop_record.proofs.Readings.{length-range, overfull_none, reading-same, segments_length, segment_there, whole-length}
 use Rattle.loop_record.proofs.Segments.{placed_there}
 use Rattle.loop_ring.specs.Heads.{heads_of, is_of}
@@ -175,7 +175,8 @@ heads-same g r j old new e l shows =
 -- the image reads alike
 pub alike-same : (g : Geometry) (r : Recording) (j : ℕ) (old new : List ℕ) → Holds g r old → j < g.segments
     → ShowsSegment g j (segment_in g old j) old new → ReadsAlike old new
-alike-same g r j old new e l shows = reading-same g r old new j e l shows ∙ sym e
+alike-same g r j old new e l shows =
+    (reading-same g r old new j e l shows ∙ sym e, version-outside (segment_at g j) (segment_size g) old new (omega arith) shows.outside)
 
 -- ---- moments
 
@@ -189,11 +190,13 @@ pub moments-on : (old mid new : Medium) → IsSound old → Stays old mid → Le
     → LeavesOnly old new (WasOrReadsAlike old)
 moments-on old mid new sound stays run =
     joined old mid new (WasOrReadsAlike old) (stays-moments old mid sound stays)
-    (weaker mid new (ReadsAlike mid.bytes) (WasOrReadsAlike old) run (λ c alike. inr (alike ∙ ap reading stays.bytes)))
+    (weaker mid new (ReadsAlike mid.bytes) (WasOrReadsAlike old) run (λ c alike. inr (alike.0 ∙ ap reading stays.bytes, alike.1 ∙ ap version_in stays.bytes)))
 
 pub alike-on : (old mid new : Medium) → IsSound new → Stays old mid → LeavesOnly mid new (ReadsAlike mid.bytes)
     → ReadsAlike old.bytes new.bytes
-alike-on old mid new sound stays run = each_now mid new (ReadsAlike mid.bytes) sound run new.bytes sound.present ∙ ap reading stays.bytes
+alike-on old mid new sound stays run =
+    let alike = each_now mid new (ReadsAlike mid.bytes) sound run new.bytes sound.present in
+    (alike.0 ∙ ap reading stays.bytes, alike.1 ∙ ap version_in stays.bytes)
 
 -- ---- the segment of the next number
 
@@ -225,11 +228,11 @@ found-alike index j old new told found shows =
 
 -- and with no stray gate in it, it is present
 pub found-present : {A : Type 0} (index : Index A) (j : ℕ) (old : List ℕ) (now : Medium)
-    (told : IsRecovered index old) → position (is_of (told.recording.next / index.ring.geometry.slots))
+    (told : IsRecovered index old) → version_in old ≡ index.version → position (is_of (told.recording.next / index.ring.geometry.slots))
     (heads_of index.ring.geometry old) ≡ Some j
     → ShowsSegment index.ring.geometry j (segment_in index.ring.geometry old j) old now.bytes
     → HasNoStray index.ring.geometry j now.bytes → IsSettled now → IsPresent index now
-found-present index j old now told found shows clean settled =
+found-present index j old now told version found shows clean settled =
     let g = index.ring.geometry in
     let r = told.recording in
     let within = (newest-found g r old j told.known.held found).within in
@@ -240,6 +243,7 @@ found-present index j old now told found shows clean settled =
         recording = r;
         known = record { held = held; next_is = told.known.next_is; heads_are = told.known.heads_are ∙ sym same; clips_are = told.known.clips_are };
       };
+      version = version-outside (segment_at g j) (segment_size g) old now.bytes (omega arith) shows.outside ∙ version;
       settled = settled;
       unstray = unstray-found g r now.bytes j held (ap (λ (hs : List (Option SegmentHead)). position (is_of (r.next / g.slots)) hs) same ∙ found) clean;
     }
@@ -255,10 +259,12 @@ present-opened medium disk index before some within present alike =
     let r = present.recorded.recording in
     let known = present.recorded.known in record {
       recording = r;
-      held = sym alike ∙ known.held;
+      held = sym alike.0 ∙ known.held;
+      version_is = sym alike.1 ∙ present.version;
       stands = record {
         told = told-by disk index false r (medium disk).bytes some within known;
         settled = λ fine now. present.settled;
         held = λ fine now. known.held;
+        version_is = λ fine now. present.version;
       };
     }

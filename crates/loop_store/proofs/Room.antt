@@ -9,12 +9,12 @@ use Rattle.loop_record.specs.declared.geometry.Geometry.{Geometry}
 use Rattle.loop_record.specs.declared.segment.SegmentHead.{SegmentHead}
 use Rattle.loop_record.specs.Change.{ShowsSegment}
 use Rattle.loop_record.specs.Geometry.{gate_at, segment_at, segment_size}
-use Rattle.loop_record.specs.Layout.{Segment, segment_in}
+use Rattle.loop_record.specs.Layout.{Segment, segment_in, version_in}
 use Rattle.loop_record.specs.Reading.{Contents, Holds, empty_segment, open_segments, parts_of}
 use Rattle.loop_record.specs.Recording.{Picture, Recording, after_step, needs_recycling, plain, recycle, recycling_first, ring_of, victim}
 use Rattle.loop_record.proofs.Decided.{neither}
 use Rattle.loop_record.proofs.Framing.{SameWithin, same_open, same_segment, same_whole_frames}
-use Rattle.loop_record.proofs.Parts.{apart, parts-shows, these, within_before, within_behind}
+use Rattle.loop_record.proofs.Parts.{apart, parts-shows, these, version-outside, within_before, within_behind}
 use Rattle.loop_record.proofs.Readings.{reading-retire, reading-same}
 use Rattle.loop_ring.specs.Heads.{heads_of}
 use Rattle.loop_ring.specs.Writes.{HasNoStray, ShowsFrames, ShowsOrNot}
@@ -93,6 +93,11 @@ unstray-shown g j part old new few shows none here i within open_segments = go (
             let same : i ≡ j = omega (arith, l, m) in
             subst (λ (k : ℕ). HasNoStray g k new) (sym same) (here (λ (e : part ≡ None). open_segments (ap (segment_in g new) same ∙ shows.holds ∙ e)))
 
+-- and the layout keeps its version
+shown-version : (g : Geometry) (j : ℕ) (part : Option Segment) (old new : List ℕ) → ShowsSegment g j part old new
+    → version_in new ≡ version_in old
+shown-version g j part old new shows = version-outside (segment_at g j) (segment_size g) old new (omega arith) shows.outside
+
 -- ---- a block that begins
 
 pub begun-heads : (g : Geometry) (next j : ℕ) (old new : List ℕ) → g.slots ≤ 256 → j < g.segments → next % g.slots ≡ 0
@@ -107,6 +112,7 @@ pub closed-begun : (g : Geometry) (next j : ℕ) (old new : List ℕ) → g.slot
 closed-begun g next j old new few l first unstray shows stray = record {
   heads = begun-heads g next j old new few l first shows;
   unstray = unstray-shown g j (Some (empty_segment (next / g.slots))) old new few shows unstray (λ some. stray);
+  version = shown-version g j _ old new shows;
 }
 
 -- ---- a block that is recycled
@@ -169,6 +175,7 @@ replaced-begun g next j old mid new few l first unstray gone shows stray = recor
       ∙ set_again (heads_of g old) j None (Some (head_at g next));
   unstray = unstray-shown g j (Some (empty_segment (next / g.slots))) mid new few shows
       (unstray-shown g j None old mid few gone unstray (λ some. absurd (some refl))) (λ some. stray);
+  version = shown-version g j _ mid new shows ∙ shown-version g j _ old mid gone;
 }
 
 -- ---- what is known of a place
@@ -226,6 +233,7 @@ newest-for g r next j image l known held is =
             (ap (λ (o : Option SegmentHead). set (heads_of g image) j o) (sym at.head)
             ∙ set-get_or (heads_of g image) j None));
         unstray = known.unstray;
+        version = refl;
       };
       steps = before-none g r place.1;
     }
@@ -269,6 +277,7 @@ grown-at g next j ps old mid new few l empty_segment shows stray = record {
       ∙ ap (λ hs. set hs j (Some (record { block = next / g.slots; frames = next % g.slots + length ps }))) empty_segment.heads
       ∙ set_again (heads_of g old) j (Some (head_at g next)) (Some (record { block = next / g.slots; frames = next % g.slots + length ps }));
   unstray = unstray-shown g j _ mid new few shows empty_segment.unstray (λ some. stray);
+  version = shown-version g j _ mid new shows ∙ empty_segment.version;
 }
   where
     head : get_or (heads_of g mid) j None ≡ Some (head_at g next)

@@ -19,6 +19,7 @@ stands-known medium disk index b kept (inr not_so) = (
     told = told-drawn medium disk index b kept;
     settled = λ fine now. absurd (not_so now);
     held = λ fine now. absurd (not_so now);
+    version_is = λ fine now. absurd (not_so now);
   },
 )
 stands-known medium disk index true kept (inl now) = (
@@ -27,9 +28,10 @@ stands-known medium disk index true kept (inl now) = (
     told = told-drawn medium disk index true kept;
     settled = λ fine now. absurd cc;
     held = λ fine now. absurd cc;
+    version_is = λ fine now. absurd cc;
   },
 )
 stands-known medium disk index false kept (inl now) =
     let o = present-opened medium disk index (medium disk).bytes (limits index.ring.geometry index.ring.good).slots.0
-    kept.fits.whole.within (kept.present refl now) refl in
+    kept.fits.whole.within (kept.present refl now) (refl, refl) in
     (o.recording, o.stands)

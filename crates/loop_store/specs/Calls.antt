@@ -6,22 +6,24 @@ use Rattle.loop_disk.specs.Medium.{piece}
 use Rattle.loop_record.specs.declared.clip.Span.{Span}
 use Rattle.loop_record.specs.declared.damage.Damage.TheVariants.{SlotHead}
 use Rattle.loop_record.specs.declared.frame.FrameHead.{FrameHead}
+use Rattle.loop_record.specs.Layout.{has_tag_place}
 use Rattle.loop_record.specs.Recording.{Picture, Recording, Ring, Step, clip_of, frame_under, free_id, head, holds, last_number, lock, needs_recycling, plain, steps, unlock, victim}
 use Rattle.loop_record.specs.Turns.{after_all, told_in, EachIn}
 use Rattle.loop_store.specs.declared.fault.StoreFault.{StoreFault}
-use Rattle.loop_store.specs.declared.fault.StoreFault.TheVariants.{AllLocked, ClipEmpty, ClipNotHeld, ClipTableFull, Damaged, NoMemory, NoSuchClip, MustReopen, NotHeld, NumbersSpent}
+use Rattle.loop_store.specs.declared.fault.StoreFault.TheVariants.{AllLocked, ClipEmpty, ClipNotHeld, ClipTableFull, Damaged, NoMemory, NoSuchClip, MustReopen, NotHeld, NumbersSpent, OldLayout}
 use Rattle.loop_store.specs.Faults.{disk_failed, failed_as, fault_in, is_disk, is_early, is_write_fault}
 use Rattle.loop_store.specs.Steps.{if_answered, if_failed, steps_or_none}
 
 -- a call and its answer: an append of a group, a lock of a span with the clip's id, an unlock of an id, a read of a
--- number with the head and the bytes that it gave, and a read of a part of a number's frame, from a byte on, with
--- the bytes that it gave
+-- number with the head and the bytes that it gave, a read of a part of a number's frame, from a byte on, with the
+-- bytes that it gave, and an upgrade of the layout with whether it was made
 pub data Call : Type 0 where
   appended : List Picture → Result ℕ StoreFault → Call
   locked : Span → Result ℕ StoreFault → Call
   unlocked : ℕ → Result (Unit {0}) StoreFault → Call
   was_read : ℕ → Result (FrameHead × List ℕ) StoreFault → Call
   was_read_part : ℕ → ℕ → Result (List ℕ) StoreFault → Call
+  upgraded : Result Bool StoreFault → Call
 
 -- what a read into lent memory answers
 abbrev pub read_with : Result FrameHead StoreFault → List ℕ → Result (FrameHead × List ℕ) StoreFault
@@ -33,9 +35,10 @@ abbrev pub part_with : Result (Unit {0}) StoreFault → List ℕ → Result (Lis
 part_with (Ok done) out = Ok out
 part_with (Err fault) out = Err fault
 
--- what is recorded, and whether a call that writes has failed
+-- what is recorded, in which version of the layout, and whether a call that writes has failed
 pub record StoreState : Type 0 where
   pub recording : Recording
+  pub version : ℕ
   pub must_reopen : Bool
 
 -- ---- what a call asks for, and what its answer says of it
@@ -47,6 +50,7 @@ fault_answered (locked span result) = fault_in result
 fault_answered (unlocked id result) = fault_in result
 fault_answered (was_read number result) = fault_in result
 fault_answered (was_read_part number at result) = fault_in result
+fault_answered (upgraded result) = fault_in result
 
 -- it writes nothing
 abbrev pub is_look : Call → Bool
@@ -85,9 +89,15 @@ has_failed call = not (is_look call) && disk_failed (fault_answered call)
 abbrev pub was_refused : Call → Bool
 was_refused call = is_early (fault_answered call)
 
+-- the version of the layout after a call: an upgrade that was made gives 2
+abbrev pub version_after : ℕ → Call → ℕ
+version_after version (upgraded (Ok true)) = 2
+version_after version _ = version
+
 abbrev pub after_store_call : Ring → StoreState → Call → StoreState
 after_store_call ring s call = record {
   recording = plain ring s.recording (made_by ring s call);
+  version = version_after s.version call;
   must_reopen = s.must_reopen || has_failed call;
 }
 
@@ -112,28 +122,30 @@ first_of [] = None
 first_of (None ∷ more) = first_of more
 first_of (Some fault ∷ more) = Some fault
 
--- the checks of a span that is to be locked
-abbrev pub span_checks : Recording → Span → List (Option StoreFault)
-span_checks r span =
+-- the checks of a span that is to be locked, in this version of the layout
+abbrev pub span_checks : ℕ → Recording → Span → List (Option StoreFault)
+span_checks version r span =
     due (nat_lt span.to span.from) ClipEmpty
     ∷ option_map ClipNotHeld (missing r span)
     ∷ due (free_id r == 64) ClipTableFull
+    ∷ due (not (has_tag_place version span)) OldLayout
     ∷ []
 
 -- the checks of a call on what is recorded, in their order
-abbrev pub checks_on : Ring → Recording → Call → List (Option StoreFault)
-checks_on ring r (appended group result) =
-    due (r.next == last_number ring) NumbersSpent
-    ∷ due (lacks_victim ring r) AllLocked
+abbrev pub checks_on : Ring → StoreState → Call → List (Option StoreFault)
+checks_on ring s (appended group result) =
+    due (s.recording.next == last_number ring) NumbersSpent
+    ∷ due (lacks_victim ring s.recording) AllLocked
     ∷ []
-checks_on ring r (locked span result) = span_checks r span
-checks_on ring r (unlocked id result) = due (not (is_some (clip_of r id))) NoSuchClip ∷ []
-checks_on ring r (was_read number result) = due (not (holds r number)) NotHeld ∷ []
-checks_on ring r (was_read_part number at result) = due (not (holds r number)) NotHeld ∷ []
+checks_on ring s (locked span result) = span_checks s.version s.recording span
+checks_on ring s (unlocked id result) = due (not (is_some (clip_of s.recording id))) NoSuchClip ∷ []
+checks_on ring s (was_read number result) = due (not (holds s.recording number)) NotHeld ∷ []
+checks_on ring s (was_read_part number at result) = due (not (holds s.recording number)) NotHeld ∷ []
+checks_on ring s (upgraded result) = []
 
 -- the checks of a call, in their order
 abbrev pub checks : Ring → StoreState → Call → List (Option StoreFault)
-checks ring s call = due s.must_reopen MustReopen ∷ checks_on ring s.recording call
+checks ring s call = due s.must_reopen MustReopen ∷ checks_on ring s call
 
 -- the frame of a number, with this head and these bytes
 pub record IsHeldFrame (r : Recording) (number : ℕ) (h : FrameHead) (bytes : List ℕ) : Type 0 where
@@ -154,18 +166,21 @@ abbrev pub ReadFails : Type 0 → StoreFault → Type 0
 ReadFails Honest fault = (is_disk fault ≡ true) ⊎ ((fault ≡ Damaged SlotHead) × (Honest → ⊥))
 
 -- What a call answers where no check is due: it is done, a read lacks memory, or the disk failed, which for a call that
--- writes is a write or a sync. Only what a read gives is known of honest disks alone.
-abbrev pub AnswersOtherwise : Type 0 → Recording → Call → Type 0
-AnswersOtherwise Honest r (appended group (Ok number)) = number ≡ r.next
-AnswersOtherwise Honest r (locked span (Ok id)) = id ≡ free_id r
-AnswersOtherwise Honest r (unlocked id (Ok x)) = Unit {0}
-AnswersOtherwise Honest r (was_read number (Ok x)) = Honest → IsHeldFrame r number x.0 x.1
-AnswersOtherwise Honest r (was_read_part number at (Ok bytes)) = Honest → IsPart r number at bytes
-AnswersOtherwise Honest r (was_read number (Err fault)) = (fault ≡ NoMemory) ⊎ ReadFails Honest fault
-AnswersOtherwise Honest r (was_read_part number at (Err fault)) = ReadFails Honest fault
-AnswersOtherwise Honest r (appended group (Err fault)) = is_write_fault fault ≡ true
-AnswersOtherwise Honest r (locked span (Err fault)) = is_write_fault fault ≡ true
-AnswersOtherwise Honest r (unlocked id (Err fault)) = is_write_fault fault ≡ true
+-- writes is a write or a sync. An upgrade is made where the version isn't 2, and otherwise can't fail. Only what a read
+-- gives is known of honest disks alone.
+abbrev pub AnswersOtherwise : Type 0 → StoreState → Call → Type 0
+AnswersOtherwise Honest s (appended group (Ok number)) = number ≡ s.recording.next
+AnswersOtherwise Honest s (locked span (Ok id)) = id ≡ free_id s.recording
+AnswersOtherwise Honest s (unlocked id (Ok x)) = Unit {0}
+AnswersOtherwise Honest s (was_read number (Ok x)) = Honest → IsHeldFrame s.recording number x.0 x.1
+AnswersOtherwise Honest s (was_read_part number at (Ok bytes)) = Honest → IsPart s.recording number at bytes
+AnswersOtherwise Honest s (was_read number (Err fault)) = (fault ≡ NoMemory) ⊎ ReadFails Honest fault
+AnswersOtherwise Honest s (was_read_part number at (Err fault)) = ReadFails Honest fault
+AnswersOtherwise Honest s (appended group (Err fault)) = is_write_fault fault ≡ true
+AnswersOtherwise Honest s (locked span (Err fault)) = is_write_fault fault ≡ true
+AnswersOtherwise Honest s (unlocked id (Err fault)) = is_write_fault fault ≡ true
+AnswersOtherwise Honest s (upgraded (Ok made)) = made ≡ not (s.version == 2)
+AnswersOtherwise Honest s (upgraded (Err fault)) = ((s.version == 2) ≡ false) × (is_write_fault fault ≡ true)
 
 -- the answer is the refusal that is due, and where none is, one of these
 abbrev pub AnswersDue : Option StoreFault → Call → Type 0 → Type 0
@@ -174,7 +189,7 @@ AnswersDue None call Given = Given
 
 -- a call was answered so, where `Honest` says that the disk is honest
 abbrev pub IsAnswered : Type 0 → Ring → StoreState → Call → Type 0
-IsAnswered Honest ring s call = AnswersDue (first_of (checks ring s call)) call (AnswersOtherwise Honest s.recording call)
+IsAnswered Honest ring s call = AnswersDue (first_of (checks ring s call)) call (AnswersOtherwise Honest s call)
 
 -- ---- lists of calls
 

@@ -4,6 +4,7 @@ use Rattle.std.specs.List.{range_with_len}
 use Rattle.loop_record.specs.declared.clip.Span.{Span}
 use Rattle.loop_record.specs.declared.geometry.Geometry.{Geometry}
 use Rattle.loop_record.specs.declared.segment.SegmentHead.{SegmentHead}
+use Rattle.loop_record.specs.declared.superblock.SuperHead.{SuperHead}
 use Rattle.loop_record.specs.Geometry.{disk_size, frame_bytes, segment_size, slot_size}
 use Rattle.loop_record.specs.Layout.{entry_bytes, header_bytes, slot_bytes, super_bytes}
 use Rattle.loop_record.specs.Recording.{Picture}
@@ -35,6 +36,11 @@ drawn_byte g heads clips k =
     if nat_lt k 2560 then entry_byte (slice_index_or clips ((k - 512) / 32) None) ((k - 512) % 32) else
     segment_byte g (slice_index_or heads ((k - 2560) / segment_size g) None) ((k - 2560) % segment_size g)
 
+-- what its superblock says: the geometry, and version 2
+abbrev pub drawn_super : Geometry → SuperHead
+drawn_super g = record { geometry = g; version = 2 }
+
 -- the image of these headers and clips
 abbrev pub drawn_image : Geometry → List (Option SegmentHead) → List (Option Span) → List ℕ
-drawn_image g heads clips = super_bytes g ++ map (drawn_byte g heads clips) (range_with_len 512 (disk_size g - 512))
+drawn_image g heads clips =
+    super_bytes (drawn_super g) ++ map (drawn_byte g heads clips) (range_with_len 512 (disk_size g - 512))

@@ -2,6 +2,7 @@
 use Rattle.std.specs.Prelude.{◌≡◌, ◌⊎◌, ℕ, IsTrue, ◌<◌, false, List, length, drop, slice_range}
 use Rattle.loop_disk.specs.Medium.{IsSettled, Medium}
 use Rattle.loop_record.specs.declared.geometry.Geometry.{Geometry}
+use Rattle.loop_record.specs.declared.superblock.SuperHead.{SuperHead}
 use Rattle.loop_record.specs.Geometry.{clip_at, disk_size, is_good, segment_at}
 use Rattle.loop_record.specs.Layout.{is_open, super_bytes}
 use Rattle.loop_record.specs.Reading.{IsFreshImage}
@@ -23,16 +24,16 @@ abbrev pub WasOrClosed : Medium → List ℕ → Type 0
 WasOrClosed m c = m.may_leave c ⊎ IsClosed c
 
 -- behind a closed gate stand the superblock, a clip table without a clip, and the closed headers of the first segments
-pub record IsLaid (g : Geometry) (count : ℕ) (image : List ℕ) : Type 0 where
-  pub size : length image ≡ disk_size g
-  pub superblock : slice_range image 1 512 ≡ drop 1 (super_bytes g)
+pub record IsLaid (h : SuperHead) (count : ℕ) (image : List ℕ) : Type 0 where
+  pub size : length image ≡ disk_size h.geometry
+  pub superblock : slice_range image 1 512 ≡ drop 1 (super_bytes h)
   pub clips : (id : ℕ) → id < 64 → is_open image (clip_at id) ≡ false
-  pub segments : (j : ℕ) → j < count → is_open image (segment_at g j) ≡ false
+  pub segments : (j : ℕ) → j < count → is_open image (segment_at h.geometry j) ≡ false
 
 -- so much is laid out, behind a gate that is closed in each image that a crash may leave too
-abbrev pub IsLaidClosed : Geometry → ℕ → Medium → Type 0
-IsLaidClosed g count m = LeavesClosed m × IsLaid g count m.bytes
+abbrev pub IsLaidClosed : SuperHead → ℕ → Medium → Type 0
+IsLaidClosed h count m = LeavesClosed m × IsLaid h count m.bytes
 
 -- the disk holds an empty recording, just laid out, and a crash leaves nothing else
-abbrev pub HoldsFresh : Geometry → Medium → Type 0
-HoldsFresh g m = IsFreshImage g m.bytes × IsSettled m
+abbrev pub HoldsFresh : SuperHead → Medium → Type 0
+HoldsFresh h m = IsFreshImage h m.bytes × IsSettled m

@@ -4,6 +4,7 @@ use Rattle.loop_record.specs.declared.clip.Span.{Span}
 use Rattle.loop_record.specs.declared.geometry.Geometry.{Geometry}
 use Rattle.loop_record.specs.declared.segment.SegmentHead.{SegmentHead}
 use Rattle.loop_record.specs.Geometry.{disk_size}
+use Rattle.loop_record.specs.Layout.{version_in}
 use Rattle.loop_record.specs.Reading.{Holds}
 use Rattle.loop_record.specs.Recording.{Recording, last_number, ring_of}
 use Rattle.loop_ring.specs.Heads.{clip_counts, heads_of}
@@ -32,6 +33,10 @@ pub record IsRecovered {A : Type 0} (index : Index A) (image : List ℕ) : Type 
   pub recording : Recording
   pub known : IsIndexOf index recording image
 
+-- so it is, and the index has the version of the image's layout
+abbrev pub IsRecoveredIn : {A : Type 0} → Index A → List ℕ → Type 0
+IsRecoveredIn index image = IsRecovered index image × (version_in image ≡ index.version)
+
 -- with frames that are made up, the index says a whole recording
 abbrev pub SaysRecording : {A : Type 0} → Index A → Type 0
 SaysRecording index = IsRecovered index (drawn_image index.ring.geometry index.table.heads index.clips)
@@ -56,6 +61,7 @@ head_after g next count = record { block = next / g.slots; frames = next % g.slo
 -- segment j has so many frames of the block of the next number from there on
 pub record IsNoted {A : Type 0} (old new : Index A) (j count : ℕ) : Type 0 where
   pub ring : new.ring ≡ old.ring
+  pub version : new.version ≡ old.version
   pub next : new.next ≡ old.next + count
   pub heads : new.table.heads ≡ slice_set old.table.heads j (Some (head_after old.ring.geometry old.next count))
   pub clips : new.clips ≡ old.clips
@@ -64,6 +70,7 @@ pub record IsNoted {A : Type 0} (old new : Index A) (j count : ℕ) : Type 0 whe
 -- under this id stands this clip, or none
 pub record IsClipNoted {A : Type 0} (old new : Index A) (id : ℕ) (clip : Option Span) : Type 0 where
   pub ring : new.ring ≡ old.ring
+  pub version : new.version ≡ old.version
   pub next : new.next ≡ old.next
   pub heads : new.table.heads ≡ old.table.heads
   pub clips : new.clips ≡ slice_set old.clips id clip

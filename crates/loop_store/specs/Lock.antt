@@ -2,10 +2,11 @@
 use Rattle.std.specs.Prelude.{◌≡◌, ◌⊎◌, ℕ, ◌+◌, ◌*◌, ◌<◌, ◌≤◌, true, false, IsTrue, Option, None, Some, Result, Ok, Err, List}
 use Rattle.loop_record.specs.declared.clip.Span.{Span}
 use Rattle.loop_record.specs.declared.geometry.Geometry.{Geometry}
+use Rattle.loop_record.specs.Layout.{version_in}
 use Rattle.loop_record.specs.Recording.{Recording, Ring, block, first_free, free_id, holds, is_legal, lock, ring_of}
 use Rattle.loop_ring.specs.Heads.{heads_of}
 use Rattle.loop_store.specs.declared.fault.StoreFault.{StoreFault}
-use Rattle.loop_store.specs.declared.fault.StoreFault.TheVariants.{ClipEmpty, ClipNotHeld, ClipTableFull}
+use Rattle.loop_store.specs.declared.fault.StoreFault.TheVariants.{ClipEmpty, ClipNotHeld, ClipTableFull, OldLayout}
 use Rattle.loop_store.specs.Calls.{first_of, span_checks}
 use Rattle.loop_store.specs.Grow.{HasNoneStray}
 
@@ -22,25 +23,28 @@ abbrev pub IsInSpan : Span → Option ℕ → Type 0
 IsInSpan span None = Unit {0}
 IsInSpan span (Some n) = (span.from ≤ n) × (n ≤ span.to)
 
--- why no clip of a span may be added, of every disk: it is empty, or a number of it isn't held, or each id has a clip
+-- why no clip of a span may be added, of every disk: it is empty, or a number of it isn't held, or each id has a clip,
+-- or the layout has no place for its tag
 abbrev pub CanRefuseSpan : Span → List (Option Span) → StoreFault → Type 0
 CanRefuseSpan span clips fault =
     (fault ≡ ClipEmpty) × (span.to < span.from)
     ⊎ (((n : ℕ) × ((fault ≡ ClipNotHeld n) × IsInSpan span (Some n))) × (span.from ≤ span.to)
-    ⊎ (fault ≡ ClipTableFull) × ((span.from ≤ span.to) × (first_free clips ≡ 64)))
+    ⊎ ((fault ≡ ClipTableFull) × ((span.from ≤ span.to) × (first_free clips ≡ 64))
+    ⊎ (fault ≡ OldLayout) × (span.from ≤ span.to)))
 
--- the answer to whether a clip of a span may be added, and under which id
-abbrev pub AnswersSpan : Recording → Span → Result ℕ StoreFault → Type 0
-AnswersSpan r span (Ok id) = (first_of (span_checks r span) ≡ None) × (id ≡ free_id r)
-AnswersSpan r span (Err fault) = first_of (span_checks r span) ≡ Some fault
+-- the answer to whether a clip of a span may be added in this version of the layout, and under which id
+abbrev pub AnswersSpan : ℕ → Recording → Span → Result ℕ StoreFault → Type 0
+AnswersSpan version r span (Ok id) = (first_of (span_checks version r span) ≡ None) × (id ≡ free_id r)
+AnswersSpan version r span (Err fault) = first_of (span_checks version r span) ≡ Some fault
 
--- a recording of which a clip of this span may be added, under this id
-pub record CanTake (g : Geometry) (span : Span) (id : ℕ) (r : Recording) : Type 0 where
-  pub fits : first_of (span_checks r span) ≡ None
+-- a recording of which a clip of this span may be added in this version of the layout, under this id
+pub record CanTake (version : ℕ) (g : Geometry) (span : Span) (id : ℕ) (r : Recording) : Type 0 where
+  pub fits : first_of (span_checks version r span) ≡ None
   pub legal : IsTrue (is_legal (ring_of g) r (lock span))
   pub id_is : id ≡ free_id r
 
--- the segments' headers are those of the old image, and no stray gate is there
+-- the segments' headers and the layout's version are those of the old image, and no stray gate is there
 pub record KeepsSegments (g : Geometry) (old new : List ℕ) : Type 0 where
   pub heads : heads_of g new ≡ heads_of g old
   pub unstray : HasNoneStray g new
+  pub version : version_in new ≡ version_in old

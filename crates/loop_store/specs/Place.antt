@@ -3,7 +3,7 @@ use Rattle.std.specs.Prelude.{◌≡◌, ◌≢◌, ◌⊎◌, ℕ, ◌/◌, ◌
 use Rattle.std.specs.List.{list_any}
 use Rattle.loop_record.specs.declared.geometry.Geometry.{Geometry}
 use Rattle.loop_record.specs.declared.segment.SegmentHead.{SegmentHead}
-use Rattle.loop_record.specs.Layout.{Segment, is_too_high, segment_in, whole_frames}
+use Rattle.loop_record.specs.Layout.{Segment, is_too_high, segment_in, version_in, whole_frames}
 use Rattle.loop_record.specs.Reading.{Holds, open_segments, parts_of}
 use Rattle.loop_record.specs.Recording.{Recording, Step, last_number, needs_recycling, recycling_first, ring_of, victim}
 use Rattle.loop_ring.specs.Heads.{heads_of}
@@ -69,16 +69,18 @@ abbrev pub head_at : Geometry → ℕ → SegmentHead
 head_at g next = record { block = next / g.slots; frames = next % g.slots }
 
 -- the segments' headers are the old ones, but that segment j has begun the block of the next number, with the
--- frames before it; and no stray gate is there
+-- frames before it; no stray gate is there, and the layout has the old one's version
 pub record IsBegunAt (g : Geometry) (next j : ℕ) (old new : List ℕ) : Type 0 where
   pub heads : heads_of g new ≡ slice_set (heads_of g old) j (Some (head_at g next))
   pub unstray : HasNoneStray g new
+  pub version : version_in new ≡ version_in old
 
 -- the segments' headers are the old ones, but that segment j has so many frames of the block of the next number
--- from there on; and no stray gate is there
+-- from there on; no stray gate is there, and the layout has the old one's version
 pub record IsGrownAt (g : Geometry) (next count j : ℕ) (old new : List ℕ) : Type 0 where
   pub heads : heads_of g new ≡ slice_set (heads_of g old) j (Some (head_after g next count))
   pub unstray : HasNoneStray g new
+  pub version : version_in new ≡ version_in old
 
 -- why there is no place: no number is left, or otherwise a block has to be recycled first and there is no victim
 abbrev pub RefusesPlace : Geometry → Recording → StoreFault → Type 0

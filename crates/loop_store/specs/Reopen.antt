@@ -2,14 +2,15 @@
 use Rattle.std.specs.Prelude.{◌≡◌, ◌⊎◌, ℕ, Err, List}
 use Rattle.loop_disk.specs.Medium.{Medium}
 use Rattle.loop_record.specs.declared.damage.LayoutFault.{LayoutFault}
+use Rattle.loop_record.specs.Layout.{version_in}
 use Rattle.loop_record.specs.Reading.{Holds, reading}
 use Rattle.loop_record.specs.Recording.{Recording}
 use Rattle.loop_store.specs.declared.fault.StoreFault.{StoreFault}
 use Rattle.loop_store.specs.Seen.{Seen, StandsFor, Tells}
 
--- the second image reads as the first does
+-- the second image reads as the first does, in the same version of the layout
 abbrev pub ReadsAlike : List ℕ → List ℕ → Type 0
-ReadsAlike old new = reading new ≡ reading old
+ReadsAlike old new = (reading new ≡ reading old) × (version_in new ≡ version_in old)
 
 -- an image that a crash might have left before, or one that reads as the present bytes do
 abbrev pub WasOrReadsAlike : Medium → List ℕ → Type 0
@@ -19,10 +20,11 @@ WasOrReadsAlike m c = m.may_leave c ⊎ ReadsAlike m.bytes c
 abbrev pub TellsOne : {D : Type 0} → Seen D → Type 0
 TellsOne store = (r : Recording) × Tells store r
 
--- the image reads as a recording of the store's geometry, for which the store stands
+-- the image reads as a recording of the store's geometry, in its version, for which the store stands
 pub record IsOpened {D : Type 0} (medium : D → Medium) (image : List ℕ) (store : Seen D) : Type 0 where
   pub recording : Recording
   pub held : Holds store.geometry recording image
+  pub version_is : version_in image ≡ store.version
   pub stands : StandsFor medium store recording
 
 -- the refusal is what the image reads as, or memory was refused, or a call of the disk failed

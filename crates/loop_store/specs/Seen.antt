@@ -3,6 +3,7 @@ use Rattle.std.specs.Prelude.{◌≡◌, ℕ, Result, Ok, Err, Bool, true, false
 use Rattle.loop_disk.specs.Medium.{Medium, IsSettled}
 use Rattle.loop_record.specs.declared.clip.Span.{Span}
 use Rattle.loop_record.specs.declared.geometry.Geometry.{Geometry}
+use Rattle.loop_record.specs.Layout.{version_in}
 use Rattle.loop_record.specs.Recording.{IsWellFormed, Recording, Ring, holds, ring_of}
 use Rattle.loop_record.specs.Reading.{Holds}
 use Rattle.loop_store.specs.declared.fault.StoreFault.{StoreFault}
@@ -10,11 +11,12 @@ use Rattle.loop_store.specs.declared.fault.StoreFault.TheVariants.{Disk}
 use Rattle.loop_store.specs.declared.index.Index.{Index}
 use Rattle.loop_store.specs.Numbers.{is_among, numbers_under}
 
--- the disk and the geometry, and what a store tells of its recording: the number that comes next, the numbers
--- that are held, the clip of each id; and whether a call that writes has failed
+-- the disk, the geometry and the version of the layout, and what a store tells of its recording: the number that comes
+-- next, the numbers that are held, the clip of each id; and whether a call that writes has failed
 pub record Seen (D : Type 0) : Type 0 where
   pub disk : D
   pub geometry : Geometry
+  pub version : ℕ
   pub next : ℕ
   pub numbers : List ℕ
   pub clips : List (Option Span)
@@ -29,6 +31,7 @@ abbrev pub seen_with : {D A : Type 0} → D → Index A → Bool → Seen D
 seen_with disk index must_reopen = record {
   disk = disk;
   geometry = index.ring.geometry;
+  version = index.version;
   next = index.next;
   numbers = numbers_under index.ring.geometry.slots index.table.heads;
   clips = index.clips;
@@ -44,11 +47,12 @@ pub record Tells {D : Type 0} (s : Seen D) (r : Recording) : Type 0 where
   pub clips_are : s.clips ≡ r.clips
 
 -- The store stands for a recording: it tells of that recording, after a failed call too; and where it needn't be
--- reopened, an honest disk holds it, and a crash leaves nothing else.
+-- reopened, an honest disk holds it in the version that is told, and a crash leaves nothing else.
 pub record StandsFor {D : Type 0} (medium : D → Medium) (s : Seen D) (r : Recording) : Type 0 where
   pub told : Tells s r
   pub settled : s.must_reopen ≡ false → (medium s.disk).honest → IsSettled (medium s.disk)
   pub held : s.must_reopen ≡ false → (medium s.disk).honest → Holds s.geometry r (medium s.disk).bytes
+  pub version_is : s.must_reopen ≡ false → (medium s.disk).honest → version_in (medium s.disk).bytes ≡ s.version
 
 -- after a failed call of the disk the store has to be opened again, and tells what it told before
 abbrev pub HasFailed : {D : Type 0} → Seen D → Seen D → Type 0

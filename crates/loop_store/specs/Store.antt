@@ -2,14 +2,17 @@
 use Rattle.std.specs.Prelude.{◌≡◌, Bool, false, min}
 use Rattle.loop_disk.specs.Medium.{Medium, IsSettled}
 use Rattle.loop_record.specs.Geometry.{frame_bytes}
+use Rattle.loop_record.specs.Layout.{version_in}
 use Rattle.loop_ring.specs.Groups.{Grouped}
 use Rattle.loop_store.specs.declared.index.Index.{Index}
 use Rattle.loop_store.specs.Grow.{HasNoneStray}
 use Rattle.loop_store.specs.Index.{IsFitting, IsRecovered, SaysRecording}
 
--- the disk holds a recording, of which the index says all, with no stray gate, and a crash leaves nothing else
+-- the disk holds a recording, of which the index says all, its version too, with no stray gate, and a crash leaves
+-- nothing else
 pub record IsPresent {A : Type 0} (index : Index A) (m : Medium) : Type 0 where
   pub recorded : IsRecovered index m.bytes
+  pub version : version_in m.bytes ≡ index.version
   pub settled : IsSettled m
   pub unstray : HasNoneStray index.ring.geometry m.bytes
 

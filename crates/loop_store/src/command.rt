@@ -86,7 +86,7 @@ impl<D: Disk + Drop, A: Allocator + Copy> Store<D, A> {
     {
         match command {
             Command::Store(frame) => Reply::Store(self.append_one(frame)),
-            Command::Lock(span) => Reply::Lock(self.lock(span.from, span.to)),
+            Command::Lock(span) => Reply::Lock(self.lock(span.from, span.to, span.tag)),
             Command::Unlock(id) => Reply::Unlock(self.unlock(*id)),
             Command::Read(number) => Reply::Read(self.read_frame(alloc, *number)),
         }

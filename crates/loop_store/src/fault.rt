@@ -67,6 +67,9 @@ pub enum StoreFault {
     /// A lane's hand holds no frame, or no buffer, where one is asked for.
     #[error("the hand is empty")]
     HandEmpty,
+    /// A clip with a tag other than 0 in version 1 of the layout, which has no place for it.
+    #[error("the layout has no tags: it is to be upgraded first")]
+    OldLayout,
 }
 
 impl StoreFault {
@@ -92,6 +95,7 @@ impl StoreFault {
             StoreFault::BadGeometry => 16,
             StoreFault::HandFull => 18,
             StoreFault::HandEmpty => 19,
+            StoreFault::OldLayout => 21,
         }
     }
 
@@ -117,6 +121,7 @@ impl StoreFault {
             StoreFault::BadGeometry => "BadGeometry",
             StoreFault::HandFull => "HandFull",
             StoreFault::HandEmpty => "HandEmpty",
+            StoreFault::OldLayout => "OldLayout",
         }
     }
 }

@@ -3,14 +3,14 @@
 //!
 //! Each call reads and never writes; after a refusal the disk is as it was.
 
-ghost use Rattle.std.specs.Prelude.{◌≡◌, ◌+◌, ◌<◌, ◌≤◌, ℕ, List, Ok, Err, IfOk, OnOk, All, true, false, length};
+ghost use Rattle.std.specs.Prelude.{◌≡◌, ◌+◌, ◌<◌, ◌≤◌, ℕ, List, Ok, Err, IfOk, None, OnOk, All, true, false, length, slice_index_or};
 ghost use Rattle.std.specs.List.{list_any};
 ghost use Rattle.loop_record.specs.declared.damage.Damage.{Damage};
 ghost use Rattle.loop_record.specs.declared.damage.LayoutFault.{LayoutFault};
 ghost use Rattle.loop_record.specs.declared.geometry.Geometry.{Geometry};
 ghost use Rattle.loop_record.specs.Geometry.{frame_bytes, segment_at, slot_at};
-ghost use Rattle.loop_record.specs.Layout.{geometry_in, header_at, is_slot_of, is_too_high, segment_in, slot_in};
-ghost use Rattle.loop_record.specs.Plain.{AreIn, IsSomeHigh, lacks_number, segment_of, segments_of, with_segment};
+ghost use Rattle.loop_record.specs.Layout.{header_at, is_slot_of, is_too_high, segment_in, slot_in, super_in, version_in};
+ghost use Rattle.loop_record.specs.Plain.{AreIn, IsSomeHigh, IsTagFit, lacks_number, segment_of, segments_of, with_segment};
 ghost use Rattle.loop_record.specs.Reading.{by_block, is_bad_slot, is_high, open_segments, parts_of, reading};
 ghost use Rattle.loop_ring.specs.Heads.{heads_of};
 ghost use Rattle.loop_store.specs.Fresh.{FitsDisk};
@@ -20,7 +20,7 @@ use crate::StoreFault;
 use loop_disk::Disk;
 use loop_record::{
     Damage, Found, Geometry, HEAD_SIZE, HEADER_SIZE, LayoutFault, SUPER_SIZE, SegmentHead, Span,
-    TABLE_SIZE, decode_head, decode_header, decode_super, put_in_place, read_clips,
+    SuperHead, TABLE_SIZE, decode_head, decode_header, decode_super, put_in_place, read_clips,
 };
 use std::alloc::{AllocError, Allocator};
 
@@ -35,10 +35,11 @@ impl From<LayoutFault> for StoreFault {
     }
 }
 
-/// The geometry in the superblock of a disk of its size: one read, or none where the disk has no room for a superblock.
-pub(crate) fn read_geometry<D: Disk>(disk: &mut D) -> Result<Geometry, StoreFault>
-    ensures fits { IfOk result (λ geometry. FitsDisk geometry (D.medium disk.old).size) }
-    ensures finds { let old = D.medium disk.old in Finds (λ geometry. geometry_in old.bytes ≡ Ok geometry)
+/// What the superblock says of a disk of its geometry's size: one read, or none where the disk has no room for a
+/// superblock.
+pub(crate) fn read_super<D: Disk>(disk: &mut D) -> Result<SuperHead, StoreFault>
+    ensures fits { IfOk result (λ head. FitsDisk head.geometry (D.medium disk.old).size) }
+    ensures finds { let old = D.medium disk.old in Finds (λ head. super_in old.bytes ≡ Ok head)
         (λ fault. reading old.bytes ≡ Err fault) old (D.medium disk.new) result }
 {
     let size = disk.size();
@@ -47,11 +48,11 @@ pub(crate) fn read_geometry<D: Disk>(disk: &mut D) -> Result<Geometry, StoreFaul
     }
     let mut superblock = [0; SUPER_SIZE];
     disk.read(0, &mut superblock)?;
-    let geometry = decode_super(&superblock)?;
-    if size != geometry.disk_size() {
+    let head = decode_super(&superblock)?;
+    if size != head.geometry.disk_size() {
         return Err(StoreFault::Damaged(Damage::DiskSize));
     }
-    Ok(geometry)
+    Ok(head)
 }
 
 /// What the header of a segment says: one read.
@@ -205,22 +206,26 @@ pub(crate) fn check_slots<D: Disk>(
     check_slots(disk, geometry, others)
 }
 
-/// The clip of each id, or `ClipRange` where one is empty or has a number of which no segment has the frame: one read.
+/// The clip of each id, in this version, or `ClipRange` where one is empty or has a number of which no segment has the
+/// frame: one read.
 pub(crate) fn read_table<D: Disk>(
     disk: &mut D,
     geometry: &Geometry,
+    version: u32,
     open: &[Found],
 ) -> Result<[Option<Span>; 64], StoreFault>
     requires fits { FitsDisk geometry.now (D.medium disk.old).size }
     requires within { AreIn geometry.now open.now }
+    requires version { (D.medium disk.old).honest → version_in (D.medium disk.old).bytes ≡ version }
     ensures finds { let old = D.medium disk.old in let bad = some_bad_clip geometry.now old.bytes open.now in
         Finds (λ clips. (clips ≡ clips_of old.bytes) × (bad ≡ false))
         (λ fault. (fault ≡ LayoutFault.Damaged Damage.ClipRange) × (bad ≡ true)) old (D.medium disk.new) result }
     ensures held { IfOk result (λ clips. (length clips ≡ 64)
         × (list_any (lacks_number geometry.now open.now) clips ≡ false)) }
+    ensures tags { IfOk result (λ clips. (id : ℕ) → IsTagFit (slice_index_or clips id None)) }
 {
     let mut table = [0; TABLE_SIZE];
     disk.read(SUPER_SIZE as u64, &mut table)?;
-    let clips = read_clips(geometry, &table, open)?;
+    let clips = read_clips(geometry, version, &table, open)?;
     Ok(clips)
 }

@@ -3,13 +3,13 @@
 ghost use Rattle.std.specs.Prelude.{◌≡◌, ◌+◌, ◌<◌, ◌≤◌, IsTrue, ◌++◌, drop, length};
 ghost use Rattle.loop_disk.specs.Medium.{IsSettled};
 ghost use Rattle.loop_record.specs.Geometry.{is_good};
-ghost use Rattle.loop_record.specs.Layout.{super_bytes};
+ghost use Rattle.loop_record.specs.Layout.{IsVersion, super_bytes};
 ghost use Rattle.loop_store.specs.Fresh.{FitsDisk, HoldsFresh, IsClosed, IsLaid, IsLaidClosed, LeavesClosed, WasOrClosed};
 ghost use Rattle.loop_store.specs.Make.{NoneOrEmpty, WasOrEmpty};
 ghost use Rattle.loop_store.specs.Grow.{Brings};
 
 use loop_disk::{Disk, DiskFault, store};
-use loop_record::{Geometry, HEADER_SIZE, OPEN, SUPER_SIZE, encode_super};
+use loop_record::{HEADER_SIZE, OPEN, SUPER_SIZE, SuperHead, encode_super};
 
 /// The bytes of the superblock and the clip table.
 const FRONT_SIZE: usize = 2560;
@@ -39,12 +39,12 @@ fn unformat<D: Disk>(disk: &mut D) -> Result<(), DiskFault>
 }
 
 /// Puts an open superblock at the front of some bytes.
-fn put_super(front: &mut [u8], geometry: &Geometry)
-    requires good { IsTrue (is_good geometry.now) }
+fn put_super(front: &mut [u8], head: &SuperHead)
+    requires good { IsTrue (is_good head.now.geometry) }
     requires size { 512 ≤ length front.old }
-    ensures { front.new ≡ super_bytes geometry.now ++ drop 512 front.old }
+    ensures { front.new ≡ super_bytes head.now ++ drop 512 front.old }
 {
-    encode_super(geometry, &mut front[0..SUPER_SIZE]);
+    encode_super(head, &mut front[0..SUPER_SIZE]);
 }
 
 /// Bytes without the gate before them.
@@ -56,69 +56,72 @@ fn behind_gate(bytes: &[u8]) -> &[u8]
 }
 
 /// Writes the superblock behind its gate, and the clip table without a clip.
-fn write_front<D: Disk>(disk: &mut D, geometry: &Geometry) -> Result<(), DiskFault>
-    requires fits { FitsDisk geometry.now (D.medium disk.old).size }
+fn write_front<D: Disk>(disk: &mut D, head: &SuperHead) -> Result<(), DiskFault>
+    requires fits { FitsDisk head.now.geometry (D.medium disk.old).size }
     requires closed { (D.medium disk.old).honest → LeavesClosed (D.medium disk.old) }
-    ensures { Brings IsClosed (IsLaidClosed geometry.now 0) (D.medium disk.old) (D.medium disk.new) result }
+    ensures { Brings IsClosed (IsLaidClosed head.now 0) (D.medium disk.old) (D.medium disk.new) result }
 {
     let mut front = [0; FRONT_SIZE];
-    put_super(&mut front, geometry);
+    put_super(&mut front, head);
     disk.write_at(1, behind_gate(&front))
 }
 
 /// Writes the header of a segment as zeros.
-fn write_header<D: Disk>(disk: &mut D, geometry: &Geometry, segment: u32) -> Result<(), DiskFault>
-    requires fits { FitsDisk geometry.now (D.medium disk.old).size }
-    requires segment { segment < geometry.now.segments }
-    requires laid { (D.medium disk.old).honest → IsLaidClosed geometry.now segment (D.medium disk.old) }
-    ensures { Brings IsClosed (IsLaidClosed geometry.now (segment + 1)) (D.medium disk.old) (D.medium disk.new) result }
+fn write_header<D: Disk>(disk: &mut D, head: &SuperHead, segment: u32) -> Result<(), DiskFault>
+    requires fits { FitsDisk head.now.geometry (D.medium disk.old).size }
+    requires segment { segment < head.now.geometry.segments }
+    requires laid { (D.medium disk.old).honest → IsLaidClosed head.now segment (D.medium disk.old) }
+    ensures { Brings IsClosed (IsLaidClosed head.now (segment + 1)) (D.medium disk.old) (D.medium disk.new) result }
 {
-    disk.write_at(geometry.segment_at(segment), &[0; HEADER_SIZE])
+    disk.write_at(head.geometry.segment_at(segment), &[0; HEADER_SIZE])
 }
 
 /// Writes the headers of all segments as zeros.
-fn write_headers<D: Disk>(disk: &mut D, geometry: &Geometry) -> Result<(), DiskFault>
-    requires fits { FitsDisk geometry.now (D.medium disk.old).size }
-    requires laid { (D.medium disk.old).honest → IsLaidClosed geometry.now 0 (D.medium disk.old) }
-    ensures { let g = geometry.now in
-        Brings IsClosed (IsLaidClosed g g.segments) (D.medium disk.old) (D.medium disk.new) result }
+fn write_headers<D: Disk>(disk: &mut D, head: &SuperHead) -> Result<(), DiskFault>
+    requires fits { FitsDisk head.now.geometry (D.medium disk.old).size }
+    requires laid { (D.medium disk.old).honest → IsLaidClosed head.now 0 (D.medium disk.old) }
+    ensures { let h = head.now in
+        Brings IsClosed (IsLaidClosed h h.geometry.segments) (D.medium disk.old) (D.medium disk.new) result }
 {
-    for segment in 0..geometry.segments {
-        write_header(disk, geometry, segment)?;
+    for segment in 0..head.geometry.segments {
+        write_header(disk, head, segment)?;
     }
     Ok(())
 }
 
 /// Opens the superblock's gate, on a disk where a crash leaves the present bytes and nothing else.
-fn open_gate<D: Disk>(disk: &mut D, geometry: &Geometry) -> Result<(), DiskFault>
-    requires fits { FitsDisk geometry.now (D.medium disk.old).size }
+fn open_gate<D: Disk>(disk: &mut D, head: &SuperHead) -> Result<(), DiskFault>
+    requires fits { FitsDisk head.now.geometry (D.medium disk.old).size }
+    requires version { IsVersion head.now.version }
     requires settled { (D.medium disk.old).honest → IsSettled (D.medium disk.old) }
-    requires laid { (D.medium disk.old).honest → IsLaid geometry.now geometry.now.segments (D.medium disk.old).bytes }
-    ensures { let g = geometry.now in
-        Brings (NoneOrEmpty g) (HoldsFresh g) (D.medium disk.old) (D.medium disk.new) result }
+    requires laid { (D.medium disk.old).honest → IsLaid head.now head.now.geometry.segments (D.medium disk.old).bytes }
+    ensures { let h = head.now in
+        Brings (NoneOrEmpty h) (HoldsFresh h) (D.medium disk.old) (D.medium disk.new) result }
 {
     store(disk, 0, &[OPEN])
 }
 
 /// Settles what was laid out behind the gate, and opens it.
-fn finish<D: Disk>(disk: &mut D, geometry: &Geometry) -> Result<(), DiskFault>
-    requires fits { FitsDisk geometry.now (D.medium disk.old).size }
-    requires laid { (D.medium disk.old).honest → IsLaidClosed geometry.now geometry.now.segments (D.medium disk.old) }
-    ensures { let g = geometry.now in
-        Brings (NoneOrEmpty g) (HoldsFresh g) (D.medium disk.old) (D.medium disk.new) result }
+fn finish<D: Disk>(disk: &mut D, head: &SuperHead) -> Result<(), DiskFault>
+    requires fits { FitsDisk head.now.geometry (D.medium disk.old).size }
+    requires version { IsVersion head.now.version }
+    requires laid { (D.medium disk.old).honest → IsLaidClosed head.now head.now.geometry.segments (D.medium disk.old) }
+    ensures { let h = head.now in
+        Brings (NoneOrEmpty h) (HoldsFresh h) (D.medium disk.old) (D.medium disk.new) result }
 {
     disk.sync()?;
-    open_gate(disk, geometry)
+    open_gate(disk, head)
 }
 
 /// Writes an empty recording over whatever stands on a disk of the geometry's size.
-pub(crate) fn lay_out<D: Disk>(disk: &mut D, geometry: &Geometry) -> Result<(), DiskFault>
-    requires fits { FitsDisk geometry.now (D.medium disk.old).size }
-    ensures { let g = geometry.now in let old = D.medium disk.old in
-        Brings (WasOrEmpty g old) (HoldsFresh g) old (D.medium disk.new) result }
+pub(crate) fn lay_out<D: Disk>(disk: &mut D, head: &SuperHead) -> Result<(), DiskFault>
+    requires fits { FitsDisk head.now.geometry (D.medium disk.old).size }
+    requires version { IsVersion head.now.version }
+    ensures { let h = head.now in let old = D.medium disk.old in
+        Brings (WasOrEmpty h old) (HoldsFresh h) old (D.medium disk.new) result }
 {
     unformat(disk)?;
-    write_front(disk, geometry)?;
-    write_headers(disk, geometry)?;
-    finish(disk, geometry)
+    write_front(disk, head)?;
+    write_headers(disk, head)?;
+    finish(disk, head)
 }

@@ -26,7 +26,8 @@ fn begin<D: Disk>(disk: &mut D, ring: &Ring, segment: u32, next: u64) -> Result<
     requires free { (D.medium disk.old).honest → IsFreeFor ring.now.geometry next segment (D.medium disk.old).bytes }
     ensures { let g = ring.now.geometry in let old = D.medium disk.old in
         Makes g (HasNext next) (λ r. []) (λ image. IsNewestSegment g next segment image
-        × ShowsSegment g segment (Some (empty_segment (next / g.slots))) old.bytes image) old (D.medium disk.new) result }
+        × ShowsSegment g segment (Some (empty_segment (next / g.slots))) old.bytes image) old
+        (D.medium disk.new) result }
 {
     ring.begin_block(disk, segment, next / u64::from(ring.geometry.slots))
 }

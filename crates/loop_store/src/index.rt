@@ -11,15 +11,16 @@ ghost use Rattle.loop_store.specs.Index.{IsClipNoted, IsIndex, IsIndexOf, IsNote
 use crate::StoreFault;
 use crate::place::Place;
 use loop_clips::ClipTable;
-use loop_record::{Geometry, NUMBERS_END, SegmentHead, Span};
+use loop_record::{Geometry, NUMBERS_END, SegmentHead, Span, SuperHead};
 use loop_ring::{Ring, SegmentIndex, clips_on};
 use std::alloc::{AllocError, Allocator};
 
-/// The geometry, what the header of each segment says with the count of the clips that meet its block, the clip
-/// of each id, and the number that the next frame gets.
+/// The geometry and the version of the layout, what the header of each segment says with the count of the clips that
+/// meet its block, the clip of each id, and the number that the next frame gets.
 #[derive(Drop)]
 pub(crate) struct Index<A: Allocator> {
     pub(crate) ring: Ring,
+    pub(crate) version: u32,
     pub(crate) table: SegmentIndex<A>,
     pub(crate) clips: ClipTable,
     pub(crate) next: u64,
@@ -44,19 +45,21 @@ fn has_frame_of(head: Option<SegmentHead>, block: u64) -> bool
 /// The index of what was found on a disk. Its only error is want of memory; what is noted in it later takes none.
 pub(crate) fn index_of<A: Allocator + Copy>(
     alloc: A,
-    geometry: Geometry,
+    head: SuperHead,
     heads: Vec<Option<SegmentHead>, A>,
     clips: [Option<Span>; 64],
     next: u64,
 ) -> Result<Index<A>, AllocError>
-    requires good { IsTrue (is_good geometry) }
-    requires count { length heads.items ≡ geometry.segments }
-    ensures { IfOk result (λ index. IsOf index geometry heads.items clips next) }
+    requires good { IsTrue (is_good head.geometry) }
+    requires count { length heads.items ≡ head.geometry.segments }
+    ensures of { IfOk result (λ index. IsOf index head.geometry heads.items clips next) }
+    ensures version { IfOk result (λ index. index.version ≡ head.version) }
 {
     let clips = ClipTable::of(clips);
-    let table = SegmentIndex::of(alloc, &geometry, heads, clips.as_slice())?;
+    let table = SegmentIndex::of(alloc, &head.geometry, heads, clips.as_slice())?;
     Ok(Index {
-        ring: Ring::new(geometry),
+        ring: Ring::new(head.geometry),
+        version: head.version,
         table,
         clips,
         next,

@@ -7,7 +7,8 @@
 //! - `make`: formats a disk; `fresh`: the writes of it;
 //! - `reopen`: finds the recording on a disk again; `recover` and `found`: what a disk's image reads as;
 //! - `store`: the store and its calls; `index`: what it knows in memory; `put`: the append of a group, `place`:
-//!   where it goes, `grow`: what it writes there; `lock`: locks and unlocks of clips; `look`: what is read;
+//!   where it goes, `grow`: what it writes there; `lock`: locks and unlocks of clips; `upgrade`: version 2 of the
+//!   layout made of version 1; `look`: what is read;
 //! - `command`: lists of commands, and the replies; `memory`: memory for a frame;
 //! - `laws`: what calls leave, one after the other; `chain`: calls in a row, across a crash;
 //! - `fault`: the refusals, with their numbers and names.
@@ -34,10 +35,11 @@ mod put;
 mod recover;
 mod reopen;
 mod store;
+mod upgrade;
 
 pub use command::{Command, ReadFrame, Reply};
 pub use fault::{OpenRefused, StoreFault};
 pub use loop_clips::Clip;
-pub use make::format;
+pub use make::{format, format_v1};
 pub use memory::frame_memory;
 pub use store::Store;

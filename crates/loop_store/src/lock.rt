@@ -1,7 +1,8 @@
 //! Locks and unlocks: which are refused, what they write, and what is noted of them.
 
-ghost use Rattle.std.specs.Prelude.{◌≡◌, ◌≢◌, ◌<◌, ◌≤◌, ◌∷◌, ℕ, [], Err, IfErr, IfOk, List, None, Ok, OnErr, OnOk, Some, false, slice_index_or};
+ghost use Rattle.std.specs.Prelude.{◌≡◌, ◌≢◌, ◌<◌, ◌≤◌, ◌∷◌, ℕ, [], Err, IfErr, IfOk, IsTrue, List, None, Ok, OnErr, OnOk, Some, false, slice_index_or};
 ghost use Rattle.loop_record.specs.Geometry.{disk_size};
+ghost use Rattle.loop_record.specs.Layout.{has_tag_place};
 ghost use Rattle.loop_record.specs.Recording.{Recording, clip_of, first_free, holds, lock, ring_of, unlock};
 ghost use Rattle.loop_store.specs.Calls.{locked, missing, unlocked};
 ghost use Rattle.loop_store.specs.Goes.{Goes};
@@ -15,7 +16,7 @@ use crate::StoreFault;
 use crate::index::Index;
 use crate::look::segment_with;
 use loop_disk::{Disk, DiskFault};
-use loop_record::Span;
+use loop_record::{Span, TAGGED};
 use std::alloc::Allocator;
 
 /// The first number from this one on that isn't held, if it is one of its block, or the one behind the block: the
@@ -59,12 +60,22 @@ fn first_missing<A: Allocator>(index: &Index<A>, span: Span) -> Option<u64>
     None
 }
 
-/// The id under which a clip of a span may be added. `ClipEmpty`, then `ClipNotHeld`, then `ClipTableFull`.
+/// Whether a version of the layout has a place for the tag of a clip.
+fn has_place(version: u32, span: Span) -> bool
+    ensures { result ≡ has_tag_place version span }
+{
+    version == TAGGED || span.tag == 0
+}
+
+/// The id under which a clip of a span may be added. `ClipEmpty`, then `ClipNotHeld`, then `ClipTableFull`, then
+/// `OldLayout`.
 fn id_for<A: Allocator>(index: &Index<A>, span: Span) -> Result<u32, StoreFault>
     requires { IsIndex index.now }
     ensures id { IfOk result (λ id. ((id < 64) × (id ≡ first_free index.now.clips)) × (span.from ≤ span.to)) }
+    ensures tag { IfOk result (λ id. IsTrue (has_tag_place index.now.version span)) }
     ensures refusals { IfErr result (CanRefuseSpan span index.now.clips) }
-    ensures answers { (r : Recording) (image : List ℕ) → IsIndexOf index.now r image → AnswersSpan r span result }
+    ensures answers { (r : Recording) (image : List ℕ) → IsIndexOf index.now r image
+        → AnswersSpan index.now.version r span result }
 {
     if span.to < span.from {
         return Err(StoreFault::ClipEmpty);
@@ -72,10 +83,13 @@ fn id_for<A: Allocator>(index: &Index<A>, span: Span) -> Result<u32, StoreFault>
     if let Some(number) = first_missing(index, span) {
         return Err(StoreFault::ClipNotHeld(number));
     }
-    match index.clips.free_id() {
-        Some(id) => Ok(id),
-        None => Err(StoreFault::ClipTableFull),
+    let Some(id) = index.clips.free_id() else {
+        return Err(StoreFault::ClipTableFull);
+    };
+    if !has_place(index.version, span) {
+        return Err(StoreFault::OldLayout);
     }
+    Ok(id)
 }
 
 /// Writes a clip under the least free id, and notes it.
@@ -88,9 +102,11 @@ fn add_clip<D: Disk, A: Allocator>(
     requires extent { (D.medium disk.old).size ≡ disk_size index.old.ring.geometry }
     requires index { IsIndex index.old }
     requires id { (id < 64) × (id ≡ first_free index.old.clips) }
+    requires tag { IsTrue (has_tag_place index.old.version span) }
     requires present { (D.medium disk.old).honest → IsPresent index.old (D.medium disk.old) }
     ensures makes { let g = index.old.ring.geometry in let old = D.medium disk.old in
-        Makes g (CanTake g span id) (λ r. lock span ∷ []) (KeepsSegments g old.bytes) old (D.medium disk.new) result }
+        Makes g (CanTake index.old.version g span id) (λ r. lock span ∷ []) (KeepsSegments g old.bytes) old
+        (D.medium disk.new) result }
     ensures noted { OnOk result (IsClipNoted index.old index.new id (Some span)) }
     ensures same { OnErr result (index.new ≡ index.old) }
 {
@@ -124,8 +140,8 @@ fn remove_clip<D: Disk, A: Allocator>(
     written
 }
 
-/// Adds a clip of a span, and answers its id. `MustReopen`, then `ClipEmpty`, `ClipNotHeld`, `ClipTableFull`, as
-/// `Store::lock` has them; after `Disk` the store must be reopened.
+/// Adds a clip of a span, and answers its id. `MustReopen`, then `ClipEmpty`, `ClipNotHeld`, `ClipTableFull`,
+/// `OldLayout`, as `Store::lock` has them; after `Disk` the store must be reopened.
 pub(crate) fn lock_clip<D: Disk, A: Allocator>(
     disk: &mut D,
     index: &mut Index<A>,

@@ -4,9 +4,10 @@ ghost use Rattle.std.specs.Prelude.{◌≡◌, ◌&&◌, ◌==◌, ◌↔◌, If
 ghost use Rattle.loop_disk.specs.Calls.{Called};
 ghost use Rattle.loop_disk.specs.Medium.{LeavesOnly};
 ghost use Rattle.loop_record.specs.Geometry.{disk_size, is_good};
+ghost use Rattle.loop_record.specs.Layout.{IsVersion};
 ghost use Rattle.loop_record.specs.Recording.{empty};
 ghost use Rattle.loop_store.specs.Faults.{is_disk};
-ghost use Rattle.loop_store.specs.Make.{IsBadGeometry, IsFormatted, IsRefusedFormat, WasOrEmpty, disk_after, failed_opening};
+ghost use Rattle.loop_store.specs.Make.{Formats, IsBadGeometry, IsFormatted, IsRefusedFormat, WasOrEmpty, disk_after, failed_opening};
 ghost use Rattle.loop_store.specs.Seen.{StandsFor};
 
 use crate::fresh::lay_out;
@@ -14,7 +15,7 @@ use crate::index::Index;
 use crate::{OpenRefused, Store, StoreFault};
 use loop_clips::ClipTable;
 use loop_disk::Disk;
-use loop_record::Geometry;
+use loop_record::{Geometry, SuperHead, TAGGED};
 use loop_ring::{Group, Ring, SegmentIndex};
 use std::alloc::Allocator;
 
@@ -28,51 +29,48 @@ fn fits<D: Disk>(disk: &D, geometry: &Geometry) -> bool
     }
 }
 
-/// Writes an empty recording over whatever stands on a disk, and hands out its store.
-///
-/// `BadGeometry` where a limit of the geometry is broken or the disk's size isn't the geometry's; otherwise
-/// `NoMemory` or `Disk`. A refusal hands the disk back, and the first two haven't called it. A stop at any
-/// moment leaves an image that reads as before the call, or isn't formatted, or is the empty recording. One
-/// read, and a write and a sync more where the disk was formatted; then 4 calls and one a segment.
-pub fn format<D: Disk + Drop, A: Allocator + Copy>(
+/// Writes an empty recording in a version of the layout over whatever stands on a disk, and hands out its store.
+fn format_as<D: Disk + Drop, A: Allocator + Copy>(
     alloc: A,
     disk: D,
-    geometry: Geometry,
+    head: SuperHead,
 ) -> Result<Store<D, A>, OpenRefused<D>>
-    ensures bad { (IsBadGeometry result) ↔ ((is_good geometry && ((D.medium disk).size == disk_size geometry))
-        ≡ false) }
+    requires { IsVersion head.version }
+    ensures bad { (IsBadGeometry result) ↔ ((is_good head.geometry && ((D.medium disk).size
+        == disk_size head.geometry)) ≡ false) }
     ensures refusals { IfErr result IsRefusedFormat }
     ensures untouched { IfErr result (λ refused. is_disk refused.fault ≡ false → refused.disk ≡ disk) }
-    ensures formatted { IfOk result (λ store. IsFormatted geometry store) }
+    ensures formatted { IfOk result (λ store. IsFormatted head store) }
     ensures stands { IfOk result (λ store. StandsFor D.medium store empty) }
     ensures moments { (D.medium disk).honest
-        → LeavesOnly (D.medium disk) (D.medium (disk_after result)) (WasOrEmpty geometry (D.medium disk)) }
+        → LeavesOnly (D.medium disk) (D.medium (disk_after result)) (WasOrEmpty head (D.medium disk)) }
     ensures called { Called (D.medium disk) (D.medium (disk_after result)) (failed_opening result) }
 {
     let mut disk = disk;
-    if !fits(&disk, &geometry) {
+    if !fits(&disk, &head.geometry) {
         return Err(OpenRefused {
             fault: StoreFault::BadGeometry,
             disk,
         });
     }
-    let Ok(table) = SegmentIndex::new(alloc, geometry.segments) else {
+    let Ok(table) = SegmentIndex::new(alloc, head.geometry.segments) else {
         return Err(OpenRefused {
             fault: StoreFault::NoMemory,
             disk,
         });
     };
-    let Ok(group) = Group::new(alloc, &geometry) else {
+    let Ok(group) = Group::new(alloc, &head.geometry) else {
         return Err(OpenRefused {
             fault: StoreFault::NoMemory,
             disk,
         });
     };
-    match lay_out(&mut disk, &geometry) {
+    match lay_out(&mut disk, &head) {
         Ok(()) => Ok(Store {
             disk,
             index: Index {
-                ring: Ring::new(geometry),
+                ring: Ring::new(head.geometry),
+                version: head.version,
                 table,
                 clips: ClipTable::empty(),
                 next: 0,
@@ -85,4 +83,45 @@ pub fn format<D: Disk + Drop, A: Allocator + Copy>(
             disk,
         }),
     }
+}
+
+/// Writes an empty recording over whatever stands on a disk, and hands out its store. The layout has version 2.
+///
+/// `BadGeometry` where a limit of the geometry is broken or the disk's size isn't the geometry's; otherwise
+/// `NoMemory` or `Disk`. A refusal hands the disk back, and the first two haven't called it. A stop at any
+/// moment leaves an image that reads as before the call, or isn't formatted, or is the empty recording. One
+/// read, and a write and a sync more where the disk was formatted; then 4 calls and one a segment.
+pub fn format<D: Disk + Drop, A: Allocator + Copy>(
+    alloc: A,
+    disk: D,
+    geometry: Geometry,
+) -> Result<Store<D, A>, OpenRefused<D>>
+    ensures { Formats D.medium (record { geometry = geometry; version = 2 }) disk result }
+{
+    format_as(
+        alloc,
+        disk,
+        SuperHead {
+            geometry,
+            version: TAGGED,
+        },
+    )
+}
+
+/// Does the same in version 1 of the layout, in which clips have no tags: it is for old data.
+pub fn format_v1<D: Disk + Drop, A: Allocator + Copy>(
+    alloc: A,
+    disk: D,
+    geometry: Geometry,
+) -> Result<Store<D, A>, OpenRefused<D>>
+    ensures { Formats D.medium (record { geometry = geometry; version = 1 }) disk result }
+{
+    format_as(
+        alloc,
+        disk,
+        SuperHead {
+            geometry,
+            version: 1,
+        },
+    )
 }

@@ -1,32 +1,33 @@
 //! What a disk's image reads as, found with few reads and without pixels.
 
 ghost use Rattle.std.specs.Prelude.{◌≡◌, Ok, Err, IfOk};
-ghost use Rattle.loop_record.specs.Layout.{geometry_in};
+ghost use Rattle.loop_record.specs.Layout.{super_in};
 ghost use Rattle.loop_record.specs.Reading.{reading};
 ghost use Rattle.loop_store.specs.Fresh.{FitsDisk};
 ghost use Rattle.loop_store.specs.Found.{Finds};
-ghost use Rattle.loop_store.specs.Index.{IsFitting, IsRecovered, SaysRecording};
+ghost use Rattle.loop_store.specs.Index.{IsFitting, IsRecoveredIn, SaysRecording};
 
 use crate::StoreFault;
-use crate::found::{check_slots, in_order, read_geometry, read_heads, read_table};
+use crate::found::{check_slots, in_order, read_heads, read_super, read_table};
 use crate::index::{Index, index_of};
 use loop_disk::Disk;
-use loop_record::{Damage, Geometry, lacks_frame, next_after, repeats};
+use loop_record::{Damage, SuperHead, lacks_frame, next_after, repeats};
 use std::alloc::Allocator;
 
-/// The index of what the image of a disk with this geometry reads as.
+/// The index of what the image of a disk with this superblock reads as.
 fn recover_parts<D: Disk, A: Allocator + Copy>(
     alloc: A,
     disk: &mut D,
-    geometry: Geometry,
+    head: SuperHead,
 ) -> Result<Index<A>, StoreFault>
-    requires fits { FitsDisk geometry (D.medium disk.old).size }
-    requires geometry { (D.medium disk.old).honest → geometry_in (D.medium disk.old).bytes ≡ Ok geometry }
+    requires fits { FitsDisk head.geometry (D.medium disk.old).size }
+    requires head { (D.medium disk.old).honest → super_in (D.medium disk.old).bytes ≡ Ok head }
     ensures known { IfOk result (λ index. IsFitting index (D.medium disk.old).size × SaysRecording index) }
     ensures finds { let old = D.medium disk.old in
-        Finds (λ index. IsRecovered index old.bytes) (λ fault. reading old.bytes ≡ Err fault) old
+        Finds (λ index. IsRecoveredIn index old.bytes) (λ fault. reading old.bytes ≡ Err fault) old
         (D.medium disk.new) result }
 {
+    let geometry = head.geometry;
     let heads = read_heads(alloc, disk, &geometry)?;
     let segments = in_order(alloc, &geometry, heads.as_slice())?;
     let open = segments.as_slice();
@@ -37,9 +38,9 @@ fn recover_parts<D: Disk, A: Allocator + Copy>(
         return Err(StoreFault::Damaged(Damage::ClosedGate));
     }
     check_slots(disk, &geometry, open)?;
-    let clips = read_table(disk, &geometry, open)?;
+    let clips = read_table(disk, &geometry, head.version, open)?;
     let next = next_after(&geometry, open);
-    Ok(index_of(alloc, geometry, heads, clips, next)?)
+    Ok(index_of(alloc, head, heads, clips, next)?)
 }
 
 /// The index of what a disk's image reads as: the geometry, the header of each segment, the clips and the
@@ -57,9 +58,9 @@ pub(crate) fn recover<D: Disk, A: Allocator + Copy>(
 ) -> Result<Index<A>, StoreFault>
     ensures known { IfOk result (λ index. IsFitting index (D.medium disk.old).size × SaysRecording index) }
     ensures finds { let old = D.medium disk.old in
-        Finds (λ index. IsRecovered index old.bytes) (λ fault. reading old.bytes ≡ Err fault) old
+        Finds (λ index. IsRecoveredIn index old.bytes) (λ fault. reading old.bytes ≡ Err fault) old
         (D.medium disk.new) result }
 {
-    let geometry = read_geometry(disk)?;
-    recover_parts(alloc, disk, geometry)
+    let head = read_super(disk)?;
+    recover_parts(alloc, disk, head)
 }

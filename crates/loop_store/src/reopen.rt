@@ -9,7 +9,7 @@ ghost use Rattle.loop_store.specs.Make.{disk_after, failed_opening};
 ghost use Rattle.loop_store.specs.Reopen.{IsOpened, IsRefusedOpen, ReadsAlike, TellsOne, WasOrReadsAlike};
 ghost use Rattle.loop_store.specs.Grow.{Brings};
 ghost use Rattle.loop_store.specs.Found.{Finds, Recovers};
-ghost use Rattle.loop_store.specs.Index.{IsFitting, IsRecovered, SaysRecording};
+ghost use Rattle.loop_store.specs.Index.{IsFitting, IsRecoveredIn, SaysRecording};
 ghost use Rattle.loop_store.specs.Store.{IsGroupFor, IsPresent};
 
 use crate::index::Index;
@@ -23,7 +23,7 @@ use std::alloc::Allocator;
 fn reread<D: Disk, A: Allocator + Copy>(alloc: A, disk: &mut D) -> Result<Index<A>, StoreFault>
     ensures known { IfOk result (λ index. IsFitting index (D.medium disk.old).size × SaysRecording index) }
     ensures finds { let old = D.medium disk.old in let new = D.medium disk.new in
-        Finds (λ index. IsRecovered index old.bytes × IsSettled new) (λ fault. reading old.bytes ≡ Err fault) old
+        Finds (λ index. IsRecoveredIn index old.bytes × IsSettled new) (λ fault. reading old.bytes ≡ Err fault) old
         new result }
 {
     disk.sync()?;
@@ -35,7 +35,7 @@ fn reread<D: Disk, A: Allocator + Copy>(alloc: A, disk: &mut D) -> Result<Index<
 fn clear_newest<D: Disk, A: Allocator>(disk: &mut D, index: &Index<A>) -> Result<(), DiskFault>
     requires fits { IsFitting index.now (D.medium disk.old).size }
     requires settled { (D.medium disk.old).honest → IsSettled (D.medium disk.old) }
-    requires told { (D.medium disk.old).honest → IsRecovered index.now (D.medium disk.old).bytes }
+    requires told { (D.medium disk.old).honest → IsRecoveredIn index.now (D.medium disk.old).bytes }
     ensures { let old = D.medium disk.old in
         Brings (ReadsAlike old.bytes) (IsPresent index.now) old (D.medium disk.new) result }
 {

@@ -1,12 +1,12 @@
 //! A store: a disk that holds a recording, and what is known of it in memory.
 
-ghost use Rattle.std.specs.Prelude.{◌≡◌, ◌≢◌, ◌+◌, ◌-◌, ◌%◌, ◌≤◌, ◌↔◌, ◌⊎◌, ◌∷◌, [], All, Err, IfErr, IfOk, IsTrue, length, map, ◌<◌, IfSome};
+ghost use Rattle.std.specs.Prelude.{◌≡◌, ◌≢◌, ◌+◌, ◌-◌, ◌%◌, ◌≤◌, ◌↔◌, ◌⊎◌, ◌∷◌, [], All, Ok, Err, IfErr, IfOk, IsTrue, false, length, map, ◌<◌, IfSome};
 ghost use Rattle.loop_clips.specs.Table.{clip_list};
 ghost use Rattle.loop_disk.specs.Calls.{Stays};
 ghost use Rattle.loop_record.specs.Geometry.{frame_bytes, is_good};
 ghost use Rattle.loop_record.specs.Plain.{pictures};
 ghost use Rattle.loop_record.specs.Recording.{Recording, last_number, picture, room, victim, numbers_end};
-ghost use Rattle.loop_store.specs.Calls.{appended, locked, read_with, unlocked, was_read, part_with, was_read_part};
+ghost use Rattle.loop_store.specs.Calls.{appended, locked, read_with, unlocked, upgraded, was_read, part_with, was_read_part};
 ghost use Rattle.loop_store.specs.Goes.{Goes};
 ghost use Rattle.loop_store.specs.Numbers.{IsLeastFrom, is_among};
 ghost use Rattle.loop_store.specs.Store.{IsGroupFor, IsKept};
@@ -18,6 +18,7 @@ use crate::index::{Index, last_number};
 use crate::lock::{lock_clip, unlock_clip};
 use crate::look::{count_held, next_held, numbers_of, read_held, read_held_part, segment_with};
 use crate::put::put;
+use crate::upgrade::upgrade_layout;
 use loop_clips::Clip;
 use loop_disk::Disk;
 use loop_record::{Frame, FrameHead, Geometry, Span};
@@ -49,6 +50,13 @@ impl<D: Disk + Drop, A: Allocator> Store<D, A> {
         ensures good { IsTrue (is_good result) }
     {
         self.index.ring.geometry
+    }
+
+    /// The version of the layout: 2, or 1 for a store of old data, in which clips have no tags.
+    pub fn version(&self) -> u32
+        ensures { result ≡ self.now.version }
+    {
+        self.index.version
     }
 
     /// Whether a call that writes has failed, so that the disk is to be taken out and opened again.
@@ -185,20 +193,22 @@ impl<D: Disk + Drop, A: Allocator> Store<D, A> {
     /// unlocked, and answers its id: the least one that is free.
     ///
     /// `MustReopen` where a call that writes has failed; otherwise `ClipEmpty` where `from` is above `to`; then
-    /// `ClipNotHeld` with the least of the numbers that isn't held; then `ClipTableFull` where 64 clips stand. It
-    /// takes no memory, and looks at each held block once, so that no range is too long for it. After `Disk`, of a
-    /// write or a sync, the store has to be opened again, and tells what it told before.
+    /// `ClipNotHeld` with the least of the numbers that isn't held; then `ClipTableFull` where 64 clips stand; then
+    /// `OldLayout` where the tag isn't 0 and the layout has version 1. It takes no memory, and looks at each held block
+    /// once, so that no range is too long for it. After `Disk`, of a write or a sync, the store has to be opened again,
+    /// and tells what it told before.
     ///
     /// Four calls of the disk: the entry behind its gate, a sync, the gate, a sync.
-    pub fn lock(&mut self, from: u64, to: u64) -> Result<u32, StoreFault>
-        ensures goes { Goes D.medium self.old self.new (locked (record { from = from; to = to }) result ∷ []) }
+    pub fn lock(&mut self, from: u64, to: u64, tag: u64) -> Result<u32, StoreFault>
+        ensures goes { Goes D.medium self.old self.new
+            (locked (record { from = from; to = to; tag = tag }) result ∷ []) }
         ensures refused { Refused self.old self.new result }
     {
         lock_clip(
             &mut self.disk,
             &mut self.index,
             &mut self.must_reopen,
-            Span { from, to },
+            Span { from, to, tag },
         )
     }
 
@@ -213,6 +223,22 @@ impl<D: Disk + Drop, A: Allocator> Store<D, A> {
         ensures refused { Refused self.old self.new result }
     {
         unlock_clip(&mut self.disk, &mut self.index, &mut self.must_reopen, id)
+    }
+
+    /// Makes version 2 of a layout of version 1, so that clips may have tags, and answers whether it did: in version 2
+    /// it doesn't call the disk.
+    ///
+    /// `MustReopen` where a call that writes has failed. It takes no memory. A stop at any moment leaves an image that
+    /// reads as the same recording, in version 1 or 2. After `Disk`, of a write or a sync, the store has to be opened
+    /// again, and tells what it told before.
+    ///
+    /// Calls of the disk: a sync, a write a clip, a sync, the version's gate, a sync.
+    pub fn upgrade(&mut self) -> Result<bool, StoreFault>
+        ensures goes { Goes D.medium self.old self.new (upgraded result ∷ []) }
+        ensures refused { Refused self.old self.new result }
+        ensures unmoved { result ≡ Ok false → self.new ≡ self.old }
+    {
+        upgrade_layout(&mut self.disk, &mut self.index, &mut self.must_reopen)
     }
 }
 

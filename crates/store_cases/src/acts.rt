@@ -4,6 +4,7 @@ use crate::frames::{append_next, read_whole};
 use crate::words::{bad_line, number, small};
 use anyhow::Result;
 use loop_disk::Disk;
+use loop_record::Span;
 use loop_store::{Store, StoreFault};
 use std::alloc::Global;
 use std::io::{self, Write};
@@ -14,9 +15,11 @@ use std::str::SplitWhitespace;
 pub(crate) enum Act {
     /// To store a group of so many frames.
     Append(u64),
-    Lock(u64, u64),
+    Lock(Span),
     Unlock(u32),
     Read(u64),
+    /// To make version 2 of the layout.
+    Upgrade,
 }
 
 fn read_append(words: &mut SplitWhitespace) -> Result<Act> {
@@ -27,7 +30,14 @@ fn read_append(words: &mut SplitWhitespace) -> Result<Act> {
 fn read_lock(words: &mut SplitWhitespace) -> Result<Act> {
     let from = number(words)?;
     let to = number(words)?;
-    Ok(Act::Lock(from, to))
+    Ok(Act::Lock(Span { from, to, tag: 0 }))
+}
+
+fn read_tagged(words: &mut SplitWhitespace) -> Result<Act> {
+    let from = number(words)?;
+    let to = number(words)?;
+    let tag = number(words)?;
+    Ok(Act::Lock(Span { from, to, tag }))
 }
 
 fn read_unlock(words: &mut SplitWhitespace) -> Result<Act> {
@@ -45,8 +55,10 @@ pub(crate) fn read_act(word: &str, words: &mut SplitWhitespace) -> Result<Act> {
     match word {
         "append" => read_append(words),
         "lock" => read_lock(words),
+        "tagged" => read_tagged(words),
         "unlock" => read_unlock(words),
         "read" => read_read(words),
+        "upgrade" => Ok(Act::Upgrade),
         _ => Err(bad_line()),
     }
 }
@@ -67,8 +79,8 @@ pub(crate) fn writes(act: Act) -> bool {
     }
 }
 
-/// Does an act, with frames of this attempt. Answers the number of the first frame or the id of the clip, and of what
-/// has no such number 0.
+/// Does an act, with frames of this attempt. Answers the number of the first frame, the id of the clip or 1 for an
+/// upgrade that was made, and of what has no such number 0.
 pub(crate) fn does<D: Disk + Drop>(
     alloc: Global,
     store: &mut Store<D>,
@@ -77,9 +89,10 @@ pub(crate) fn does<D: Disk + Drop>(
 ) -> Result<Result<u64, StoreFault>> {
     Ok(match act {
         Act::Append(count) => append_next(alloc, store, count, attempt)?,
-        Act::Lock(from, to) => store.lock(from, to).map(|id| u64::from(id)),
+        Act::Lock(Span { from, to, tag }) => store.lock(from, to, tag).map(|id| u64::from(id)),
         Act::Unlock(id) => store.unlock(id).map(|_| 0),
         Act::Read(number) => read_whole(alloc, store, number, attempt)?.map(|_| 0),
+        Act::Upgrade => store.upgrade().map(|made| u64::from(made)),
     })
 }
 
@@ -87,9 +100,11 @@ pub(crate) fn does<D: Disk + Drop>(
 fn print_done(out: &mut Vec<u8>, act: Act, number: u64) -> io::Result<()> {
     match act {
         Act::Append(_) => write!(out, "{number}"),
-        Act::Lock(_, _) => write!(out, "clip {number}"),
+        Act::Lock(_) => write!(out, "clip {number}"),
         Act::Unlock(_) => out.write_all(b"unlocked"),
         Act::Read(_) => out.write_all(b"whole"),
+        Act::Upgrade if number == 1 => out.write_all(b"upgraded"),
+        Act::Upgrade => out.write_all(b"already 2"),
     }
 }
 

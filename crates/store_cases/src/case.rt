@@ -21,6 +21,7 @@ pub(crate) struct Moment {
     pub(crate) at: usize,
     pub(crate) frames: Vec<u64>,
     pub(crate) clips: Vec<Clip>,
+    pub(crate) version: u32,
 }
 
 /// An image, the store over it where one is open, and what it was asked for since it was opened.
@@ -96,10 +97,12 @@ fn of_store(
         "close" => line::close(case, told),
         "frames" => line::frames(case, told),
         "clips" => line::clips(case, told),
+        "version" => line::version(case, told),
         "victim" => line::victim(case, told),
         "look" => line::look(case, words, told),
         "list" => list::list(case, words, told),
-        "format" => make::format(case, words, told),
+        "format" => make::format(case, 2, words, told),
+        "format1" => make::format(case, 1, words, told),
         "format-stops" => make::stops(case, words, told),
         "stops" => stops::stops(case, words, told),
         "stop" => stops::stop(case, words, told),
@@ -114,11 +117,13 @@ pub(crate) fn run(case: &mut Case, asked: &str, told: &mut Vec<u8>) -> Result<()
     let mut words = asked.split_whitespace();
     let first = word(&mut words)?;
     match first {
-        "image" => image::image(case, &mut words, told),
+        "image" => image::image(case, 2, &mut words, told),
+        "image1" => image::image(case, 1, &mut words, told),
         "filled" => image::filled(case, &mut words, told),
         "cut" => image::cut(case, &mut words, told),
         "put" => image::put_bytes(case, &mut words, told),
         "clip" => image::put_clip(case, &mut words, told),
+        "all-clips" => image::put_clips(case, &mut words, told),
         "slot" => image::put_slot(case, &mut words, told),
         "bytes" => image::bytes(case, &mut words, told),
         "keep" => image::keep(case, told),

@@ -25,12 +25,13 @@ fn must<T: Drop>(answer: Result<T, StoreFault>) -> Result<()> {
     }
 }
 
-// Each call that locks or lists is refused.
+// Each call that locks, lists or upgrades is refused.
 fn lists_nothing<D: Disk + Drop>(alloc: Global, store: &mut Store<D>) -> Result<()> {
     must(store.frames(alloc))?;
     must(store.clips(alloc))?;
-    must(store.lock(0, 0))?;
-    must(store.unlock(0))
+    must(store.lock(0, 0, 0))?;
+    must(store.unlock(0))?;
+    must(store.upgrade())
 }
 
 // A list of commands is refused.
@@ -98,7 +99,10 @@ fn tried<D: Disk + Drop>(alloc: Global, disk: D, acts: &[Act]) -> Result<(Done, 
 // after a beginning of its steps.
 fn is_left(case: &Case, store: &Store<MemDisk>, done: &Done, found: &[u64]) -> Result<bool> {
     let clips = store.clips(case.alloc).map_err(refused)?;
-    let is_of = |moment: &Moment| *moment.clips.as_slice() == *clips.as_slice();
+    let version = store.version();
+    let is_of = |moment: &Moment| {
+        *moment.clips.as_slice() == *clips.as_slice() && moment.version == version
+    };
     let Some(before) = case.moments.get(done.count) else {
         return Ok(false);
     };

@@ -9,7 +9,7 @@ use crate::text;
 use crate::words::{any_geometry, good, number, number_of, word};
 use anyhow::{Result, anyhow};
 use loop_disk::MemDisk;
-use loop_record::{Geometry, OPEN, encode_slot, encode_super};
+use loop_record::{Geometry, OPEN, SuperHead, encode_slot, encode_super};
 use loop_store::{OpenRefused, Store};
 use std::alloc::{AllocError, Global};
 use std::io::Write;
@@ -24,13 +24,13 @@ pub(crate) fn put(image: &mut [u8], at: usize, bytes: &[u8]) {
     }
 }
 
-/// A freshly formatted image.
-pub(crate) fn fresh(alloc: Global, geometry: Geometry) -> Result<Vec<u8>, AllocError>
+/// An image that was freshly formatted in this version of the layout.
+pub(crate) fn fresh(alloc: Global, geometry: Geometry, version: u32) -> Result<Vec<u8>, AllocError>
     requires { IsTrue (is_good geometry) }
 {
     let mut image = vec![in alloc; 0u8; geometry.disk_size() as usize]?;
     let mut superblock = [0; 512];
-    encode_super(&geometry, &mut superblock);
+    encode_super(&SuperHead { geometry, version }, &mut superblock);
     put(image.as_mut_slice(), 0, &superblock);
     Ok(image)
 }
@@ -51,15 +51,17 @@ fn with_groups(alloc: Global, image: Vec<u8>, words: &mut SplitWhitespace) -> Re
     Ok(store.into_disk().bytes().to_vec(alloc)?)
 }
 
-/// `image GEOMETRY COUNT..`: a freshly formatted image, and groups of so many frames that are stored on it.
+/// `image GEOMETRY COUNT..`: a freshly formatted image, and groups of so many frames that are stored on it; `image1` is
+/// one in version 1 of the layout.
 pub(crate) fn image(
     case: &mut Case,
+    version: u32,
     words: &mut SplitWhitespace,
     told: &mut Vec<u8>,
 ) -> Result<()> {
     close(case)?;
     let geometry = good(any_geometry(words)?)?;
-    let image = fresh(case.alloc, geometry)?;
+    let image = fresh(case.alloc, geometry, version)?;
     case.image = with_groups(case.alloc, image, words)?;
     print_size(case, told)
 }
@@ -102,6 +104,14 @@ pub(crate) fn put_bytes(
     Ok(())
 }
 
+// Puts the open entry of a clip id into an image. The bytes of its tag stay as they are.
+fn put_entry(image: &mut [u8], id: u64, from: u64, to: u64) {
+    let at = (id as usize).wrapping_mul(32).wrapping_add(512);
+    put(image, at, &[OPEN]);
+    put(image, at.wrapping_add(8), &from.to_le_bytes());
+    put(image, at.wrapping_add(16), &to.to_le_bytes());
+}
+
 /// `clip ID FROM TO`: the open entry of a clip id.
 pub(crate) fn put_clip(
     case: &mut Case,
@@ -109,19 +119,23 @@ pub(crate) fn put_clip(
     told: &mut Vec<u8>,
 ) -> Result<()> {
     close(case)?;
-    let at = (number(words)? as usize).wrapping_mul(32).wrapping_add(512);
+    let (id, from, to) = (number(words)?, number(words)?, number(words)?);
+    put_entry(case.image.as_mut_slice(), id, from, to);
+    told.write_all(b"put")?;
+    Ok(())
+}
+
+/// `all-clips FROM TO`: the open entry of each clip id.
+pub(crate) fn put_clips(
+    case: &mut Case,
+    words: &mut SplitWhitespace,
+    told: &mut Vec<u8>,
+) -> Result<()> {
+    close(case)?;
     let (from, to) = (number(words)?, number(words)?);
-    put(case.image.as_mut_slice(), at, &[OPEN]);
-    put(
-        case.image.as_mut_slice(),
-        at.wrapping_add(8),
-        &from.to_le_bytes(),
-    );
-    put(
-        case.image.as_mut_slice(),
-        at.wrapping_add(16),
-        &to.to_le_bytes(),
-    );
+    for id in 0..64 {
+        put_entry(case.image.as_mut_slice(), id, from, to);
+    }
     told.write_all(b"put")?;
     Ok(())
 }

@@ -21,6 +21,7 @@ enum Ask {
     Frames,
     Clips,
     Victim,
+    Version,
     Act(Act),
 }
 
@@ -95,6 +96,10 @@ fn tell(
             told.write_all(b"has")?;
             print_clips(told, &store.clips(alloc).map_err(refused)?)?;
         }
+        Ask::Version => {
+            let version = store.version();
+            write!(told, "{version}")?;
+        }
         Ask::Victim => {
             calls.set(0);
             match store.victim() {
@@ -156,6 +161,7 @@ fn remember(case: &mut Case, calls: u64) -> Result<()> {
         at: last.wrapping_add(calls as usize),
         frames,
         clips,
+        version: store.version(),
     })?;
     Ok(())
 }
@@ -211,6 +217,12 @@ pub(crate) fn clips(case: &mut Case, told: &mut Vec<u8>) -> Result<()> {
     Ok(())
 }
 
+/// `version`: that of the layout.
+pub(crate) fn version(case: &mut Case, told: &mut Vec<u8>) -> Result<()> {
+    asks(case, Ask::Version, told)?;
+    Ok(())
+}
+
 /// `victim`: the block that would go next.
 pub(crate) fn victim(case: &mut Case, told: &mut Vec<u8>) -> Result<()> {
     asks(case, Ask::Victim, told)?;
@@ -230,7 +242,8 @@ pub(crate) fn look(case: &mut Case, words: &mut SplitWhitespace, told: &mut Vec<
     Ok(())
 }
 
-/// An act, as `append COUNT`, `lock FROM TO`, `unlock ID` or `read NUMBER`, and how many calls of the disk it takes.
+/// An act, as `append COUNT`, `lock FROM TO`, `tagged FROM TO TAG`, `unlock ID`, `upgrade` or `read NUMBER`, and how
+/// many calls of the disk it takes.
 pub(crate) fn act(
     case: &mut Case,
     word: &str,

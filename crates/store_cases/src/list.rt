@@ -7,10 +7,10 @@ ghost use Rattle.loop_store.specs.Runs.{IsOfSize};
 use crate::acts::{Act, does, print_answer, read_act};
 use crate::case::{Case, close};
 use crate::frames::{frame, is_frame, opened, refused, size_of_frames};
-use crate::words::{number_of, word};
+use crate::words::{bad_line, number_of, word};
 use anyhow::{Result, anyhow};
 use loop_disk::{Disk, MemDisk, OnceDisk};
-use loop_record::{Geometry, Span};
+use loop_record::Geometry;
 use loop_store::{Command, Reply, Store, StoreFault};
 use std::alloc::Global;
 use std::io::Write;
@@ -23,9 +23,10 @@ const MAX_ACTS: usize = 100;
 fn command(alloc: Global, size: usize, act: Act, number: u64) -> Result<Command> {
     Ok(match act {
         Act::Append(_) => Command::Store(frame(alloc, size, number, 0)?),
-        Act::Lock(from, to) => Command::Lock(Span { from, to }),
+        Act::Lock(span) => Command::Lock(span),
         Act::Unlock(id) => Command::Unlock(id),
         Act::Read(number) => Command::Read(number),
+        Act::Upgrade => return Err(bad_line()),
     })
 }
 
@@ -65,7 +66,7 @@ pub(crate) fn run<D: Disk + Drop>(
 fn outcome(alloc: Global, act: Act, reply: &Reply) -> Result<Result<u64, StoreFault>> {
     match (act, reply) {
         (Act::Append(_), Reply::Store(answer)) => Ok(*answer),
-        (Act::Lock(_, _), Reply::Lock(answer)) => Ok(answer.map(|id| u64::from(id))),
+        (Act::Lock(_), Reply::Lock(answer)) => Ok(answer.map(|id| u64::from(id))),
         (Act::Unlock(_), Reply::Unlock(answer)) => Ok(answer.map(|_| 0)),
         (Act::Read(_), Reply::Read(Err(fault))) => Ok(Err(*fault)),
         (Act::Read(number), Reply::Read(Ok(read))) => {

@@ -12,17 +12,17 @@ use crate::words::any_geometry;
 use anyhow::{Result, anyhow};
 use loop_disk::{CrashDisk, MemDisk, Spoil};
 use loop_record::Geometry;
-use loop_store::{Store, StoreFault};
+use loop_store::{OpenRefused, Store, StoreFault};
 use std::alloc::Global;
 use std::cell::Cell;
 use std::io::Write;
 use std::str::SplitWhitespace;
 
-// The fresh image of a geometry, with the slots of another image.
-fn fresh_with_slots(alloc: Global, geometry: Geometry, old: &[u8]) -> Result<Vec<u8>>
+// The fresh image of a geometry and a version, with the slots of another image.
+fn fresh_with_slots(alloc: Global, geometry: Geometry, version: u32, old: &[u8]) -> Result<Vec<u8>>
     requires { IsTrue (is_good geometry) }
 {
-    let mut image = fresh(alloc, geometry)?;
+    let mut image = fresh(alloc, geometry, version)?;
     let size = (geometry.frame_bytes() as usize).wrapping_add(32);
     let count = size.wrapping_mul(geometry.slots as usize);
     for segment in 0..geometry.segments {
@@ -35,10 +35,10 @@ fn fresh_with_slots(alloc: Global, geometry: Geometry, old: &[u8]) -> Result<Vec
 }
 
 // Whether a format of the image has left the superblock and no clip, closed segments, and all slots as they were.
-fn is_fresh(case: &Case, disk: &MemDisk, geometry: Geometry) -> Result<bool>
+fn is_fresh(case: &Case, disk: &MemDisk, geometry: Geometry, version: u32) -> Result<bool>
     requires { IsTrue (is_good geometry) }
 {
-    let expected = fresh_with_slots(case.alloc, geometry, &case.image)?;
+    let expected = fresh_with_slots(case.alloc, geometry, version, &case.image)?;
     Ok(*disk.bytes() == *expected.as_slice())
 }
 
@@ -47,11 +47,13 @@ fn formatted(
     case: &mut Case,
     store: Store<Counted<MemDisk>>,
     geometry: Geometry,
+    version: u32,
     told: &mut Vec<u8>,
 ) -> Result<()> {
     let (found, next, room) = (store.geometry(), store.next(), store.room());
+    let is_of = store.version() == version;
     let disk = store.into_disk().inner;
-    if found != geometry || !is_fresh(case, &disk, found)? {
+    if found != geometry || !is_of || !is_fresh(case, &disk, found, version)? {
         return Err(anyhow!(", and other bytes than those of a fresh recording"));
     }
     case.image = disk.bytes().to_vec(case.alloc)?;
@@ -59,9 +61,23 @@ fn formatted(
     Ok(())
 }
 
-/// `format GEOMETRY`
+// Formats a disk in a version of the layout.
+fn format_in<'a>(
+    alloc: Global,
+    disk: Counted<'a, MemDisk>,
+    geometry: Geometry,
+    version: u32,
+) -> Result<Store<Counted<'a, MemDisk>>, OpenRefused<Counted<'a, MemDisk>>> {
+    match version {
+        1 => loop_store::format_v1(alloc, disk, geometry),
+        _ => loop_store::format(alloc, disk, geometry),
+    }
+}
+
+/// `format GEOMETRY`, and `format1` for version 1 of the layout.
 pub(crate) fn format(
     case: &mut Case,
+    version: u32,
     words: &mut SplitWhitespace,
     told: &mut Vec<u8>,
 ) -> Result<()> {
@@ -70,11 +86,11 @@ pub(crate) fn format(
     let calls: &Cell<u64> = case.calls;
     calls.set(0);
     let inner = MemDisk::of(case.image.clone()?);
-    match loop_store::format(case.alloc, Counted { inner, calls }, geometry) {
+    match format_in(case.alloc, Counted { inner, calls }, geometry, version) {
         Ok(store) => {
             let count = calls.get();
             write!(told, "in {count} calls")?;
-            formatted(case, store, geometry, told)
+            formatted(case, store, geometry, version, told)
         }
         Err(refused) => {
             let (fault, count) = (refused.fault, calls.get());

@@ -102,14 +102,14 @@ fn count_passed(moments: &[Moment], calls: usize) -> usize {
     count.max(1)
 }
 
-// Whether these clips are just those of a moment.
-fn has_clips(moment: &Moment, clips: &[Clip]) -> bool {
-    *moment.clips.as_slice() == *clips
+// Whether these clips and this version are just those of a moment.
+fn has_clips(moment: &Moment, clips: &[Clip], version: u32) -> bool {
+    *moment.clips.as_slice() == *clips && moment.version == version
 }
 
 // Whether a store may show this after so many calls. Where no act is under way, that is what was shown before. Else
 // it is that with a beginning of what the act does.
-fn may_show(case: &Case, calls: usize, frames: &[u64], clips: &[Clip]) -> bool {
+fn may_show(case: &Case, calls: usize, frames: &[u64], clips: &[Clip], version: u32) -> bool {
     let passed = count_passed(&case.moments, calls);
     let last = passed.wrapping_sub(1);
     let Some(before) = case.moments.get(last) else {
@@ -118,9 +118,9 @@ fn may_show(case: &Case, calls: usize, frames: &[u64], clips: &[Clip]) -> bool {
     match (case.moments.get(passed), case.acts.get(last)) {
         (Some(after), Some(act)) if before.at < calls => {
             is_beginning(frames, &before.frames, &after.frames, frames_of(*act))
-                && (has_clips(before, clips) || has_clips(after, clips))
+                && (has_clips(before, clips, version) || has_clips(after, clips, version))
         }
-        _ => *frames == *before.frames.as_slice() && has_clips(before, clips),
+        _ => *frames == *before.frames.as_slice() && has_clips(before, clips, version),
     }
 }
 
@@ -180,17 +180,18 @@ fn found_at(alloc: Global, left: MemDisk) -> Result<Vec<u64>> {
     held(alloc, &mut store, u64::MAX)
 }
 
-// The clips of what a stop behind so many calls leaves.
-fn clips_at(alloc: Global, left: MemDisk) -> Result<Vec<Clip>> {
+// The clips of what a stop behind so many calls leaves, and the version of the layout.
+fn clips_at(alloc: Global, left: MemDisk) -> Result<(Vec<Clip>, u32)> {
     let store = opened(alloc, left)?;
-    store.clips(alloc).map_err(refused)
+    let clips = store.clips(alloc).map_err(refused)?;
+    Ok((clips, store.version()))
 }
 
 // Opens what a stop behind so many calls leaves.
 fn stops_at(case: &Case, disk: &CrashDisk, calls: usize, spoil: Spoil) -> Result<()> {
     let found = found_at(case.alloc, left_at(disk, calls, spoil)?)?;
-    let clips = clips_at(case.alloc, left_at(disk, calls, spoil)?)?;
-    if !may_show(case, calls, &found, &clips) {
+    let (clips, version) = clips_at(case.alloc, left_at(disk, calls, spoil)?)?;
+    if !may_show(case, calls, &found, &clips, version) {
         return Err(unexpected(&found));
     }
     if !AGAIN.contains(&spoil) {
@@ -246,7 +247,8 @@ fn clips_with(alloc: Global, disk: &CrashDisk, calls: usize, at: usize, byte: u8
     if left.bytes().get(at).copied() != Some(byte) {
         return Err(anyhow!("it isn't {byte} that is left"));
     }
-    Ok(clips_at(alloc, left)?.len())
+    let (clips, _version) = clips_at(alloc, left)?;
+    Ok(clips.len())
 }
 
 /// `torn CALLS AT`: a stop behind so many calls leaves any byte in this place, a multiple of 256. With which of them

@@ -148,10 +148,15 @@ fn print_clip(out: &mut Vec<u8>, clip: &Clip) -> io::Result<()> {
     let id = clip.id;
     write!(out, " {id}:")?;
     let (from, to) = (clip.from, clip.to);
-    write!(out, "{from}..{to}")
+    write!(out, "{from}..{to}")?;
+    let tag = clip.tag;
+    if tag == 0 {
+        return Ok(());
+    }
+    write!(out, " tag {tag}")
 }
 
-/// Prints clips, each behind a space: ` 0:2..3 1:6..6`, or ` none`.
+/// Prints clips, each behind a space: ` 0:2..3 1:6..6 tag 9`, or ` none`.
 pub(crate) fn print_clips(out: &mut Vec<u8>, clips: &[Clip]) -> io::Result<()> {
     if clips.is_empty() {
         return out.write_all(b" none");

@@ -203,8 +203,62 @@ fn a_store_in_a_file_is_listed_locked_and_unlocked_by_one_run_after_the_other(
     Ok(())
 }
 
+// Runs on one file that holds the ring in version 1 of the layout, one after the other.
+static UPGRADES: [Step; 8] = [
+    (&["lock", "old.img", "2", "2"], "locked 0\n", "", 0),
+    (
+        &["lock", "old.img", "3", "3", "9"],
+        "",
+        "refused 21 OldLayout\n",
+        1,
+    ),
+    (&["lock", "old.img", "3", "3", "0"], "locked 1\n", "", 0),
+    (
+        &["list", "old.img"],
+        "next 7\nframes 2..6\nclip 0 2..2\nclip 1 3..3\nclip 2 4..4\n",
+        "",
+        0,
+    ),
+    (&["upgrade", "old.img"], "upgraded\n", "", 0),
+    (&["upgrade", "old.img"], "already 2\n", "", 0),
+    (&["lock", "old.img", "3", "3", "9"], "locked 3\n", "", 0),
+    (
+        &["list", "old.img"],
+        "next 7\nframes 2..6\nclip 0 2..2\nclip 1 3..3\nclip 2 4..4\nclip 3 3..3 tag 9\n",
+        "",
+        0,
+    ),
+];
+
+// Writes the entry of a clip into an image.
+fn put_clip(image: &mut [u8], id: usize, (from, to): (u8, u8), tag: u8) {
+    let at = id.min(63) * 32 + 512;
+    put(image, at, &[0xA5]);
+    put(image, at + 8, &[from]);
+    put(image, at + 16, &[to]);
+    put(image, at + 24, &[tag]);
+}
+
+#[test]
+fn a_store_of_version_1_is_upgraded(rt: HostRuntime) -> Result<(), Fail> {
+    let path = "old.img";
+    let mut image = ring();
+    // What stands in the place of a tag there is none.
+    put_clip(&mut image, 2, (4, 4), 7);
+    fs::write(&rt, path, image.as_slice())?;
+    each_does(&rt, &UPGRADES);
+    put(&mut image, 44, &[0xA5]);
+    put_clip(&mut image, 0, (2, 2), 0);
+    put_clip(&mut image, 1, (3, 3), 0);
+    put_clip(&mut image, 2, (4, 4), 0);
+    put_clip(&mut image, 3, (3, 3), 9);
+    has(&rt, path, &image)?;
+    fs::remove_file(&rt, path)?;
+    Ok(())
+}
+
 // Words on files that can't be had.
-static NO_FILES: [Step; 11] = [
+static NO_FILES: [Step; 12] = [
     (&["list", "missing.img"], "", "cannot open missing.img\n", 1),
     (
         &["lock", "missing.img", "0", "0"],
@@ -214,6 +268,12 @@ static NO_FILES: [Step; 11] = [
     ),
     (
         &["unlock", "missing.img", "0"],
+        "",
+        "cannot open missing.img\n",
+        1,
+    ),
+    (
+        &["upgrade", "missing.img"],
         "",
         "cannot open missing.img\n",
         1,

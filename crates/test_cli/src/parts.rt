@@ -4,7 +4,7 @@ use crate::ends::Broken;
 use crate::ran::text;
 use crate::told::{holds, same};
 use loop_disk::DiskFault;
-use loop_record::{Damage, fill_pattern};
+use loop_record::{Damage, Span, fill_pattern};
 use loop_script::{
     BadLine, Command, next_line, pattern_sequence, pattern_timestamp, print_refusal, read_command,
     small_number,
@@ -54,7 +54,7 @@ fn a_line_of_4096_bytes_is_read_and_a_longer_one_is_not(rt: HostRuntime) -> Resu
 }
 
 // A refusal, and its line.
-static REFUSALS: [(StoreFault, &str); 8] = [
+static REFUSALS: [(StoreFault, &str); 9] = [
     (StoreFault::NoMemory, "refused 1 NoMemory\n"),
     (StoreFault::Disk(DiskFault::Sync), "refused 2 Disk\n"),
     (StoreFault::MustReopen, "refused 3 MustReopen\n"),
@@ -72,6 +72,7 @@ static REFUSALS: [(StoreFault, &str); 8] = [
         "refused 10 ClipNotHeld 18446744073709551615\n",
     ),
     (StoreFault::NumbersSpent, "refused 14 NumbersSpent\n"),
+    (StoreFault::OldLayout, "refused 21 OldLayout\n"),
 ];
 
 // Prints each refusal, and then where nothing can be printed.
@@ -98,7 +99,11 @@ fn a_refusal_is_printed_with_its_number_its_name_and_its_argument(
 
 #[test]
 fn lines_numbers_and_frames_of_the_pattern_are_made_alone(rt: HostRuntime) {
-    same!(rt; read_command("lock 2 18446744073709551615"), Some(Command::Lock(2, u64::MAX)));
+    let (from, to) = (2, u64::MAX);
+    let locks = read_command("lock 2 18446744073709551615");
+    same!(rt; locks, Some(Command::Lock(Span { from, to, tag: 0 })));
+    let locks = read_command("lock 2 18446744073709551615 9");
+    same!(rt; locks, Some(Command::Lock(Span { from, to, tag: 9 })));
     same!(rt; read_command("lock 2"), None);
     same!(rt; small_number("00004294967295"), Some(u32::MAX));
     same!(rt; small_number("4294967296"), None);

@@ -9,7 +9,7 @@ use std::process::Abort;
 /// A script, what it prints, what it tells on the other output, and the status.
 pub(crate) type Row = (&'static [u8], &'static str, &'static str, u8);
 
-static RUNS: [Row; 9] = [
+static RUNS: [Row; 10] = [
     (b"", "", "", 0),
     // There is nothing to open before the first accepted format.
     (
@@ -28,6 +28,12 @@ static RUNS: [Row; 9] = [
     // Nor are clips and frames that wait to be had.
     (
         b"lock 0 0\nunlock 0\n",
+        "refused 4 NotFormatted\nrefused 4 NotFormatted\n",
+        "",
+        0,
+    ),
+    (
+        b"upgrade\nlock 0 0 9\n",
         "refused 4 NotFormatted\nrefused 4 NotFormatted\n",
         "",
         0,
@@ -68,7 +74,7 @@ static RUNS: [Row; 9] = [
 ];
 
 // Lines that can't be read, each alone.
-static BAD_LINES: [&[u8]; 42] = [
+static BAD_LINES: [&[u8]; 48] = [
     b"\n",
     b"list\r\n",
     b"list \n",
@@ -99,11 +105,17 @@ static BAD_LINES: [&[u8]; 42] = [
     b"lock 0\n",
     b"lock 0 \n",
     b"lock 0 x\n",
-    b"lock 0 0 0\n",
+    b"lock 0 0 \n",
+    b"lock 0 0 x\n",
+    b"lock 0 0 0 0\n",
     b"locks 0 0\n",
+    b"upgrade 2\n",
     b"unlock\n",
     b"unlock 4294967296\n",
     b"unlock 0 0\n",
+    b"format1\n",
+    b"format1 4\n",
+    b"format1 4 2 YM12 25:1 3\n",
     b"format 4 2 YM12 25:1 3\n",
     b"format 4 2 YM12 25:1 3 2 1\n",
     b"format 4 2 YM12 25 3 2\n",

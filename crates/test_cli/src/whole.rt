@@ -3,7 +3,7 @@
 use crate::scripts::Row;
 
 /// Each begins with a `format`.
-pub(crate) static WHOLE: [Row; 19] = [
+pub(crate) static WHOLE: [Row; 21] = [
     // A ring that is opened again keeps what it holds, and goes on.
     (
         b"format 4 2 YM12 25:1 3 2\nstore 7\nlist\nread 3\nread 1\nreopen\nlist\nstore 2\nreopen\n\
@@ -46,6 +46,23 @@ pub(crate) static WHOLE: [Row; 19] = [
         b"format 4 2 YM12 25:1 3 2\nstore 7\nreopen\nreopen\nlist\nread 6\n",
         "formatted\nstored 0..6\nopened\nopened\nnext 7\nframes 2..6\n\
             frame 6 sequence 6 time 240000 bytes 060708090a0b0c0d\n",
+        "",
+        0,
+    ),
+    // A tag needs version 2 of the layout, which an upgrade makes of version 1.
+    (
+        b"format1 4 2 YM12 25:1 3 2\nstore 7\nlock 2 2\nlock 3 3 9\nupgrade\nupgrade\nlock 3 3 9\nreopen\n\
+            list\n",
+        "formatted\nstored 0..6\nlocked 0\nrefused 21 OldLayout\nupgraded\nalready 2\nlocked 1\nopened\n\
+            next 7\nframes 2..6\nclip 0 2..2\nclip 1 3..3 tag 9\n",
+        "",
+        0,
+    ),
+    // A fresh store has version 2. A clip may have any tag, and one without a tag has 0.
+    (
+        b"format 4 2 YM12 25:1 3 2\nstore 1\nupgrade\nlock 0 0 18446744073709551615\nlock 0 0 0\nlock 1 1 9\nlist\n",
+        "formatted\nstored 0..0\nalready 2\nlocked 0\nlocked 1\nrefused 10 ClipNotHeld 1\nnext 1\n\
+            frames 0..0\nclip 0 0..0 tag 18446744073709551615\nclip 1 0..0\n",
         "",
         0,
     ),

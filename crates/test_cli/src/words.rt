@@ -13,7 +13,7 @@ use std::thread::Threads;
 use std::time::Clock;
 
 // Words, what they tell beside the script's output, and the status.
-static WORDS: [(&[&str], &str, u8); 28] = [
+static WORDS: [(&[&str], &str, u8); 31] = [
     (&[], "", 0),
     (&["simulate"], "", 0),
     (&["help"], "bad command\n", 2),
@@ -31,7 +31,14 @@ static WORDS: [(&[&str], &str, u8); 28] = [
     (&["lock", "words.img", "1"], "bad command\n", 2),
     (&["lock", "words.img", "1 2"], "bad command\n", 2),
     (&["lock", "words.img", "-1", "2"], "bad command\n", 2),
-    (&["lock", "words.img", "1", "2", "3"], "bad command\n", 2),
+    (&["lock", "words.img", "1", "2", "x"], "bad command\n", 2),
+    (
+        &["lock", "words.img", "1", "2", "3", "4"],
+        "bad command\n",
+        2,
+    ),
+    (&["upgrade"], "bad command\n", 2),
+    (&["upgrade", "words.img", "2"], "bad command\n", 2),
     (&["record"], "bad command\n", 2),
     (&["record", "1"], "bad command\n", 2),
     (&["record", "1", "-"], "bad command\n", 2),

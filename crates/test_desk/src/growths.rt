@@ -215,7 +215,7 @@ fn stored<A: Allocator + Copy>(desk: &mut Desk<MemDisk, A>) -> Option<u32> {
 
 // Frame 0 is locked.
 fn is_locked<A: Allocator + Copy>(desk: &mut Desk<MemDisk, A>) -> bool {
-    desk.lock_clip(0, 0).is_ok()
+    desk.lock_clip(0, 0, 9).is_ok()
 }
 
 // Why what the desk holds isn't told.

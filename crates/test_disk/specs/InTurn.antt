@@ -5,4 +5,6 @@ use Rattle.loop_disk.specs.Steps.{TornInTurn}
 
 -- one of the three places may hold anything; those before it hold what was written, and all else is as it was
 abbrev pub TornOfThree : ℕ → ℕ → ℕ → List ℕ → List ℕ → Type 0
-TornOfThree at x y old c = TornInTurn at (x ∷ []) (at + 1) 1 old c ⊎ SameOutside (at + 2) 1 (with_bytes_at (at + 1) (y ∷ []) (with_bytes_at at (x ∷ []) old)) c
+TornOfThree at x y old c =
+    TornInTurn at (x ∷ []) (at + 1) 1 old c
+    ⊎ SameOutside (at + 2) 1 (with_bytes_at (at + 1) (y ∷ []) (with_bytes_at at (x ∷ []) old)) c

@@ -19,7 +19,8 @@ fn store_three<D: Disk>(disk: &mut D, at: u64, x: u8, y: u8, z: u8) -> Result<()
         → LeavesOnly (D.medium disk.old) (D.medium disk.new) (TornOfThree at x y (D.medium disk.old).bytes) }
     ensures stored { (D.medium disk.old).honest
         → OnOk result ((D.medium disk.new).bytes
-        ≡ with_bytes_at (at + 2) (z ∷ []) (with_bytes_at (at + 1) (y ∷ []) (with_bytes_at at (x ∷ []) (D.medium disk.old).bytes))) }
+        ≡ with_bytes_at (at + 2) (z ∷ [])
+        (with_bytes_at (at + 1) (y ∷ []) (with_bytes_at at (x ∷ []) (D.medium disk.old).bytes))) }
     ensures settled { (D.medium disk.old).honest → OnOk result (IsSettled (D.medium disk.new)) }
     ensures called { Called (D.medium disk.old) (D.medium disk.new) (failed_call result) }
 {

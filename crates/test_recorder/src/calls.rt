@@ -111,7 +111,7 @@ fn locks<R: Wait, D: Disk + Drop, P: PlaneMemory, A: Allocator + Copy>(
 ) -> Result<Noted, SessionFault>
     requires { camera < length recorder.now.outlines }
 {
-    let answer = recorder.lock_clip(rt, camera, pass, span.from, span.to);
+    let answer = recorder.lock_clip(rt, camera, pass, span.from, span.to, span.tag);
     Ok(Noted::Lock(span, heard(answer)?))
 }
 

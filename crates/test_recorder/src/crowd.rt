@@ -73,7 +73,8 @@ impl Caller {
             11 => {
                 let from = self.near(newest);
                 let to = from.saturating_add(self.dice.roll() % 2);
-                Noted::Lock(Span { from, to }, Err(UNHEARD))
+                let tag = from % 3;
+                Noted::Lock(Span { from, to, tag }, Err(UNHEARD))
             }
             12 | 13 => Noted::Unlock((self.dice.roll() % 4) as u32, Err(UNHEARD)),
             14 => Noted::Read(self.near(newest), Err(UNHEARD)),

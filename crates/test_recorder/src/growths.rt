@@ -106,7 +106,14 @@ const NOTED: [Noted; 8] = [
     })),
     Noted::Read(1, Ok(HEAD)),
     Noted::Submit(NINE, SIZE, Ok(2)),
-    Noted::Lock(Span { from: 0, to: 1 }, Ok(1)),
+    Noted::Lock(
+        Span {
+            from: 0,
+            to: 1,
+            tag: 9,
+        },
+        Ok(1),
+    ),
     Noted::Unlock(0, Ok(())),
     Noted::Read(1, Err(StoreFault::NoMemory)),
 ];

@@ -104,6 +104,7 @@ impl Plain {
             id,
             from: span.from,
             to: span.to,
+            tag: span.tag,
         })?;
         for clip in self.clips.iter().filter(|clip| clip.id > id) {
             clips.push(*clip)?;

@@ -27,7 +27,7 @@ const FOUR: Geometry = Geometry {
 
 /// A disk that claims nothing of its bytes.
 #[derive(Drop)]
-struct Bare<D>(D);
+pub(crate) struct Bare<D>(pub(crate) D);
 
 impl<D: Disk> Disk for Bare<D> {
     ghost medium = { λ disk. record (D.medium disk.0) { honest = ⊥ } };

@@ -2,10 +2,11 @@
 
 use crate::told::{holds, same};
 use loop_record::{
-    CLIP_SIZE, Damage, Found, Frame, FrameHead, Geometry, HEAD_SIZE, OPEN, PixelFormat,
-    SegmentHead, Span, TABLE_SIZE, decode_clip, decode_head, decode_header, decode_slot,
-    decode_super, encode_head, encode_slot, encode_super, is_locked, lacks_frame, next_after,
-    put_in_place, put_u32, put_u64, read_clips, repeats, u32_at, u64_at,
+    CLIP_SIZE, Damage, Found, Frame, FrameHead, Geometry, HEAD_SIZE, LayoutFault, OPEN,
+    PixelFormat, SegmentHead, Span, SuperHead, TABLE_SIZE, VERSION_GATE, decode_clip, decode_head,
+    decode_header, decode_slot, decode_super, encode_clip, encode_head, encode_slot, encode_super,
+    is_locked, lacks_frame, next_after, put_in_place, put_u32, put_u64, read_clips, repeats,
+    u32_at, u64_at,
 };
 use std::process::Abort;
 use std::test::Fail;
@@ -65,15 +66,50 @@ const SLOT: [u8; 44] = [
     0, 0, 0, 0, 3, 4, 5, 6, 7, 8, 9, 10, 11, 12, 13, 14,
 ];
 
-// The superblock of `SMALL` has these bytes in front, and is read as it.
-fn superblock(rt: &impl Abort, front: &[u8]) {
+// The superblock of `SMALL` in a version has these bytes in front, then this gate and zeros, and is read as it.
+fn superblock(rt: &impl Abort, front: &[u8], version: u32, gate: u8) {
     assert!(rt; SMALL.check().is_ok());
     let mut superblock = [0x5Au8; 512];
-    encode_super(&SMALL, &mut superblock);
-    let (head, rest) = superblock.split_at(44);
-    same!(rt; head, front);
-    holds!(rt; rest.iter().all(|byte| *byte == 0));
-    same!(rt; decode_super(&superblock), Ok(SMALL));
+    let head = SuperHead {
+        geometry: SMALL,
+        version,
+    };
+    encode_super(&head, &mut superblock);
+    let (fields, rest) = superblock.split_at(VERSION_GATE);
+    same!(rt; fields, front, version);
+    holds!(rt; rest.iter().skip(1).all(|byte| *byte == 0), version);
+    same!(rt; rest.first(), Some(&gate), version);
+    same!(rt; decode_super(&superblock), Ok(head));
+}
+
+// A superblock of `SMALL` with this byte at a place is read so.
+fn changed(rt: &impl Abort, at: usize, byte: u8, want: Result<SuperHead, LayoutFault>) {
+    assert!(rt; SMALL.check().is_ok());
+    let mut superblock = [0u8; 512];
+    let head = SuperHead {
+        geometry: SMALL,
+        version: 2,
+    };
+    encode_super(&head, &mut superblock);
+    if let Some(place) = superblock.get_mut(at) {
+        *place = byte;
+    }
+    same!(rt; decode_super(&superblock), want, (at, byte));
+}
+
+#[test]
+fn any_version_gate_but_an_open_one_means_version_1(rt: HostRuntime) {
+    let damaged = Err(LayoutFault::Damaged(Damage::Superblock));
+    let first = SuperHead {
+        geometry: SMALL,
+        version: 1,
+    };
+    changed(&rt, 44, 0, Ok(first));
+    changed(&rt, 44, 7, Ok(first));
+    changed(&rt, 45, OPEN, damaged);
+    changed(&rt, 511, 1, damaged);
+    changed(&rt, 8, 2, damaged);
+    changed(&rt, 0, 0, Err(LayoutFault::NotFormatted));
 }
 
 // Frame 3 of a pattern has this slot, and its head.
@@ -91,7 +127,8 @@ fn slot(rt: &impl Abort, frame: &Frame, bytes: &[u8]) {
 
 #[test]
 fn a_superblock_and_a_slot_have_these_bytes(rt: HostRuntime) -> Result<(), Fail> {
-    superblock(&rt, &FRONT);
+    superblock(&rt, &FRONT, 1, 0);
+    superblock(&rt, &FRONT, 2, 0xA5);
     let frame = Frame {
         sequence: 3,
         flags: 0x2000,
@@ -114,13 +151,46 @@ fn header(
     same!(rt; decode_header(&SMALL, bytes), want, block);
 }
 
-// The entry of a clip from this number on is read so.
-fn entry(rt: &impl Abort, bytes: &mut [u8], from: u64, want: Result<Option<Span>, Damage>) {
+// The entry of a clip from this number on is read so in a version.
+fn entry(
+    rt: &impl Abort,
+    bytes: &mut [u8],
+    version: u32,
+    from: u64,
+    want: Result<Option<Span>, Damage>,
+) {
     assert!(rt; bytes.len() == 32);
     put_u64(bytes, 8, from);
     put_u32(bytes, 16, 3);
-    same!(rt; decode_clip(bytes), want, from);
+    same!(rt; decode_clip(version, bytes), want, (version, from));
     same!(rt; (u64_at(bytes, 8), u32_at(bytes, 16)), (from, 3));
+}
+
+// The clip of the frames 2 and 3.
+fn tagged(tag: u64) -> Option<Span> {
+    Some(Span {
+        from: 2,
+        to: 3,
+        tag,
+    })
+}
+
+#[test]
+fn an_entry_has_its_tag_in_version_2_alone(rt: HostRuntime) {
+    let mut bytes = [0u8; 32];
+    bytes[0] = OPEN;
+    bytes[24] = 7;
+    bytes[31] = 1;
+    entry(&rt, &mut bytes, 1, 2, Ok(tagged(0)));
+    entry(&rt, &mut bytes, 2, 2, Ok(tagged(7 | 1 << 56)));
+    let mut written = [0x5Au8; 32];
+    let span = Span {
+        from: 2,
+        to: 3,
+        tag: 7 | 1 << 56,
+    };
+    encode_clip(span, &mut written);
+    same!(rt; written, bytes);
 }
 
 #[test]
@@ -137,10 +207,10 @@ fn a_header_and_a_clip_entry_are_decoded(rt: HostRuntime) {
     header(&rt, &mut bytes, 1 << 61, Err(Damage::BlockTooHigh));
 
     let mut bytes = [0u8; 32];
-    entry(&rt, &mut bytes, 2, Ok(None));
+    entry(&rt, &mut bytes, 2, 2, Ok(None));
     bytes[0] = OPEN;
-    entry(&rt, &mut bytes, 2, Ok(Some(Span { from: 2, to: 3 })));
-    entry(&rt, &mut bytes, 4, Err(Damage::ClipRange));
+    entry(&rt, &mut bytes, 2, 2, Ok(tagged(0)));
+    entry(&rt, &mut bytes, 2, 4, Err(Damage::ClipRange));
 }
 
 // A segment of a block with so many frames.
@@ -179,9 +249,10 @@ fn clips(rt: &impl Abort, open: &[Found], to: u64, want: Result<Option<Span>, Da
     table[63 * CLIP_SIZE] = OPEN;
     put_u64(&mut table, 63 * CLIP_SIZE + 8, 7);
     put_u64(&mut table, 63 * CLIP_SIZE + 16, to);
+    put_u64(&mut table, 63 * CLIP_SIZE + 24, 9);
     let mut clips = [None; 64];
     clips[63] = want.ok().flatten();
-    same!(rt; read_clips(&SMALL, &table, open), want.map(|_| clips), to);
+    same!(rt; read_clips(&SMALL, 2, &table, open), want.map(|_| clips), to);
 }
 
 #[test]
@@ -202,7 +273,16 @@ fn the_next_number_and_the_clips_are_found(rt: HostRuntime) {
     ];
     same!(rt; next_after(&SMALL, &[]), 0);
     same!(rt; next_after(&SMALL, &open), 9);
-    clips(&rt, &open, 8, Ok(Some(Span { from: 7, to: 8 })));
+    clips(
+        &rt,
+        &open,
+        8,
+        Ok(Some(Span {
+            from: 7,
+            to: 8,
+            tag: 9,
+        })),
+    );
     clips(&rt, &open, 9, Err(Damage::ClipRange));
 }
 
@@ -217,7 +297,14 @@ fn locks(rt: &impl Abort, clips: &[Option<Span>], rows: &[(u64, bool)]) {
 #[test]
 fn a_clip_locks_the_blocks_of_its_frames(rt: HostRuntime) {
     // The clip has the second frame of block 2 and the first of block 3.
-    let clips = [None, Some(Span { from: 5, to: 6 })];
+    let clips = [
+        None,
+        Some(Span {
+            from: 5,
+            to: 6,
+            tag: 0,
+        }),
+    ];
     locks(
         &rt,
         &clips,

@@ -5,6 +5,7 @@
 //! - `layout`: sizes, and what stands in each part of a disk;
 //! - `disk`: calls of a ring, over a disk that claims nothing of its bytes, so that a test may begin with any
 //!   image;
+//! - `upgrade`: upgrades of a clip table to version 2 of the layout;
 //! - `memory`: the segments and the clips in memory.
 #![tactic(auto)]
 
@@ -16,3 +17,5 @@ mod layout;
 mod memory;
 #[cfg(test)]
 mod told;
+#[cfg(test)]
+mod upgrade;

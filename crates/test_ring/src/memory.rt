@@ -46,6 +46,7 @@ fn clip(number: u64) -> Option<Span> {
     Some(Span {
         from: number,
         to: number,
+        tag: 0,
     })
 }
 
@@ -206,6 +207,7 @@ fn span(number: u64) -> Span {
     Span {
         from: number,
         to: number,
+        tag: 0,
     }
 }
 
@@ -237,8 +239,8 @@ fn the_victim_follows_locks_and_appends(rt: HostRuntime) -> Result<(), Fail> {
 }
 
 // The clip of an id.
-fn listed(id: u32, from: u64, to: u64) -> Clip {
-    Clip { id, from, to }
+fn listed(id: u32, from: u64, to: u64, tag: u64) -> Clip {
+    Clip { id, from, to, tag }
 }
 
 // The clips that a table has under ids.
@@ -272,11 +274,19 @@ fn lists(
 
 #[test]
 fn clips_are_kept_as_they_were_read(rt: HostRuntime) -> Result<(), Fail> {
-    let two_to_five = Some(Span { from: 2, to: 5 });
+    let two_to_five = Some(Span {
+        from: 2,
+        to: 5,
+        tag: 9,
+    });
     let mut clips = [None; CLIPS];
     clips[0] = two_to_five;
     // One that is empty.
-    clips[2] = Some(Span { from: 256, to: 255 });
+    clips[2] = Some(Span {
+        from: 256,
+        to: 255,
+        tag: 8,
+    });
     clips[63] = clip(u64::MAX);
     let table = ClipTable::of(clips);
     same!(rt; table.as_slice(), clips.as_slice());
@@ -299,9 +309,9 @@ fn clips_are_kept_as_they_were_read(rt: HostRuntime) -> Result<(), Fail> {
     ];
     meets(&rt, &table, &blocks);
     let clips = [
-        listed(0, 2, 5),
-        listed(2, 256, 255),
-        listed(63, u64::MAX, u64::MAX),
+        listed(0, 2, 5, 9),
+        listed(2, 256, 255, 8),
+        listed(63, u64::MAX, u64::MAX, 0),
     ];
     lists(&rt, rt.alloc(), &table, &clips)?;
     Ok(())

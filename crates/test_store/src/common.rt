@@ -4,7 +4,7 @@ ghost use Rattle.std.specs.Prelude.{◌≡◌, All, IsTrue, length};
 
 use crate::told::{holds as so, same};
 use loop_disk::{Disk, MemDisk};
-use loop_record::{Frame, FrameHead, Geometry, PixelFormat, encode_super};
+use loop_record::{Frame, FrameHead, Geometry, PixelFormat, SuperHead, TAGGED, encode_super};
 use loop_store::{Store, StoreFault};
 use std::alloc::{AllocError, Allocator, Global};
 use std::process::Abort;
@@ -150,7 +150,11 @@ pub(crate) fn image_of(rt: &impl Abort, alloc: Global, count: u64) -> Result<Vec
     assert!(rt; SMALL.check().is_ok());
     let mut image = vec![in alloc; 0u8; SMALL.disk_size() as usize]?;
     let mut superblock = [0; 512];
-    encode_super(&SMALL, &mut superblock);
+    let head = SuperHead {
+        geometry: SMALL,
+        version: TAGGED,
+    };
+    encode_super(&head, &mut superblock);
     for (place, byte) in image.iter_mut().zip(superblock.iter()) {
         *place = *byte;
     }

@@ -9,7 +9,7 @@ use crate::told::{holds as so, same};
 use loop_budget::Budget;
 use loop_disk::{Disk, FuseDisk, MemDisk};
 use loop_record::Geometry;
-use loop_store::{Command, Reply, Store, StoreFault, format};
+use loop_store::{Command, Reply, Store, StoreFault, format, format_v1};
 use std::alloc::{Allocator, Global};
 use std::process::Abort;
 use std::test::Fail;
@@ -90,6 +90,18 @@ fn grows_in_open<'a>(
     }
 }
 
+// Upgrades a store of version 1 where no memory is granted, and then again.
+fn upgrades_without_growth(rt: &impl Abort, alloc: Global, memory: &Budget) -> Result<(), Fail> {
+    memory.allow(4);
+    let Ok(mut store) = format_v1(memory, MemDisk::new(alloc, 4360)?, SMALL) else {
+        return Err("these growths are enough".into());
+    };
+    same!(rt; (store.version(), store.lock(0, 0, 9)), (1, Err(StoreFault::ClipNotHeld(0))));
+    same!(rt; (store.upgrade(), store.version()), (Ok(true), 2));
+    same!(rt; (store.upgrade(), memory.left()), (Ok(false), 0));
+    Ok(())
+}
+
 // Stores a frame where memory for nothing but the frame is granted.
 fn stores_without_growth<'a>(
     rt: &impl Abort,
@@ -119,7 +131,7 @@ fn grows_in_looks<'a>(
         same!(rt; memory.left(), 0);
     }
     memory.allow(0);
-    same!(rt; store.lock(number, number), Ok(0));
+    same!(rt; store.lock(number, number, 9), Ok(0));
     same!(rt; store.clips(memory).err(), Some(StoreFault::NoMemory));
     same!(rt; store.unlock(0), Ok(()));
     memory.allow(1);
@@ -154,6 +166,7 @@ fn each_growth_is_refused_in_turn(rt: HostRuntime) -> Result<(), Fail> {
     let alloc = rt.alloc();
     let memory = Budget::new(alloc);
     grows_in_format(&rt, alloc, &memory, 4)?;
+    upgrades_without_growth(&rt, alloc, &memory)?;
     let seven = image_of(&rt, alloc, 7)?;
     let mut store = grows_in_open(&rt, alloc, &memory, &seven, 5)?;
     stores_without_growth(&rt, alloc, &memory, &mut store)?;

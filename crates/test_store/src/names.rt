@@ -22,6 +22,7 @@ fn a_refusal_has_its_number_and_its_name(rt: HostRuntime) {
         (StoreFault::NotHeld, 13, "NotHeld"),
         (StoreFault::NumbersSpent, 14, "NumbersSpent"),
         (StoreFault::BadGeometry, 16, "BadGeometry"),
+        (StoreFault::OldLayout, 21, "OldLayout"),
     ];
     for (fault, number, name) in faults {
         same!(rt; (fault.number(), fault.name()), (number, name));

@@ -12,7 +12,8 @@ returns g c =
     subst (λ (h : Geometry). Stands g.D.Disk.medium c.append.new.self
     (record {
       recording = plain (ring_of h) empty (steps_asked (ring_of h) empty (pictures c.args.frames.now));
+      version = 2;
       must_reopen = false;
     })) formatted.geometry
-    (c.in_ok-append-in-Ok.ensures.goes.stands (record { recording = empty; must_reopen = false })
-    (record { recording = c.in-Ok.ensures.stands; must_reopen = formatted.must_reopen }))
+    (c.in_ok-append-in-Ok.ensures.goes.stands (record { recording = empty; version = 2; must_reopen = false })
+    (record { recording = c.in-Ok.ensures.stands; version = formatted.version; must_reopen = formatted.must_reopen }))

@@ -12,18 +12,21 @@ pub returns-in_err-clips-clause-finds : goal.returns-in_err-clips-clause-finds
 returns-in_err-clips-clause-finds g c =
     finds-err _ (StoreFault.Damaged c.in_err-clips.field-0.0) _ _ _ _
     (λ honest. (
-      ap (λ (d : Damage). LayoutFault.Damaged d) c.in_err-clips.ensures.0,
-      table-bad c.args.geometry.now (g.D.Disk.medium c.args.disk.now).bytes c.read.new.buf c.args.open.now true
-          c.requires.fits.0 c.requires.within (c.in_ok-read.ensures.read honest) c.in_err-clips.ensures.1,
+      ap (λ (d : Damage). LayoutFault.Damaged d) c.in_err-clips.ensures.clips.0,
+      table-bad c.args.geometry.now c.args.version (g.D.Disk.medium c.args.disk.now).bytes c.read.new.buf
+          c.args.open.now true c.requires.fits.0 c.requires.within (c.requires.version honest)
+          (c.in_ok-read.ensures.read honest) c.in_err-clips.ensures.clips.1,
     ))
     c.in_ok-read.ensures.disk c.in_ok-read.ensures.called c.from_residual-in_err-clips.ensures.1
 
 pub returns-clause-finds : goal.returns-clause-finds
 returns-clause-finds g c = record {
   found = λ honest. (
-    table-read (g.D.Disk.medium c.args.disk.now).bytes c.read.new.buf c.in_ok-clips.clips (c.in_ok-read.ensures.read honest) c.in_ok-clips.ensures.0,
-    table-bad c.args.geometry.now (g.D.Disk.medium c.args.disk.now).bytes c.read.new.buf c.args.open.now false
-        c.requires.fits.0 c.requires.within (c.in_ok-read.ensures.read honest) c.in_ok-clips.ensures.1,
+    table-read c.args.version (g.D.Disk.medium c.args.disk.now).bytes c.read.new.buf c.in_ok-clips.clips
+        (c.requires.version honest) (c.in_ok-read.ensures.read honest) c.in_ok-clips.ensures.clips.0,
+    table-bad c.args.geometry.now c.args.version (g.D.Disk.medium c.args.disk.now).bytes c.read.new.buf
+        c.args.open.now false c.requires.fits.0 c.requires.within (c.requires.version honest)
+        (c.in_ok-read.ensures.read honest) c.in_ok-clips.ensures.clips.1,
   );
   stays = c.in_ok-read.ensures.disk;
   called = c.in_ok-read.ensures.called;
@@ -31,6 +34,7 @@ returns-clause-finds g c = record {
 
 pub returns-clause-held : goal.returns-clause-held
 returns-clause-held g c = (
-  ap (λ (cs : List (Option Span)). length cs) c.in_ok-clips.ensures.0 ∙ table-length c.read.new.buf,
-  ap (λ (cs : List (Option Span)). list_any (lacks_number c.args.geometry.now c.args.open.now) cs) c.in_ok-clips.ensures.0 ∙ c.in_ok-clips.ensures.1,
+  ap (λ (cs : List (Option Span)). length cs) c.in_ok-clips.ensures.clips.0 ∙ table-length c.args.version c.read.new.buf,
+  ap (λ (cs : List (Option Span)). list_any (lacks_number c.args.geometry.now c.args.open.now) cs)
+      c.in_ok-clips.ensures.clips.0 ∙ c.in_ok-clips.ensures.clips.1,
 )

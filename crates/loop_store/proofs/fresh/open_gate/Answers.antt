@@ -4,11 +4,11 @@ use Rattle.loop_store.proofs.fresh.open_gate.Goals as goal
 
 pub returns : goal.returns
 returns g c = record {
-  moments = λ honest. opening-moments c.args.geometry.now _ _ c.store.result c.requires.fits.0
+  moments = λ honest. opening-moments c.args.head.now _ _ c.store.result c.requires.version c.requires.fits.0
       (c.requires.settled honest) (c.requires.laid honest) (c.store.ensures.disk honest);
   such = λ honest.
       both_ok c.store.result (λ fresh settled. (fresh, settled))
-      (opening-fresh c.args.geometry.now _ _ c.store.result (c.requires.laid honest)
-      (c.store.ensures.disk honest)) (c.store.ensures.disk honest).settled;
+      (opening-fresh c.args.head.now _ _ c.store.result (c.requires.laid honest) (c.store.ensures.disk honest))
+      (c.store.ensures.disk honest).settled;
   called = c.store.ensures.called;
 }

@@ -9,6 +9,6 @@ abbrev pub invariant-loop-segment : goal.invariant-loop-segment
 invariant-loop-segment g l = record {
   moments : (g.D.Disk.medium l.fn.disk).honest → LeavesOnly (g.D.Disk.medium l.fn.disk)
       (g.D.Disk.medium l.disk) IsClosed;
-  laid : (g.D.Disk.medium l.fn.disk).honest → IsLaidClosed l.geometry l.segment (g.D.Disk.medium l.disk);
+  laid : (g.D.Disk.medium l.fn.disk).honest → IsLaidClosed l.head l.segment (g.D.Disk.medium l.disk);
   called : Called (g.D.Disk.medium l.fn.disk) (g.D.Disk.medium l.disk) None;
 }

@@ -14,4 +14,4 @@ returns g c =
     (λ fine now.
     subst (λ (b : Bool). IsOpened medium (medium s.disk).bytes (seen_with s.disk i b)) (sym fine)
     (present-opened medium s.disk i (medium s.disk).bytes (limits i.ring.geometry i.ring.good).slots.0
-    c.store.invariant.0.fits.whole.within (c.store.invariant.0.present fine now) refl))
+    c.store.invariant.0.fits.whole.within (c.store.invariant.0.present fine now) (refl, refl)))

@@ -1,4 +1,4 @@
-use Rattle.std.proofs.Common.{◌≡◌, ◌<◌, ℕ, Ok, Err, None, Some, set, refl, sym, ap, ◌∙◌, subst}
+use Rattle.std.proofs.Common.{◌≡◌, ◌<◌, ℕ, Ok, Err, None, Some, set, refl, sym, ap, ◌∙◌, subst, arith}
 use Rattle.std.proofs.lemmas.Result.{err_from_is_err_and}
 use Rattle.loop_record.specs.declared.clip.Span.{Span}
 use Rattle.loop_record.specs.declared.geometry.Geometry.{Geometry}
@@ -18,16 +18,17 @@ use Rattle.loop_store.proofs.Missing.{fits-legal}
 use Rattle.loop_store.proofs.lock.lock_clip.Goals as goal
 
 -- the recording takes a clip of the span under this id
-takes : (g : Geometry) (r : Recording) (span : Span) (id : ℕ) → id < 64 → (first_of (span_checks r span) ≡ None)
-    × (id ≡ free_id r) → CanTake g span id r
-takes g r span id low said = record { fits = said.0; legal = fits-legal (ring_of g) r span said.0 (subst (λ (n : ℕ). n < 64) said.1 low); id_is = said.1 }
+takes : (v : ℕ) (g : Geometry) (r : Recording) (span : Span) (id : ℕ) → id < 64
+    → (first_of (span_checks v r span) ≡ None)
+    × (id ≡ free_id r) → CanTake v g span id r
+takes v g r span id low said = record { fits = said.0; legal = fits-legal v (ring_of g) r span said.0 (subst (λ (n : ℕ). n < 64) said.1 low); id_is = said.1 }
 
 pub returns-then-must_reopen-clause-goes : goal.returns-then-must_reopen-clause-goes
 returns-then-must_reopen-clause-goes g c =
     goes-must g.D.Disk.medium _ (locked c.args.span (Err MustReopen))
     (one-kept g.D.Disk.medium c.args.disk.now c.args.index.now c.args.must_reopen.now c.requires)
     (λ honest. g.met.D.Disk.sound c.args.disk.now honest) c.if-must_reopen.true
-    (record { early = refl; unfailed = refl; none = refl; made_none = λ h t. refl; begun_none = λ h t. refl }) refl
+    (record { version = λ v. refl; unfailed = refl; none = refl; made_none = λ h t. refl; begun_none = λ h t. refl }) refl
 
 pub returns-in_err-id-clause-goes : goal.returns-in_err-id-clause-goes
 returns-in_err-id-clause-goes g c =
@@ -39,7 +40,7 @@ returns-in_err-id-clause-goes g c =
     (λ honest. g.met.D.Disk.sound c.args.disk.now honest) c.if-must_reopen.false c.in_err-id.ensures.refusals
     (λ r told.
     let known = c.requires.known in
-    sym (span-same known.recording r c.args.span
+    sym (span-same i.version known.recording r c.args.span
     (alike-by medium c.args.disk.now i c.args.must_reopen.now r c.requires told))
     ∙ c.in_err-id.ensures.answers known.recording (drawn_image i.ring.geometry i.table.heads i.clips) known.known))
 
@@ -52,9 +53,9 @@ returns-in-Ok-clause-kept g c =
     let span = c.args.span in
     let makes = c.in-Ok.ensures.makes in
     let noted = c.in-Ok.ensures.noted in (
-      kept-noted medium c.args.disk.now c.add_clip.new.disk i c.add_clip.new.index id (Some span) (CanTake h span id)
+      kept-noted medium c.args.disk.now c.add_clip.new.disk i c.add_clip.new.index id (Some span) (CanTake i.version h span id)
           (lock span) c.args.must_reopen.now c.requires c.if-must_reopen.false
-          (λ r image known. takes h r span id c.in_ok-id.ensures.id.0.0 (c.in_ok-id.ensures.answers r image known))
+          (λ r image known. takes i.version h r span id c.in_ok-id.ensures.id.0.0 (c.in_ok-id.ensures.answers r image known))
           (record {
             noted = noted;
             called = makes.called;
@@ -63,7 +64,7 @@ returns-in-Ok-clause-kept g c =
             held = makes.held;
             next = λ r. refl;
             clips = λ r one. ap (λ (k : ℕ). set r.clips k (Some span)) (sym one.id_is);
-            redrawn = lock-redrawn h id span c.in_ok-id.ensures.id.0.0;
+            redrawn = lock-redrawn i.version h id span c.in_ok-id.ensures.id.0.0 (omega (arith, c.well_formed));
           }),
       noted.ring,
     )
@@ -77,7 +78,7 @@ returns-in-Ok-clause-goes g c =
     let span = c.args.span in
     let makes = c.in-Ok.ensures.makes in
     goes-noted medium c.args.disk.now c.add_clip.new.disk i c.add_clip.new.index c.args.must_reopen.now id (Some span)
-    (CanTake h span id) (lock span) (locked span (Ok id)) c.requires c.if-must_reopen.false
+    (CanTake i.version h span id) (lock span) (locked span (Ok id)) c.requires c.if-must_reopen.false
     (record {
       noted = c.in-Ok.ensures.noted;
       called = makes.called;
@@ -86,15 +87,17 @@ returns-in-Ok-clause-goes g c =
       held = makes.held;
       next = λ r. refl;
       clips = λ r one. ap (λ (k : ℕ). set r.clips k (Some span)) (sym one.id_is);
-      redrawn = lock-redrawn h id span c.in_ok-id.ensures.id.0.0;
+      redrawn = lock-redrawn i.version h id span c.in_ok-id.ensures.id.0.0 (omega (arith, c.well_formed));
     })
     makes.moments
-    (λ r image known. takes h r span id c.in_ok-id.ensures.id.0.0 (c.in_ok-id.ensures.answers r image known))
+    (λ r image known. takes i.version h r span id c.in_ok-id.ensures.id.0.0 (c.in_ok-id.ensures.answers r image known))
     (λ H. record {
+      leaves = λ v. refl;
       writes = refl;
       late = refl;
-      answers = λ s still one. answer-given H h s
-          (locked span (Ok id)) still one.fits one.id_is;
+      answers = λ s still same one. answer-given H h s
+          (locked span (Ok id)) still
+          (ap (λ (v : ℕ). first_of (span_checks v s.recording span)) (sym same) ∙ one.fits) one.id_is;
     }) refl refl (λ s. refl) (λ s. refl)
 
 pub returns-in-Err-clause-kept : goal.returns-in-Err-clause-kept
@@ -114,13 +117,16 @@ returns-in-Err-clause-goes g c =
     let span = c.args.span in
     let makes = c.in-Err.ensures.makes in
     goes-unnoted medium c.args.disk.now c.add_clip.new.disk i c.add_clip.new.index c.args.must_reopen.now
-    (CanTake h span id) (lock span) (locked span (Err (Disk c.in-Err.fault))) c.in-Err.fault c.requires
-    c.if-must_reopen.false c.in-Err.ensures.same (lock-redrawn h id span c.in_ok-id.ensures.id.0.0).alike
+    (CanTake i.version h span id) (lock span) (locked span (Err (Disk c.in-Err.fault))) c.in-Err.fault c.requires
+    c.if-must_reopen.false c.in-Err.ensures.same
+    (lock-redrawn i.version h id span c.in_ok-id.ensures.id.0.0 (omega (arith, c.well_formed))).alike
     (λ honest. g.met.D.Disk.sound c.add_clip.new.disk honest) makes.called makes.moments
-    (λ r image known. takes h r span id c.in_ok-id.ensures.id.0.0 (c.in_ok-id.ensures.answers r image known))
+    (λ r image known. takes i.version h r span id c.in_ok-id.ensures.id.0.0 (c.in_ok-id.ensures.answers r image known))
     (λ H. record {
+      leaves = λ v. refl;
       writes = refl;
       late = refl;
-      answers = λ s still one. answer-given H h s
-          (locked span (Err (Disk c.in-Err.fault))) still one.fits makes.fault;
+      answers = λ s still same one. answer-given H h s
+          (locked span (Err (Disk c.in-Err.fault))) still
+          (ap (λ (v : ℕ). first_of (span_checks v s.recording span)) (sym same) ∙ one.fits) makes.fault;
     }) refl refl (λ s. refl) (λ s. refl)

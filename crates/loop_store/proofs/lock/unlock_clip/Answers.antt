@@ -19,7 +19,7 @@ returns-then-must_reopen-clause-goes g c =
     goes-must g.D.Disk.medium _ (unlocked c.args.id (Err MustReopen))
     (one-kept g.D.Disk.medium c.args.disk.now c.args.index.now c.args.must_reopen.now c.requires)
     (λ honest. g.met.D.Disk.sound c.args.disk.now honest) c.if-must_reopen.true
-    (record { early = refl; unfailed = refl; none = refl; made_none = λ h t. refl; begun_none = λ h t. refl }) refl
+    (record { version = λ v. refl; unfailed = refl; none = refl; made_none = λ h t. refl; begun_none = λ h t. refl }) refl
 
 pub returns-in_default-clause-goes : goal.returns-in_default-clause-goes
 returns-in_default-clause-goes g c =
@@ -77,9 +77,10 @@ returns-in-Ok-clause-goes g c =
     }) makes.moments
     (λ r image known. some _ c.in-Some.field-0 (clip-known i r image id known ∙ sym c.in-Some.ensures.clip))
     (λ H. record {
+      leaves = λ v. refl;
       writes = refl;
       late = refl;
-      answers = λ s still one. unlock-answered H i.ring.geometry s id
+      answers = λ s still same one. unlock-answered H i.ring.geometry s id
           (Ok tt) still one tt;
     }) refl refl (λ s. refl) (λ s. refl)
 
@@ -103,8 +104,9 @@ returns-in-Err-clause-goes g c =
     (λ honest. g.met.D.Disk.sound c.remove_clip.new.disk honest) makes.called makes.moments
     (λ r image known. some _ c.in-Some.field-0 (clip-known i r image id known ∙ sym c.in-Some.ensures.clip))
     (λ H. record {
+      leaves = λ v. refl;
       writes = refl;
       late = refl;
-      answers = λ s still one. unlock-answered H i.ring.geometry s id
+      answers = λ s still same one. unlock-answered H i.ring.geometry s id
           (Err (Disk c.in-Err.fault)) still one makes.fault;
     }) refl refl (λ s. refl) (λ s. refl)

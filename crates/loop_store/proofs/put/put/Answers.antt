@@ -27,7 +27,7 @@ returns-then-must_reopen-clause-goes g c =
     goes-must g.D.Disk.medium _ (appended c.args.group.now.frames (Err MustReopen))
     (one-kept g.D.Disk.medium c.args.disk.now c.args.index.now c.args.must_reopen.now c.requires.kept)
     (λ honest. g.met.D.Disk.sound c.args.disk.now honest) c.if-must_reopen.true
-    (record { early = refl; unfailed = refl; none = refl; made_none = λ h t. refl; begun_none = λ h t. refl }) refl
+    (record { version = λ v. refl; unfailed = refl; none = refl; made_none = λ h t. refl; begun_none = λ h t. refl }) refl
 
 pub returns-in_err-place-clause-goes : goal.returns-in_err-place-clause-goes
 returns-in_err-place-clause-goes g c =
@@ -118,6 +118,7 @@ returns-in-Ok-clause-goes g c =
       still = fine;
       one = one-kept medium c.args.disk.now i must c.requires.kept;
       geometry = ap (λ (x : Ring). x.geometry) noted.ring;
+      version = noted.version;
       called = c.in-Ok.ensures.called;
       tells = λ r told. told-grown medium c.args.disk.now c.append_group.new.disk i c.note.new.self
           c.in_ok-place.place n j ps must r c.requires.kept told refl placed noted grew.count;

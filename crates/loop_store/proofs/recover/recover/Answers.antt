@@ -1,11 +1,11 @@
 use Rattle.std.proofs.Common.{◌≡◌, Err}
 use Rattle.loop_record.specs.Reading.{reading}
-use Rattle.loop_store.specs.Index.{IsRecovered}
+use Rattle.loop_store.specs.Index.{IsRecoveredIn}
 use Rattle.loop_store.proofs.RecoveredParts.{finds-after}
 use Rattle.loop_store.proofs.recover.recover.Goals as goal
 
 pub returns-clause-finds : goal.returns-clause-finds
 returns-clause-finds g c =
-    finds-after c.recover_parts.result (λ image index. IsRecovered index image)
-    (λ image fault. reading image ≡ Err fault) _ _ _ c.in_ok-geometry.ensures.finds.stays
-    c.in_ok-geometry.ensures.finds.called c.recover_parts.ensures.finds
+    finds-after c.recover_parts.result (λ image index. IsRecoveredIn index image)
+    (λ image fault. reading image ≡ Err fault) _ _ _ c.in_ok-head.ensures.finds.stays
+    c.in_ok-head.ensures.finds.called c.recover_parts.ensures.finds

@@ -1,7 +1,9 @@
-use Rattle.std.proofs.Common.{None, ℕ, ◌≤◌, [], sym, ◌∙◌, subst}
+use Rattle.std.proofs.Common.{None, ℕ, ◌≤◌, [], sym, ap, ◌∙◌, subst}
 use Rattle.loop_record.specs.Plain.{AreIn}
+use Rattle.loop_record.specs.Layout.{version_in}
 use Rattle.loop_record.specs.Recording.{last_number, ring_of}
 use Rattle.loop_record.proofs.Bounds.{limits}
+use Rattle.loop_record.proofs.Parts.{super-parts}
 use Rattle.loop_record.proofs.FoundSegments.{AreFull, read-lacks, read-repeats}
 use Rattle.loop_disk.proofs.Moments.{called_on}
 use Rattle.loop_ring.proofs.SlotReads.{stays_on}
@@ -18,23 +20,23 @@ pub returns-in_err-heads-clause-finds : goal.returns-in_err-heads-clause-finds
 returns-in_err-heads-clause-finds g c =
     let m = g.D.Disk.medium c.args.disk.now in
     finds-on _ c.in_err-heads.field-0.0 _ _ _ _ m m _ (λ honest fault q.
-    let h = c.args.geometry in
+    let h = c.args.head.geometry in
     let image = (g.D.Disk.medium c.args.disk.now).bytes in
     let size = (g.met.D.Disk.sound c.args.disk.now honest).length_is ∙ c.requires.fits.1 in
-    refused-head h image fault (c.requires.geometry honest) size q) (λ honest. stays-still m)
-    (called-none m) c.from_residual.ensures.1 c.in_err-heads.ensures.finds
+    refused-head h image fault (super-parts c.args.head image (c.requires.head honest)).0 size q)
+    (λ honest. stays-still m) (called-none m) c.from_residual.ensures.1 c.in_err-heads.ensures.finds
 
 pub returns-then-repeats-clause-finds : goal.returns-then-repeats-clause-finds
 returns-then-repeats-clause-finds g c = record {
   found = λ honest.
-      let h = c.args.geometry in
+      let h = c.args.head.geometry in
       let image = (g.D.Disk.medium c.args.disk.now).bytes in
       let size = (g.met.D.Disk.sound c.args.disk.now honest).length_is ∙ c.requires.fits.1 in
       let fs = c.in_ok-segments.segments.items in
       let xs = c.as_slice-open.result.now in
-      let found = found-by h image fs xs _ (c.requires.geometry honest) size c.in_ok-segments.ensures.order
-      (c.as_slice.ensures.value ∙ c.in_ok-heads.ensures.finds.found honest) c.in_ok-segments.ensures.within
-      c.as_slice-open.ensures.value in
+      let found = found-by h image fs xs _ (super-parts c.args.head image (c.requires.head honest)).0 size
+      c.in_ok-segments.ensures.order (c.as_slice.ensures.value ∙ c.in_ok-heads.ensures.finds.found honest)
+      c.in_ok-segments.ensures.within c.as_slice-open.ensures.value in
       read-repeats h image fs xs c.repeats.result found (c.repeats.ensures h image) c.if-repeats.true;
   stays = c.in_ok-heads.ensures.finds.stays;
   called = c.in_ok-heads.ensures.finds.called;
@@ -43,14 +45,14 @@ returns-then-repeats-clause-finds g c = record {
 pub returns-then-lacks_frame-clause-finds : goal.returns-then-lacks_frame-clause-finds
 returns-then-lacks_frame-clause-finds g c = record {
   found = λ honest.
-      let h = c.args.geometry in
+      let h = c.args.head.geometry in
       let image = (g.D.Disk.medium c.args.disk.now).bytes in
       let size = (g.met.D.Disk.sound c.args.disk.now honest).length_is ∙ c.requires.fits.1 in
       let fs = c.in_ok-segments.segments.items in
       let xs = c.as_slice-open.result.now in
-      let found = found-by h image fs xs _ (c.requires.geometry honest) size c.in_ok-segments.ensures.order
-      (c.as_slice.ensures.value ∙ c.in_ok-heads.ensures.finds.found honest) c.in_ok-segments.ensures.within
-      c.as_slice-open.ensures.value in
+      let found = found-by h image fs xs _ (super-parts c.args.head image (c.requires.head honest)).0 size
+      c.in_ok-segments.ensures.order (c.as_slice.ensures.value ∙ c.in_ok-heads.ensures.finds.found honest)
+      c.in_ok-segments.ensures.within c.as_slice-open.ensures.value in
       read-lacks h image fs xs c.repeats.result c.lacks_frame.result found
       (c.repeats.ensures h image) c.if-repeats.false (c.lacks_frame.ensures image) c.if-lacks_frame.true;
   stays = c.in_ok-heads.ensures.finds.stays;
@@ -59,31 +61,39 @@ returns-then-lacks_frame-clause-finds g c = record {
 
 pub returns-in_err-check_slots-clause-finds : goal.returns-in_err-check_slots-clause-finds
 returns-in_err-check_slots-clause-finds g c = finds-on _ c.in_err-check_slots.field-0.0 _ _ _ _ _ _ _ (λ honest fault q.
-    let h = c.args.geometry in
+    let h = c.args.head.geometry in
     let image = (g.D.Disk.medium c.args.disk.now).bytes in
     let size = (g.met.D.Disk.sound c.args.disk.now honest).length_is ∙ c.requires.fits.1 in
     let first = c.in_ok-heads.ensures.finds.stays honest in
     let fs = c.in_ok-segments.segments.items in
     let xs = c.as_slice-open.result.now in
-    let found = found-by h image fs xs _ (c.requires.geometry honest) size c.in_ok-segments.ensures.order
-    (c.as_slice.ensures.value ∙ c.in_ok-heads.ensures.finds.found honest) c.in_ok-segments.ensures.within
-    c.as_slice-open.ensures.value in
+    let found = found-by h image fs xs _ (super-parts c.args.head image (c.requires.head honest)).0 size
+    c.in_ok-segments.ensures.order (c.as_slice.ensures.value ∙ c.in_ok-heads.ensures.finds.found honest)
+    c.in_ok-segments.ensures.within c.as_slice-open.ensures.value in
     let all : AreFull h image fs xs = full h image fs xs c.repeats.result c.lacks_frame.result found
     (c.repeats.ensures h image) c.if-repeats.false (c.lacks_frame.ensures image) c.if-lacks_frame.false in
     refused-slot h image _ fs xs fault all first.bytes q) c.in_ok-heads.ensures.finds.stays
     c.in_ok-heads.ensures.finds.called c.from_residual-in_err-check_slots.ensures.1 c.in_err-check_slots.ensures
 
+pub read_table-requires-clause-version : goal.read_table-requires-clause-version
+read_table-requires-clause-version g c = λ third.
+    let second = c.in_ok-check_slots.ensures.called.honest.1 third in
+    let honest = c.in_ok-heads.ensures.finds.called.honest.1 second in
+    let image = (g.D.Disk.medium c.args.disk.now).bytes in
+    ap version_in ((c.in_ok-check_slots.ensures.stays second).bytes
+    ∙ (c.in_ok-heads.ensures.finds.stays honest).bytes) ∙ (super-parts c.args.head image (c.requires.head honest)).1
+
 pub returns-in_err-clips-clause-finds : goal.returns-in_err-clips-clause-finds
 returns-in_err-clips-clause-finds g c = finds-on _ c.in_err-clips.field-0.0 _ _ _ _ _ _ _ (λ honest fault q.
-    let h = c.args.geometry in
+    let h = c.args.head.geometry in
     let image = (g.D.Disk.medium c.args.disk.now).bytes in
     let size = (g.met.D.Disk.sound c.args.disk.now honest).length_is ∙ c.requires.fits.1 in
     let first = c.in_ok-heads.ensures.finds.stays honest in
     let fs = c.in_ok-segments.segments.items in
     let xs = c.as_slice-open.result.now in
-    let found = found-by h image fs xs _ (c.requires.geometry honest) size c.in_ok-segments.ensures.order
-    (c.as_slice.ensures.value ∙ c.in_ok-heads.ensures.finds.found honest) c.in_ok-segments.ensures.within
-    c.as_slice-open.ensures.value in
+    let found = found-by h image fs xs _ (super-parts c.args.head image (c.requires.head honest)).0 size
+    c.in_ok-segments.ensures.order (c.as_slice.ensures.value ∙ c.in_ok-heads.ensures.finds.found honest)
+    c.in_ok-segments.ensures.within c.as_slice-open.ensures.value in
     let all : AreFull h image fs xs = full h image fs xs c.repeats.result c.lacks_frame.result found
     (c.repeats.ensures h image) c.if-repeats.false (c.lacks_frame.ensures image) c.if-lacks_frame.false in
     let second = c.in_ok-heads.ensures.finds.called.honest.0 honest in
@@ -97,24 +107,26 @@ returns-in_err-clips-clause-finds g c = finds-on _ c.in_err-clips.field-0.0 _ _ 
 pub returns-clause-finds : goal.returns-clause-finds
 returns-clause-finds g c = record {
   found = λ honest.
-      let h = c.args.geometry in
+      let h = c.args.head.geometry in
       let image = (g.D.Disk.medium c.args.disk.now).bytes in
       let size = (g.met.D.Disk.sound c.args.disk.now honest).length_is ∙ c.requires.fits.1 in
       let first = c.in_ok-heads.ensures.finds.stays honest in
       let fs = c.in_ok-segments.segments.items in
       let xs = c.as_slice-open.result.now in
-      let found = found-by h image fs xs _ (c.requires.geometry honest) size c.in_ok-segments.ensures.order
-      (c.as_slice.ensures.value ∙ c.in_ok-heads.ensures.finds.found honest) c.in_ok-segments.ensures.within
-      c.as_slice-open.ensures.value in
+      let found = found-by h image fs xs _ (super-parts c.args.head image (c.requires.head honest)).0 size
+      c.in_ok-segments.ensures.order (c.as_slice.ensures.value ∙ c.in_ok-heads.ensures.finds.found honest)
+      c.in_ok-segments.ensures.within c.as_slice-open.ensures.value in
       let all : AreFull h image fs xs = full h image fs xs c.repeats.result c.lacks_frame.result found
       (c.repeats.ensures h image) c.if-repeats.false (c.lacks_frame.ensures image) c.if-lacks_frame.false in
       let second = c.in_ok-heads.ensures.finds.called.honest.0 honest in
       let checked = c.in_ok-check_slots.ensures.stays second in
-      let third = c.in_ok-check_slots.ensures.called.honest.0 second in
-      recovered c.in_ok-index_of.field-0 h image _ _ fs xs c.in_ok-heads.heads.items c.in_ok-clips.clips
-      c.next_after-next.result c.in_ok-index_of.ensures all first.bytes (c.in_ok-check_slots.ensures.found second)
-      (checked.bytes ∙ first.bytes) (c.in_ok-clips.ensures.finds.found third) (c.next_after-next.ensures image)
-      (c.in_ok-heads.ensures.finds.found honest);
+      let third = c.in_ok-check_slots.ensures.called.honest.0 second in (
+        recovered c.in_ok-index_of.field-0 h image _ _ fs xs c.in_ok-heads.heads.items c.in_ok-clips.clips
+            c.next_after-next.result c.in_ok-index_of.ensures.of all first.bytes (c.in_ok-check_slots.ensures.found second)
+            (checked.bytes ∙ first.bytes) (c.in_ok-clips.ensures.finds.found third) (c.next_after-next.ensures image)
+            (c.in_ok-heads.ensures.finds.found honest),
+        (super-parts c.args.head image (c.requires.head honest)).1 ∙ sym c.in_ok-index_of.ensures.version,
+      );
   stays = λ honest.
       let second = c.in_ok-heads.ensures.finds.called.honest.0 honest in
       stays_on _ _ _ (stays_on _ _ _ (c.in_ok-heads.ensures.finds.stays honest)
@@ -125,14 +137,14 @@ returns-clause-finds g c = record {
 
 pub returns-clause-known : goal.returns-clause-known
 returns-clause-known g c =
-    let h = c.args.geometry in
+    let h = c.args.head.geometry in
     let xs = c.as_slice-open.result.now in
     let within = subst (AreIn h) (sym c.as_slice-open.ensures.value) c.in_ok-segments.ensures.within in (
       fitting c.in_ok-index_of.field-0 h c.in_ok-heads.heads.items c.in_ok-clips.clips c.next_after-next.result (g.D.Disk.medium c.args.disk.now).size
-          c.in_ok-index_of.ensures c.requires.fits.1 c.in_ok-heads.ensures.count c.in_ok-heads.ensures.within
+          c.in_ok-index_of.ensures.of c.requires.fits.1 c.in_ok-heads.ensures.count c.in_ok-heads.ensures.within
           (subst (λ (n : ℕ). n ≤ last_number (ring_of h)) (sym (c.next_after-next.ensures [])) (next-few h [] xs (limits h c.requires.fits.0).slots.0 within)),
       says-recording c.in_ok-index_of.field-0 h c.in_ok-heads.heads.items c.in_ok-clips.clips
-          c.in_ok-segments.segments.items c.as_slice-open.result.now c.next_after-next.result c.in_ok-index_of.ensures
+          c.in_ok-segments.segments.items c.as_slice-open.result.now c.next_after-next.result c.in_ok-index_of.ensures.of
           (record {
             good = c.requires.fits.0;
             count = c.in_ok-heads.ensures.count;
@@ -144,6 +156,7 @@ returns-clause-known g c =
             full = λ image. sym (c.lacks_frame.ensures image) ∙ c.if-lacks_frame.false;
             ids = c.in_ok-clips.ensures.held.0;
             held = c.in_ok-clips.ensures.held.1;
+            tags = c.in_ok-clips.ensures.tags;
             next_is = λ image. c.next_after-next.ensures image;
           }),
     )

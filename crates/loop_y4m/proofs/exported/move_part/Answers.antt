@@ -1,4 +1,4 @@
-use Rattle.std.proofs.Common.{List, length, ℕ, subst}
+use Rattle.std.proofs.Common.{List, length, ℕ, refl, subst}
 use Rattle.std.specs.Io.KnownBytes.{Appends}
 use Rattle.loop_disk.specs.Medium.{piece}
 use Rattle.loop_y4m.specs.declared.fault.ExportFault.TheVariants.{Store}
@@ -10,28 +10,34 @@ use Rattle.loop_y4m.proofs.exported.move_part.Goals as goal
 
 pub returns-in_err-read_part-clause-moved : goal.returns-in_err-read_part-clause-moved
 returns-in_err-read_part-clause-moved g c = λ r p stands there.
-    let stood : Stands g.D.Disk.medium c.args.store.now (running r) = record { recording = stands; must_reopen = c.requires.open } in
-    let said = (c.in_err-read_part.ensures.goes.answers (running r) (told-of g.D.Disk.medium c.args.store.now (running r) stood)).0 in
+    let version = c.args.store.now.version in
+    let s = running version r in
+    let stood : Stands g.D.Disk.medium c.args.store.now s = record { recording = stands; version = refl; must_reopen = c.requires.open } in
+    let said = (c.in_err-read_part.ensures.goes.answers s (told-of g.D.Disk.medium c.args.store.now s stood)).0 in
     stopped_on _ _ _ c.from_residual.result (Store c.in_err-read_part.field-0.0) (piece c.args.at (length c.args.part.now) p.bytes) c.from_residual.ensures.1
-    (part_refused _ _ (λ honest. (honest, stood)) c.args.store.now.geometry r c.args.number c.args.at p
+    (part_refused _ _ (λ honest. (honest, stood)) c.args.store.now.geometry version r c.args.number c.args.at p
     c.in_err-read_part.field-0.0 (g.W.Write.contents c.args.out.now) _ there said)
 
 pub returns-in_err-write_pixels-clause-moved : goal.returns-in_err-write_pixels-clause-moved
 returns-in_err-write_pixels-clause-moved g c = λ r p stands there.
-    let stood : Stands g.D.Disk.medium c.args.store.now (running r) = record { recording = stands; must_reopen = c.requires.open } in
-    let said = (c.in_ok-read_part.ensures.goes.answers (running r) (told-of g.D.Disk.medium c.args.store.now (running r) stood)).0 in
+    let version = c.args.store.now.version in
+    let s = running version r in
+    let stood : Stands g.D.Disk.medium c.args.store.now s = record { recording = stands; version = refl; must_reopen = c.requires.open } in
+    let said = (c.in_ok-read_part.ensures.goes.answers s (told-of g.D.Disk.medium c.args.store.now s stood)).0 in
     writer_failed _ _ _ c.from_residual-in_err-write_pixels.result c.read_part.new.out _
     c.from_residual-in_err-write_pixels.ensures.1 c.in_err-write_pixels.ensures
     (λ honest. part_is r c.args.number c.args.at p c.read_part.new.out (length c.args.part.now) there
-    (part_given _ c.args.store.now.geometry r c.args.number c.args.at c.read_part.new.out said (honest, stood))
+    (part_given _ c.args.store.now.geometry version r c.args.number c.args.at c.read_part.new.out said (honest, stood))
     c.read_part.auto.out)
 
 pub returns-clause-moved : goal.returns-clause-moved
 returns-clause-moved g c = λ r p stands there.
-    let stood : Stands g.D.Disk.medium c.args.store.now (running r) = record { recording = stands; must_reopen = c.requires.open } in
-    let said = (c.in_ok-read_part.ensures.goes.answers (running r) (told-of g.D.Disk.medium c.args.store.now (running r) stood)).0 in
+    let version = c.args.store.now.version in
+    let s = running version r in
+    let stood : Stands g.D.Disk.medium c.args.store.now s = record { recording = stands; version = refl; must_reopen = c.requires.open } in
+    let said = (c.in_ok-read_part.ensures.goes.answers s (told-of g.D.Disk.medium c.args.store.now s stood)).0 in
     λ honest. subst (λ (bytes : List ℕ). Appends (g.W.Write.contents c.args.out.now)
     (g.W.Write.contents c.write_pixels.new.out) bytes)
     (part_is r c.args.number c.args.at p c.read_part.new.out (length c.args.part.now) there
-    (part_given _ c.args.store.now.geometry r c.args.number c.args.at c.read_part.new.out said (honest, stood))
+    (part_given _ c.args.store.now.geometry version r c.args.number c.args.at c.read_part.new.out said (honest, stood))
     c.read_part.auto.out) c.in_ok-write_pixels.ensures

@@ -12,6 +12,6 @@ invariant_of-self g c =
     kept-same s.store new s.limits s.pending c.self.invariant goes.geometry
     (omega (
       arith,
-      next-one s.store new (locked (record { from = c.args.from; to = c.args.to }) c.lock.result)
+      next-one s.store new (locked (record { from = c.args.from; to = c.args.to; tag = c.args.tag }) c.lock.result)
           goes,
     ))

@@ -8,6 +8,7 @@ pub returns : goal.returns
 returns g c =
     let old = c.args.self.now in record {
       ring = refl;
+      version = refl;
       next = ap (λ n. old.next + n) c.from.ensures;
       heads = c.set_head.ensures.heads
           ∙ (λ i. set old.table.heads c.args.segment

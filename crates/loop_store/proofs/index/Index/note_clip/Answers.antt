@@ -12,6 +12,7 @@ returns g c =
     let id = c.args.id in
     let clip = c.args.clip in record {
       ring = refl;
+      version = refl;
       next = refl;
       heads = c.count_clip.ensures.heads ∙ c.uncount_clip.ensures.heads;
       clips = c.set-2.ensures ∙ ap (λ (l : List (Option Span)). set l id clip) c.set.ensures ∙ set-set old.clips id None clip;

@@ -19,7 +19,7 @@ returns-then-self-clause-goes g c =
     (one-seen g.D.Disk.medium c.self.inside.disk c.self.inside.index c.self.inside.must_reopen c.self.invariant.0
     c.self.view_is) (λ honest. g.met.D.Disk.sound c.args.self.now.disk honest)
     (sym (ap (λ v. v.must_reopen) c.self.view_is) ∙ c.if-self.true)
-    (record { early = refl; unfailed = refl; none = refl; made_none = λ h t. refl; begun_none = λ h t. refl }) refl
+    (record { version = λ v. refl; unfailed = refl; none = refl; made_none = λ h t. refl; begun_none = λ h t. refl }) refl
 
 pub invariant_of-self : goal.invariant_of-self
 invariant_of-self g c = (

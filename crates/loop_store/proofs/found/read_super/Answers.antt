@@ -1,20 +1,20 @@
 use Rattle.std.proofs.Common.{◌≤◌, length, sym, ◌∙◌, arith}
-use Rattle.loop_record.proofs.Parts.{geometry-good}
+use Rattle.loop_record.proofs.Parts.{geometry-good, super-parts}
 use Rattle.loop_record.proofs.FoundSegments.{reading-other_size}
-use Rattle.loop_store.proofs.RecoveredParts.{finds-refusal, geometry-read, refused-read}
-use Rattle.loop_store.proofs.found.read_geometry.Goals as goal
+use Rattle.loop_store.proofs.RecoveredParts.{finds-refusal, super-read, refused-read}
+use Rattle.loop_store.proofs.found.read_super.Goals as goal
 
-pub returns-in_err-geometry-clause-finds : goal.returns-in_err-geometry-clause-finds
-returns-in_err-geometry-clause-finds g c =
+pub returns-in_err-head-clause-finds : goal.returns-in_err-head-clause-finds
+returns-in_err-head-clause-finds g c =
     let m = g.D.Disk.medium c.args.disk.now in
-    finds-refusal _ c.in_err-geometry.field-0.0 _ _ _ _ (λ honest.
+    finds-refusal _ c.in_err-head.field-0.0 _ _ _ _ (λ honest.
     let room : 512 ≤ length m.bytes = omega (arith, (g.met.D.Disk.sound c.args.disk.now honest).length_is) in
-    refused-read m.bytes c.read.new.buf c.in_err-geometry.field-0.0 room (c.in_ok-read.ensures.read honest)
-    c.in_err-geometry.ensures) c.in_ok-read.ensures.disk c.in_ok-read.ensures.called
-    c.from_residual-in_err-geometry.ensures.1
+    refused-read m.bytes c.read.new.buf c.in_err-head.field-0.0 room (c.in_ok-read.ensures.read honest)
+    c.in_err-head.ensures) c.in_ok-read.ensures.disk c.in_ok-read.ensures.called
+    c.from_residual-in_err-head.ensures.1
 
 pub disk_size-requires : goal.disk_size-requires
-disk_size-requires g c = geometry-good c.in_ok-geometry.geometry c.read.new.buf (sym c.in_ok-geometry.ensures)
+disk_size-requires g c = geometry-good c.in_ok-head.head.geometry c.read.new.buf (super-parts c.in_ok-head.head c.read.new.buf (sym c.in_ok-head.ensures)).0
 
 pub returns-then-size-disk_size-clause-finds : goal.returns-then-size-disk_size-clause-finds
 returns-then-size-disk_size-clause-finds g c =
@@ -22,8 +22,10 @@ returns-then-size-disk_size-clause-finds g c =
       found = λ honest.
           let size = (g.met.D.Disk.sound c.args.disk.now honest).length_is in
           let room : 512 ≤ length m.bytes = omega (arith, size) in
-          reading-other_size c.in_ok-geometry.geometry m.bytes
-          (geometry-read m.bytes c.read.new.buf _ room (c.in_ok-read.ensures.read honest) c.in_ok-geometry.ensures)
+          reading-other_size c.in_ok-head.head.geometry m.bytes
+          (sym (super-parts c.in_ok-head.head m.bytes
+          (sym (super-read m.bytes c.read.new.buf _ room (c.in_ok-read.ensures.read honest)
+          c.in_ok-head.ensures))).0)
           (λ same. c.if-size-disk_size.true (c.size-size.ensures ∙ sym size ∙ same ∙ sym c.disk_size.ensures));
       stays = c.in_ok-read.ensures.disk;
       called = c.in_ok-read.ensures.called;
@@ -31,8 +33,10 @@ returns-then-size-disk_size-clause-finds g c =
 
 pub returns-clause-fits : goal.returns-clause-fits
 returns-clause-fits g c = (
-  geometry-good c.in_ok-geometry.geometry c.read.new.buf (sym c.in_ok-geometry.ensures),
-  sym c.size-size.ensures ∙ c.if-size-disk_size.false ∙ c.disk_size.ensures,
+  geometry-good c.in_ok-head.head.geometry c.read.new.buf
+      (super-parts c.in_ok-head.head c.read.new.buf (sym c.in_ok-head.ensures)).0,
+  sym c.size-size.ensures
+      ∙ c.if-size-disk_size.false ∙ c.disk_size.ensures,
 )
 
 pub returns-clause-finds : goal.returns-clause-finds
@@ -40,7 +44,7 @@ returns-clause-finds g c =
     let m = g.D.Disk.medium c.args.disk.now in record {
       found = λ honest.
           let room : 512 ≤ length m.bytes = omega (arith, (g.met.D.Disk.sound c.args.disk.now honest).length_is) in
-          sym (geometry-read m.bytes c.read.new.buf _ room (c.in_ok-read.ensures.read honest) c.in_ok-geometry.ensures);
+          sym (super-read m.bytes c.read.new.buf _ room (c.in_ok-read.ensures.read honest) c.in_ok-head.ensures);
       stays = c.in_ok-read.ensures.disk;
       called = c.in_ok-read.ensures.called;
     }

@@ -1,0 +1,16 @@
+-- What an upgrade of the layout to version 2 finds, and what it leaves.
+use Rattle.std.specs.Prelude.{◌≡◌, ℕ, ◌<◌, List, Option, None, is_some, slice_index_or}
+use Rattle.loop_record.specs.declared.clip.Span.{Span}
+use Rattle.loop_record.specs.Change.{KeepsClips}
+use Rattle.loop_record.specs.Geometry.{clip_at}
+use Rattle.loop_record.specs.Layout.{is_open, version_in}
+
+-- the old image in version 2, where each id has the clip that it had
+abbrev pub IsUpgraded : List ℕ → List ℕ → Type 0
+IsUpgraded old new = KeepsClips old new × (version_in new ≡ 2)
+
+-- ---- inside the call
+
+-- the open entries of the image are those of these clips
+abbrev pub AreOpen : List (Option Span) → List ℕ → Type 0
+AreOpen clips image = (id : ℕ) → id < 64 → is_open image (clip_at id) ≡ is_some (slice_index_or clips id None)

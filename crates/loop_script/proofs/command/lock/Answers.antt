@@ -1,8 +1,0 @@
-use Rattle.std.proofs.Common.{sym}
-use Rattle.loop_script.proofs.Words.{lock-long}
-use Rattle.loop_script.proofs.command.lock.Goals as goal
-
-pub returns-then-is_some : goal.returns-then-is_some
-returns-then-is_some c =
-    let long = lock-long c.args.from.now c.first_word.result.0.now c.first_word.result.1 (sym c.if-is_some.ensures) in
-    rw c.first_word.ensures (sym long)
