@@ -5,7 +5,7 @@ use Rattle.std.specs.List.{list_any, range_with_len}
 use Rattle.loop_record.specs.declared.clip.Span.{Span}
 use Rattle.loop_record.specs.declared.geometry.Geometry.{Geometry}
 use Rattle.loop_record.specs.Geometry.{segment_at, segment_size, clip_at}
-use Rattle.loop_record.specs.Recording.{Recording, lock, unlock, after_step, is_legal, holds_all, free_id, clip_of, ring_of}
+use Rattle.loop_record.specs.Recording.{Recording, lock, unlock, after_step, may_lock, holds_all, free_id, clip_of, ring_of}
 use Rattle.loop_record.specs.Layout.{Segment, segment_in, clip_in}
 use Rattle.loop_record.specs.Reading.{parts_of, shown_by, recording_or_damage, recording_of, is_bad_clip, by_block, open_segments, Holds}
 use Rattle.loop_record.specs.Change.{ShowsClip}
@@ -77,7 +77,7 @@ checked-clip g ss clips r id c e good =
 
 -- Where the entry of the least free id has opened with a clip that may be locked, the image reads as the recording with that clip.
 pub reading-lock : (g : Geometry) (r : Recording) (s : Span) (old new : List ℕ) → Holds g r old
-    → IsTrue (is_legal (ring_of g) r (lock s)) → ShowsClip (free_id r) (Some s) old new
+    → IsTrue (may_lock r s) → ShowsClip (free_id r) (Some s) old new
     → Holds g (after_step (ring_of g) r (lock s)) new
 reading-lock g r s old new e legal shows =
     let k = both (leb s.from s.to && holds_all r s) (ltb (free_id r) 64) legal in

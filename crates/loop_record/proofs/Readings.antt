@@ -123,11 +123,11 @@ reading-begin g r old new j b e l there apart next low shows =
 -- ---- retire
 
 -- Where the victim's segment has closed, the image reads as the recording without it.
-pub reading-retire : (g : Geometry) (r : Recording) (old new : List ℕ) (j : ℕ) (u : Segment)
-    → reading old ≡ Ok (these g r) → j < g.segments → segment_in g old j ≡ Some u → victim (ring_of g) r ≡ Some u.block
+pub reading-retire : (g : Geometry) (keep : ℕ) (r : Recording) (old new : List ℕ) (j : ℕ) (u : Segment)
+    → reading old ≡ Ok (these g r) → j < g.segments → segment_in g old j ≡ Some u → victim (ring_of g) keep r ≡ Some u.block
     → ShowsSegment g j None old new
     → reading new ≡ Ok (these g (after_step (ring_of g) r (recycle u.block)))
-reading-retire g r old new j u e l there chosen shows =
+reading-retire g keep r old new j u e l there chosen shows =
     let ps = (parts_of g old).segments in
     let clips = (parts_of g old).clips in
     let was = reading-stages g r old e in
@@ -139,7 +139,7 @@ reading-retire g r old new j u e l there chosen shows =
     let sorted : by_block (open_segments ps) ≡ p.lower ++ u ∷ p.higher = sym (ap (λ qs. by_block (open_segments qs)) whole) ∙ p.with_it u refl in
     let before : recording_or_damage g (p.lower ++ u ∷ p.higher) clips ≡ Ok r = sym (ap (λ ss. recording_or_damage g ss clips) sorted) ∙ was.recording in
     let fits : list_any (is_overfull g) (p.lower ++ u ∷ p.higher) ≡ false = sym (ap (list_any (is_overfull g)) sorted) ∙ overfull_none g old in
-    let after' = checked-retire (ring_of g) g u p.lower p.higher clips r refl limit.slots.0 p.below p.above fits chosen before in
+    let after' = checked-retire (ring_of g) g keep u p.lower p.higher clips r refl limit.slots.0 p.below p.above fits chosen before in
     reading-shows g r (after_step (ring_of g) r (recycle u.block)) j None old new e l shows (ap (λ ss. recording_or_damage g ss clips) p.without ∙ after')
 
 -- ---- nothing

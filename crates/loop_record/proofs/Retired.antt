@@ -1,6 +1,7 @@
 -- What the open segments show without one whose block no clip meets.
-use Rattle.std.proofs.Common.{◌≡◌, ◌⊎◌, inl, inr, ℕ, zero, suc, ◌+◌, ◌-◌, ◌*◌, ◌/◌, ◌<◌, ◌≤◌, Bool, true, false, not, cond, ◌&&◌, eqb, ltb, leb, is_some, Option, Some, None, Ok, List, [], ◌∷◌, ◌++◌, length, take, map, refl, sym, ap, ◌∙◌, subst, arith}
+use Rattle.std.proofs.Common.{◌≡◌, ◌⊎◌, inl, inr, ℕ, zero, suc, ◌+◌, ◌-◌, ◌*◌, ◌/◌, ◌<◌, ◌≤◌, Bool, true, false, not, cond, ◌&&◌, eqb, ltb, leb, max, is_some, Option, Some, None, Ok, List, [], ◌∷◌, ◌++◌, length, take, map, refl, sym, ap, ◌∙◌, subst, arith}
 use Rattle.std.proofs.Math.Nat.{add-mul, div-eq_of_lt-le, div-mul-le_self, le-div_iff_mul-le}
+use Rattle.std.proofs.lemmas.Bool.{cases_lt}
 use Rattle.std.proofs.lemmas.Bool.Decides.{nat_tests}
 use Rattle.std.proofs.lemmas.List.{append-nil, length-map}
 use Rattle.std.proofs.lemmas.List.Elements.{filter-append}
@@ -143,15 +144,25 @@ last_only-frames ring b (f ∷ fs) us none all =
     let k = neither (is_in ring b f) (list_any (is_in ring b) fs) none in
     last_only-with b (block ring f.0) (blocks_of ring (fs ++ us)) (differ (block ring f.0) b k.0) (last_only-frames ring b fs us k.1 all)
 
-last_only-front : (b : ℕ) (bs : List ℕ) → LastOnly b bs → list_any (λ c. eqb c b) (take (length bs - 1) bs) ≡ false
-last_only-front b [] l = refl
-last_only-front b (x ∷ []) l = refl
-last_only-front b (x ∷ y ∷ bs) l =
-    let n : suc (suc (length bs)) - 1 ≡ suc (suc (length bs) - 1) = omega arith in
-    let first = differ_test x b l.0 in
-    let rest = last_only-front b (y ∷ bs) l.1 in
-    ap (λ (k : ℕ). list_any (λ c. eqb c b) (take k (x ∷ y ∷ bs))) n
-    ∙ or_false (eqb x b) (list_any (λ c. eqb c b) (take (suc (length bs) - 1) (y ∷ bs))) first rest
+last_only-front : (k b : ℕ) (bs : List ℕ) → 1 ≤ k → LastOnly b bs
+    → list_any (λ c. eqb c b) (take (length bs - k) bs) ≡ false
+last_only-front k b [] some l =
+    let none : 0 - k ≡ 0 = omega arith in ap (λ (n : ℕ). list_any (λ c. eqb c b) (take n [])) none
+last_only-front k b (x ∷ []) some l =
+    let none : suc 0 - k ≡ 0 = omega (arith, some) in ap (λ (n : ℕ). list_any (λ c. eqb c b) (take n (x ∷ []))) none
+last_only-front k b (x ∷ y ∷ bs) some l = go (cases_lt (length (y ∷ bs)) k) (last_only-front k b (y ∷ bs) some l.1)
+  where
+    go : (length (y ∷ bs) < k) ⊎ (k ≤ length (y ∷ bs))
+        → list_any (λ c. eqb c b) (take (length (y ∷ bs) - k) (y ∷ bs)) ≡ false
+        → list_any (λ c. eqb c b) (take (length (x ∷ y ∷ bs) - k) (x ∷ y ∷ bs)) ≡ false
+    go (inl past) rest =
+        let none : suc (suc (length bs)) - k ≡ 0 = omega (arith, past) in
+        ap (λ (n : ℕ). list_any (λ c. eqb c b) (take n (x ∷ y ∷ bs))) none
+    go (inr more) rest =
+        let some : suc (suc (length bs)) - k ≡ suc (suc (length bs) - k) = omega (arith, more) in
+        ap (λ (n : ℕ). list_any (λ c. eqb c b) (take n (x ∷ y ∷ bs))) some
+        ∙ or_false (eqb x b) (list_any (λ c. eqb c b) (take (suc (length bs) - k) (y ∷ bs)))
+        (differ_test x b l.0) rest
 
 pub found : (p : ℕ → Bool) (b : ℕ) (xs : List ℕ) → find p xs ≡ Some b → (list_any (λ c. eqb c b) xs ≡ true)
     × (p b ≡ true)
@@ -252,13 +263,13 @@ lacks_frame-without g (x ∷ z ∷ xs) u y ys e =
     or_false (not (eqb (length x.slots) g.slots)) (lacks_frame g (z ∷ xs ++ y ∷ ys)) k.0 (lacks_frame-without g (z ∷ xs) u y ys k.1)
 
 -- the open segments without the victim
-pub checked-retire : (ring : Ring) (g : Geometry) (u : Segment) (lower higher : List Segment)
+pub checked-retire : (ring : Ring) (g : Geometry) (kept : ℕ) (u : Segment) (lower higher : List Segment)
     (clips : List (Option Span)) (r : Recording)
     → ring.slots ≡ g.slots → 1 ≤ g.slots → AllBelow u.block lower → AllAbove u.block higher → list_any (is_overfull g) (lower ++ u ∷ higher) ≡ false
-    → victim ring r ≡ Some u.block
+    → victim ring kept r ≡ Some u.block
     → recording_or_damage g (lower ++ u ∷ higher) clips ≡ Ok r
     → recording_or_damage g (lower ++ higher) clips ≡ Ok (after_step ring r (recycle u.block))
-checked-retire ring g u lower [] clips r same some below above fits chosen e =
+checked-retire ring g kept u lower [] clips r same some below above fits chosen e =
     let b = u.block in
     let old = shown_of g (lower ++ u ∷ []) clips r e in
     let moved : list_any (is_overfull g) (lower ++ u ∷ []) ≡
@@ -269,13 +280,13 @@ checked-retire ring g u lower [] clips r same some below above fits chosen e =
     sym (ap (λ (q : Recording). q.frames) old.is) ∙ all_frames-append g lower (u ∷ []) ∙ ap (λ fs. all_frames g lower ++ fs) (append-nil (frames_of g u)) in
     let last = last_only-frames ring b (all_frames g lower) (frames_of g u) (below_out ring g b lower same below fits') (frames_in ring g u same k.0) in
     let held : LastOnly b (held_blocks ring r) = subst (λ fs. LastOnly b (blocks_of ring fs)) (sym frames) last in
-    let one = found (λ c. not (is_locked ring r c)) b (older_blocks ring r) chosen in
-    absurd (clash (list_any (λ c. eqb c b) (older_blocks ring r)) one.0 (last_only-front b (held_blocks ring r) held))
-checked-retire ring g u lower (h ∷ hs) clips r same some below above fits chosen e =
+    let one = found (λ c. not (is_locked ring r c)) b (older_blocks ring kept r) chosen in
+    absurd (clash (list_any (λ c. eqb c b) (older_blocks ring kept r)) one.0 (last_only-front (max 1 kept) b (held_blocks ring r) (omega arith) held))
+checked-retire ring g kept u lower (h ∷ hs) clips r same some below above fits chosen e =
     let b = u.block in
     let higher = h ∷ hs in
     let old = shown_of g (lower ++ u ∷ higher) clips r e in
-    let one = found (λ c. not (is_locked ring r c)) b (older_blocks ring r) chosen in
+    let one = found (λ c. not (is_locked ring r c)) b (older_blocks ring kept r) chosen in
     let free : is_locked ring r b ≡ false = unnot_true (is_locked ring r b) one.1 in
     let clips_are : r.clips ≡ clips = sym (ap (λ (q : Recording). q.clips) old.is) in
     let unmet : list_any (meets ring b) clips ≡ false = sym (ap (list_any (meets ring b)) clips_are) ∙ free in

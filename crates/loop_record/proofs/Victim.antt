@@ -1,22 +1,19 @@
 -- The victim in words.
-use Rattle.std.proofs.Common.{◌≡◌, ◌⊎◌, inl, inr, ℕ, suc, ◌+◌, ◌-◌, ◌*◌, ◌/◌, ◌<◌, ◌≤◌, Bool, true, false, not, ◌&&◌, cond, eqb, leb, IsTrue, Option, Some, None, List, [], ◌∷◌, length, map, take, refl, sym, ap, ◌∙◌, subst, arith}
+use Rattle.std.proofs.Common.{◌≡◌, ◌⊎◌, inl, inr, ℕ, zero, suc, ◌+◌, ◌-◌, ◌*◌, ◌/◌, ◌<◌, ◌≤◌, Bool, true, false, not, ◌&&◌, cond, eqb, leb, max, IsTrue, Option, Some, None, List, [], ◌∷◌, length, map, take, refl, sym, ap, ◌∙◌, subst, arith}
 use Rattle.std.proofs.Math.Nat.{div-mul-le_self, le-div_iff_mul-le, div-lt_iff_lt-mul, mul-div_cancel}
 use Rattle.std.proofs.lemmas.Bool.{cases_lt}
 use Rattle.std.proofs.lemmas.Bool.Decides.{nat_tests}
+use Rattle.std.proofs.lemmas.List.{length-take}
+use Rattle.std.proofs.lemmas.List.Sums.{count_by-le-length, sum_by-cons, sum_by-le-sum_by}
 use Rattle.std.specs.Prelude.{Contains, ◌↔◌}
-use Rattle.std.specs.List.{list_any, find}
+use Rattle.std.specs.List.{count_by, list_any, find}
 use Rattle.loop_record.specs.declared.clip.Span.{Span}
-use Rattle.loop_record.specs.Recording.{Picture, Recording, Ring, holds, block, meets, with_block, blocks_of, older_blocks, is_locked, victim, RiseBetween, IsWellFormed, IsNewest, MayGo, IsVictim}
-use Rattle.loop_record.proofs.Decided.{clash, both, not_true, untrue, equal, equal_test, differ, differ_test, at_most}
+use Rattle.loop_record.specs.Recording.{Picture, Recording, Ring, holds, block, meets, with_block, blocks_of, held_blocks, older_blocks, is_locked, victim, RiseBetween, RiseFrom, IsHeldBlock, IsWellFormed, MayGo, IsVictim}
+use Rattle.loop_record.proofs.Decided.{clash, both, not_true, untrue, equal, equal_test, differ, at_most, at_most_test}
 use Rattle.loop_record.proofs.Retired.{outside_clip}
 use Rattle.loop_record.proofs.Rising.{Among, numbers_of, held-among, among-held, among-range, none-each, each-none}
 
 -- ---- blocks that rise
-
--- the blocks rise from low on
-abbrev pub RiseFrom : ℕ → List ℕ → Type 0
-RiseFrom low [] = Unit {0}
-RiseFrom low (b ∷ bs) = (low ≤ b) × RiseFrom (b + 1) bs
 
 RiseFrom-lower : (low low' : ℕ) (bs : List ℕ) → low' ≤ low → RiseFrom low bs → RiseFrom low' bs
 RiseFrom-lower low low' [] l h = tt
@@ -88,41 +85,194 @@ number-block ring n [] h = elim h [ ]
 number-block ring n (f ∷ fs) (inl is) = among-with (block ring n) (block ring f.0) (blocks_of ring fs) (inl (ap (block ring) is))
 number-block ring n (f ∷ fs) (inr rest) = among-with (block ring n) (block ring f.0) (blocks_of ring fs) (inr (number-block ring n fs rest))
 
--- ---- all but the last
+-- ---- all but the greatest
 
-abbrev pub front : List ℕ → List ℕ
-front bs = take (length bs - 1) bs
+-- all but so many at the end
+abbrev pub front : ℕ → List ℕ → List ℕ
+front k bs = take (length bs - k) bs
 
-front-more : (b c : ℕ) (bs : List ℕ) → front (b ∷ c ∷ bs) ≡ b ∷ front (c ∷ bs)
-front-more b c bs =
-    let e : suc (suc (length bs)) - 1 ≡ suc (suc (length bs) - 1) = omega arith in
-    ap (λ (k : ℕ). take k (b ∷ c ∷ bs)) e
+front-more : (k b : ℕ) (bs : List ℕ) → k ≤ length bs → front k (b ∷ bs) ≡ b ∷ front k bs
+front-more k b bs l =
+    let e : suc (length bs) - k ≡ suc (length bs - k) = omega (arith, l) in
+    ap (λ (n : ℕ). take n (b ∷ bs)) e
 
--- one of those before the last is below another
-pub front-below : (low b : ℕ) (bs : List ℕ) → RiseFrom low bs → Among b (front bs) → Among b bs
-    × ((c : ℕ) × (Among c bs × (b < c)))
-front-below low b [] h e = elim e [ ]
-front-below low b (c ∷ []) h e = elim e [ ]
-front-below low b (c ∷ d ∷ bs) h e = go (λ k. front-below (c + 1) b (d ∷ bs) h.1 k) (subst (Among b) (front-more c d bs) e)
+front-none : (k : ℕ) (bs : List ℕ) → length bs ≤ k → front k bs ≡ []
+front-none k bs l = let e : length bs - k ≡ 0 = omega (arith, l) in ap (λ (n : ℕ). take n bs) e
+
+RiseFrom-take : (n low : ℕ) (bs : List ℕ) → RiseFrom low bs → RiseFrom low (take n bs)
+RiseFrom-take zero low bs h = tt
+RiseFrom-take (suc n) low [] h = tt
+RiseFrom-take (suc n) low (b ∷ bs) h = (h.0, RiseFrom-take n (b + 1) bs h.1)
+
+pub RiseFrom-front : (k low : ℕ) (bs : List ℕ) → RiseFrom low bs → RiseFrom low (front k bs)
+RiseFrom-front k low bs h = RiseFrom-take (length bs - k) low bs h
+
+-- how many are b or above it
+abbrev pub from_on : ℕ → List ℕ → ℕ
+from_on b bs = count_by (leb b) bs
+
+abbrev mark : Bool → ℕ
+mark t = cond t 1 0
+
+from_on-yes : (b x : ℕ) (xs : List ℕ) → b ≤ x → from_on b (x ∷ xs) ≡ suc (from_on b xs)
+from_on-yes b x xs l =
+    let one : mark (leb b x) ≡ 1 = ap mark (at_most_test b x l) in
+    omega (arith, one, sum_by-cons (λ c. mark (leb b c)) x xs)
+
+from_on-no : (b x : ℕ) (xs : List ℕ) → x < b → from_on b (x ∷ xs) ≡ from_on b xs
+from_on-no b x xs l =
+    let none : mark (leb b x) ≡ 0 = ap mark (untrue (leb b x) (λ e. past (at_most b x e))) in
+    omega (arith, none, sum_by-cons (λ c. mark (leb b c)) x xs)
   where
-    go : (Among b (front (d ∷ bs)) → Among b (d ∷ bs) × ((x : ℕ) × (Among x (d ∷ bs) × (b < x)))) → (c ≡ b)
-        ⊎ Among b (front (d ∷ bs)) → Among b (c ∷ d ∷ bs) × ((x : ℕ) × (Among x (c ∷ d ∷ bs) × (b < x)))
-    go rest (inl is) = (inl is, (d, (inr (inl refl), omega (arith, is, h.1.0))))
-    go rest (inr k) = let x = rest k in (inr x.0, (x.1.0, (inr x.1.1.0, x.1.1.1)))
+    past : b ≤ x → ⊥
+    past m = absurd (omega (arith, l, m))
 
-pub below-front : (low b c : ℕ) (bs : List ℕ) → RiseFrom low bs → Among b bs → Among c bs → b < c → Among b (front bs)
-below-front low b c [] h e f l = elim e [ ]
-below-front low b c (d ∷ []) h (inl is) (inl is') l = absurd (omega (arith, is, is', l))
-below-front low b c (d ∷ []) h (inl is) (inr f) l = elim f [ ]
-below-front low b c (d ∷ []) h (inr e) f l = elim e [ ]
-below-front low b c (d ∷ x ∷ bs) h (inl is) f l = subst (Among b) (sym (front-more d x bs)) (inl is)
-below-front low b c (d ∷ x ∷ bs) h (inr e) (inl is) l = absurd (omega (arith, is, l, RiseFrom-among (d + 1) b (x ∷ bs) h.1 e))
-below-front low b c (d ∷ x ∷ bs) h (inr e) (inr f) l = subst (Among b) (sym (front-more d x bs)) (inr (below-front (d + 1) b c (x ∷ bs) h.1 e f l))
+from_on-more : (b x : ℕ) (xs : List ℕ) → from_on b xs ≤ from_on b (x ∷ xs)
+from_on-more b x xs = omega (arith, sum_by-cons (λ c. mark (leb b c)) x xs)
 
-pub RiseFrom-front : (low : ℕ) (bs : List ℕ) → RiseFrom low bs → RiseFrom low (front bs)
-RiseFrom-front low [] h = tt
-RiseFrom-front low (b ∷ []) h = tt
-RiseFrom-front low (b ∷ c ∷ bs) h = subst (RiseFrom low) (sym (front-more b c bs)) (h.0, RiseFrom-front (b + 1) (c ∷ bs) h.1)
+-- all of them, where they rise from there
+from_on-all : (b low : ℕ) (bs : List ℕ) → b ≤ low → RiseFrom low bs → from_on b bs ≡ length bs
+from_on-all b low [] l h = refl
+from_on-all b low (x ∷ xs) l h =
+    from_on-yes b x xs (omega (arith, l, h.0)) ∙ ap suc (from_on-all b (x + 1) xs (omega (arith, l, h.0)) h.1)
+
+-- of two of them the lesser has more from it on
+pub from_on-less : (low b c : ℕ) (bs : List ℕ) → RiseFrom low bs → Among b bs → b < c → from_on c bs < from_on b bs
+from_on-less low b c [] h e l = elim e [ ]
+from_on-less low b c (x ∷ xs) h (inl is) l =
+    omega (arith, from_on-yes b x xs (omega (arith, is)), from_on-no c x xs (omega (arith, is, l)), fewer)
+  where
+    fewer : from_on c xs ≤ from_on b xs
+    fewer = sum_by-le-sum_by (λ n. mark (leb c n)) (λ n. mark (leb b n)) xs (λ n. less n (leb c n) refl)
+      where
+        less : (n : ℕ) (t : Bool) → leb c n ≡ t → mark t ≤ mark (leb b n)
+        less n true e =
+            let one : mark (leb b n) ≡ 1 = ap mark (at_most_test b n (omega (arith, l, at_most c n e))) in
+            omega (arith, one)
+        less n false e = omega arith
+from_on-less low b c (x ∷ xs) h (inr rest) l =
+    let above = RiseFrom-among (x + 1) b xs h.1 rest in
+    let later = from_on-less (x + 1) b c xs h.1 rest l in
+    omega (arith, later, from_on-no b x xs (omega (arith, above)), from_on-no c x xs (omega (arith, above, l)))
+
+-- one of them is counted itself
+pub from_on-some : (low b : ℕ) (bs : List ℕ) → RiseFrom low bs → Among b bs → 1 ≤ from_on b bs
+from_on-some low b bs h e = let more = from_on-less low b (b + 1) bs h e (omega arith) in omega (arith, more)
+
+-- one of them is in front of the last so many exactly where more are it or above it
+pub front-counted : (k low b : ℕ) (bs : List ℕ) → RiseFrom low bs → Among b (front k bs)
+    → Among b bs × (k < from_on b bs)
+front-counted k low b [] h e = elim (subst (Among b) (front-none k [] (omega arith)) e) [ ]
+front-counted k low b (x ∷ xs) h e = go (λ at. front-counted k (x + 1) b xs h.1 at) (cases_lt (length xs) k)
+  where
+    pick : (Among b (front k xs) → Among b xs × (k < from_on b xs)) → k ≤ length xs
+        → (x ≡ b) ⊎ Among b (front k xs) → Among b (x ∷ xs) × (k < from_on b (x ∷ xs))
+    pick later more (inl is) =
+        let all = from_on-all b x (x ∷ xs) (omega (arith, is)) (omega arith, h.1) in
+        (inl is, omega (arith, more, all))
+    pick later more (inr rest) =
+        let found = later rest in
+        let counted = found.1 in
+        (inr found.0, omega (arith, counted, from_on-more b x xs))
+
+    go : (Among b (front k xs) → Among b xs × (k < from_on b xs)) → (length xs < k) ⊎ (k ≤ length xs)
+        → Among b (x ∷ xs) × (k < from_on b (x ∷ xs))
+    go later (inl past) = elim (subst (Among b) (front-none k (x ∷ xs) (omega (arith, past))) e) [ ]
+    go later (inr more) = pick later more (subst (Among b) (front-more k x xs more) e)
+
+pub counted-front : (k low b : ℕ) (bs : List ℕ) → RiseFrom low bs → Among b bs → k < from_on b bs → Among b (front k bs)
+counted-front k low b [] h e l = elim e [ ]
+counted-front k low b (x ∷ xs) h (inl is) l =
+    let most = count_by-le-length (leb b) (x ∷ xs) in
+    subst (Among b) (sym (front-more k x xs (omega (arith, l, most)))) (inl is)
+counted-front k low b (x ∷ xs) h (inr rest) l =
+    let above = RiseFrom-among (x + 1) b xs h.1 rest in
+    let counted : k < from_on b xs = omega (arith, l, from_on-no b x xs (omega (arith, above))) in
+    let most = count_by-le-length (leb b) xs in
+    subst (Among b) (sym (front-more k x xs (omega (arith, counted, most))))
+    (inr (counted-front k (x + 1) b xs h.1 rest counted))
+
+-- with one less counted, the next one above
+pub next-above : (k low b : ℕ) (bs : List ℕ) → RiseFrom low bs → Among b bs → k < from_on b bs → 1 ≤ k → (c : ℕ)
+    × (Among c bs × ((b < c) × (k ≤ from_on c bs)))
+next-above k low b [] h e l some = elim e [ ]
+next-above k low b (x ∷ []) h (inl is) l some =
+    absurd (omega (arith, l, some, count_by-le-length (leb b) (x ∷ [])))
+next-above k low b (x ∷ []) h (inr e) l some = elim e [ ]
+next-above k low b (x ∷ y ∷ xs) h (inl is) l some =
+    let most = count_by-le-length (leb b) (x ∷ y ∷ xs) in
+    let all = from_on-all y y (y ∷ xs) (omega arith) (omega arith, h.1.1) in
+    let rises = h.1.0 in
+    (y, (inr (inl refl), (omega (arith, is, rises), omega (arith, l, most, all, from_on-more y x (y ∷ xs)))))
+next-above k low b (x ∷ y ∷ xs) h (inr rest) l some =
+    let above = RiseFrom-among (x + 1) b (y ∷ xs) h.1 rest in
+    let fewer : k < from_on b (y ∷ xs) = omega (arith, l, from_on-no b x (y ∷ xs) (omega (arith, above))) in
+    let c = next-above k (x + 1) b (y ∷ xs) h.1 rest fewer some in
+    let counted = c.1.1.1 in
+    (c.0, (inr c.1.0, (c.1.1.0, omega (arith, counted, from_on-more c.0 x (y ∷ xs)))))
+
+-- those of other ones that rise from there on are no more than are counted
+rising-counted : (low least : ℕ) (cs bs : List ℕ) → RiseFrom low cs → RiseFrom least bs
+    → ((c : ℕ) → Among c cs → Among c bs) → length cs ≤ from_on low bs
+rising-counted low least [] bs h k all = omega arith
+rising-counted low least (c ∷ cs) [] h k all = elim (all c (inl refl)) [ ]
+rising-counted low least (c ∷ cs) (x ∷ xs) h k all =
+    go (λ rest. rising-counted low (x + 1) cs xs (RiseFrom-lower (c + 1) low cs (omega (arith, h.0)) h.1) k.1 rest)
+    (λ rest. rising-counted low (x + 1) (c ∷ cs) xs h k.1 rest) (all c (inl refl))
+  where
+    -- those above c are behind it
+    behind : x ≤ c → (d : ℕ) → Among d cs → Among d xs
+    behind first d at = pick (all d (inr at))
+      where
+        pick : (x ≡ d) ⊎ Among d xs → Among d xs
+        pick (inl is) = absurd (omega (arith, first, is, RiseFrom-among (c + 1) d cs h.1 at))
+        pick (inr rest) = rest
+
+    go : (((d : ℕ) → Among d cs → Among d xs) → length cs ≤ from_on low xs)
+        → (((d : ℕ) → Among d (c ∷ cs) → Among d xs) → suc (length cs) ≤ from_on low xs)
+        → (x ≡ c) ⊎ Among c xs → suc (length cs) ≤ from_on low (x ∷ xs)
+    go fewer same (inl is) =
+        let rest = fewer (behind (omega (arith, is))) in
+        let low_enough = h.0 in
+        omega (arith, rest, from_on-yes low x xs (omega (arith, is, low_enough)))
+    go fewer same (inr later) = let rest = same (λ d at. each d at) in omega (arith, rest, from_on-more low x xs)
+      where
+        each : (d : ℕ) → (c ≡ d) ⊎ Among d cs → Among d xs
+        each d (inl is) = subst (λ (n : ℕ). Among n xs) is later
+        each d (inr at) = behind (omega (arith, RiseFrom-among (x + 1) c xs k.1 later)) d at
+
+-- where more than so many are b or above it, so many are above it
+record Above (k b : ℕ) (bs : List ℕ) : Type 0 where
+  blocks : List ℕ
+  count : length blocks ≡ k
+  rise : RiseFrom (b + 1) blocks
+  among : (c : ℕ) → Among c blocks → Among c bs
+
+counted-above : (k low b : ℕ) (bs : List ℕ) → RiseFrom low bs → Among b bs → k < from_on b bs → Above k b bs
+counted-above k low b [] h e l = elim e [ ]
+counted-above k low b (x ∷ xs) h (inl is) l =
+    let most = count_by-le-length (leb b) (x ∷ xs) in
+    record {
+      blocks = take k xs;
+      count = omega (arith, l, most, length-take k xs);
+      rise = subst (λ (n : ℕ). RiseFrom (n + 1) (take k xs)) is (RiseFrom-take k (x + 1) xs h.1);
+      among = λ c at. inr (taken k c xs at);
+    }
+  where
+    taken : (n c : ℕ) (bs : List ℕ) → Among c (take n bs) → Among c bs
+    taken zero c bs e = elim e [ ]
+    taken (suc n) c [] e = elim e [ ]
+    taken (suc n) c (b ∷ bs) (inl is) = inl is
+    taken (suc n) c (b ∷ bs) (inr rest) = inr (taken n c bs rest)
+counted-above k low b (x ∷ xs) h (inr rest) l =
+    let above = RiseFrom-among (x + 1) b xs h.1 rest in
+    let later = counted-above k (x + 1) b xs h.1 rest (omega (arith, l, from_on-no b x xs (omega (arith, above)))) in
+    record {
+      blocks = later.blocks;
+      count = later.count;
+      rise = later.rise;
+      among = λ c at. inr (later.among c at);
+    }
 
 -- ---- the first that passes
 
@@ -193,195 +343,98 @@ free-test ring r b some free = each-none (meets ring b) r.clips (λ c at. go c a
     go None at = refl
     go (Some s) at = unmet ring b s some (λ n low high is. free s at n low high is)
 
--- ---- the newest
-
--- where a number is held, there is a newest
-newest : (low high n : ℕ) (fs : List (ℕ × Picture)) → RiseBetween low high fs → Among n (numbers_of fs) → (m : ℕ)
-    × (Among m (numbers_of fs) × ((k : ℕ) → Among k (numbers_of fs) → k ≤ m))
-newest low high n [] h e = elim e [ ]
-newest low high n (f ∷ []) h e = (f.0, (inl refl, λ k at. last k at))
-  where
-    last : (k : ℕ) → (f.0 ≡ k) ⊎ ⊥ → k ≤ f.0
-    last k (inl is) = omega (arith, is)
-    last k (inr never) = elim never [ ]
-newest low high n (f ∷ g ∷ fs) h e =
-    let x = newest (f.0 + 1) high g.0 (g ∷ fs) h.1 (inl refl) in
-    (x.0, (inr x.1.0, λ k at. last x.0 x.1.0 x.1.1 k at))
-  where
-    last : (m : ℕ) → Among m (numbers_of (g ∷ fs)) → ((k : ℕ) → Among k (numbers_of (g ∷ fs)) → k ≤ m) → (k : ℕ)
-        → (f.0 ≡ k) ⊎ Among k (numbers_of (g ∷ fs)) → k ≤ m
-    last m there all k (inl is) = let l = among-range (f.0 + 1) high m (g ∷ fs) h.1 there in omega (arith, is, l.0)
-    last m there all k (inr at) = all k at
-
 -- ---- the two together
 
--- a block that may go is an older one that no clip meets
-may_go-older : (ring : Ring) (r : Recording) (b : ℕ) → 1 ≤ ring.slots → IsWellFormed r → MayGo ring r b
-    → Among b (older_blocks ring r) × (is_locked ring r b ≡ false)
-may_go-older ring r b some w m =
-    let n = m.held.0 in
-    let at = held-among n r.frames m.held.1.0 in
-    let last = newest 0 r.next n r.frames w.rising at in
-    let blocks = blocks-rise ring 0 r.next r.frames some w.rising in
-    let apart = m.older last.0 (record { held = among-held last.0 r.frames last.1.0; greatest = λ k e. last.1.1 k (held-among k r.frames e) }) in
-    let le = block-le ring n last.0 some (last.1.1 n at) in
-    let below : b < block ring last.0 = strictly b (block ring last.0) (omega (arith, le, m.held.1.1)) (λ e. apart (sym e)) in
-    let here : Among b (blocks_of ring r.frames) = subst (λ (c : ℕ). Among c (blocks_of ring r.frames)) m.held.1.1 (number-block ring n r.frames at) in (
-      below-front (block ring 0) b (block ring last.0) (blocks_of ring r.frames) blocks here
-          (number-block ring last.0 r.frames last.1.0) below,
-      free-test ring r b some m.unlocked,
-    )
-  where
-    strictly : (m n : ℕ) → m ≤ n → (m ≡ n → ⊥) → m < n
-    strictly m n l apart = go (cases_lt m n)
-      where
-        go : (m < n) ⊎ (n ≤ m) → m < n
-        go (inl k) = k
-        go (inr k) = absurd (apart (omega (arith, l, k)))
+-- the block of a held frame is one of the blocks, and the other way round
+held-block : (ring : Ring) (r : Recording) (b : ℕ) → IsHeldBlock ring r b → Among b (held_blocks ring r)
+held-block ring r b (n, (held, is)) =
+    subst (λ (c : ℕ). Among c (blocks_of ring r.frames)) is (number-block ring n r.frames (held-among n r.frames held))
 
-older-may_go : (ring : Ring) (r : Recording) (b : ℕ) → 1 ≤ ring.slots → IsWellFormed r → Among b (older_blocks ring r)
-    → is_locked ring r b ≡ false → MayGo ring r b
-older-may_go ring r b some w at free =
-    let blocks = blocks-rise ring 0 r.next r.frames some w.rising in
-    let x = front-below (block ring 0) b (blocks_of ring r.frames) blocks at in
-    let n = block-number ring b r.frames x.0 in
-    let c = block-number ring x.1.0 r.frames x.1.1.0 in
+block-held : (ring : Ring) (r : Recording) (b : ℕ) → Among b (held_blocks ring r) → IsHeldBlock ring r b
+block-held ring r b at = let n = block-number ring b r.frames at in (n.0, (among-held n.0 r.frames n.1.0, n.1.1))
+
+-- the blocks of a recording rise
+held-rise : (ring : Ring) (r : Recording) → 1 ≤ ring.slots → IsWellFormed r → RiseFrom (block ring 0) (held_blocks ring r)
+held-rise ring r some w = blocks-rise ring 0 r.next r.frames some w.rising
+
+-- a list's elements, by place and one by one
+among-contains : (c : ℕ) (bs : List ℕ) → Among c bs → Contains bs c
+among-contains c [] e = elim e [ ]
+among-contains c (b ∷ bs) (inl is) = (zero, omega arith, is)
+among-contains c (b ∷ bs) (inr rest) = later (among-contains c bs rest)
+  where
+    later : Contains bs c → Contains (b ∷ bs) c
+    later (k, l, e) = (suc k, omega (arith, l), e)
+
+contains-among : (c : ℕ) (bs : List ℕ) → Contains bs c → Among c bs
+contains-among c [] (k, l, e) = absurd (omega (arith, l))
+contains-among c (b ∷ bs) (zero, l, e) = inl e
+contains-among c (b ∷ bs) (suc k, l, e) = inr (contains-among c bs (k, omega (arith, l), e))
+
+-- a block that may go is an older one that no clip meets
+may_go-older : (ring : Ring) (keep : ℕ) (r : Recording) (b : ℕ) → 1 ≤ ring.slots → IsWellFormed r
+    → MayGo ring keep r b → Among b (older_blocks ring keep r) × (is_locked ring r b ≡ false)
+may_go-older ring keep r b some w m =
+    let bs = held_blocks ring r in
+    let rises = held-rise ring r some w in
+    let here = held-block ring r b m.held in
+    let above = rising-counted (b + 1) (block ring 0) m.older.blocks bs m.older.rise rises
+    (λ c at. held-block ring r c (m.older.held c (among-contains c m.older.blocks at))) in
+    let counted : max 1 keep < from_on b bs = omega (arith, above, m.older.count_is, from_on-less (block ring 0) b (b + 1) bs rises here (omega arith)) in
+    (counted-front (max 1 keep) (block ring 0) b bs rises here counted, free-test ring r b some m.unlocked)
+
+older-may_go : (ring : Ring) (keep : ℕ) (r : Recording) (b : ℕ) → 1 ≤ ring.slots → IsWellFormed r
+    → Among b (older_blocks ring keep r) → is_locked ring r b ≡ false → MayGo ring keep r b
+older-may_go ring keep r b some w at free =
+    let bs = held_blocks ring r in
+    let rises = held-rise ring r some w in
+    let x = front-counted (max 1 keep) (block ring 0) b bs rises at in
+    let above = counted-above (max 1 keep) (block ring 0) b bs rises x.0 x.1 in
     record {
-      held = (n.0, (among-held n.0 r.frames n.1.0, n.1.1));
-      older = λ k new is. above k new (c.0) (among-held c.0 r.frames c.1.0) c.1.1 x.1.1.1 is;
+      held = block-held ring r b x.0;
+      older = record {
+        blocks = above.blocks;
+        count_is = above.count;
+        rise = above.rise;
+        held = λ c there. block-held ring r c (above.among c (contains-among c above.blocks there));
+      };
       unlocked = λ s stands k low high is. differ (block ring k) b
           (outside_clip ring b k s some (none-each (meets ring b) r.clips (Some s) free stands) low high) is;
     }
-  where
-    above : (k : ℕ) → IsNewest r k → (m : ℕ) → IsTrue (holds r m) → {c : ℕ} → block ring m ≡ c → b < c
-        → block ring k ≡ b → ⊥
-    above k new m held e l is = absurd (omega (arith, e, l, is, block-le ring m k some (new.greatest m held)))
 
 -- the victim is the least block that may go
-pub victim-is : (ring : Ring) (r : Recording) (b : ℕ) → 1 ≤ ring.slots → IsWellFormed r
-    → victim ring r ≡ Some b ↔ IsVictim ring r b
-victim-is ring r b some w = (to, from)
+pub victim-is : (ring : Ring) (keep : ℕ) (r : Recording) (b : ℕ) → 1 ≤ ring.slots → IsWellFormed r
+    → victim ring keep r ≡ Some b ↔ IsVictim ring keep r b
+victim-is ring keep r b some w = (to, from)
   where
-    rises : RiseFrom (block ring 0) (older_blocks ring r)
-    rises = RiseFrom-front (block ring 0) (blocks_of ring r.frames) (blocks-rise ring 0 r.next r.frames some w.rising)
+    rises : RiseFrom (block ring 0) (older_blocks ring keep r)
+    rises = RiseFrom-front (max 1 keep) (block ring 0) (held_blocks ring r) (held-rise ring r some w)
 
-    to : victim ring r ≡ Some b → IsVictim ring r b
+    to : victim ring keep r ≡ Some b → IsVictim ring keep r b
     to e =
-        let x = find-first (λ c. not (is_locked ring r c)) (block ring 0) b (older_blocks ring r) rises e in
+        let x = find-first (λ c. not (is_locked ring r c)) (block ring 0) b (older_blocks ring keep r) rises e in
         record {
-          goes = older-may_go ring r b some w x.there (not_true (is_locked ring r b) x.passes);
-          least = λ c m. let k = may_go-older ring r c some w m in x.least c k.0 (ap not k.1);
+          goes = older-may_go ring keep r b some w x.there (not_true (is_locked ring r b) x.passes);
+          least = λ c m. let k = may_go-older ring keep r c some w m in x.least c k.0 (ap not k.1);
         }
 
-    from : IsVictim ring r b → victim ring r ≡ Some b
-    from v = pick (victim ring r) refl
+    from : IsVictim ring keep r b → victim ring keep r ≡ Some b
+    from v = pick (victim ring keep r) refl
       where
-        k : Among b (older_blocks ring r) × (is_locked ring r b ≡ false)
-        k = may_go-older ring r b some w v.goes
+        k : Among b (older_blocks ring keep r) × (is_locked ring r b ≡ false)
+        k = may_go-older ring keep r b some w v.goes
 
-        pick : (o : Option ℕ) → victim ring r ≡ o → o ≡ Some b
-        pick None e = absurd (find-none (λ c. not (is_locked ring r c)) b (older_blocks ring r) e k.0 (ap not k.1))
+        pick : (o : Option ℕ) → victim ring keep r ≡ o → o ≡ Some b
+        pick None e = absurd (find-none (λ c. not (is_locked ring r c)) b (older_blocks ring keep r) e k.0 (ap not k.1))
         pick (Some c) e =
-            let x = find-first (λ d. not (is_locked ring r d)) (block ring 0) c (older_blocks ring r) rises e in
+            let x = find-first (λ d. not (is_locked ring r d)) (block ring 0) c (older_blocks ring keep r) rises e in
             let low = x.least b k.0 (ap not k.1) in
-            let high = v.least c (older-may_go ring r c some w x.there (not_true (is_locked ring r c) x.passes)) in
+            let high = v.least c (older-may_go ring keep r c some w x.there (not_true (is_locked ring r c) x.passes)) in
             ap (λ (m : ℕ). Some m) (omega (arith, low, high))
 
 -- and where there is none, no block may go
-pub victim-none : (ring : Ring) (r : Recording) → 1 ≤ ring.slots → IsWellFormed r → victim ring r ≡ None → (b : ℕ)
-    → MayGo ring r b → ⊥
-victim-none ring r some w e b m =
-    let k = may_go-older ring r b some w m in
-    find-none (λ c. not (is_locked ring r c)) b (older_blocks ring r) e k.0 (ap not k.1)
-
--- ---- the victim as the first frame's block that passes
-
--- the block of the last frame
-abbrev pub last_block : Ring → ℕ × Picture → List (ℕ × Picture) → ℕ
-last_block ring f [] = block ring f.0
-last_block ring f (g ∷ fs) = last_block ring g fs
-
--- the block isn't this one, and no clip meets it
-abbrev pub is_candidate : Ring → List (Option Span) → ℕ → ℕ → Bool
-is_candidate ring clips top b = not (eqb b top) && not (list_any (meets ring b) clips)
-
--- the first such block of a frame
-abbrev pub first_candidate : Ring → List (Option Span) → ℕ → List (ℕ × Picture) → Option ℕ
-first_candidate ring clips top fs = find (is_candidate ring clips top) (map (λ f. block ring f.0) fs)
-
-last_block-above : (ring : Ring) (low high : ℕ) (f : ℕ × Picture) (fs : List (ℕ × Picture)) → 1 ≤ ring.slots
-    → RiseBetween low high (f ∷ fs) → block ring low ≤ last_block ring f fs
-last_block-above ring low high f [] some h = block-le ring low f.0 some h.0
-last_block-above ring low high f (g ∷ fs) some h =
-    omega (
-      arith,
-      block-le ring low (f.0 + 1) some (omega (arith, h.0)),
-      last_block-above ring (f.0 + 1) high g fs some h.1,
-    )
-
-pub with-head : (x : ℕ) (bs : List ℕ) → (rest : List ℕ) × (with_block x bs ≡ x ∷ rest)
-with-head x [] = ([], refl)
-with-head x (c ∷ cs) = go (eqb x c) refl
-  where
-    go : (t : Bool) → eqb x c ≡ t → (rest : List ℕ) × (cond t (c ∷ cs) (x ∷ c ∷ cs) ≡ x ∷ rest)
-    go true is = (cs, ap (λ (k : ℕ). k ∷ cs) (sym (equal x c is)))
-    go false is = (c ∷ cs, refl)
-
-nothing : (t : Bool) (o : Option ℕ) (b : ℕ) → t ≡ false → o ≡ cond t (Some b) o
-nothing t o b e = sym (ap (λ (s : Bool). cond s (Some b) o) e)
-
--- what passes is found at once
-passed_first : (p : ℕ → Bool) (b : ℕ) (bs : List ℕ) → p b ≡ true → find p (b ∷ bs) ≡ Some b
-passed_first p b bs e = ap (λ (t : Bool). cond t (Some b) (find p bs)) e
-
-pub victim-first : (ring : Ring) (clips : List (Option Span)) (low high : ℕ) (f : ℕ × Picture)
-    (fs : List (ℕ × Picture)) → 1 ≤ ring.slots → RiseBetween low high (f ∷ fs)
-    → find (λ b. not (list_any (meets ring b) clips)) (front (blocks_of ring (f ∷ fs))) ≡ first_candidate ring clips (last_block ring f fs) (f ∷ fs)
-victim-first ring clips low high f [] some h =
-    let b = block ring f.0 in
-    nothing (is_candidate ring clips b b) None b (ap (λ (t : Bool). not t && not (list_any (meets ring b) clips)) (equal_test b b refl))
-victim-first ring clips low high f (g ∷ fs) some h = go (eqb (block ring f.0) (block ring g.0)) refl
-    (with-head (block ring g.0) (blocks_of ring fs)) (victim-first ring clips (f.0 + 1) high g fs some h.1)
-  where
-    later : Option ℕ
-    later = first_candidate ring clips (last_block ring g fs) (g ∷ fs)
-
-    below : eqb (block ring f.0) (block ring g.0) ≡ false → eqb (block ring f.0) (last_block ring g fs) ≡ false
-    below e = differ_test (block ring f.0) (last_block ring g fs) (λ is. differ (block ring f.0) (block ring g.0) e (between is))
-      where
-        between : block ring f.0 ≡ last_block ring g fs → block ring f.0 ≡ block ring g.0
-        between is = omega (arith, is, block-le ring f.0 g.0 some (omega (arith, h.1.0)), last_block-above ring g.0 high g fs some (omega arith, h.1.1))
-
-    go : (t : Bool) → eqb (block ring f.0) (block ring g.0) ≡ t → (rest : List ℕ)
-        × (blocks_of ring (g ∷ fs) ≡ block ring g.0 ∷ rest) → find (λ b. not (list_any (meets ring b) clips))
-        (front (blocks_of ring (g ∷ fs))) ≡ later
-        → find (λ b. not (list_any (meets ring b) clips)) (front (blocks_of ring (f ∷ g ∷ fs))) ≡ cond
-        (is_candidate ring clips (last_block ring g fs) (block ring f.0)) (Some (block ring f.0)) later
-    go true is (rest, e) ih =
-        let head : with_block (block ring f.0) (blocks_of ring (g ∷ fs)) ≡ blocks_of ring (g ∷ fs) =
-        ap (with_block (block ring f.0)) e
-        ∙ ap (λ (t : Bool). cond t (block ring g.0 ∷ rest) (block ring f.0 ∷ block ring g.0 ∷ rest)) is ∙ sym e in
-        ap (λ (bs : List ℕ). find (λ b. not (list_any (meets ring b) clips)) (front bs)) head ∙ ih
-        ∙ again (is_candidate ring clips (last_block ring g fs) (block ring f.0)) refl
-      where
-        same : block ring f.0 ≡ block ring g.0
-        same = equal (block ring f.0) (block ring g.0) is
-
-        again : (t : Bool) → is_candidate ring clips (last_block ring g fs) (block ring f.0) ≡ t
-            → later ≡ cond t (Some (block ring f.0)) later
-        again true e =
-            passed_first (is_candidate ring clips (last_block ring g fs)) (block ring g.0)
-            (map (λ k. block ring k.0) fs) (sym (ap (is_candidate ring clips (last_block ring g fs)) same) ∙ e)
-            ∙ ap (λ (b : ℕ). Some b) (sym same)
-        again false e = refl
-    go false is (rest, e) ih =
-        let head : with_block (block ring f.0) (blocks_of ring (g ∷ fs)) ≡ block ring f.0 ∷ block ring g.0 ∷ rest =
-        ap (with_block (block ring f.0)) e
-        ∙ ap (λ (t : Bool). cond t (block ring g.0 ∷ rest) (block ring f.0 ∷ block ring g.0 ∷ rest)) is in
-        let apart = below is in
-        ap (λ (bs : List ℕ). find (λ b. not (list_any (meets ring b) clips)) (front bs)) head
-        ∙ ap (find (λ b. not (list_any (meets ring b) clips))) (front-more (block ring f.0) (block ring g.0) rest)
-        ∙ ap (λ (bs : List ℕ). cond (not (list_any (meets ring (block ring f.0)) clips)) (Some (block ring f.0))
-        (find (λ b. not (list_any (meets ring b) clips)) (front bs))) (sym e)
-        ∙ ap (λ (o : Option ℕ). cond (not (list_any (meets ring (block ring f.0)) clips)) (Some (block ring f.0)) o) ih
-        ∙ ap (λ (t : Bool). cond (not t && not (list_any (meets ring (block ring f.0)) clips)) (Some (block ring f.0)) later) (sym apart)
+pub victim-none : (ring : Ring) (keep : ℕ) (r : Recording) → 1 ≤ ring.slots → IsWellFormed r → victim ring keep r ≡ None → (b : ℕ)
+    → MayGo ring keep r b → ⊥
+victim-none ring keep r some w e b m =
+    let k = may_go-older ring keep r b some w m in
+    find-none (λ c. not (is_locked ring r c)) b (older_blocks ring keep r) e k.0 (ap not k.1)

@@ -30,16 +30,16 @@ whole_of r s order all =
     record { some = le; each = λ n low high. all_range-each (holds r) s.from (s.to + 1 - s.from) n all low (omega (arith, le, high)) }
 
 -- a step that may be made leaves a well-formed recording
-pub after-well_formed : (ring : Ring) (r : Recording) (step : Step) → 1 ≤ ring.slots → IsWellFormed r
-    → IsTrue (is_legal ring r step) → IsWellFormed (after_step ring r step)
-after-well_formed ring r (store p) some w legal = record {
+pub after-well_formed : (ring : Ring) (keep : ℕ) (r : Recording) (step : Step) → 1 ≤ ring.slots → IsWellFormed r
+    → IsTrue (is_legal ring keep r step) → IsWellFormed (after_step ring r step)
+after-well_formed ring keep r (store p) some w legal = record {
   rising = RiseBetween-append 0 r.next (r.next + 1) r.frames ((r.next, p) ∷ []) w.rising (omega arith, omega arith);
   clips = λ s c. record { some = (w.clips s c).some; each = λ n low high. under-append r.frames ((r.next, p) ∷ []) n ((w.clips s c).each n low high) };
   ids = w.ids;
 }
-after-well_formed ring r (recycle b) some w legal =
-    let chosen : victim ring r ≡ Some b = that (victim ring r) legal in
-    let one = found (λ c. not (is_locked ring r c)) b (older_blocks ring r) chosen in
+after-well_formed ring keep r (recycle b) some w legal =
+    let chosen : victim ring keep r ≡ Some b = that (victim ring keep r) legal in
+    let one = found (λ c. not (is_locked ring r c)) b (older_blocks ring keep r) chosen in
     let free = not_true (is_locked ring r b) one.1 in
     record {
       rising = RiseBetween-filter (λ f. not (eqb (block ring f.0) b)) 0 r.next r.frames w.rising;
@@ -56,7 +56,7 @@ after-well_formed ring r (recycle b) some w legal =
     that : (o : Option ℕ) → is_that o b ≡ true → o ≡ Some b
     that None e = absurd cc
     that (Some m) e = ap (λ (k : ℕ). Some k) (equal m b e)
-after-well_formed ring r (lock s) some w legal =
+after-well_formed ring keep r (lock s) some w legal =
     let k = both (leb s.from s.to && holds_all r s) (ltb (free_id r) 64) legal in
     let m = both (leb s.from s.to) (holds_all r s) k.0 in
     let new = whole_of r s m.0 m.1 in
@@ -79,7 +79,7 @@ after-well_formed ring r (lock s) some w legal =
               (omega (arith, high, ap (λ (x : Span). x.to) e));
         }
     go t new (inr c) = record { some = (w.clips t c).some; each = (w.clips t c).each }
-after-well_formed ring r (unlock id) some w legal = record {
+after-well_formed ring keep r (unlock id) some w legal = record {
   rising = w.rising;
   clips = λ t c. go t (set-contains r.clips id None t c);
   ids = length-set r.clips id None ∙ w.ids;
@@ -92,14 +92,14 @@ after-well_formed ring r (unlock id) some w legal = record {
     go t (inl is) = absurd cc
     go t (inr c) = record { some = (w.clips t c).some; each = (w.clips t c).each }
 
-stores-legal : (ring : Ring) (r : Recording) (ps : List Picture) → AreLegal ring r (map store ps)
-stores-legal ring r [] = tt
-stores-legal ring r (p ∷ ps) = (refl, stores-legal ring (after_step ring r (store p)) ps)
+stores-legal : (ring : Ring) (keep : ℕ) (r : Recording) (ps : List Picture) → AreLegal ring keep r (map store ps)
+stores-legal ring keep r [] = tt
+stores-legal ring keep r (p ∷ ps) = (refl, stores-legal ring keep (after_step ring r (store p)) ps)
 
 -- the steps of an append may be made, one after the other
-pub steps-legal : (ring : Ring) (r : Recording) (group : List Picture) (list : List Step)
-    → steps ring r group ≡ Some list → AreLegal ring r list
-steps-legal ring r group list e = spent (eqb r.next (last_number ring)) e
+pub steps-legal : (ring : Ring) (keep : ℕ) (r : Recording) (group : List Picture) (list : List Step)
+    → steps ring keep r group ≡ Some list → AreLegal ring keep r list
+steps-legal ring keep r group list e = spent (eqb r.next (last_number ring)) e
   where
     these : List Step → Option (List Step)
     these x = Some x
@@ -110,24 +110,24 @@ steps-legal ring r group list e = spent (eqb r.next (last_number ring)) e
     that : (b : ℕ) → is_that (Some b) b ≡ true
     that b = equal_test b b refl
 
-    first : (t : Bool) (v : Option ℕ) → victim ring r ≡ v → stores_after (recycling_first t v) group ≡ Some list
-        → AreLegal ring r list
-    first false v is e = subst (AreLegal ring r) (same_list (map store group) list e) (stores-legal ring r group)
+    first : (t : Bool) (v : Option ℕ) → victim ring keep r ≡ v → stores_after (recycling_first t v) group ≡ Some list
+        → AreLegal ring keep r list
+    first false v is e = subst (AreLegal ring keep r) (same_list (map store group) list e) (stores-legal ring keep r group)
     first true None is e = absurd cc
     first true (Some b) is e =
-        let legal : IsTrue (is_legal ring r (recycle b)) = ap (λ (o : Option ℕ). is_that o b) is ∙ that b in
-        subst (AreLegal ring r) (same_list (recycle b ∷ map store group) list e) (legal, stores-legal ring (after_step ring r (recycle b)) group)
+        let legal : IsTrue (is_legal ring keep r (recycle b)) = ap (λ (o : Option ℕ). is_that o b) is ∙ that b in
+        subst (AreLegal ring keep r) (same_list (recycle b ∷ map store group) list e) (legal, stores-legal ring keep (after_step ring r (recycle b)) group)
 
-    spent : (t : Bool) → cond t None (stores_after (recycling_first (needs_recycling ring r) (victim ring r)) group) ≡
-        Some list → AreLegal ring r list
+    spent : (t : Bool) → cond t None (stores_after (recycling_first (needs_recycling ring r) (victim ring keep r)) group) ≡
+        Some list → AreLegal ring keep r list
     spent true e = absurd cc
-    spent false e = first (needs_recycling ring r) (victim ring r) refl e
+    spent false e = first (needs_recycling ring r) (victim ring keep r) refl e
 
 -- after steps that may be made, one after the other, a recording is well formed
-pub plain-well_formed : (ring : Ring) (r : Recording) (list : List Step) → 1 ≤ ring.slots → IsWellFormed r
-    → AreLegal ring r list → IsWellFormed (plain ring r list)
-plain-well_formed ring r [] some w legal = w
-plain-well_formed ring r (s ∷ ss) some w legal = plain-well_formed ring (after_step ring r s) ss some (after-well_formed ring r s some w legal.0) legal.1
+pub plain-well_formed : (ring : Ring) (keep : ℕ) (r : Recording) (list : List Step) → 1 ≤ ring.slots → IsWellFormed r
+    → AreLegal ring keep r list → IsWellFormed (plain ring r list)
+plain-well_formed ring keep r [] some w legal = w
+plain-well_formed ring keep r (s ∷ ss) some w legal = plain-well_formed ring keep (after_step ring r s) ss some (after-well_formed ring keep r s some w legal.0) legal.1
 
 -- the empty recording is well formed
 pub empty-well_formed : IsWellFormed empty

@@ -10,30 +10,31 @@ use Rattle.loop_record.specs.Reading.{Holds, HoldsIn, IsFreshImage, reading}
 use Rattle.loop_record.specs.Change.{KeepsClips}
 
 -- the victim is the least block that may go, and where there is none, no block may go
-pub record VictimIsLeast (ring : Ring) (r : Recording) : Type 0 where
-  pub some : (b : ℕ) → victim ring r ≡ Some b ↔ IsVictim ring r b
-  pub none : victim ring r ≡ None → (b : ℕ) → MayGo ring r b → ⊥
+pub record VictimIsLeast (ring : Ring) (keep : ℕ) (r : Recording) : Type 0 where
+  pub some : (b : ℕ) → victim ring keep r ≡ Some b ↔ IsVictim ring keep r b
+  pub none : victim ring keep r ≡ None → (b : ℕ) → MayGo ring keep r b → ⊥
 
 -- so it is for each well-formed recording
 abbrev pub VictimsAreLeast : Type 0
-VictimsAreLeast = (ring : Ring) (r : Recording) → 1 ≤ ring.slots → IsWellFormed r → VictimIsLeast ring r
+VictimsAreLeast =
+    (ring : Ring) (keep : ℕ) (r : Recording) → 1 ≤ ring.slots → IsWellFormed r → VictimIsLeast ring keep r
 
 -- a step that may be made leaves a well-formed recording
 abbrev pub LegalStepsKeepForm : Type 0
 LegalStepsKeepForm =
-    (ring : Ring) (r : Recording) (step : Step) → 1 ≤ ring.slots → IsWellFormed r → IsTrue (is_legal ring r step)
-    → IsWellFormed (after_step ring r step)
+    (ring : Ring) (keep : ℕ) (r : Recording) (step : Step) → 1 ≤ ring.slots → IsWellFormed r
+    → IsTrue (is_legal ring keep r step) → IsWellFormed (after_step ring r step)
 
 -- each step may be made after those before it
-abbrev pub AreLegal : Ring → Recording → List Step → Type 0
-AreLegal ring r [] = Unit {0}
-AreLegal ring r (s ∷ ss) = IsTrue (is_legal ring r s) × AreLegal ring (after_step ring r s) ss
+abbrev pub AreLegal : Ring → ℕ → Recording → List Step → Type 0
+AreLegal ring keep r [] = Unit {0}
+AreLegal ring keep r (s ∷ ss) = IsTrue (is_legal ring keep r s) × AreLegal ring keep (after_step ring r s) ss
 
 -- the steps of an append may be made
 abbrev pub AppendsAreLegal : Type 0
 AppendsAreLegal =
-    (ring : Ring) (r : Recording) (group : List Picture) (list : List Step) → steps ring r group ≡ Some list
-    → AreLegal ring r list
+    (ring : Ring) (keep : ℕ) (r : Recording) (group : List Picture) (list : List Step)
+    → steps ring keep r group ≡ Some list → AreLegal ring keep r list
 
 -- an image that reads as a recording reads as a well-formed one
 abbrev pub ReadingsAreWellFormed : Type 0

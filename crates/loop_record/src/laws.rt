@@ -3,7 +3,7 @@
 ghost use Rattle.loop_record.specs.Laws.{VictimsAreLeast, LegalStepsKeepForm, AppendsAreLegal, ReadingsAreWellFormed, FreshImagesAreEmpty, KeptClipsReadTheSame, WrittenIsRead};
 
 /// In a recording whose numbers rise, the victim is the least block of a held frame that no clip meets and that isn't
-/// the block of the newest held frame; where there is none, there is no such block.
+/// among the newest that are kept: so many held blocks are above it. Where there is none, there is no such block.
 pub fn victims_are_least()
     ensures { VictimsAreLeast }
 {}

@@ -1,22 +1,22 @@
 -- The block that goes, found by the headers of a store's segments.
-use Rattle.std.proofs.Common.{◌≡◌, ◌⊎◌, inl, inr, ℕ, suc, ◌<◌, ◌≤◌, Bool, true, false, not, ◌&&◌, cond, eqb, ltb, min, max, Option, Some, None, List, [], ◌∷◌, get_or, refl, sym, ap, ◌∙◌, subst, arith}
+use Rattle.std.proofs.Common.{◌≡◌, ◌⊎◌, inl, inr, ℕ, suc, ◌<◌, ◌≤◌, Bool, true, false, not, ◌&&◌, cond, eqb, leb, ltb, min, max, Option, Some, None, List, [], ◌∷◌, get_or, refl, sym, ap, ◌∙◌, subst, arith}
 use Rattle.std.proofs.lemmas.Bool.{cases_lt}
 use Rattle.std.proofs.lemmas.List.Folds.{list_any_at}
 use Rattle.std.proofs.lemmas.List.Quantifiers.{position-Some}
 use Rattle.std.specs.Prelude.{◌||◌}
-use Rattle.std.specs.List.{list_any, filter, filter_map, fold, cons_option, position, reduce}
+use Rattle.std.specs.List.{count_by, list_any, filter, filter_map, fold, cons_option, position, reduce}
 use Rattle.loop_record.specs.declared.clip.Span.{Span}
 use Rattle.loop_record.specs.declared.geometry.Geometry.{Geometry}
 use Rattle.loop_record.specs.declared.segment.SegmentHead.{SegmentHead}
 use Rattle.loop_record.specs.Reading.{Holds}
-use Rattle.loop_record.specs.Recording.{Recording, Ring, ring_of, block, held_blocks, older_blocks, is_locked, victim}
+use Rattle.loop_record.specs.Recording.{Recording, RiseFrom, Ring, ring_of, block, held_blocks, older_blocks, is_locked, victim}
 use Rattle.loop_record.proofs.Decided.{at_most, at_most_test, clash, both, not_true, equal, equal_test}
 use Rattle.loop_record.proofs.Form.{reading-well_formed}
 use Rattle.loop_record.proofs.Rising.{Among}
-use Rattle.loop_record.proofs.Victim.{RiseFrom, blocks-rise, RiseFrom-front, FirstOf, find-first, find-none, front-below, below-front}
+use Rattle.loop_record.proofs.Victim.{FirstOf, RiseFrom-front, blocks-rise, counted-front, find-first, find-none, from_on, from_on-less, from_on-some, front-counted, next-above}
 use Rattle.loop_ring.specs.Heads.{IsPlaceOf, floor_block, going_block, going_first, held_block, heads_of, is_going, is_of, least_going}
 use Rattle.loop_ring.proofs.Heads.{any-index, position-none}
-use Rattle.loop_ring.proofs.Held.{or_true, sorted, is_held, held-any, any-held_block}
+use Rattle.loop_ring.proofs.Held.{or_true, sorted, is_held, from-counted, held-any, any-held_block}
 
 -- ---- the blocks of the headers
 
@@ -146,7 +146,7 @@ pub none-least : (xs : List ℕ) (b : ℕ) → reduce min xs ≡ None → Among 
 none-least [] b e at = elim at [ ]
 none-least (x ∷ xs) b e at = absurd cc
 
-among-filter : (p : ℕ → Bool) (b : ℕ) (xs : List ℕ) → Among b (filter p xs) → Among b xs × (p b ≡ true)
+pub among-filter : (p : ℕ → Bool) (b : ℕ) (xs : List ℕ) → Among b (filter p xs) → Among b xs × (p b ≡ true)
 among-filter p b [] e = elim e [ ]
 among-filter p b (x ∷ xs) e = go (p x) refl (λ k. among-filter p b xs k) e
   where
@@ -156,7 +156,7 @@ among-filter p b (x ∷ xs) e = go (p x) refl (λ k. among-filter p b xs k) e
     go true is rest (inr k) = let y = rest k in (inr y.0, y.1)
     go false is rest k = let y = rest k in (inr y.0, y.1)
 
-filter-among : (p : ℕ → Bool) (b : ℕ) (xs : List ℕ) → Among b xs → p b ≡ true → Among b (filter p xs)
+pub filter-among : (p : ℕ → Bool) (b : ℕ) (xs : List ℕ) → Among b xs → p b ≡ true → Among b (filter p xs)
 filter-among p b [] e passes = elim e [ ]
 filter-among p b (x ∷ xs) e passes = go (p x) refl (λ k. filter-among p b xs k passes) e
   where
@@ -194,6 +194,7 @@ record Blocks (g : Geometry) (r : Recording) (image : List ℕ) : Type 0 where
   rises : RiseFrom low (held_blocks (ring_of g) r)
   to : (b : ℕ) → Among b (filter_map held_block (heads_of g image)) → Among b (held_blocks (ring_of g) r)
   from : (b : ℕ) → Among b (held_blocks (ring_of g) r) → Among b (filter_map held_block (heads_of g image))
+  counts : (b : ℕ) → count_by (leb b) (filter_map held_block (heads_of g image)) ≡ from_on b (held_blocks (ring_of g) r)
 
 blocks : (g : Geometry) (r : Recording) (image : List ℕ) → Holds g r image → Blocks g r image
 blocks g r image e = record {
@@ -201,98 +202,126 @@ blocks g r image e = record {
   rises = blocks-rise (ring_of g) 0 r.next r.frames (sorted g r image e).some (reading-well_formed g r image e).rising;
   to = λ b at. any-held_block g r image b e (among-headers b (heads_of g image) at);
   from = λ b at. headers-among b (heads_of g image) (held-any g r image b e at);
+  counts = λ b. from-counted g r image b e;
 }
 
-older-held : (g : Geometry) (r : Recording) (image : List ℕ) (b : ℕ) → Blocks g r image
-    → Among b (older_blocks (ring_of g) r) → Among b (held_blocks (ring_of g) r)
-older-held g r image b k at = (front-below k.low b (held_blocks (ring_of g) r) k.rises at).0
+older-held : (g : Geometry) (keep : ℕ) (r : Recording) (image : List ℕ) (b : ℕ) → Blocks g r image
+    → Among b (older_blocks (ring_of g) keep r) → Among b (held_blocks (ring_of g) r)
+older-held g keep r image b k at = (front-counted (max 1 keep) k.low b (held_blocks (ring_of g) r) k.rises at).0
 
 -- the victim is the first older block that no clip meets
-first-older : (g : Geometry) (r : Recording) (image : List ℕ) (c : ℕ) → Blocks g r image → victim (ring_of g) r ≡ Some c
-    → FirstOf (λ b. not (is_locked (ring_of g) r b)) (older_blocks (ring_of g) r) c
-first-older g r image c k e = find-first (λ b. not (is_locked (ring_of g) r b)) k.low c (older_blocks (ring_of g) r)
-    (RiseFrom-front k.low (held_blocks (ring_of g) r) k.rises) e
+first-older : (g : Geometry) (keep : ℕ) (r : Recording) (image : List ℕ) (c : ℕ) → Blocks g r image
+    → victim (ring_of g) keep r ≡ Some c
+    → FirstOf (λ b. not (is_locked (ring_of g) r b)) (older_blocks (ring_of g) keep r) c
+first-older g keep r image c k e =
+    find-first (λ b. not (is_locked (ring_of g) r b)) k.low c (older_blocks (ring_of g) keep r)
+    (RiseFrom-front (max 1 keep) k.low (held_blocks (ring_of g) r) k.rises) e
 
 -- the older blocks are the held ones below the floor
-record IsFloor (ring : Ring) (r : Recording) (floor : ℕ) : Type 0 where
-  below : (b : ℕ) → Among b (older_blocks ring r) → b < floor
-  older : (b : ℕ) → Among b (held_blocks ring r) → b < floor → Among b (older_blocks ring r)
+record IsFloor (ring : Ring) (keep : ℕ) (r : Recording) (floor : ℕ) : Type 0 where
+  below : (b : ℕ) → Among b (older_blocks ring keep r) → b < floor
+  older : (b : ℕ) → Among b (held_blocks ring r) → b < floor → Among b (older_blocks ring keep r)
 
-floor-is : (g : Geometry) (r : Recording) (image : List ℕ) (floor : ℕ) → Blocks g r image
-    → floor_block (heads_of g image) ≡ Some floor → IsFloor (ring_of g) r floor
-floor-is g r image floor k e =
-    let top = greatest (filter_map held_block (heads_of g image)) floor e in record {
+-- an older block has one above it from which on so many are held
+above-older : (g : Geometry) (keep : ℕ) (r : Recording) (image : List ℕ) (b : ℕ) → Blocks g r image
+    → Among b (older_blocks (ring_of g) keep r) → (c : ℕ)
+    × ((b < c) × Among c (filter (λ n. leb keep (count_by (leb n) (filter_map held_block (heads_of g image))))
+    (filter_map held_block (heads_of g image))))
+above-older g keep r image b k at =
+    let bs = held_blocks (ring_of g) r in
+    let hs = filter_map held_block (heads_of g image) in
+    let x = front-counted (max 1 keep) k.low b bs k.rises at in
+    let c = next-above (max 1 keep) k.low b bs k.rises x.0 x.1 (omega arith) in
+    let most = c.1.1.1 in
+    (c.0, (c.1.1.0, filter-among (λ n. leb keep (count_by (leb n) hs)) c.0 hs (k.from c.0 c.1.0)
+    (at_most_test keep (count_by (leb c.0) hs) (omega (arith, most, k.counts c.0)))))
+
+floor-is : (g : Geometry) (keep : ℕ) (r : Recording) (image : List ℕ) (floor : ℕ) → Blocks g r image
+    → floor_block keep (heads_of g image) ≡ Some floor → IsFloor (ring_of g) keep r floor
+floor-is g keep r image floor k e =
+    let bs = held_blocks (ring_of g) r in
+    let hs = filter_map held_block (heads_of g image) in
+    let top = greatest (filter (λ n. leb keep (count_by (leb n) hs)) hs) floor e in
+    let x = among-filter (λ n. leb keep (count_by (leb n) hs)) floor hs top.among in
+    let most = at_most keep (count_by (leb floor) hs) x.1 in
+    let here = k.to floor x.0 in record {
       below = λ b at.
-          let x = front-below k.low b (held_blocks (ring_of g) r) k.rises at in
-          let high = top.most x.1.0 (k.from x.1.0 x.1.1.0) in omega (arith, high, x.1.1.1);
+          let c = above-older g keep r image b k at in
+          let high = top.most c.0 c.1.1 in
+          let less = c.1.0 in
+          omega (arith, high, less);
       older = λ b at below.
-          below-front k.low b floor (held_blocks (ring_of g) r) k.rises at (k.to floor top.among) below;
+          let some = from_on-some k.low floor bs k.rises here in
+          let fewer = from_on-less k.low b floor bs k.rises at below in
+          counted-front (max 1 keep) k.low b bs k.rises at (omega (arith, most, some, fewer, k.counts floor));
     }
 
 -- without a floor there is no older block
-floor-none : (g : Geometry) (r : Recording) (image : List ℕ) (b : ℕ) → Blocks g r image
-    → floor_block (heads_of g image) ≡ None → Among b (older_blocks (ring_of g) r) → ⊥
-floor-none g r image b k e at =
-    none-greatest (filter_map held_block (heads_of g image)) b e (k.from b (older-held g r image b k at))
+floor-none : (g : Geometry) (keep : ℕ) (r : Recording) (image : List ℕ) (b : ℕ) → Blocks g r image
+    → floor_block keep (heads_of g image) ≡ None → Among b (older_blocks (ring_of g) keep r) → ⊥
+floor-none g keep r image b k e at =
+    let c = above-older g keep r image b k at in
+    none-greatest (filter (λ n. leb keep (count_by (leb n) (filter_map held_block (heads_of g image))))
+    (filter_map held_block (heads_of g image))) c.0 e c.1.1
 
 -- an older block that no clip meets is one that may go
-going-older : (g : Geometry) (r : Recording) (image : List ℕ) (floor b : ℕ) → Blocks g r image
-    → IsFloor (ring_of g) r floor → Among b (older_blocks (ring_of g) r) → is_locked (ring_of g) r b ≡ false
+going-older : (g : Geometry) (keep : ℕ) (r : Recording) (image : List ℕ) (floor b : ℕ) → Blocks g r image
+    → IsFloor (ring_of g) keep r floor → Among b (older_blocks (ring_of g) keep r) → is_locked (ring_of g) r b ≡ false
     → Among b (filter (is_going (ring_of g) r.clips floor) (filter_map held_block (heads_of g image)))
-going-older g r image floor b k f at free =
+going-older g keep r image floor b k f at free =
     let low : ltb b floor ≡ true = at_most_test (suc b) floor (f.below b at) in
     let passes : is_going (ring_of g) r.clips floor b ≡ true = λ i. low i && not (free i) in
     filter-among (is_going (ring_of g) r.clips floor) b (filter_map held_block (heads_of g image))
-    (k.from b (older-held g r image b k at)) passes
+    (k.from b (older-held g keep r image b k at)) passes
 
-older-going : (g : Geometry) (r : Recording) (image : List ℕ) (floor b : ℕ) → Blocks g r image
-    → IsFloor (ring_of g) r floor
+older-going : (g : Geometry) (keep : ℕ) (r : Recording) (image : List ℕ) (floor b : ℕ) → Blocks g r image
+    → IsFloor (ring_of g) keep r floor
     → Among b (filter (is_going (ring_of g) r.clips floor) (filter_map held_block (heads_of g image)))
-    → Among b (older_blocks (ring_of g) r) × (is_locked (ring_of g) r b ≡ false)
-older-going g r image floor b k f at =
+    → Among b (older_blocks (ring_of g) keep r) × (is_locked (ring_of g) r b ≡ false)
+older-going g keep r image floor b k f at =
     let x = among-filter (is_going (ring_of g) r.clips floor) b (filter_map held_block (heads_of g image)) at in
     let y = both (ltb b floor) (not (is_locked (ring_of g) r b)) x.1 in
     (f.older b (k.to b x.0) (at_most (suc b) floor y.0), not_true (is_locked (ring_of g) r b) y.1)
 
-oldest-is : (g : Geometry) (r : Recording) (image : List ℕ) (floor : ℕ) → Blocks g r image
-    → IsFloor (ring_of g) r floor
-    → reduce min (filter (is_going (ring_of g) r.clips floor) (filter_map held_block (heads_of g image))) ≡ victim (ring_of g) r
-oldest-is g r image floor k f = go (reduce min ys) refl (victim (ring_of g) r) refl
+oldest-is : (g : Geometry) (keep : ℕ) (r : Recording) (image : List ℕ) (floor : ℕ) → Blocks g r image
+    → IsFloor (ring_of g) keep r floor
+    → reduce min (filter (is_going (ring_of g) r.clips floor) (filter_map held_block (heads_of g image))) ≡ victim (ring_of g) keep r
+oldest-is g keep r image floor k f = go (reduce min ys) refl (victim (ring_of g) keep r) refl
   where
     ys : List ℕ
     ys = filter (is_going (ring_of g) r.clips floor) (filter_map held_block (heads_of g image))
 
-    go : (o : Option ℕ) → reduce min ys ≡ o → (v : Option ℕ) → victim (ring_of g) r ≡ v → o ≡ v
+    go : (o : Option ℕ) → reduce min ys ≡ o → (v : Option ℕ) → victim (ring_of g) keep r ≡ v → o ≡ v
     go None e None is = refl
     go None e (Some c) is =
-        let x = first-older g r image c k is in
-        absurd (none-least ys c e (going-older g r image floor c k f x.there (not_true (is_locked (ring_of g) r c) x.passes)))
+        let x = first-older g keep r image c k is in
+        absurd (none-least ys c e (going-older g keep r image floor c k f x.there (not_true (is_locked (ring_of g) r c) x.passes)))
     go (Some b) e None is =
-        let y = older-going g r image floor b k f (least ys b e).among in
-        absurd (find-none (λ c. not (is_locked (ring_of g) r c)) b (older_blocks (ring_of g) r) is y.0 (ap not y.1))
+        let y = older-going g keep r image floor b k f (least ys b e).among in
+        absurd (find-none (λ c. not (is_locked (ring_of g) r c)) b (older_blocks (ring_of g) keep r) is y.0 (ap not y.1))
     go (Some b) e (Some c) is =
         let l = least ys b e in
-        let y = older-going g r image floor b k f l.among in
-        let x = first-older g r image c k is in
+        let y = older-going g keep r image floor b k f l.among in
+        let x = first-older g keep r image c k is in
         let low = x.least b y.0 (ap not y.1) in
-        let high = l.least c (going-older g r image floor c k f x.there (not_true (is_locked (ring_of g) r c) x.passes)) in
+        let high = l.least c (going-older g keep r image floor c k f x.there (not_true (is_locked (ring_of g) r c) x.passes)) in
         ap (λ (n : ℕ). Some n) (omega (arith, low, high))
 
 -- what the headers and the clips say of the block that goes is the victim
-pub victim-first : (g : Geometry) (r : Recording) (image : List ℕ) (heads : List (Option SegmentHead)) → Holds g r image
-    → heads ≡ heads_of g image → going_first (ring_of g) r.clips heads ≡ victim (ring_of g) r
-victim-first g r image heads e is =
-    ap (going_first (ring_of g) r.clips) is ∙ go (floor_block (heads_of g image)) refl (victim (ring_of g) r) refl
+pub victim-first : (g : Geometry) (keep : ℕ) (r : Recording) (image : List ℕ) (heads : List (Option SegmentHead)) → Holds g r image
+    → heads ≡ heads_of g image → going_first (ring_of g) keep r.clips heads ≡ victim (ring_of g) keep r
+victim-first g keep r image heads e is =
+    ap (going_first (ring_of g) keep r.clips) is ∙ go (floor_block keep (heads_of g image)) refl (victim (ring_of g) keep r) refl
   where
     k : Blocks g r image
     k = blocks g r image e
 
-    go : (floor : Option ℕ) → floor_block (heads_of g image) ≡ floor → (v : Option ℕ) → victim (ring_of g) r ≡ v
+    go : (floor : Option ℕ) → floor_block keep (heads_of g image) ≡ floor → (v : Option ℕ) → victim (ring_of g) keep r ≡ v
         → least_going (ring_of g) r.clips (heads_of g image) floor ≡ v
     go None none None f = refl
-    go None none (Some c) f = absurd (floor-none g r image c k none (first-older g r image c k f).there)
+    go None none (Some c) f = absurd (floor-none g keep r image c k none (first-older g keep r image c k f).there)
     go (Some floor) top v f = ap (reduce min) (going-are (ring_of g) r.clips floor (heads_of g image))
-        ∙ oldest-is g r image floor k (floor-is g r image floor k top) ∙ f
+        ∙ oldest-is g keep r image floor k (floor-is g keep r image floor k top) ∙ f
 
 -- ---- its segment
 
@@ -320,16 +349,16 @@ place-found heads b found held is = subst (IsPlaceOf heads (Some b)) (sym is) (g
     go (Some j) e = let k = place j (get_or heads j None) refl (position-Some (is_of b) heads j None e).1 in (k.0, k.1.0, k.1.1)
 
 -- the victim is the block of some header
-victim-held : (g : Geometry) (r : Recording) (image : List ℕ) (heads : List (Option SegmentHead)) (b : ℕ)
-    → Holds g r image → heads ≡ heads_of g image → victim (ring_of g) r ≡ Some b → list_any (is_held b) heads ≡ true
-victim-held g r image heads b e is chosen =
+victim-held : (g : Geometry) (keep : ℕ) (r : Recording) (image : List ℕ) (heads : List (Option SegmentHead)) (b : ℕ)
+    → Holds g r image → heads ≡ heads_of g image → victim (ring_of g) keep r ≡ Some b → list_any (is_held b) heads ≡ true
+victim-held g keep r image heads b e is chosen =
     let k = blocks g r image e in
     ap (list_any (is_held b)) is
-    ∙ held-any g r image b e (older-held g r image b k (first-older g r image b k chosen).there)
+    ∙ held-any g r image b e (older-held g keep r image b k (first-older g keep r image b k chosen).there)
 
 -- the victim's segment
-pub victim-placed : (g : Geometry) (r : Recording) (image : List ℕ) (heads : List (Option SegmentHead)) (b : ℕ)
-    (found : Option ℕ) → Holds g r image → heads ≡ heads_of g image → Some b ≡ victim (ring_of g) r
-    → found ≡ position (is_of b) heads → IsPlaceOf heads (victim (ring_of g) r) found
-victim-placed g r image heads b found e is chosen place =
-    subst (λ (v : Option ℕ). IsPlaceOf heads v found) chosen (place-found heads b found (victim-held g r image heads b e is (sym chosen)) place)
+pub victim-placed : (g : Geometry) (keep : ℕ) (r : Recording) (image : List ℕ) (heads : List (Option SegmentHead)) (b : ℕ)
+    (found : Option ℕ) → Holds g r image → heads ≡ heads_of g image → Some b ≡ victim (ring_of g) keep r
+    → found ≡ position (is_of b) heads → IsPlaceOf heads (victim (ring_of g) keep r) found
+victim-placed g keep r image heads b found e is chosen place =
+    subst (λ (v : Option ℕ). IsPlaceOf heads v found) chosen (place-found heads b found (victim-held g keep r image heads b e is (sym chosen)) place)

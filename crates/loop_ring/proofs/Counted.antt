@@ -13,7 +13,7 @@ use Rattle.loop_record.specs.Reading.{Holds}
 use Rattle.loop_record.specs.Recording.{Recording, Ring, meets, ring_of, victim}
 use Rattle.loop_record.proofs.Decided.{at_most_test, differ_test}
 use Rattle.loop_ring.proofs.Chosen.{victim-first}
-use Rattle.loop_ring.specs.Heads.{Segments, clip_counts, clips_on, floor_block, free_block, going_block, going_first, going_free, grown, has_frame, held_block, heads_of, least_free, least_going, meets_head, without_one, with_one}
+use Rattle.loop_ring.specs.Heads.{Segments, clip_counts, clips_on, floor_block, floor_of, free_block, going_block, going_first, going_free, grown, has_frame, held_block, heads_of, least_free, least_going, meets_head, without_one, with_one}
 
 abbrev mark : Bool → ℕ
 mark t = cond t 1 0
@@ -254,8 +254,8 @@ none-any p (c ∷ clips) = go (p c) refl (none-any p clips)
 
 -- by the counts of some clips the block goes that goes by the clips
 pub free-first : (ring : Ring) (clips : List (Option Span)) (s : Segments) → s.clips ≡ clip_counts ring clips s.heads
-    → going_free s ≡ going_first ring clips s.heads
-free-first ring clips s counted = go (floor_block s.heads)
+    → going_free s ≡ going_first ring s.keep clips s.heads
+free-first ring clips s counted = go (floor_block s.keep s.heads)
   where
     one : (floor : ℕ) (o : Option SegmentHead) → free_block floor o (clips_on ring clips o) ≡ going_block ring clips
         floor o
@@ -285,8 +285,8 @@ free-first ring clips s counted = go (floor_block s.heads)
 -- and where these are the headers and the clips of a recording, that block is the victim
 pub free-victim : (g : Geometry) (r : Recording) (image : List ℕ) (s : Segments) → Holds g r image
     → s.heads ≡ heads_of g image → s.clips ≡ clip_counts (ring_of g) r.clips s.heads
-    → going_free s ≡ victim (ring_of g) r
-free-victim g r image s held is counted = free-first (ring_of g) r.clips s counted ∙ victim-first g r image s.heads held is
+    → going_free s ≡ victim (ring_of g) s.keep r
+free-victim g r image s held is counted = free-first (ring_of g) r.clips s counted ∙ victim-first g s.keep r image s.heads held is
 
 -- ---- a block that grows
 
@@ -327,8 +327,8 @@ pub grown-goes : (s : Segments) (j frames : ℕ) → has_frame (get_or s.heads j
 grown-goes s j frames some more =
     let k = grown-is (get_or s.heads j None) frames some more in
     ap (λ (bs : List ℕ). least_free (record s { heads = set s.heads j (grown frames (get_or s.heads j None)) })
-    (reduce max bs)) (held-set s.heads j (grown frames (get_or s.heads j None)) k.held)
-    ∙ go k (floor_block s.heads)
+    (floor_of s.keep bs)) (held-set s.heads j (grown frames (get_or s.heads j None)) k.held)
+    ∙ go k (floor_block s.keep s.heads)
   where
     go : IsGrown (get_or s.heads j None) (grown frames (get_or s.heads j None)) → (o : Option ℕ)
         → least_free (record s { heads = set s.heads j (grown frames (get_or s.heads j None)) }) o ≡ least_free s o

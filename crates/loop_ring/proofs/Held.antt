@@ -4,9 +4,9 @@ use Rattle.std.proofs.Math.Nat.{add-mul, div-add-mod', div-eq_of_lt-le, mul-div_
 use Rattle.std.proofs.lemmas.Bool.Decides.{nat_tests}
 use Rattle.std.proofs.lemmas.List.{length-map}
 use Rattle.std.proofs.lemmas.List.FromFn.{length-enumerate_from}
-use Rattle.std.proofs.lemmas.List.Sums.{length-filter}
+use Rattle.std.proofs.lemmas.List.Sums.{length-filter, sum_by-cons}
 use Rattle.std.specs.Prelude.{◌||◌}
-use Rattle.std.specs.List.{list_any, list_all, count_by, filter, position, enumerate_from}
+use Rattle.std.specs.List.{cons_option, list_any, list_all, count_by, filter, filter_map, position, enumerate_from}
 use Rattle.loop_record.specs.declared.geometry.Geometry.{Geometry}
 use Rattle.loop_record.specs.declared.segment.SegmentHead.{SegmentHead}
 use Rattle.loop_record.specs.Recording.{Picture, Recording, Ring, ring_of, block, with_block, blocks_of, held_blocks, frame_under, holds}
@@ -20,10 +20,13 @@ use Rattle.loop_record.proofs.Readings.{overfull_none, segments_length}
 use Rattle.loop_record.proofs.Retired.{is_in, frames_in}
 use Rattle.loop_record.proofs.Rising.{Among}
 use Rattle.loop_record.proofs.Segments.{AllAbove, Rises, has_block, any-by_block, Rises-by_block, repeats-by_block}
-use Rattle.loop_ring.specs.Heads.{heads_of, has_frame, has_number, is_of}
+use Rattle.loop_ring.specs.Heads.{held_block, heads_of, has_frame, has_number, is_of}
 use Rattle.loop_ring.proofs.Heads.{head_of, heads-are, any-heads, position-none, newest-missing}
 
 -- ---- counts
+
+abbrev mark : Bool → ℕ
+mark t = cond t 1 0
 
 -- the segment has a frame
 abbrev pub has_slot : Segment → Bool
@@ -167,6 +170,56 @@ held-count g r image e =
     ∙ sym (count-by_block has_slot (open_segments ps))
     ∙ sym (length-map (filter has_slot ss) (λ s. s.block))
     ∙ ap (λ (bs : List ℕ). length bs) (sym (held-are g r image e))
+
+-- ---- the held blocks from one on
+
+-- the segment has a frame, and its block is b or above it
+abbrev is_from : ℕ → Segment → Bool
+is_from b s = has_slot s && leb b s.block
+
+from-heads : (b : ℕ) (ps : List (Option Segment)) → count_by (leb b) (filter_map held_block (map head_of ps)) ≡ length
+    (filter (is_from b) (open_segments ps))
+from-heads b [] = refl
+from-heads b (None ∷ ps) = from-heads b ps
+from-heads b (Some s ∷ ps) = go (has_slot s) (leb b s.block) refl (from-heads b ps)
+  where
+    rest : List ℕ
+    rest = filter_map held_block (map head_of ps)
+
+    go : (t u : Bool) → leb b s.block ≡ u → count_by (leb b) rest ≡ length (filter (is_from b) (open_segments ps))
+        → count_by (leb b) (cons_option (cond t (Some s.block) None) rest) ≡ length (cond (t && u)
+        (s ∷ filter (is_from b) (open_segments ps)) (filter (is_from b) (open_segments ps)))
+    go false u is ih = ih
+    go true true is ih =
+        let one : mark (leb b s.block) ≡ 1 = ap mark is in
+        omega (arith, one, ih, sum_by-cons (λ c. mark (leb b c)) s.block rest)
+    go true false is ih =
+        let none : mark (leb b s.block) ≡ 0 = ap mark is in
+        omega (arith, none, ih, sum_by-cons (λ c. mark (leb b c)) s.block rest)
+
+from-blocks : (b : ℕ) (ss : List Segment) → count_by (leb b) (blocks_with ss) ≡ length (filter (is_from b) ss)
+from-blocks b [] = refl
+from-blocks b (s ∷ ss) = ap (count_by (leb b)) (with-kept s ss) ∙ go (has_slot s) (leb b s.block) refl (from-blocks b ss)
+  where
+    go : (t u : Bool) → leb b s.block ≡ u → count_by (leb b) (blocks_with ss) ≡ length (filter (is_from b) ss)
+        → count_by (leb b) (cond t (s.block ∷ blocks_with ss) (blocks_with ss)) ≡ length (cond (t && u)
+        (s ∷ filter (is_from b) ss) (filter (is_from b) ss))
+    go false u is ih = ih
+    go true true is ih =
+        let one : mark (leb b s.block) ≡ 1 = ap mark is in
+        omega (arith, one, ih, sum_by-cons (λ c. mark (leb b c)) s.block (blocks_with ss))
+    go true false is ih =
+        let none : mark (leb b s.block) ≡ 0 = ap mark is in
+        omega (arith, none, ih, sum_by-cons (λ c. mark (leb b c)) s.block (blocks_with ss))
+
+-- of the held blocks as many are from one on as the headers say
+pub from-counted : (g : Geometry) (r : Recording) (image : List ℕ) (b : ℕ) → Holds g r image
+    → count_by (leb b) (filter_map held_block (heads_of g image)) ≡ count_by (leb b) (held_blocks (ring_of g) r)
+from-counted g r image b e =
+    let ps = (parts_of g image).segments in
+    ap (λ (hs : List (Option SegmentHead)). count_by (leb b) (filter_map held_block hs)) (heads-are g image)
+    ∙ from-heads b ps ∙ sym (count-by_block (is_from b) (open_segments ps))
+    ∙ sym (from-blocks b (by_block (open_segments ps))) ∙ ap (count_by (leb b)) (sym (held-are g r image e))
 
 -- ---- one held block
 

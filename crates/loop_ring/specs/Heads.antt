@@ -1,6 +1,6 @@
 -- The segments of a store as their headers say, in the order in which they lie on the disk.
-use Rattle.std.specs.Prelude.{◌≡◌, ℕ, ◌+◌, ◌-◌, ◌/◌, ◌%◌, Bool, false, not, ◌&&◌, ◌==◌, nat_lt, max, min, if◌then◌else◌, Option, None, Some, List, map, slice_index_or}
-use Rattle.std.specs.List.{count_by, filter_map, list_any, range_with_len, reduce, zip}
+use Rattle.std.specs.Prelude.{◌≡◌, ℕ, ◌+◌, ◌-◌, ◌/◌, ◌%◌, Bool, false, not, ◌&&◌, ◌==◌, nat_le, nat_lt, max, min, if◌then◌else◌, Option, None, Some, List, map, slice_index_or}
+use Rattle.std.specs.List.{count_by, filter, filter_map, list_any, range_with_len, reduce, zip}
 use Rattle.loop_record.specs.declared.clip.Span.{Span}
 use Rattle.loop_record.specs.declared.geometry.Geometry.{Geometry}
 use Rattle.loop_record.specs.declared.segment.SegmentHead.{SegmentHead}
@@ -32,9 +32,13 @@ abbrev pub held_block : Option SegmentHead → Option ℕ
 held_block None = None
 held_block (Some head) = if nat_lt 0 head.frames then Some head.block else None
 
--- the block from which on no block may go, that of the newest held frame, if a frame is held
-abbrev pub floor_block : List (Option SegmentHead) → Option ℕ
-floor_block heads = reduce max (filter_map held_block heads)
+-- the greatest of these blocks that has so many from it on, itself among them: the least of the `keep` greatest
+abbrev pub floor_of : ℕ → List ℕ → Option ℕ
+floor_of keep blocks = reduce max (filter (λ b. nat_le keep (count_by (nat_le b) blocks)) blocks)
+
+-- the block from which on no block may go where so many of the newest are kept, if as many are held
+abbrev pub floor_block : ℕ → List (Option SegmentHead) → Option ℕ
+floor_block keep heads = floor_of keep (filter_map held_block heads)
 
 -- the block may go, where this is the floor: it is below, and no clip meets it
 abbrev pub is_going : Ring → List (Option Span) → ℕ → ℕ → Bool
@@ -52,15 +56,16 @@ least_going ring clips heads None = None
 least_going ring clips heads (Some floor) = reduce min (filter_map (going_block ring clips floor) heads)
 
 -- the block that goes when room is needed, by the headers and the clips alone
-abbrev pub going_first : Ring → List (Option Span) → List (Option SegmentHead) → Option ℕ
-going_first ring clips heads = least_going ring clips heads (floor_block heads)
+abbrev pub going_first : Ring → ℕ → List (Option Span) → List (Option SegmentHead) → Option ℕ
+going_first ring keep clips heads = least_going ring clips heads (floor_block keep heads)
 
 -- ---- the count of clips of each segment
 
--- what the header of each segment says, and how many clips meet the block of each
+-- what the header of each segment says, how many clips meet the block of each, and how many of the newest blocks are kept
 pub record Segments : Type 0 where
   pub heads : List (Option SegmentHead)
   pub clips : List ℕ
+  pub keep : ℕ
 
 -- some number of the clip is of the segment's block
 abbrev pub meets_head : Ring → Option Span → Option SegmentHead → Bool
@@ -107,7 +112,7 @@ least_free s (Some floor) = reduce min (filter_map (λ x. free_block floor x.0 x
 
 -- the block that goes when room is needed, by the headers and the counts alone
 abbrev pub going_free : Segments → Option ℕ
-going_free s = least_free s (floor_block s.heads)
+going_free s = least_free s (floor_block s.keep s.heads)
 
 -- the segment with so many frames
 abbrev pub grown : ℕ → Option SegmentHead → Option SegmentHead

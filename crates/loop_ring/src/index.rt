@@ -17,9 +17,9 @@ use std::alloc::{AllocError, Allocator, Global};
 use std::marker::Model;
 
 /// The segments of a store. In contracts it is what the header of each says, its block and its whole frames, or
-/// nothing where the segment is closed; and how many clips meet the block of each. Beside these it keeps the open
-/// segments sorted by block, so that `find` looks at few; how many have a frame; and the block that goes when
-/// room is needed. Only `new` and `of` take memory.
+/// nothing where the segment is closed; how many clips meet the block of each; and how many of the newest blocks are
+/// kept. Beside these it has the open segments sorted by block, so that `find` looks at few; how many have a frame; and
+/// the block that goes when room is needed. Only `new` and `of` take memory.
 #[derive(Drop)]
 pub struct SegmentIndex<A: Allocator = Global> {
     heads: Vec<Option<SegmentHead>, A>,
@@ -27,31 +27,32 @@ pub struct SegmentIndex<A: Allocator = Global> {
     // The open segments by block, those of one block by segment. There is room for all segments.
     entries: Vec<Entry, A>,
     held: u32,
+    keep: u32,
     victim: Option<u64>,
 }
 
 impl<A: Allocator> Model for SegmentIndex<A> {
     ghost Value = { Segments };
 
-    ghost view = { λ index. record { heads = index.heads.items; clips = index.clips.items } };
+    ghost view = { λ index. record { heads = index.heads.items; clips = index.clips.items; keep = index.keep } };
 
-    ghost invariant = { λ index. IsMended (record { heads = index.heads.items; clips = index.clips.items })
-        index.entries.items (vec_capacity index.entries) index.held index.victim };
+    ghost invariant = { λ index. IsMended (record { heads = index.heads.items; clips = index.clips.items;
+        keep = index.keep }) index.entries.items (vec_capacity index.entries) index.held index.victim };
 }
 
 impl<A: Allocator + Copy> SegmentIndex<A> {
-    /// So many segments, all of them closed. Its only error is want of memory.
+    /// So many segments, all of them closed; the newest block is kept. Its only error is want of memory.
     pub fn new(alloc: A, segments: u32) -> Result<Self, AllocError>
         ensures { IfOk result (λ index. index
-            ≡ record { heads = replicate segments None; clips = replicate segments 0 }) }
+            ≡ record { heads = replicate segments None; clips = replicate segments 0; keep = 1 }) }
     {
         let heads = vec![in alloc; None; segments as usize]?;
         let clips = vec![in alloc; 0; segments as usize]?;
         SegmentIndex::with_counts(alloc, heads, clips)
     }
 
-    /// Segments whose headers were read before, and the counts of these clips. Its only error is want of memory;
-    /// the headers are gone then.
+    /// Segments whose headers were read before, and the counts of these clips; the newest block is kept. Its only error
+    /// is want of memory; the headers are gone then.
     pub fn of(
         alloc: A,
         geometry: &Geometry,
@@ -61,8 +62,11 @@ impl<A: Allocator + Copy> SegmentIndex<A> {
         requires good { IsTrue (is_good geometry.now) }
         requires few { length heads.items < 2 ^ 32 }
         requires ids { length clips.now < 2 ^ 32 }
-        ensures { IfOk result (λ index. index
-            ≡ record { heads = heads.items; clips = clip_counts (ring_of geometry.now) clips.now heads.items }) }
+        ensures { IfOk result (λ index. index ≡ record {
+          heads = heads.items;
+          clips = clip_counts (ring_of geometry.now) clips.now heads.items;
+          keep = 1;
+        }) }
     {
         let mut counts = Vec::with_capacity(alloc, heads.len())?;
         count_clips(&mut counts, geometry, &heads, clips);
@@ -79,19 +83,35 @@ impl<A: Allocator> SegmentIndex<A> {
     ) -> Result<Self, AllocError>
         requires few { length heads.items < 2 ^ 32 }
         requires counted { length clips.items ≡ length heads.items }
-        ensures { IfOk result (λ index. index ≡ record { heads = heads.items; clips = clips.items }) }
+        ensures { IfOk result (λ index. index ≡ record { heads = heads.items; clips = clips.items; keep = 1 }) }
     {
         let mut entries = Vec::with_capacity(alloc, heads.len())?;
         insert_segments(&mut entries, &heads);
         let held = count_held(&heads);
-        let victim = victim_of(&heads, &clips, &entries);
+        let victim = victim_of(&heads, &clips, &entries, 1);
         Ok(SegmentIndex {
             heads,
             clips,
             entries,
             held,
+            keep: 1,
             victim,
         })
+    }
+
+    /// How many of the newest blocks of held frames never go, of which one stays in any case.
+    pub fn keep(&self) -> u32
+        ensures { result ≡ self.now.keep }
+    {
+        self.keep
+    }
+
+    /// Keeps so many of the newest blocks from now on. It takes no memory.
+    pub fn keep_newest(&mut self, keep: u32)
+        ensures { self.new ≡ record self.old { keep = keep } }
+    {
+        self.keep = keep;
+        self.victim = victim_of(&self.heads, &self.clips, &self.entries, keep);
     }
 
     /// What the header of a segment says, or nothing where it is closed.
@@ -112,7 +132,7 @@ impl<A: Allocator> SegmentIndex<A> {
     /// Notes what the header of a segment says now, and how many clips meet its block. It takes no memory.
     pub fn set(&mut self, segment: u32, head: Option<SegmentHead>, clips: u32)
         requires { segment < length self.old.heads }
-        ensures { self.new ≡ record {
+        ensures { self.new ≡ record self.old {
           heads = slice_set self.old.heads segment head;
           clips = slice_set self.old.clips segment clips;
         } }
@@ -123,7 +143,7 @@ impl<A: Allocator> SegmentIndex<A> {
         self.held = held_after(self.held, self.heads[place], head);
         self.heads[place] = head;
         self.clips[place] = clips;
-        self.victim = victim_of(&self.heads, &self.clips, &self.entries);
+        self.victim = victim_of(&self.heads, &self.clips, &self.entries, self.keep);
     }
 
     /// Notes that a segment that has a frame has so many now. The same block goes when room is needed. It takes
@@ -146,7 +166,7 @@ impl<A: Allocator> SegmentIndex<A> {
         ensures { self.new ≡ with_clip (ring_of geometry.now) span self.old }
     {
         raise_counts(&mut self.clips, geometry, &self.heads, span);
-        self.victim = victim_of(&self.heads, &self.clips, &self.entries);
+        self.victim = victim_of(&self.heads, &self.clips, &self.entries, self.keep);
     }
 
     /// Notes that a clip is gone. It takes no memory.
@@ -155,16 +175,16 @@ impl<A: Allocator> SegmentIndex<A> {
         ensures { self.new ≡ without_clip (ring_of geometry.now) span self.old }
     {
         lower_counts(&mut self.clips, geometry, &self.heads, span);
-        self.victim = victim_of(&self.heads, &self.clips, &self.entries);
+        self.victim = victim_of(&self.heads, &self.clips, &self.entries, self.keep);
     }
 
     /// The block that goes when room is needed: the least block of a held frame that no clip meets and that isn't
-    /// the block of the newest held frame. Nothing where none may go. It looks at no segment.
+    /// among the newest blocks that are kept. Nothing where none may go. It looks at no segment.
     pub fn victim(&self) -> Option<u64>
         ensures goes { result ≡ going_free self.now }
         ensures victim { (g : Geometry) (r : Recording) (image : List ℕ) → Holds g r image
             → self.now.heads ≡ heads_of g image → self.now.clips ≡ clip_counts (ring_of g) r.clips self.now.heads
-            → result ≡ victim (ring_of g) r }
+            → result ≡ victim (ring_of g) self.now.keep r }
     {
         self.victim
     }

@@ -7,19 +7,20 @@ ghost use Rattle.loop_ring.specs.Heads.{floor_block, free_block, going_free, has
 use crate::entry::Entry;
 use loop_record::SegmentHead;
 
-// The block that goes when room is needed: the least block of a held frame that no clip meets and that isn't the
-// block of the newest held frame. Nothing where none may go. A segment without frames holds none and is passed
-// over.
+// The block that goes when room is needed: the least block of a held frame that no clip meets and that isn't among so
+// many of the newest blocks of held frames, of which one stays in any case. Nothing where none may go. A segment
+// without frames holds none and is passed over.
 pub(crate) fn victim_of(
     heads: &[Option<SegmentHead>],
     clips: &[u32],
     entries: &[Entry],
+    keep: u32,
 ) -> Option<u64>
     requires order { IsIndexed heads.now entries.now (length heads.now) }
     requires counted { length clips.now ≡ length heads.now }
-    ensures { result ≡ going_free (record { heads = heads.now; clips = clips.now }) }
+    ensures { result ≡ going_free (record { heads = heads.now; clips = clips.now; keep = keep }) }
 {
-    let floor = floor_block(heads, entries)?;
+    let floor = floor_block(heads, entries, keep)?;
     oldest_free(heads, clips, entries, floor)
 }
 
@@ -37,15 +38,19 @@ fn is_free(head: Option<SegmentHead>, clips: u32, floor: u64) -> bool
     head.is_some_and(|head| head.frames > 0 && head.block < floor && clips == 0)
 }
 
-// The block from which on no block may go: the greatest block of a held frame, which is the last one in the order
-// of the blocks.
-fn floor_block(heads: &[Option<SegmentHead>], entries: &[Entry]) -> Option<u64>
+// The block from which on no block may go: the last but so many of the blocks of held frames, in their order. Nothing
+// where fewer are held.
+fn floor_block(heads: &[Option<SegmentHead>], entries: &[Entry], keep: u32) -> Option<u64>
     requires { IsIndexed heads.now entries.now (length heads.now) }
-    ensures { result ≡ floor_block heads.now }
+    ensures { result ≡ floor_block keep heads.now }
 {
+    let mut left = keep.max(1);
     for entry in entries.iter().rev() {
         if has_frame(heads[entry.segment as usize]) {
-            return Some(entry.block);
+            if left == 1 {
+                return Some(entry.block);
+            }
+            left -= 1;
         }
     }
     None

@@ -1,6 +1,9 @@
-use Rattle.loop_ring.proofs.Oldest.{IsLeft, is_held_at}
+use Rattle.std.proofs.Common.{◌≤◌, ◌-◌, max}
+use Rattle.loop_ring.proofs.Oldest.{IsLeft}
 use Rattle.loop_ring.proofs.victim.floor_block.Given as goal
 
--- none of the entries behind the rest has a frame
+-- so many of the entries behind the rest have a frame as are passed
 abbrev pub invariant-loop-entry : goal.invariant-loop-entry
-invariant-loop-entry l = IsLeft (is_held_at l.fn.heads) l.fn.entries l.entry-iterator.iter.rest.now
+invariant-loop-entry l =
+    IsLeft l.fn.heads l.fn.entries l.entry-iterator.iter.rest.now (max 1 l.fn.keep - l.left)
+    × ((1 ≤ l.left) × (l.left ≤ max 1 l.fn.keep))

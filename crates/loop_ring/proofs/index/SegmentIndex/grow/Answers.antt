@@ -13,12 +13,12 @@ invariant_of-self g c =
     let heads = c.self.inside.heads.items in
     let j = c.args.segment in
     let frames = c.args.frames in
-    let s : Segments = record { heads = c.self.inside.heads.items; clips = c.self.inside.clips.items } in
+    let s : Segments = record { heads = c.self.inside.heads.items; clips = c.self.inside.clips.items; keep = c.self.inside.keep } in
     let some : has_frame (get_or heads j None) ≡ true = ap (λ (s : Segments). has_frame (get_or s.heads j None)) c.self.view_is ∙ c.requires.held in
     let inside = held-inside heads j some in
     let now : c.grown.result ≡ grown frames (get_or heads j None) = c.grown.ensures
     ∙ ap (grown frames) (c.index.ensures ∙ get_or_default heads j c.index.result.now None inside) in
-    subst (λ (o : Option SegmentHead). IsMended (record { heads = set heads j o; clips = i.clips.items })
+    subst (λ (o : Option SegmentHead). IsMended (record { heads = set heads j o; clips = i.clips.items; keep = i.keep })
     i.entries.items (vec_capacity i.entries) i.held i.victim) (sym now) (record {
       indexed = grown-index heads i.entries.items _ j frames c.self.invariant.indexed inside;
       counted = c.self.invariant.counted ∙ sym (length-set heads j (grown frames (get_or heads j None)));
