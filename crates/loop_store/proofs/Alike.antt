@@ -40,14 +40,14 @@ unlocked-same ring r t id same = clips-same r t _ _ same (ap (λ (cs : List (Opt
 
 -- ---- an append
 
-pub place-same : (g : Geometry) (r t : Recording) → IsSame r t → recycling_first (needs_recycling (ring_of g) r)
-    (victim (ring_of g) r) ≡ recycling_first (needs_recycling (ring_of g) t) (victim (ring_of g) t)
-place-same g r t same = let needs = needs-same (ring_of g) r t same in let goes = victim-same (ring_of g) r t same in λ i. recycling_first (needs i) (goes i)
+pub place-same : (g : Geometry) (keep : ℕ) (r t : Recording) → IsSame r t → recycling_first (needs_recycling (ring_of g) r)
+    (victim (ring_of g) keep r) ≡ recycling_first (needs_recycling (ring_of g) t) (victim (ring_of g) keep t)
+place-same g keep r t same = let needs = needs-same (ring_of g) r t same in let goes = victim-same (ring_of g) keep r t same in λ i. recycling_first (needs i) (goes i)
 
-pub refuses-same : (g : Geometry) (r t : Recording) (fault : StoreFault) → IsSame r t → RefusesPlace g r fault
-    → RefusesPlace g t fault
-refuses-same g r t fault same (inl x) = inl (x.0, sym same.next ∙ x.1)
-refuses-same g r t fault same (inr x) = inr (x.0, (λ spent. x.1.0 (same.next ∙ spent), sym (place-same g r t same) ∙ x.1.1))
+pub refuses-same : (g : Geometry) (keep : ℕ) (r t : Recording) (fault : StoreFault) → IsSame r t → RefusesPlace g keep r fault
+    → RefusesPlace g keep t fault
+refuses-same g keep r t fault same (inl x) = inl (x.0, sym same.next ∙ x.1)
+refuses-same g keep r t fault same (inr x) = inr (x.0, (λ spent. x.1.0 (same.next ∙ spent), sym (place-same g keep r t same) ∙ x.1.1))
 
 before-steps : (ring : Ring) (r t : Recording) (recycles : Bool) (v : Option ℕ) → IsSame r t
     → IsSame (plain ring r (steps_or_none (recycling_first recycles v)))
@@ -56,17 +56,17 @@ before-steps ring r t false v same = same
 before-steps ring r t true None same = same
 before-steps ring r t true (Some b) same = recycled-same ring r t b same
 
-before-same : (g : Geometry) (r t : Recording) → IsSame r t → IsSame (plain (ring_of g) r (steps_before g r))
-    (plain (ring_of g) t (steps_before g t))
-before-same g r t same =
-    subst (λ (o : Option (List Step)). IsSame (plain (ring_of g) r (steps_before g r)) (plain (ring_of g) t (steps_or_none o))) (place-same g r t same)
-    (before-steps (ring_of g) r t (needs_recycling (ring_of g) r) (victim (ring_of g) r) same)
+before-same : (g : Geometry) (keep : ℕ) (r t : Recording) → IsSame r t → IsSame (plain (ring_of g) r (steps_before g keep r))
+    (plain (ring_of g) t (steps_before g keep t))
+before-same g keep r t same =
+    subst (λ (o : Option (List Step)). IsSame (plain (ring_of g) r (steps_before g keep r)) (plain (ring_of g) t (steps_or_none o))) (place-same g keep r t same)
+    (before-steps (ring_of g) r t (needs_recycling (ring_of g) r) (victim (ring_of g) keep r) same)
 
-pub appended-same : (g : Geometry) (r t : Recording) (ps qs : List Picture) → IsSame r t → length ps ≡ length qs
-    → IsSame (plain (ring_of g) r (steps_before g r ++ map store ps)) (plain (ring_of g) t (steps_before g t ++ map store qs))
-appended-same g r t ps qs same count =
-    let a = plain-append (ring_of g) r (steps_before g r) (map store ps) in
-    let b = plain-append (ring_of g) t (steps_before g t) (map store qs) in
-    subst (λ (x : Recording). IsSame x (plain (ring_of g) t (steps_before g t ++ map store qs))) (sym a)
-    (subst (λ (x : Recording). IsSame (plain (ring_of g) (plain (ring_of g) r (steps_before g r)) (map store ps)) x) (sym b)
-    (stored-same (ring_of g) (plain (ring_of g) r (steps_before g r)) (plain (ring_of g) t (steps_before g t)) ps qs (before-same g r t same) count))
+pub appended-same : (g : Geometry) (keep : ℕ) (r t : Recording) (ps qs : List Picture) → IsSame r t → length ps ≡ length qs
+    → IsSame (plain (ring_of g) r (steps_before g keep r ++ map store ps)) (plain (ring_of g) t (steps_before g keep t ++ map store qs))
+appended-same g keep r t ps qs same count =
+    let a = plain-append (ring_of g) r (steps_before g keep r) (map store ps) in
+    let b = plain-append (ring_of g) t (steps_before g keep t) (map store qs) in
+    subst (λ (x : Recording). IsSame x (plain (ring_of g) t (steps_before g keep t ++ map store qs))) (sym a)
+    (subst (λ (x : Recording). IsSame (plain (ring_of g) (plain (ring_of g) r (steps_before g keep r)) (map store ps)) x) (sym b)
+    (stored-same (ring_of g) (plain (ring_of g) r (steps_before g keep r)) (plain (ring_of g) t (steps_before g keep t)) ps qs (before-same g keep r t same) count))

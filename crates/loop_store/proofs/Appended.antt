@@ -40,19 +40,19 @@ steps-from None ps some = absurd (some refl)
 steps-from (Some first) ps some = refl
 
 -- where a place was found, an append makes these steps
-pub steps-are : (g : Geometry) (r : Recording) (ps : List Picture) → r.next ≢ last_number (ring_of g)
-    → recycling_first (needs_recycling (ring_of g) r) (victim (ring_of g) r) ≢ None → steps_before g r
-    ++ map store ps ≡ steps_or_none (steps (ring_of g) r ps)
-steps-are g r ps unspent some =
+pub steps-are : (g : Geometry) (keep : ℕ) (r : Recording) (ps : List Picture) → r.next ≢ last_number (ring_of g)
+    → recycling_first (needs_recycling (ring_of g) r) (victim (ring_of g) keep r) ≢ None → steps_before g keep r
+    ++ map store ps ≡ steps_or_none (steps (ring_of g) keep r ps)
+steps-are g keep r ps unspent some =
     let apart : eqb r.next (last_number (ring_of g)) ≡ false = differ_test r.next (last_number (ring_of g)) unspent in
-    let o = recycling_first (needs_recycling (ring_of g) r) (victim (ring_of g) r) in
+    let o = recycling_first (needs_recycling (ring_of g) r) (victim (ring_of g) keep r) in
     steps-from o ps some ∙ (λ i. steps_or_none (cond (sym apart i) None (stores_after o ps)))
 
-pub steps-some : (g : Geometry) (r : Recording) (ps : List Picture) → r.next ≢ last_number (ring_of g)
-    → recycling_first (needs_recycling (ring_of g) r) (victim (ring_of g) r) ≢ None → steps (ring_of g) r ps ≢ None
-steps-some g r ps unspent some none =
+pub steps-some : (g : Geometry) (keep : ℕ) (r : Recording) (ps : List Picture) → r.next ≢ last_number (ring_of g)
+    → recycling_first (needs_recycling (ring_of g) r) (victim (ring_of g) keep r) ≢ None → steps (ring_of g) keep r ps ≢ None
+steps-some g keep r ps unspent some none =
     let apart : eqb r.next (last_number (ring_of g)) ≡ false = differ_test r.next (last_number (ring_of g)) unspent in
-    let o = recycling_first (needs_recycling (ring_of g) r) (victim (ring_of g) r) in
+    let o = recycling_first (needs_recycling (ring_of g) r) (victim (ring_of g) keep r) in
     go o some ((λ i. cond (sym apart i) None (stores_after o ps)) ∙ none)
   where
     go : (o : Option (List Step)) → o ≢ None → stores_after o ps ≡ None → ⊥
@@ -60,15 +60,15 @@ steps-some g r ps unspent some none =
     go (Some first) some e = absurd cc
 
 -- where the numbers are spent, it has none
-pub steps-spent : (g : Geometry) (r : Recording) (ps : List Picture) → r.next ≡ last_number (ring_of g)
-    → steps (ring_of g) r ps ≡ None
-steps-spent g r ps spent =
+pub steps-spent : (g : Geometry) (keep : ℕ) (r : Recording) (ps : List Picture) → r.next ≡ last_number (ring_of g)
+    → steps (ring_of g) keep r ps ≡ None
+steps-spent g keep r ps spent =
     let same : eqb r.next (last_number (ring_of g)) ≡ true = equal_test r.next (last_number (ring_of g)) spent in
-    λ i. cond (same i) None (stores_after (recycling_first (needs_recycling (ring_of g) r) (victim (ring_of g) r)) ps)
+    λ i. cond (same i) None (stores_after (recycling_first (needs_recycling (ring_of g) r) (victim (ring_of g) keep r)) ps)
 
-steps-none : (g : Geometry) (r : Recording) (ps : List Picture) → recycling_first (needs_recycling (ring_of g) r)
-    (victim (ring_of g) r) ≡ None → steps (ring_of g) r ps ≡ None
-steps-none g r ps none = (λ i. cond (eqb r.next (last_number (ring_of g))) None (stores_after (none i) ps)) ∙ either (eqb r.next (last_number (ring_of g)))
+steps-none : (g : Geometry) (keep : ℕ) (r : Recording) (ps : List Picture) → recycling_first (needs_recycling (ring_of g) r)
+    (victim (ring_of g) keep r) ≡ None → steps (ring_of g) keep r ps ≡ None
+steps-none g keep r ps none = (λ i. cond (eqb r.next (last_number (ring_of g))) None (stores_after (none i) ps)) ∙ either (eqb r.next (last_number (ring_of g)))
   where
     either : (b : Bool) → cond {A = Option (List Step)} b None None ≡ None
     either true = refl
@@ -83,22 +83,22 @@ before-clips ring r true None = refl
 before-clips ring r true (Some b) = refl
 
 -- an append takes as many numbers as it has frames
-pub appended-next : (g : Geometry) (r : Recording) (ps : List Picture)
-    → (plain (ring_of g) r (steps_before g r ++ map store ps)).next ≡ r.next + length ps
-appended-next g r ps =
+pub appended-next : (g : Geometry) (keep : ℕ) (r : Recording) (ps : List Picture)
+    → (plain (ring_of g) r (steps_before g keep r ++ map store ps)).next ≡ r.next + length ps
+appended-next g keep r ps =
     let ring = ring_of g in
-    let mid = plain ring r (steps_before g r) in
-    ap (λ (q : Recording). q.next) (plain-append ring r (steps_before g r) (map store ps) ∙ plain-stores ring mid ps)
-    ∙ ap (λ (n : ℕ). n + length ps) (before-next g r)
+    let mid = plain ring r (steps_before g keep r) in
+    ap (λ (q : Recording). q.next) (plain-append ring r (steps_before g keep r) (map store ps) ∙ plain-stores ring mid ps)
+    ∙ ap (λ (n : ℕ). n + length ps) (before-next g keep r)
 
 -- and leaves the clips
-pub appended-clips : (g : Geometry) (r : Recording) (ps : List Picture)
-    → (plain (ring_of g) r (steps_before g r ++ map store ps)).clips ≡ r.clips
-appended-clips g r ps =
+pub appended-clips : (g : Geometry) (keep : ℕ) (r : Recording) (ps : List Picture)
+    → (plain (ring_of g) r (steps_before g keep r ++ map store ps)).clips ≡ r.clips
+appended-clips g keep r ps =
     let ring = ring_of g in
-    let mid = plain ring r (steps_before g r) in
-    ap (λ (q : Recording). q.clips) (plain-append ring r (steps_before g r) (map store ps) ∙ plain-stores ring mid ps)
-    ∙ before-clips ring r (needs_recycling ring r) (victim ring r)
+    let mid = plain ring r (steps_before g keep r) in
+    ap (λ (q : Recording). q.clips) (plain-append ring r (steps_before g keep r) (map store ps) ∙ plain-stores ring mid ps)
+    ∙ before-clips ring r (needs_recycling ring r) (victim ring keep r)
 
 -- ---- numbers
 
@@ -139,9 +139,9 @@ appended-low g next some most unspent =
 -- ---- places
 
 -- where there is a place, an append has steps
-pub place-some : (g : Geometry) (r : Recording) (image : List ℕ) (place : Place) → IsPlaceAt g r image place
-    → recycling_first (needs_recycling (ring_of g) r) (victim (ring_of g) r) ≢ None
-place-some g r image place at none = go place at
+pub place-some : (g : Geometry) (keep : ℕ) (r : Recording) (image : List ℕ) (place : Place) → IsPlaceAt g keep r image place
+    → recycling_first (needs_recycling (ring_of g) r) (victim (ring_of g) keep r) ≢ None
+place-some g keep r image place at none = go place at
   where
     by : (b : Bool) (v : Option ℕ) → b ≡ false → recycling_first b v ≡ None → ⊥
     by false v e none = absurd cc
@@ -152,16 +152,16 @@ place-some g r image place at none = go place at
     gone true None b e none = absurd cc
     gone true (Some c) b e none = absurd cc
 
-    go : (place : Place) → IsPlaceAt g r image place → ⊥
-    go (Newest j) at = by (needs_recycling (ring_of g) r) (victim (ring_of g) r) at.1 none
-    go (Closed j) at = by (needs_recycling (ring_of g) r) (victim (ring_of g) r) at.1.1 none
-    go (Victim j) at = gone (needs_recycling (ring_of g) r) (victim (ring_of g) r) at.0 at.1.0 none
+    go : (place : Place) → IsPlaceAt g keep r image place → ⊥
+    go (Newest j) at = by (needs_recycling (ring_of g) r) (victim (ring_of g) keep r) at.1 none
+    go (Closed j) at = by (needs_recycling (ring_of g) r) (victim (ring_of g) keep r) at.1.1 none
+    go (Victim j) at = gone (needs_recycling (ring_of g) r) (victim (ring_of g) keep r) at.0 at.1.0 none
 
 -- the place is there for the recording that the image holds
 pub place-known : {A : Type 0} (index : Index A) (image : List ℕ) (place : Place) → IsRecovered index image
     → HasNoneStray index.ring.geometry image
     → ((r : Recording) (c : List ℕ) → IsIndexOf index r c → (r.next ≢ last_number (ring_of index.ring.geometry))
-    × IsPlaceAt index.ring.geometry r c place) → IsKnown index.ring.geometry index.next place image
+    × IsPlaceAt index.ring.geometry index.table.keep r c place) → IsKnown index.ring.geometry index.table.keep index.next place image
 place-known index image place was clean at = record {
   recording = was.recording;
   held = was.known.held;
@@ -173,39 +173,40 @@ place-known index image place was clean at = record {
 -- ---- refusals
 
 -- where there is no place, an append has no steps
-pub place-none : (g : Geometry) (r : Recording) (ps : List Picture) → recycling_first (needs_recycling (ring_of g) r)
-    (victim (ring_of g) r) ≡ None → steps (ring_of g) r ps ≡ None
-place-none g r ps none = steps-none g r ps none
+pub place-none : (g : Geometry) (keep : ℕ) (r : Recording) (ps : List Picture) → recycling_first (needs_recycling (ring_of g) r)
+    (victim (ring_of g) keep r) ≡ None → steps (ring_of g) keep r ps ≡ None
+place-none g keep r ps none = steps-none g keep r ps none
 
 -- ---- the store
 
 -- what a group of n frames has grown to
-pub record Grew {D : Type 0} (medium : D → Medium) (g : Geometry) (old new : D) (next n j : ℕ) (ps : List Picture) : Type 0 where
+pub record Grew {D : Type 0} (medium : D → Medium) (g : Geometry) (keep : ℕ) (old new : D) (next n j : ℕ) (ps : List Picture) : Type 0 where
   pub back : (medium new).honest → (medium old).honest
   pub count : n ≡ length ps
   pub grown : (medium old).honest → IsGrownAt g next n j (medium old).bytes (medium new).bytes
   pub settled : (medium old).honest → IsSettled (medium new)
   pub stored : (r : Recording) → r.next ≡ next → (medium old).honest → Holds g r (medium old).bytes
-      → Holds g (plain (ring_of g) r (steps_before g r ++ map store ps)) (medium new).bytes
+      → Holds g (plain (ring_of g) r (steps_before g keep r ++ map store ps)) (medium new).bytes
 
 pub noted-at : {A : Type 0} (old new : Index A) (i j n : ℕ) → i ≡ j → IsNoted old new i n → IsNoted old new j n
 noted-at old new i j n at noted = subst (λ (k : ℕ). IsNoted old new k n) at noted
 
 -- it says all of the recording with the steps of the append
 grown-known : {D A : Type 0} (medium : D → Medium) (old new : D) (was now : Index A) (n j : ℕ) (ps : List Picture)
-    (r : Recording) → IsNoted was now j n → Grew medium was.ring.geometry old new was.next n j ps
+    (r : Recording) → IsNoted was now j n → Grew medium was.ring.geometry was.table.keep old new was.next n j ps
     → (medium old).honest → IsIndexOf was r (medium old).bytes
-    → IsIndexOf now (plain (ring_of was.ring.geometry) r (steps_before was.ring.geometry r ++ map store ps)) (medium new).bytes
+    → IsIndexOf now (plain (ring_of was.ring.geometry) r (steps_before was.ring.geometry was.table.keep r ++ map store ps)) (medium new).bytes
 grown-known medium old new was now n j ps r noted grew honest known =
     let g = was.ring.geometry in
-    let t = plain (ring_of g) r (steps_before g r ++ map store ps) in record {
+    let keep = was.table.keep in
+    let t = plain (ring_of g) r (steps_before g keep r ++ map store ps) in record {
       held = subst (λ (h : Geometry). Holds h t (medium new).bytes)
           (sym (ap (λ (x : LoopRing). x.geometry) noted.ring)) (grew.stored r (sym known.next_is) honest known.held);
-      next_is = noted.next ∙ (λ i. known.next_is i + grew.count i) ∙ sym (appended-next g r ps);
+      next_is = noted.next ∙ (λ i. known.next_is i + grew.count i) ∙ sym (appended-next g keep r ps);
       heads_are = noted.heads ∙ ap (λ (l : List (Option SegmentHead)). set l j (Some (head_after g was.next n)))
           known.heads_are ∙ sym (grew.grown honest).heads ∙ ap (λ (h : Geometry). heads_of h (medium new).bytes)
           (sym (ap (λ (x : LoopRing). x.geometry) noted.ring));
-      clips_are = noted.clips ∙ known.clips_are ∙ sym (appended-clips g r ps);
+      clips_are = noted.clips ∙ known.clips_are ∙ sym (appended-clips g keep r ps);
     }
 
 grown-index : {A : Type 0} (was now : Index A) (n j : ℕ) → IsNoted was now j n → IsIndex was
@@ -213,6 +214,7 @@ grown-index : {A : Type 0} (was now : Index A) (n j : ℕ) → IsNoted was now j
     → was.next % was.ring.geometry.slots + n ≤ was.ring.geometry.slots → IsIndex now
 grown-index was now n j noted whole some unspent room =
     let g = was.ring.geometry in
+    let keep = was.table.keep in
     let same : now.ring.geometry ≡ g = ap (λ (x : LoopRing). x.geometry) noted.ring in
     let few : was.next + n ≤ last_number (ring_of g) = appended-few g was.next n some whole.few unspent room in
     let within : All (IsHeadIn g) (set was.table.heads j (Some (head_after g was.next n))) =
@@ -229,7 +231,7 @@ grown-index was now n j noted whole some unspent room =
 pub record IsPlaced {A : Type 0} (was : Index A) (place : Place) (n : ℕ) : Type 0 where
   pub within : place_segment place < was.ring.geometry.segments
   pub at : (r : Recording) (image : List ℕ) → IsIndexOf was r image
-      → (r.next ≢ last_number (ring_of was.ring.geometry)) × IsPlaceAt was.ring.geometry r image place
+      → (r.next ≢ last_number (ring_of was.ring.geometry)) × IsPlaceAt was.ring.geometry was.table.keep r image place
   pub unspent : was.next ≢ last_number (ring_of was.ring.geometry)
   pub room : was.next % was.ring.geometry.slots + n ≤ was.ring.geometry.slots
 
@@ -237,7 +239,7 @@ pub record IsPlaced {A : Type 0} (was : Index A) (place : Place) (n : ℕ) : Typ
 pub record HasGrown {A : Type 0} (was now : Index A) (r : Recording) (n : ℕ) : Type 0 where
   pub pictures : List Picture
   pub size : length pictures ≡ n
-  pub known : IsIndexOf now (plain (ring_of was.ring.geometry) r (steps_before was.ring.geometry r
+  pub known : IsIndexOf now (plain (ring_of was.ring.geometry) r (steps_before was.ring.geometry was.table.keep r
       ++ map store pictures)) (drawn_image now.ring.geometry now.table.heads now.clips)
 
 pub has-grown : {A : Type 0} (was now : Index A) (place : Place) (n : ℕ)
@@ -245,6 +247,7 @@ pub has-grown : {A : Type 0} (was now : Index A) (place : Place) (n : ℕ)
     → IsNoted was now (place_segment place) n → IsPlaced was place n → HasGrown was now known.recording n
 has-grown was now place n known whole noted placed =
     let g = was.ring.geometry in
+    let keep = was.table.keep in
     let j = place_segment place in
     let heads = was.table.heads in
     let r = known.recording in
@@ -252,24 +255,24 @@ has-grown was now place n known whole noted placed =
     let head : IsHeadIn g (Some (head_after g was.next n)) = (placed.room, appended-low g was.next some whole.few placed.unspent) in
     let next = known.known.next_is in
     let is = placed.at r (drawn_image g heads was.clips) known.known in
-    let drawn_on : Regrown g (set heads j (Some (head_after g r.next n))) was.clips r (steps_before g r) n =
-    regrown g heads was.clips r place n was.ring.good whole.count whole.within placed.within known.known.held is.1
+    let drawn_on : Regrown g (set heads j (Some (head_after g r.next n))) was.clips r (steps_before g keep r) n =
+    regrown g keep heads was.clips r place n was.ring.good whole.count whole.within placed.within known.known.held is.1
     (subst (λ (k : ℕ). IsHeadIn g (Some (head_after g k n))) next head) in
-    let back : Regrown g (set heads j (Some (head_after g was.next n))) was.clips r (steps_before g r) n =
-    subst (λ (k : ℕ). Regrown g (set heads j (Some (head_after g k n))) was.clips r (steps_before g r) n)
+    let back : Regrown g (set heads j (Some (head_after g was.next n))) was.clips r (steps_before g keep r) n =
+    subst (λ (k : ℕ). Regrown g (set heads j (Some (head_after g k n))) was.clips r (steps_before g keep r) n)
     (sym next) drawn_on in
-    let t = plain (ring_of g) r (steps_before g r ++ map store back.pictures) in
+    let t = plain (ring_of g) r (steps_before g keep r ++ map store back.pictures) in
     let all = known-drawn now g (set heads j (Some (head_after g was.next n))) was.clips t was.ring.good
     (length-set heads j (Some (head_after g was.next n)) ∙ whole.count)
     (All-set (IsHeadIn g) heads j (Some (head_after g was.next n)) head whole.within) back.held
     (ap (λ (x : LoopRing). x.geometry) noted.ring) noted.heads noted.clips
-    (noted.next ∙ (λ i. next i + sym back.size i) ∙ sym (appended-next g r back.pictures)) (known.known.clips_are ∙ sym (appended-clips g r back.pictures)) in
+    (noted.next ∙ (λ i. next i + sym back.size i) ∙ sym (appended-next g keep r back.pictures)) (known.known.clips_are ∙ sym (appended-clips g keep r back.pictures)) in
     record { pictures = back.pictures; size = back.size; known = all }
 
 pub kept-grown : {D A : Type 0} (medium : D → Medium) (old new : D) (was now : Index A) (place : Place) (n j : ℕ)
     (ps : List Picture) (must : Bool) → IsKept medium old was must → must ≡ false → j ≡ place_segment place
     → IsPlaced was place n → IsNoted was now j n → (medium new).size ≡ (medium old).size
-    → Grew medium was.ring.geometry old new was.next n j ps → IsKept medium new now must
+    → Grew medium was.ring.geometry was.table.keep old new was.next n j ps → IsKept medium new now must
 kept-grown medium old new was now place n j ps must kept fine at placed noted size grew = record {
   fits = record {
     size_is = size ∙ kept.fits.size_is ∙ ap disk_size (sym (ap (λ (x : LoopRing). x.geometry) noted.ring));
@@ -277,7 +280,7 @@ kept-grown medium old new was now place n j ps must kept fine at placed noted si
   };
   known =
       let grown = has-grown was now place n kept.known kept.fits.whole (noted-at was now j (place_segment place) n at noted) placed in record {
-        recording = plain (ring_of was.ring.geometry) kept.known.recording (steps_before was.ring.geometry kept.known.recording ++ map store grown.pictures);
+        recording = plain (ring_of was.ring.geometry) kept.known.recording (steps_before was.ring.geometry was.table.keep kept.known.recording ++ map store grown.pictures);
         known = grown.known;
       };
   present = λ f honest.
@@ -294,7 +297,7 @@ kept-grown medium old new was now place n j ps must kept fine at placed noted si
         let back = grew.back honest in
         let there = (kept.present fine back).recorded in
         let g = was.ring.geometry in record {
-          recording = plain (ring_of g) there.recording (steps_before g there.recording ++ map store ps);
+          recording = plain (ring_of g) there.recording (steps_before g was.table.keep there.recording ++ map store ps);
           known = grown-known medium old new was now n j ps there.recording noted grew back there.known;
         }
 
@@ -303,45 +306,47 @@ pub told-grown : {D A : Type 0} (medium : D → Medium) (old new : D) (was now :
     (ps : List Picture) (must : Bool) (r : Recording) → (kept : IsKept medium old was must)
     → Tells (seen_with old was must) r → j ≡ place_segment place
     → IsPlaced was place n → IsNoted was now j n → n ≡ length ps → Tells (seen_with new now must)
-    (plain (ring_of was.ring.geometry) r (steps_or_none (steps (ring_of was.ring.geometry) r ps)))
+    (plain (ring_of was.ring.geometry) r (steps_or_none (steps (ring_of was.ring.geometry) was.table.keep r ps)))
 told-grown medium old new was now place n j ps must r kept told_before at placed noted count =
     let g = was.ring.geometry in
+    let keep = was.table.keep in
     let some = (limits g was.ring.good).slots.0 in
     let r0 = kept.known.recording in
     let same = alike-by medium old was must r kept told_before in
     let grown = has-grown was now place n kept.known kept.fits.whole (noted-at was now j (place_segment place) n at noted) placed in
     let is = placed.at r0 (drawn_image g was.table.heads was.clips) kept.known.known in
-    let steps_are : steps_before g r ++ map store ps ≡ steps_or_none (steps (ring_of g) r ps) =
-    steps-are g r ps (λ spent. is.0 (same.next ∙ spent))
-    (λ none. place-some g r0 (drawn_image g was.table.heads was.clips) place is.1 (place-same g r0 r same ∙ none))
+    let steps_are : steps_before g keep r ++ map store ps ≡ steps_or_none (steps (ring_of g) keep r ps) =
+    steps-are g keep r ps (λ spent. is.0 (same.next ∙ spent))
+    (λ none. place-some g keep r0 (drawn_image g was.table.heads was.clips) place is.1 (place-same g keep r0 r same ∙ none))
     in
     let slots : 1 ≤ now.ring.geometry.slots = subst (λ (h : Geometry). 1 ≤ h.slots) (sym (ap (λ (x : LoopRing). x.geometry) noted.ring)) some in
-    let t0 = plain (ring_of g) r0 (steps_before g r0 ++ map store grown.pictures) in
+    let t0 = plain (ring_of g) r0 (steps_before g keep r0 ++ map store grown.pictures) in
     let told : Tells (seen_with new now must) t0 =
     told-by new now must t0 (drawn_image now.ring.geometry now.table.heads now.clips) slots
     (grown-index was now n j noted kept.fits.whole some placed.unspent placed.room).within grown.known in
     subst (λ (l : List Step). Tells (seen_with new now must) (plain (ring_of g) r l)) steps_are
-    (same-tells (seen_with new now must) t0 (plain (ring_of g) r (steps_before g r ++ map store ps)) told
-    (appended-same g r0 r grown.pictures ps same (grown.size ∙ count)))
+    (same-tells (seen_with new now must) t0 (plain (ring_of g) r (steps_before g keep r ++ map store ps)) told
+    (appended-same g keep r0 r grown.pictures ps same (grown.size ∙ count)))
 
 -- it stands for that one, and where the disk is honest the disk holds it
 pub stands-grown : {D A : Type 0} (medium : D → Medium) (old new : D) (was now : Index A) (place : Place) (n j : ℕ)
     (ps : List Picture) (must : Bool) (r : Recording) → (kept : IsKept medium old was must) → must ≡ false
     → StandsFor medium (seen_with old was must) r → j ≡ place_segment place
-    → IsPlaced was place n → IsNoted was now j n → Grew medium was.ring.geometry old new was.next n j ps
+    → IsPlaced was place n → IsNoted was now j n → Grew medium was.ring.geometry was.table.keep old new was.next n j ps
     → StandsFor medium (seen_with new now must)
-    (plain (ring_of was.ring.geometry) r (steps_or_none (steps (ring_of was.ring.geometry) r ps)))
+    (plain (ring_of was.ring.geometry) r (steps_or_none (steps (ring_of was.ring.geometry) was.table.keep r ps)))
 stands-grown medium old new was now place n j ps must r kept fine stands at placed noted grew =
     let g = was.ring.geometry in
-    let t : Recording = plain (ring_of g) r (steps_or_none (steps (ring_of g) r ps)) in record {
+    let keep = was.table.keep in
+    let t : Recording = plain (ring_of g) r (steps_or_none (steps (ring_of g) keep r ps)) in record {
       told = told-grown medium old new was now place n j ps must r kept stands.told at placed noted grew.count;
       settled = λ still there. grew.settled (grew.back there);
       held = λ still there.
           let back = grew.back there in
           let known = known-by medium old was must r kept stands fine back in
           let is = placed.at r (medium old).bytes known in
-          let same : steps_before g r ++ map store ps ≡ steps_or_none (steps (ring_of g) r ps) =
-          steps-are g r ps is.0 (place-some g r (medium old).bytes place is.1) in
+          let same : steps_before g keep r ++ map store ps ≡ steps_or_none (steps (ring_of g) keep r ps) =
+          steps-are g keep r ps is.0 (place-some g keep r (medium old).bytes place is.1) in
           let after : IsIndexOf now t (medium new).bytes =
           subst (λ (l : List Step). IsIndexOf now (plain (ring_of g) r l) (medium new).bytes) same
           (grown-known medium old new was now n j ps r noted grew back known) in

@@ -151,3 +151,4 @@ write-disk kind.WrongSize e = absurd cc
 write-disk kind.HandFull e = absurd cc
 write-disk kind.HandEmpty e = absurd cc
 write-disk kind.OldLayout e = absurd cc
+write-disk kind.BadKeep e = absurd cc

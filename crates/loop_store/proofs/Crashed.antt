@@ -20,10 +20,11 @@ use Rattle.loop_store.proofs.Checked.{due-none, due-some, passed}
 ok-inj : (a b : Contents) → let x : Result Contents LayoutFault = Ok a in let y : Result Contents LayoutFault = Ok b in x ≡ y → a ≡ b
 ok-inj a b e = cc
 
--- what a store stood for is what the one stands for that was opened on an image that a crash may leave
+-- what a store stood for is what the one stands for that was opened on an image that a crash may leave, but for how many
+-- blocks it keeps
 pub record IsSame {D E : Type 0} (medium : D → Medium) (other : E → Medium) (old : Seen D) (new : Seen E) (s : StoreState) : Type 0 where
   pub geometry : new.geometry ≡ old.geometry
-  pub stands : Stands other new s
+  pub stands : Stands other new (record s { keep = new.keep })
 
 pub opened-same : {D E : Type 0} (medium : D → Medium) (other : E → Medium) (old : Seen D) (new : Seen E)
     (image : List ℕ) (s : StoreState) → Stands medium old s → s.must_reopen ≡ false → (medium old.disk).honest
@@ -41,6 +42,7 @@ opened-same medium other old new image s stands fine honest left opened still =
       stands = record {
         recording = subst (λ (x : Contents). StandsFor other new x.recording) one opened.stands;
         version = sym opened.version_is ∙ ap version_in same ∙ stands.recording.version_is kept honest ∙ stands.version;
+        keep = refl;
         must_reopen = still ∙ sym fine;
       };
     }

@@ -80,15 +80,21 @@ Held medium store s = (medium store.disk).honest × Stands medium store s
 
 -- the state of a store that tells of a recording
 abbrev pub state-of : {D : Type 0} (store : Seen D) → TellsOne store → StoreState
-state-of store one = record { recording = one.0; version = store.version; must_reopen = store.must_reopen }
+state-of store one =
+    record { recording = one.0; version = store.version; keep = store.keep; must_reopen = store.must_reopen }
 
 pub state-told : {D : Type 0} (store : Seen D) (one : TellsOne store) → TellsState store (state-of store one)
-state-told store one = record { recording = one.1; version = refl; must_reopen = refl }
+state-told store one = record { recording = one.1; version = refl; keep = refl; must_reopen = refl }
 
 -- a store tells what the state says for which it stands
 pub told-of : {D : Type 0} (medium : D → Medium) (store : Seen D) (s : StoreState) → Stands medium store s
     → TellsState store s
-told-of medium store s stands = record { recording = stands.recording.told; version = stands.version; must_reopen = stands.must_reopen }
+told-of medium store s stands = record {
+  recording = stands.recording.told;
+  version = stands.version;
+  keep = stands.keep;
+  must_reopen = stands.must_reopen;
+}
 
 -- and so nothing is moved
 pub idle : {D : Type 0} (medium : D → Medium) (old new : Seen D) (calls : List Call) → Goes medium old new calls

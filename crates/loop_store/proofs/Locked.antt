@@ -427,10 +427,11 @@ goes-noted medium old new was now must id clip IsOne step c kept fine n moments 
       still = fine;
       geometry = geometry-same was now id clip n.noted;
       version = λ v e. n.noted.version ∙ e ∙ sym ((call (Unit {0})).leaves v);
+      keep = n.noted.keep;
       called = n.called;
       unfailed = unfailed;
       none = none;
-      made_all = made_all;
+      made_all = λ s kept. made_all s;
       begun_none = begun_none;
       answers = λ s told.
           (call ((medium old).honest × Stands medium (seen_with old was must) s)).answers s (sym told.must_reopen ∙ fine) told.version
@@ -467,7 +468,7 @@ goes-unnoted medium old new was now must IsOne step c fault kept fine same alike
       has = has;
       some = some;
       made_none = made_none;
-      begun_all = begun_all;
+      begun_all = λ s kept. begun_all s;
       answers = λ s told.
           (call ((medium old).honest × Stands medium (seen_with old was must) s)).answers s (sym told.must_reopen ∙ fine) told.version
           (alike kept.known.recording s.recording (alike-by medium old was must s.recording kept told.recording)

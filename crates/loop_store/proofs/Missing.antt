@@ -5,7 +5,7 @@ use Rattle.std.specs.Prelude.{IsTrue}
 use Rattle.std.specs.List.{find, range_with_len}
 use Rattle.loop_record.specs.declared.clip.Span.{Span}
 use Rattle.loop_record.specs.Layout.{has_tag_place}
-use Rattle.loop_record.specs.Recording.{Recording, Ring, free_id, holds, holds_all, is_legal, lock}
+use Rattle.loop_record.specs.Recording.{Recording, Ring, free_id, holds, holds_all, lock, may_lock}
 use Rattle.loop_record.proofs.Decided.{at_most_test, differ_test, equal_test, not_below, not_below_test, not_false}
 use Rattle.loop_record.proofs.Rising.{each-all_range}
 use Rattle.loop_store.specs.declared.fault.StoreFault.TheVariants.{ClipEmpty, ClipNotHeld, ClipTableFull, OldLayout}
@@ -122,7 +122,7 @@ no-number (Some n) e = absurd cc
 
 -- where none is due, the clip may be added
 pub fits-legal : (v : ℕ) (ring : Ring) (r : Recording) (span : Span) → first_of (span_checks v r span) ≡ None
-    → free_id r < 64 → IsTrue (is_legal ring r (lock span))
+    → free_id r < 64 → IsTrue (may_lock r span)
 fits-legal v ring r span none free =
     let a = passes (ltb span.to span.from) ClipEmpty _ none in
     let b = none-before (option_map ClipNotHeld (missing r span)) _ a.1 in

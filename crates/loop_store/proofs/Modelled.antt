@@ -34,7 +34,7 @@ begun-none g s (upgraded result) fine = none-either (answers_disk result)
 begun-none g s (locked span result) fine = ap (λ (b : Bool). if b then lock span ∷ [] else []) fine
 begun-none g s (unlocked id result) fine = ap (λ (b : Bool). if b then unlock id ∷ [] else []) fine
 begun-none g s (was_read_part number at result) fine = none-either (answers_disk result)
-begun-none g s (appended group result) fine = ap (λ (b : Bool). if b then steps_asked (ring_of g) s.recording group else []) fine
+begun-none g s (appended group result) fine = ap (λ (b : Bool). if b then steps_asked (ring_of g) s.keep s.recording group else []) fine
 
 -- nothing has failed before
 pub record IsFine (g : Geometry) (s : StoreState) (calls : List Call) : Type 0 where

@@ -25,9 +25,9 @@ raised : (ring : Ring) (r : Recording) (group : List Picture)
 raised ring r group = ap (λ (q : Recording). q.next) (plain-stores ring r group)
 
 -- the steps of an append raise it by the frames
-appended-raises : (ring : Ring) (r : Recording) (group : List Picture) → steps ring r group ≢ None
-    → (plain ring r (steps_or_none (steps ring r group))).next ≡ r.next + length group
-appended-raises ring r group some = go (r.next == last_number ring) (needs_recycling ring r) (victim ring r) some
+appended-raises : (ring : Ring) (keep : ℕ) (r : Recording) (group : List Picture) → steps ring keep r group ≢ None
+    → (plain ring r (steps_or_none (steps ring keep r group))).next ≡ r.next + length group
+appended-raises ring keep r group some = go (r.next == last_number ring) (needs_recycling ring r) (victim ring keep r) some
   where
     go : (b n : Bool) (v : Option ℕ) → (if b then None else stores_after (recycling_first n v) group) ≢ None
         → (plain ring r (steps_or_none (if b then None else stores_after (recycling_first n v) group))).next ≡
@@ -39,7 +39,7 @@ appended-raises ring r group some = go (r.next == last_number ring) (needs_recyc
 
 after-next : (H : Type 0) (g : Geometry) (s : StoreState) (c : Call) → IsAnswered H (ring_of g) s c
     → (after_store_call (ring_of g) s c).recording.next ≡ s.recording.next + count_stored c
-after-next H g s (appended group (Ok number)) said = appended-raises (ring_of g) s.recording group (answered-some H g s group number said)
+after-next H g s (appended group (Ok number)) said = appended-raises (ring_of g) s.keep s.recording group (answered-some H g s group number said)
 after-next H g s (appended group (Err fault)) said = none-more s.recording.next
 after-next H g s (locked span (Ok id)) said = none-more s.recording.next
 after-next H g s (locked span (Err fault)) said = none-more s.recording.next

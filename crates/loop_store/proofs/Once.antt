@@ -54,12 +54,14 @@ goes-refused {D} medium s c one sound quiet answers = goes-once medium s s c (re
   tells = λ t told. record {
     recording = subst (λ (steps : List Step). Tells s (plain (ring_of s.geometry) t.recording steps)) (sym (quiet.made_none s.geometry t)) told.recording;
     version = told.version ∙ sym (quiet.version t.version);
+    keep = told.keep;
     must_reopen = told.must_reopen ∙ sym (or-quiet t.must_reopen (has_failed c) quiet.unfailed);
   };
   stands = λ t stands. record {
     recording = subst (λ (steps : List Step). StandsFor medium s (plain (ring_of s.geometry) t.recording steps))
         (sym (quiet.made_none s.geometry t)) stands.recording;
     version = stands.version ∙ sym (quiet.version t.version);
+    keep = stands.keep;
     must_reopen = stands.must_reopen ∙ sym (or-quiet t.must_reopen (has_failed c) quiet.unfailed);
   };
   leaves = λ t stands now fine.
@@ -101,10 +103,11 @@ pub record Done {D : Type 0} (medium : D → Medium) (old new : Seen D) (c : Cal
   pub still : new.must_reopen ≡ false
   pub geometry : new.geometry ≡ old.geometry
   pub version : (v : ℕ) → old.version ≡ v → new.version ≡ version_after v c
+  pub keep : new.keep ≡ old.keep
   pub called : Called (medium old.disk) (medium new.disk) None
   pub unfailed : has_failed c ≡ false
   pub none : failed_for c ≡ None
-  pub made_all : (s : StoreState) → made_by (ring_of old.geometry) s c ≡ steps s.recording
+  pub made_all : (s : StoreState) → old.keep ≡ s.keep → made_by (ring_of old.geometry) s c ≡ steps s.recording
   pub begun_none : (s : StoreState) → begun_by (ring_of old.geometry) s c ≡ []
   pub one : TellsOne old
   pub answers : (s : StoreState) → TellsState old s → IsAnswered ((medium old.disk).honest × Stands medium old s)
@@ -122,14 +125,16 @@ goes-done {D} medium old new c steps done = goes-once medium old new c (record {
   answers = done.answers;
   tells = λ s told. record {
     recording = subst (λ (l : List Step). Tells new (plain (ring_of old.geometry) s.recording l))
-        (sym (done.made_all s)) (done.tells s.recording told.recording);
+        (sym (done.made_all s told.keep)) (done.tells s.recording told.recording);
     version = done.version s.version told.version;
+    keep = done.keep ∙ told.keep;
     must_reopen = done.still ∙ sym (or-quiet s.must_reopen (has_failed c) done.unfailed ∙ sym told.must_reopen ∙ done.fine);
   };
   stands = λ s stands. record {
     recording = subst (λ (l : List Step). StandsFor medium new (plain (ring_of old.geometry) s.recording l))
-        (sym (done.made_all s)) (done.stands s.recording stands.recording);
+        (sym (done.made_all s stands.keep)) (done.stands s.recording stands.recording);
     version = done.version s.version stands.version;
+    keep = done.keep ∙ stands.keep;
     must_reopen = done.still ∙ sym (or-quiet s.must_reopen (has_failed c) done.unfailed ∙ sym stands.must_reopen ∙ done.fine);
   };
   leaves = λ s stands now fine.
@@ -137,7 +142,7 @@ goes-done {D} medium old new c steps done = goes-once medium old new c (record {
       let later = done.stands r stands.recording in
       let there = done.called.honest.0 now in
       leaves-same old.geometry r (steps r) (made_by (ring_of old.geometry) s c) [] (begun_by (ring_of old.geometry) s c) (medium old.disk)
-      (medium new.disk) (sym (done.made_all s)) (sym (done.begun_none s))
+      (medium new.disk) (sym (done.made_all s stands.keep)) (sym (done.begun_none s))
       (done-leaves old.geometry r (steps r) (medium old.disk) (medium new.disk) (done.moments r stands.recording now) (later.settled done.still there)
       (subst (λ (g : Geometry). Holds g (plain (ring_of old.geometry) r (steps r)) (medium new.disk).bytes) done.geometry (later.held done.still there)));
   looks = λ look now. absurd (clash (is_look c) look done.writes);
@@ -160,7 +165,7 @@ pub record Failed {D : Type 0} (medium : D → Medium) (old new : Seen D) (c : C
   pub has : has_failed c ≡ true
   pub some : failed_for c ≡ Some fault
   pub made_none : (s : StoreState) → made_by (ring_of old.geometry) s c ≡ []
-  pub begun_all : (s : StoreState) → begun_by (ring_of old.geometry) s c ≡ steps s.recording
+  pub begun_all : (s : StoreState) → old.keep ≡ s.keep → begun_by (ring_of old.geometry) s c ≡ steps s.recording
   pub one : TellsOne old
   pub answers : (s : StoreState) → TellsState old s → IsAnswered ((medium old.disk).honest × Stands medium old s)
       (ring_of old.geometry) s c
@@ -176,6 +181,7 @@ goes-failed {D} medium old new c steps fault failed = goes-once medium old new c
     recording = subst (λ (l : List Step). Tells new (plain (ring_of old.geometry) s.recording l))
         (sym (failed.made_none s)) (failed-told old new s.recording failed.failed told.recording);
     version = ap (λ (x : Seen D). x.version) failed.failed ∙ told.version ∙ sym (failed.version s.version);
+    keep = ap (λ (x : Seen D). x.keep) failed.failed ∙ told.keep;
     must_reopen = ap (λ (x : Seen D). x.must_reopen) failed.failed ∙ sym (or-loud s.must_reopen (has_failed c) failed.has);
   };
   stands = λ s stands. record {
@@ -183,13 +189,14 @@ goes-failed {D} medium old new c steps fault failed = goes-once medium old new c
         subst (λ (l : List Step). StandsFor medium new (plain (ring_of old.geometry) s.recording l)) (sym (failed.made_none s))
         (failed-stands medium old new s.recording failed.failed stands.recording);
     version = ap (λ (x : Seen D). x.version) failed.failed ∙ stands.version ∙ sym (failed.version s.version);
+    keep = ap (λ (x : Seen D). x.keep) failed.failed ∙ stands.keep;
     must_reopen = ap (λ (x : Seen D). x.must_reopen) failed.failed ∙ sym (or-loud s.must_reopen (has_failed c) failed.has);
   };
   leaves = λ s stands now fine.
       let run = failed.moments s.recording stands.recording now in
       leaves-same old.geometry s.recording [] (made_by (ring_of old.geometry) s c) (steps s.recording)
       (begun_by (ring_of old.geometry) s c) (medium old.disk) (medium new.disk) (sym (failed.made_none s))
-      (sym (failed.begun_all s)) (record {
+      (sym (failed.begun_all s stands.keep)) (record {
         moments = run;
         now = each_now (medium old.disk) (medium new.disk) (HoldsSome old.geometry s.recording (steps s.recording))
             (failed.sound (failed.called.honest.0 now)) run;

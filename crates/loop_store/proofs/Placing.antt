@@ -143,12 +143,12 @@ closed-place g r image j count e unspent missing found counted fewer =
       (first, needs-not g r (λ all. fewer (counted ∙ held-count g r image e ∙ all))),
     )
 
-pub victim-place : (g : Geometry) (r : Recording) (image : List ℕ) (j count : ℕ) (heads : List (Option SegmentHead))
+pub victim-place : (g : Geometry) (keep : ℕ) (r : Recording) (image : List ℕ) (j count : ℕ) (heads : List (Option SegmentHead))
     → Holds g r image → heads ≡ heads_of g image → r.next ≢ last_number (ring_of g)
     → position (is_of (r.next / g.slots)) (heads_of g image) ≡ None
-    → count ≡ count_by has_frame heads → count ≡ g.segments → IsPlaceOf heads (victim (ring_of g) r) (Some j)
-    → (b : ℕ) × ((victim (ring_of g) r ≡ Some b) × (IsOldFor g r.next b j image × ((r.next % g.slots ≡ 0) × (needs_recycling (ring_of g) r ≡ true))))
-victim-place g r image j count heads e is unspent missing counted all place =
+    → count ≡ count_by has_frame heads → count ≡ g.segments → IsPlaceOf heads (victim (ring_of g) keep r) (Some j)
+    → (b : ℕ) × ((victim (ring_of g) keep r ≡ Some b) × (IsOldFor g r.next b j image × ((r.next % g.slots ≡ 0) × (needs_recycling (ring_of g) r ≡ true))))
+victim-place g keep r image j count heads e is unspent missing counted all place =
     let first = (newest-missing g r image e missing).1 in
     let head : get_or (heads_of g image) j None ≡ Some place.0 = ap (λ (hs : List (Option SegmentHead)). get_or hs j None) (sym is) ∙ place.1 in
     let within = there (heads_of g image) j place.0 head in
@@ -163,11 +163,11 @@ victim-place g r image j count heads e is unspent missing counted all place =
       ),
     )
 
-pub no-victim : (g : Geometry) (r : Recording) (image : List ℕ) (count : ℕ) (heads : List (Option SegmentHead))
+pub no-victim : (g : Geometry) (keep : ℕ) (r : Recording) (image : List ℕ) (count : ℕ) (heads : List (Option SegmentHead))
     → Holds g r image → heads ≡ heads_of g image → position (is_of (r.next / g.slots)) (heads_of g image) ≡ None
     → count ≡ count_by has_frame heads → count ≡ g.segments
-    → victim (ring_of g) r ≡ None → recycling_first (needs_recycling (ring_of g) r) (victim (ring_of g) r) ≡ None
-no-victim g r image count heads e is missing counted all none =
+    → victim (ring_of g) keep r ≡ None → recycling_first (needs_recycling (ring_of g) r) (victim (ring_of g) keep r) ≡ None
+no-victim g keep r image count heads e is missing counted all none =
     let first = (newest-missing g r image e missing).1 in
     let needs = needs-so g r first (sym (held-count g r image e) ∙ ap (count_by has_frame) (sym is) ∙ sym counted ∙ all) in
     λ i. recycling_first (needs i) (none i)

@@ -67,6 +67,7 @@ goes-looked {D} medium old disk c look sound looked = goes-once medium old (reco
         (plain (ring_of old.geometry) s.recording l)) (sym (look.steps old.geometry s))
         (looked-told old disk s.recording told.recording);
     version = told.version ∙ sym (look.version s.version);
+    keep = told.keep;
     must_reopen = told.must_reopen ∙ unfailed s.must_reopen;
   };
   stands = λ s stands. record {
@@ -74,6 +75,7 @@ goes-looked {D} medium old disk c look sound looked = goes-once medium old (reco
         (plain (ring_of old.geometry) s.recording l)) (sym (look.steps old.geometry s))
         (looked-stands medium old disk s.recording stands.recording looked.called.honest.1 looked.stays);
     version = stands.version ∙ sym (look.version s.version);
+    keep = stands.keep;
     must_reopen = stands.must_reopen ∙ unfailed s.must_reopen;
   };
   leaves = λ s stands now fine.

@@ -88,6 +88,7 @@ recovers-as StoreFault.WrongSize P P' Q Q' h said = absurd said
 recovers-as StoreFault.HandFull P P' Q Q' h said = absurd said
 recovers-as StoreFault.HandEmpty P P' Q Q' h said = absurd said
 recovers-as StoreFault.OldLayout P P' Q Q' h said = absurd said
+recovers-as StoreFault.BadKeep P P' Q Q' h said = absurd said
 
 -- what was found where a callee refused, after reads
 pub finds-on : {T U : Type 0} (r : Result U StoreFault) (e : StoreFault) (P : T → Type 0) (P' : U → Type 0)

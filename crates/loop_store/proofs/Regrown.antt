@@ -113,30 +113,30 @@ begin-drawn g heads clips r j n good l u held first free may =
     (commit-drawn g begun clips r j n good l mid is may)
 
 -- at a place
-pub regrown : (g : Geometry) (heads : Heads) (clips : Clips) (r : Recording) (place : Place) (n : ℕ)
+pub regrown : (g : Geometry) (keep : ℕ) (heads : Heads) (clips : Clips) (r : Recording) (place : Place) (n : ℕ)
     → IsTrue (is_good g) → length heads ≡ g.segments → All (IsHeadIn g) heads → place_segment place < g.segments
-    → Holds g r (drawn_image g heads clips) → IsPlaceAt g r (drawn_image g heads clips) place
-    → IsHeadIn g (Some (head_after g r.next n)) → Regrown g (set heads (place_segment place) (Some (head_after g r.next n))) clips r (steps_before g r) n
-regrown g heads clips r (Newest j) n good count within l held at may =
+    → Holds g r (drawn_image g heads clips) → IsPlaceAt g keep r (drawn_image g heads clips) place
+    → IsHeadIn g (Some (head_after g r.next n)) → Regrown g (set heads (place_segment place) (Some (head_after g r.next n))) clips r (steps_before g keep r) n
+regrown g keep heads clips r (Newest j) n good count within l held at may =
     let is : head_in heads j ≡ Some (head_at g r.next) = ap (λ (hs : Heads). head_in hs j)
     (sym (heads-drawn g heads clips good count (all-stand g heads count within))) ∙ at.0.head in
-    subst (λ (steps : List Step). Regrown g (set heads j (Some (head_after g r.next n))) clips r steps n) (sym (before-none g r at.1))
+    subst (λ (steps : List Step). Regrown g (set heads j (Some (head_after g r.next n))) clips r steps n) (sym (before-none g keep r at.1))
     (commit-drawn g heads clips r j n good l held is (stand-of g (Some (head_after g r.next n)) may))
-regrown g heads clips r (Closed j) n good count within l held at may =
-    subst (λ (steps : List Step). Regrown g (set heads j (Some (head_after g r.next n))) clips r steps n) (sym (before-none g r at.1.1))
+regrown g keep heads clips r (Closed j) n good count within l held at may =
+    subst (λ (steps : List Step). Regrown g (set heads j (Some (head_after g r.next n))) clips r steps n) (sym (before-none g keep r at.1.1))
     (begin-drawn g heads clips r j n good l (omega (arith, l, count)) held at.1.0 at.0 (stand-of g (Some (head_after g r.next n)) may))
-regrown g heads clips r (Victim j) n good count within l held at may =
+regrown g keep heads clips r (Victim j) n good count within l held at may =
     let few = (limits g good).slots.1 in
     let old = drawn_image g heads clips in
     let closed = set heads j None in
     let b = at.0 in
     let shows = drawn-closed g heads clips j l (omega (arith, l, count)) in
-    let mid = retired-held g r b j old (drawn_image g closed clips) held l at.1.0 at.1.1.0 shows in
+    let mid = retired-held g keep r b j old (drawn_image g closed clips) held l at.1.0 at.1.1.0 shows in
     let free = retired-free g r.next b j old (drawn_image g closed clips) few l at.1.1.0 shows in
     let last = begin-drawn g closed clips (after_step (ring_of g) r (recycle b)) j n good l
     (omega (arith, l, count, length-set heads j None)) mid at.1.1.1.0 free
     (stand-of g (Some (head_after g r.next n)) may) in
-    subst (λ (steps : List Step). Regrown g (set heads j (Some (head_after g r.next n))) clips r steps n) (sym (before-one g r b at.1.1.1.1 at.1.0))
+    subst (λ (steps : List Step). Regrown g (set heads j (Some (head_after g r.next n))) clips r steps n) (sym (before-one g keep r b at.1.1.1.1 at.1.0))
     (record {
       pictures = last.pictures;
       size = last.size;

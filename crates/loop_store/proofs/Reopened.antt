@@ -1,5 +1,5 @@
 -- What opening makes of a disk.
-use Rattle.std.proofs.Common.{◌≡◌, ◌≢◌, ◌⊎◌, inl, inr, ℕ, ◌+◌, ◌*◌, ◌/◌, ◌%◌, ◌^◌, ◌<◌, ◌≤◌, Bool, true, false, not, eqb, Option, Some, None, Ok, List, [], ◌∷◌, ◌++◌, length, set, get_or, map, refl, sym, ap, ◌∙◌, subst, arith}
+use Rattle.std.proofs.Common.{◌≡◌, ◌≢◌, ◌⊎◌, inl, inr, ℕ, ◌+◌, ◌*◌, ◌/◌, ◌%◌, ◌^◌, ◌<◌, ◌≤◌, Bool, true, false, not, eqb, Option, Some, None, Result, Ok, Err, List, [], ◌∷◌, ◌++◌, length, set, get_or, map, refl, sym, ap, ◌∙◌, subst, arith}
 use Rattle.std.proofs.Math.Nat.{add-mul, div-eq_of_lt-le, mul-le-mul_right, mul_comm}
 use Rattle.std.proofs.lemmas.Nat.{le-div}
 use Rattle.std.proofs.lemmas.Bool.{cases_lt}
@@ -22,7 +22,7 @@ use Rattle.loop_record.specs.Recording.{Recording, last_number, ring_of}
 use Rattle.loop_record.proofs.Bounds.{limits}
 use Rattle.loop_record.proofs.Changes.{shown_of, is_overfull, next_after-behind}
 use Rattle.loop_record.proofs.Decided.{clash, differ, equal, equal_test, neither, not_below, not_false}
-use Rattle.loop_record.proofs.Parts.{reading-stages, geometry-good, version-outside}
+use Rattle.loop_record.proofs.Parts.{reading-stages, geometry-good, these, version-outside}
 use Rattle.loop_record.proofs.Readings.{length-range, overfull_none, reading-same, segments_length, segment_there, whole-length}
 use Rattle.loop_record.proofs.Segments.{placed_there}
 use Rattle.loop_ring.specs.Heads.{heads_of, is_of}
@@ -30,9 +30,10 @@ use Rattle.loop_ring.specs.Writes.{HasNoStray}
 use Rattle.loop_ring.proofs.Heads.{head_of, head-there, heads-length, heads-shown, newest-found, one-entry, position-none}
 use Rattle.loop_store.specs.Grow.{HasNoneStray}
 use Rattle.loop_store.specs.declared.index.Index.{Index}
-use Rattle.loop_store.specs.Reopen.{IsOpened, ReadsAlike, WasOrReadsAlike}
-use Rattle.loop_store.specs.Found.{IsHeadIn}
-use Rattle.loop_store.specs.Index.{IsRecovered}
+use Rattle.loop_store.specs.declared.fault.StoreFault.{StoreFault}
+use Rattle.loop_store.specs.Reopen.{IsBadKeep, IsOpened, IsRefusedOpen, ReadsAlike, WasOrReadsAlike, is_bad_keep}
+use Rattle.loop_store.specs.Found.{IsHeadIn, Recovers}
+use Rattle.loop_store.specs.Index.{IsFitting, IsRecovered, keeping}
 use Rattle.loop_store.specs.Store.{IsPresent}
 use Rattle.loop_store.specs.Seen.{seen_with}
 use Rattle.loop_store.proofs.Looks.{told-by}
@@ -268,3 +269,54 @@ present-opened medium disk index before some within present alike =
         version_is = λ fine now. present.version;
       };
     }
+
+-- ---- the blocks that are kept
+
+pub keeping-fits : {A : Type 0} (keep : ℕ) (index : Index A) (size : ℕ) → IsFitting index size
+    → IsFitting (keeping keep index) size
+keeping-fits keep index size fits =
+    let whole = fits.whole in record {
+      size_is = fits.size_is;
+      whole = record { count = whole.count; within = whole.within; few = whole.few; counted = whole.counted };
+    }
+
+pub keeping-recovered : {A : Type 0} (keep : ℕ) (index : Index A) (image : List ℕ) → IsRecovered index image
+    → IsRecovered (keeping keep index) image
+keeping-recovered keep index image was =
+    let known = was.known in record {
+      recording = was.recording;
+      known = record {
+        held = known.held;
+        next_is = known.next_is;
+        heads_are = known.heads_are;
+        clips_are = known.clips_are;
+      };
+    }
+
+-- what was found and may not be kept
+pub bad-kept : {A : Type 0} (keep : ℕ) (index : Index A) (image : List ℕ) → IsRecovered index image
+    → is_bad_keep index.ring.geometry.segments keep ≡ true → IsBadKeep keep image
+bad-kept keep index image was bad = (these index.ring.geometry was.recording, (was.known.held, bad))
+
+-- a refusal that the image reads as is one of opening it
+pub refused-as : {T : Type 0} (keep : ℕ) (image : List ℕ) (fault : StoreFault) (P : T → Type 0)
+    → Recovers (let r : Result T StoreFault = Err fault in r) P (λ f. reading image ≡ Err f) → IsRefusedOpen keep image fault
+refused-as keep image StoreFault.NoMemory P said = tt
+refused-as keep image (StoreFault.Disk fault) P said = tt
+refused-as keep image StoreFault.NotFormatted P said = said
+refused-as keep image (StoreFault.Damaged damage) P said = said
+refused-as keep image StoreFault.MustReopen P said = absurd said
+refused-as keep image StoreFault.NotHeld P said = absurd said
+refused-as keep image StoreFault.BadGeometry P said = absurd said
+refused-as keep image StoreFault.NumbersSpent P said = absurd said
+refused-as keep image StoreFault.AllLocked P said = absurd said
+refused-as keep image StoreFault.ClipEmpty P said = absurd said
+refused-as keep image (StoreFault.ClipNotHeld number) P said = absurd said
+refused-as keep image StoreFault.ClipTableFull P said = absurd said
+refused-as keep image StoreFault.NoSuchClip P said = absurd said
+refused-as keep image StoreFault.PendingFull P said = absurd said
+refused-as keep image StoreFault.WrongSize P said = absurd said
+refused-as keep image StoreFault.HandFull P said = absurd said
+refused-as keep image StoreFault.HandEmpty P said = absurd said
+refused-as keep image StoreFault.OldLayout P said = absurd said
+refused-as keep image StoreFault.BadKeep P said = absurd said

@@ -38,12 +38,12 @@ one-recording g r s image e f = ap (λ (c : Contents). c.recording) (same_conten
 
 -- ---- the steps before the stores
 
-pub before-none : (g : Geometry) (r : Recording) → needs_recycling (ring_of g) r ≡ false → steps_before g r ≡ []
-before-none g r e = ap (λ (b : Bool). steps_or_none (recycling_first b (victim (ring_of g) r))) e
+pub before-none : (g : Geometry) (keep : ℕ) (r : Recording) → needs_recycling (ring_of g) r ≡ false → steps_before g keep r ≡ []
+before-none g keep r e = ap (λ (b : Bool). steps_or_none (recycling_first b (victim (ring_of g) keep r))) e
 
-pub before-one : (g : Geometry) (r : Recording) (b : ℕ) → needs_recycling (ring_of g) r ≡ true
-    → victim (ring_of g) r ≡ Some b → steps_before g r ≡ recycle b ∷ []
-before-one g r b e v = λ i. steps_or_none (recycling_first (e i) (v i))
+pub before-one : (g : Geometry) (keep : ℕ) (r : Recording) (b : ℕ) → needs_recycling (ring_of g) r ≡ true
+    → victim (ring_of g) keep r ≡ Some b → steps_before g keep r ≡ recycle b ∷ []
+before-one g keep r b e v = λ i. steps_or_none (recycling_first (e i) (v i))
 
 -- ---- the other segments
 
@@ -139,26 +139,26 @@ retired-free g next b j old c few l is shows =
       low_enough = is.low_enough;
     }
 
-pub retired-held : (g : Geometry) (r : Recording) (b j : ℕ) (old c : List ℕ) → Holds g r old → j < g.segments
-    → victim (ring_of g) r ≡ Some b → IsOldFor g r.next b j old → ShowsSegment g j None old c
+pub retired-held : (g : Geometry) (keep : ℕ) (r : Recording) (b j : ℕ) (old c : List ℕ) → Holds g r old → j < g.segments
+    → victim (ring_of g) keep r ≡ Some b → IsOldFor g r.next b j old → ShowsSegment g j None old c
     → Holds g (after_step (ring_of g) r (recycle b)) c
-retired-held g r b j old c held l chosen is shows =
+retired-held g keep r b j old c held l chosen is shows =
     let e = sym is.block_is in
     subst (λ (n : ℕ). Holds g (after_step (ring_of g) r (recycle n)) c) is.block_is
-    (reading-retire g r old c j is.segment held l is.there (chosen ∙ (λ i. Some (e i))) shows)
+    (reading-retire g keep r old c j is.segment held l is.there (chosen ∙ (λ i. Some (e i))) shows)
 
-pub retired-held_or : (g : Geometry) (r : Recording) (b j : ℕ) (old c : List ℕ) → Holds g r old → j < g.segments
-    → victim (ring_of g) r ≡ Some b → IsOldFor g r.next b j old → ShowsOrNot g j None old c
+pub retired-held_or : (g : Geometry) (keep : ℕ) (r : Recording) (b j : ℕ) (old c : List ℕ) → Holds g r old → j < g.segments
+    → victim (ring_of g) keep r ≡ Some b → IsOldFor g r.next b j old → ShowsOrNot g j None old c
     → HoldsSome g r (recycle b ∷ []) c
-retired-held_or g r b j old c held l chosen is (inl same) =
+retired-held_or g keep r b j old c held l chosen is (inl same) =
     record { count = 0; enough = omega arith; few = omega arith; held = reading-same g r old c j held l same }
-retired-held_or g r b j old c held l chosen is (inr shows) =
+retired-held_or g keep r b j old c held l chosen is (inr shows) =
     record {
       count = 1;
       enough = omega arith;
       few = omega arith;
       held =
-          retired-held g r b j old c held l chosen is shows;
+          retired-held g keep r b j old c held l chosen is shows;
     }
 
 set_again : {X : Type 0} (xs : List X) (j : ℕ) (x y : X) → set (set xs j x) j y ≡ set xs j y
@@ -181,47 +181,47 @@ replaced-begun g next j old mid new few l first unstray gone shows stray = recor
 -- ---- what is known of a place
 
 -- what is known of the block that goes, for each recording that the image holds
-pub record Goes (g : Geometry) (r : Recording) (next j : ℕ) (image : List ℕ) : Type 0 where
+pub record Goes (g : Geometry) (keep : ℕ) (r : Recording) (next j : ℕ) (image : List ℕ) : Type 0 where
   pub block : ℕ
-  pub chosen : victim (ring_of g) r ≡ Some block
+  pub chosen : victim (ring_of g) keep r ≡ Some block
   pub is : IsOldFor g r.next block j image
-  pub steps : steps_before g r ≡ recycle block ∷ []
+  pub steps : steps_before g keep r ≡ recycle block ∷ []
 
-pub goes : (g : Geometry) (r : Recording) (next j : ℕ) (image : List ℕ) → IsKnown g next (Victim j) image
-    → Holds g r image → Goes g r next j image
-goes g r next j image known held =
-    let place = subst (λ (q : Recording). IsPlaceAt g q image (Victim j)) (one-recording g known.recording r image known.held held) known.is_place in
-    record { block = place.0; chosen = place.1.0; is = place.1.1.0; steps = before-one g r place.0 place.1.1.1.1 place.1.0 }
+pub goes : (g : Geometry) (keep : ℕ) (r : Recording) (next j : ℕ) (image : List ℕ) → IsKnown g keep next (Victim j) image
+    → Holds g r image → Goes g keep r next j image
+goes g keep r next j image known held =
+    let place = subst (λ (q : Recording). IsPlaceAt g keep q image (Victim j)) (one-recording g known.recording r image known.held held) known.is_place in
+    record { block = place.0; chosen = place.1.0; is = place.1.1.0; steps = before-one g keep r place.0 place.1.1.1.1 place.1.0 }
 
-pub first-of : (g : Geometry) (next j : ℕ) (image : List ℕ) → IsKnown g next (Victim j) image → next % g.slots ≡ 0
-first-of g next j image known = ap (λ (n : ℕ). n % g.slots) (sym known.next_is) ∙ known.is_place.1.1.1.0
+pub first-of : (g : Geometry) (keep next j : ℕ) (image : List ℕ) → IsKnown g keep next (Victim j) image → next % g.slots ≡ 0
+first-of g keep next j image known = ap (λ (n : ℕ). n % g.slots) (sym known.next_is) ∙ known.is_place.1.1.1.0
 
 -- and of a closed segment
-pub record IsClosedFor (g : Geometry) (r : Recording) (next j : ℕ) (image : List ℕ) : Type 0 where
+pub record IsClosedFor (g : Geometry) (keep : ℕ) (r : Recording) (next j : ℕ) (image : List ℕ) : Type 0 where
   pub free : IsFreeFor g next j image
   pub first : next % g.slots ≡ 0
-  pub steps : steps_before g r ≡ []
+  pub steps : steps_before g keep r ≡ []
 
-pub closed-for : (g : Geometry) (r : Recording) (next j : ℕ) (image : List ℕ) → IsKnown g next (Closed j) image
-    → Holds g r image → r.next ≡ next → IsClosedFor g r next j image
-closed-for g r next j image known held is =
-    let place = subst (λ (q : Recording). IsPlaceAt g q image (Closed j)) (one-recording g known.recording r image known.held held) known.is_place in
+pub closed-for : (g : Geometry) (keep : ℕ) (r : Recording) (next j : ℕ) (image : List ℕ) → IsKnown g keep next (Closed j) image
+    → Holds g r image → r.next ≡ next → IsClosedFor g keep r next j image
+closed-for g keep r next j image known held is =
+    let place = subst (λ (q : Recording). IsPlaceAt g keep q image (Closed j)) (one-recording g known.recording r image known.held held) known.is_place in
     record {
       free = subst (λ (n : ℕ). IsFreeFor g n j image) is place.0;
       first = ap (λ (n : ℕ). n % g.slots) (sym is) ∙ place.1.0;
-      steps = before-none g r place.1.1;
+      steps = before-none g keep r place.1.1;
     }
 
 -- and of the newest one
-pub record IsNewestFor (g : Geometry) (r : Recording) (next j : ℕ) (image : List ℕ) : Type 0 where
+pub record IsNewestFor (g : Geometry) (keep : ℕ) (r : Recording) (next j : ℕ) (image : List ℕ) : Type 0 where
   pub newest : IsNewestSegment g next j image
   pub begun : IsBegunAt g next j image image
-  pub steps : steps_before g r ≡ []
+  pub steps : steps_before g keep r ≡ []
 
-pub newest-for : (g : Geometry) (r : Recording) (next j : ℕ) (image : List ℕ) → j < g.segments
-    → IsKnown g next (Newest j) image → Holds g r image → r.next ≡ next → IsNewestFor g r next j image
-newest-for g r next j image l known held is =
-    let place = subst (λ (q : Recording). IsPlaceAt g q image (Newest j)) (one-recording g known.recording r image known.held held) known.is_place in
+pub newest-for : (g : Geometry) (keep : ℕ) (r : Recording) (next j : ℕ) (image : List ℕ) → j < g.segments
+    → IsKnown g keep next (Newest j) image → Holds g r image → r.next ≡ next → IsNewestFor g keep r next j image
+newest-for g keep r next j image l known held is =
+    let place = subst (λ (q : Recording). IsPlaceAt g keep q image (Newest j)) (one-recording g known.recording r image known.held held) known.is_place in
     let at = place.0 in
     let stray = known.unstray j l (λ none. no_segment at.segment (sym at.there ∙ none)) in
     record {
@@ -235,7 +235,7 @@ newest-for g r next j image l known held is =
         unstray = known.unstray;
         version = refl;
       };
-      steps = before-none g r place.1;
+      steps = before-none g keep r place.1;
     }
   where
     no_segment : (s : Segment) → Some s ≡ None → ⊥
@@ -243,26 +243,26 @@ newest-for g r next j image l known held is =
 
 -- ---- a place that is one of these
 
-pub known-newest : (g : Geometry) (r : Recording) (next j : ℕ) (p : Place) (image : List ℕ) → p ≡ Newest j
-    → place_segment p < g.segments → IsKnown g next p image → Holds g r image → r.next ≡ next
-    → IsNewestFor g r next (place_segment p) image
-known-newest g r next j p image is l known held same =
+pub known-newest : (g : Geometry) (keep : ℕ) (r : Recording) (next j : ℕ) (p : Place) (image : List ℕ) → p ≡ Newest j
+    → place_segment p < g.segments → IsKnown g keep next p image → Holds g r image → r.next ≡ next
+    → IsNewestFor g keep r next (place_segment p) image
+known-newest g keep r next j p image is l known held same =
     let e : place_segment p ≡ j = ap place_segment is in
-    subst (λ (k : ℕ). IsNewestFor g r next k image) (sym e)
-    (newest-for g r next j image (subst (λ (k : ℕ). k < g.segments) e l)
-    (subst (λ (q : Place). IsKnown g next q image) is known) held same)
+    subst (λ (k : ℕ). IsNewestFor g keep r next k image) (sym e)
+    (newest-for g keep r next j image (subst (λ (k : ℕ). k < g.segments) e l)
+    (subst (λ (q : Place). IsKnown g keep next q image) is known) held same)
 
-pub known-closed : (g : Geometry) (r : Recording) (next j : ℕ) (p : Place) (image : List ℕ) → p ≡ Closed j
-    → IsKnown g next p image → Holds g r image → r.next ≡ next → IsClosedFor g r next j image
-known-closed g r next j p image is known held same = closed-for g r next j image (subst (λ (q : Place). IsKnown g next q image) is known) held same
+pub known-closed : (g : Geometry) (keep : ℕ) (r : Recording) (next j : ℕ) (p : Place) (image : List ℕ) → p ≡ Closed j
+    → IsKnown g keep next p image → Holds g r image → r.next ≡ next → IsClosedFor g keep r next j image
+known-closed g keep r next j p image is known held same = closed-for g keep r next j image (subst (λ (q : Place). IsKnown g keep next q image) is known) held same
 
-pub closed-at : (g : Geometry) (next j : ℕ) (p : Place) (old new : List ℕ) → g.slots ≤ 256 → p ≡ Closed j
-    → place_segment p < g.segments → IsKnown g next p old
+pub closed-at : (g : Geometry) (keep next j : ℕ) (p : Place) (old new : List ℕ) → g.slots ≤ 256 → p ≡ Closed j
+    → place_segment p < g.segments → IsKnown g keep next p old
     → ShowsSegment g j (Some (empty_segment (next / g.slots))) old new → HasNoStray g j new
     → IsBegunAt g next (place_segment p) old new
-closed-at g next j p old new few is l known shows stray =
+closed-at g keep next j p old new few is l known shows stray =
     let e : place_segment p ≡ j = ap place_segment is in
-    let c = known-closed g known.recording next j p old is known known.held known.next_is in
+    let c = known-closed g keep known.recording next j p old is known known.held known.next_is in
     subst (λ (k : ℕ). IsBegunAt g next k old new) (sym e)
     (closed-begun g next j old new few (subst (λ (k : ℕ). k < g.segments) e l) c.first known.unstray shows stray)
 
@@ -285,8 +285,8 @@ grown-at g next j ps old mid new few l empty_segment shows stray = record {
         (Some (head_at g next)) None (omega (arith, l, heads-length g old))
 
 -- a recycling leaves the next number
-pub before-next : (g : Geometry) (r : Recording) → (plain (ring_of g) r (steps_before g r)).next ≡ r.next
-before-next g r = go (needs_recycling (ring_of g) r) (victim (ring_of g) r)
+pub before-next : (g : Geometry) (keep : ℕ) (r : Recording) → (plain (ring_of g) r (steps_before g keep r)).next ≡ r.next
+before-next g keep r = go (needs_recycling (ring_of g) r) (victim (ring_of g) keep r)
   where
     go : (b : Bool) (v : Option ℕ) → (plain (ring_of g) r (steps_or_none (recycling_first b v))).next ≡ r.next
     go false v = refl

@@ -1,5 +1,5 @@
 -- Recordings with the same numbers: what depends on no picture is the same.
-use Rattle.std.proofs.Common.{◌≡◌, ◌⊎◌, inl, inr, ℕ, ◌+◌, ◌-◌, ◌%◌, ◌≤◌, Bool, true, false, not, ◌&&◌, cond, eqb, is_some, Option, Some, List, [], ◌∷◌, ◌++◌, length, take, map, refl, sym, ap, ◌∙◌, subst, arith}
+use Rattle.std.proofs.Common.{◌≡◌, ◌⊎◌, inl, inr, ℕ, ◌+◌, ◌-◌, ◌%◌, ◌≤◌, Bool, true, false, not, ◌&&◌, cond, eqb, is_some, Option, Some, List, [], ◌∷◌, ◌++◌, length, take, map, refl, sym, ap, ◌∙◌, subst, arith, max}
 use Rattle.std.proofs.lemmas.List.{map-append, length-map}
 use Rattle.std.specs.Prelude.{Contains}
 use Rattle.std.specs.List.{enumerate_from, filter, find, range_with_len}
@@ -56,10 +56,10 @@ blocks-numbers ring (f ∷ fs) = ap (with_block (block ring f.0)) (blocks-number
 pub blocks-same : (ring : Ring) (r t : Recording) → IsSame r t → held_blocks ring r ≡ held_blocks ring t
 blocks-same ring r t same = blocks-numbers ring r.frames ∙ ap (blocks_in ring) same.numbers ∙ sym (blocks-numbers ring t.frames)
 
-pub victim-same : (ring : Ring) (r t : Recording) → IsSame r t → victim ring r ≡ victim ring t
-victim-same ring r t same =
+pub victim-same : (ring : Ring) (keep : ℕ) (r t : Recording) → IsSame r t → victim ring keep r ≡ victim ring keep t
+victim-same ring keep r t same =
     let blocks = blocks-same ring r t same in
-    λ i. find (λ b. not (is_locked ring (record r { clips = same.clips i }) b)) (take (length (blocks i) - 1) (blocks i))
+    λ i. find (λ b. not (is_locked ring (record r { clips = same.clips i }) b)) (take (length (blocks i) - max 1 keep) (blocks i))
 
 pub needs-same : (ring : Ring) (r t : Recording) → IsSame r t → needs_recycling ring r ≡ needs_recycling ring t
 needs-same ring r t same =

@@ -129,10 +129,11 @@ goes-upgraded medium old new index must kept fine differs up =
       still = fine;
       geometry = refl;
       version = λ v e. refl;
+      keep = refl;
       called = up.called;
       unfailed = refl;
       none = refl;
-      made_all = λ s. refl;
+      made_all = λ s kept. refl;
       begun_none = λ s. refl;
       one = one-kept medium old index must kept;
       answers = λ s told. answer-given ((medium old).honest × Stands medium (seen_with old index must) s)
@@ -179,7 +180,7 @@ goes-not_upgraded medium old new index must fault kept fine differs sound called
       has = refl;
       some = refl;
       made_none = λ s. refl;
-      begun_all = λ s. refl;
+      begun_all = λ s kept. refl;
       one = one-kept medium old index must kept;
       answers = λ s told. answer-given ((medium old).honest × Stands medium (seen_with old index must) s)
           index.ring.geometry s (upgraded (Err (Disk fault))) (sym told.must_reopen ∙ fine) refl

@@ -35,10 +35,12 @@ abbrev pub part_with : Result (Unit {0}) StoreFault → List ℕ → Result (Lis
 part_with (Ok done) out = Ok out
 part_with (Err fault) out = Err fault
 
--- what is recorded, in which version of the layout, and whether a call that writes has failed
+-- what is recorded, in which version of the layout, how many of the newest blocks are kept, and whether a call that
+-- writes has failed
 pub record StoreState : Type 0 where
   pub recording : Recording
   pub version : ℕ
+  pub keep : ℕ
   pub must_reopen : Bool
 
 -- ---- what a call asks for, and what its answer says of it
@@ -59,12 +61,12 @@ is_look (was_read_part number at result) = true
 is_look _ = false
 
 -- the steps that an append is asked for
-abbrev pub steps_asked : Ring → Recording → List Picture → List Step
-steps_asked ring r group = steps_or_none (steps ring r group)
+abbrev pub steps_asked : Ring → ℕ → Recording → List Picture → List Step
+steps_asked ring keep r group = steps_or_none (steps ring keep r group)
 
 -- the steps that a call is asked for
 abbrev pub steps_of : Ring → StoreState → Call → List Step
-steps_of ring s (appended group result) = steps_asked ring s.recording group
+steps_of ring s (appended group result) = steps_asked ring s.keep s.recording group
 steps_of ring s (locked span result) = lock span ∷ []
 steps_of ring s (unlocked id result) = unlock id ∷ []
 steps_of ring s _ = []
@@ -98,6 +100,7 @@ abbrev pub after_store_call : Ring → StoreState → Call → StoreState
 after_store_call ring s call = record {
   recording = plain ring s.recording (made_by ring s call);
   version = version_after s.version call;
+  keep = s.keep;
   must_reopen = s.must_reopen || has_failed call;
 }
 
@@ -108,8 +111,8 @@ abbrev pub missing : Recording → Span → Option ℕ
 missing r s = find (λ n. not (holds r n)) (range_with_len s.from (s.to + 1 - s.from))
 
 -- a block has to go first and none may
-abbrev pub lacks_victim : Ring → Recording → Bool
-lacks_victim ring r = needs_recycling ring r && not (is_some (victim ring r))
+abbrev pub lacks_victim : Ring → ℕ → Recording → Bool
+lacks_victim ring keep r = needs_recycling ring r && not (is_some (victim ring keep r))
 
 -- a refusal that is due where a check fails
 abbrev pub due : Bool → StoreFault → Option StoreFault
@@ -135,7 +138,7 @@ span_checks version r span =
 abbrev pub checks_on : Ring → StoreState → Call → List (Option StoreFault)
 checks_on ring s (appended group result) =
     due (s.recording.next == last_number ring) NumbersSpent
-    ∷ due (lacks_victim ring s.recording) AllLocked
+    ∷ due (lacks_victim ring s.keep s.recording) AllLocked
     ∷ []
 checks_on ring s (locked span result) = span_checks s.version s.recording span
 checks_on ring s (unlocked id result) = due (not (is_some (clip_of s.recording id))) NoSuchClip ∷ []

@@ -5,7 +5,7 @@ use Rattle.loop_disk.specs.Calls.{is_write_or_sync}
 use Rattle.loop_ring.specs.declared.fault.SlotFault.{SlotFault}
 use Rattle.loop_ring.specs.declared.fault.SlotFault.TheVariants as slot
 use Rattle.loop_store.specs.declared.fault.StoreFault.{StoreFault}
-use Rattle.loop_store.specs.declared.fault.StoreFault.TheVariants.{NoMemory, Disk, MustReopen, NotFormatted, Damaged, NotHeld, BadGeometry, NumbersSpent, AllLocked, ClipEmpty, ClipNotHeld, ClipTableFull, NoSuchClip, PendingFull, WrongSize, HandFull, HandEmpty, OldLayout}
+use Rattle.loop_store.specs.declared.fault.StoreFault.TheVariants.{NoMemory, Disk, MustReopen, NotFormatted, Damaged, NotHeld, BadGeometry, NumbersSpent, AllLocked, ClipEmpty, ClipNotHeld, ClipTableFull, NoSuchClip, PendingFull, WrongSize, HandFull, HandEmpty, OldLayout, BadKeep}
 
 -- the number of each refusal
 abbrev pub fault_number : StoreFault → ℕ
@@ -27,6 +27,7 @@ fault_number BadGeometry = 16
 fault_number HandFull = 18
 fault_number HandEmpty = 19
 fault_number OldLayout = 21
+fault_number BadKeep = 22
 
 -- the name of each refusal
 abbrev pub fault_name : StoreFault → List ℕ
@@ -48,6 +49,7 @@ fault_name BadGeometry = codes "BadGeometry"
 fault_name HandFull = codes "HandFull"
 fault_name HandEmpty = codes "HandEmpty"
 fault_name OldLayout = codes "OldLayout"
+fault_name BadKeep = codes "BadKeep"
 
 -- a call of the disk has failed
 abbrev pub is_disk : StoreFault → Bool

@@ -25,12 +25,14 @@ pub record CalledEach (old new : Medium) (failed : List (Option DiskFault)) : Ty
 pub record TellsState {D : Type 0} (store : Seen D) (s : StoreState) : Type 0 where
   pub recording : Tells store s.recording
   pub version : store.version ≡ s.version
+  pub keep : store.keep ≡ s.keep
   pub must_reopen : store.must_reopen ≡ s.must_reopen
 
 -- the store stands for a state
 pub record Stands {D : Type 0} (medium : D → Medium) (store : Seen D) (s : StoreState) : Type 0 where
   pub recording : StandsFor medium store s.recording
   pub version : store.version ≡ s.version
+  pub keep : store.keep ≡ s.keep
   pub must_reopen : store.must_reopen ≡ s.must_reopen
 
 -- The answers are said of each state that the store told of, and it told of one, whatever its disk. What a crash

@@ -27,6 +27,7 @@ pub record IsOf {A : Type 0} (index : Index A) (g : Geometry) (heads : List (Opt
   pub clips_are : index.clips ≡ clips
   pub next_is : index.next ≡ next
   pub counted : index.table.clips ≡ clip_counts (ring_of g) clips heads
+  pub keep_is : index.table.keep ≡ 1
 
 -- the image holds a recording, and the index says what the image says
 pub record IsRecovered {A : Type 0} (index : Index A) (image : List ℕ) : Type 0 where
@@ -40,6 +41,10 @@ IsRecoveredIn index image = IsRecovered index image × (version_in image ≡ ind
 -- with frames that are made up, the index says a whole recording
 abbrev pub SaysRecording : {A : Type 0} → Index A → Type 0
 SaysRecording index = IsRecovered index (drawn_image index.ring.geometry index.table.heads index.clips)
+
+-- the index that keeps so many of the newest blocks
+abbrev pub keeping : {A : Type 0} → ℕ → Index A → Index A
+keeping keep index = record index { table = record index.table { keep = keep } }
 
 -- whatever a disk holds: there is a header for each segment, each may stand there, no block of the numbers
 -- below the next one is too high, and the clips that meet each segment's block are counted
@@ -62,6 +67,7 @@ head_after g next count = record { block = next / g.slots; frames = next % g.slo
 pub record IsNoted {A : Type 0} (old new : Index A) (j count : ℕ) : Type 0 where
   pub ring : new.ring ≡ old.ring
   pub version : new.version ≡ old.version
+  pub keep : new.table.keep ≡ old.table.keep
   pub next : new.next ≡ old.next + count
   pub heads : new.table.heads ≡ slice_set old.table.heads j (Some (head_after old.ring.geometry old.next count))
   pub clips : new.clips ≡ old.clips
@@ -71,6 +77,7 @@ pub record IsNoted {A : Type 0} (old new : Index A) (j count : ℕ) : Type 0 whe
 pub record IsClipNoted {A : Type 0} (old new : Index A) (id : ℕ) (clip : Option Span) : Type 0 where
   pub ring : new.ring ≡ old.ring
   pub version : new.version ≡ old.version
+  pub keep : new.table.keep ≡ old.table.keep
   pub next : new.next ≡ old.next
   pub heads : new.table.heads ≡ old.table.heads
   pub clips : new.clips ≡ slice_set old.clips id clip

@@ -3,7 +3,7 @@ use Rattle.std.specs.Prelude.{◌≡◌, ◌⊎◌, ℕ, ◌+◌, ◌*◌, ◌<�
 use Rattle.loop_record.specs.declared.clip.Span.{Span}
 use Rattle.loop_record.specs.declared.geometry.Geometry.{Geometry}
 use Rattle.loop_record.specs.Layout.{version_in}
-use Rattle.loop_record.specs.Recording.{Recording, Ring, block, first_free, free_id, holds, is_legal, lock, ring_of}
+use Rattle.loop_record.specs.Recording.{Recording, Ring, block, first_free, free_id, holds, may_lock}
 use Rattle.loop_ring.specs.Heads.{heads_of}
 use Rattle.loop_store.specs.declared.fault.StoreFault.{StoreFault}
 use Rattle.loop_store.specs.declared.fault.StoreFault.TheVariants.{ClipEmpty, ClipNotHeld, ClipTableFull, OldLayout}
@@ -40,7 +40,7 @@ AnswersSpan version r span (Err fault) = first_of (span_checks version r span) �
 -- a recording of which a clip of this span may be added in this version of the layout, under this id
 pub record CanTake (version : ℕ) (g : Geometry) (span : Span) (id : ℕ) (r : Recording) : Type 0 where
   pub fits : first_of (span_checks version r span) ≡ None
-  pub legal : IsTrue (is_legal (ring_of g) r (lock span))
+  pub legal : IsTrue (may_lock r span)
   pub id_is : id ≡ free_id r
 
 -- the segments' headers and the layout's version are those of the old image, and no stray gate is there

@@ -31,10 +31,11 @@ IsBadGeometry (Err refused) = refused.fault ≡ BadGeometry
 abbrev pub IsRefusedFormat : {D : Type 0} → OpenRefused D → Type 0
 IsRefusedFormat refused = (refused.fault ≡ BadGeometry) ⊎ ((refused.fault ≡ NoMemory) ⊎ (is_disk refused.fault ≡ true))
 
--- a store of this geometry and version with nothing stored
+-- a store of this geometry and version with nothing stored, which keeps the newest block
 pub record IsFormatted {D : Type 0} (h : SuperHead) (store : Seen D) : Type 0 where
   pub geometry : store.geometry ≡ h.geometry
   pub version : store.version ≡ h.version
+  pub keep : store.keep ≡ 1
   pub tells : Tells store empty
   pub must_reopen : store.must_reopen ≡ false
 

@@ -38,31 +38,31 @@ pub record IsOldFor (g : Geometry) (next b j : ℕ) (image : List ℕ) : Type 0 
   pub apart : list_any (λ s. s.block == (next / g.slots)) (open_segments (parts_of g image).segments) ≡ false
   pub low_enough : is_too_high g (next / g.slots) ≡ false
 
--- what a place says of the image, and of the steps that come before the stores
-abbrev pub IsPlaceAt : Geometry → Recording → List ℕ → Place → Type 0
-IsPlaceAt g r image (Newest j) = IsNext g r.next j image × (needs_recycling (ring_of g) r ≡ false)
-IsPlaceAt g r image (Closed j) =
+-- what a place says of the image, and of the steps that come before the stores, where so many blocks are kept
+abbrev pub IsPlaceAt : Geometry → ℕ → Recording → List ℕ → Place → Type 0
+IsPlaceAt g keep r image (Newest j) = IsNext g r.next j image × (needs_recycling (ring_of g) r ≡ false)
+IsPlaceAt g keep r image (Closed j) =
     IsFreeFor g r.next j image × ((r.next % g.slots ≡ 0) × (needs_recycling (ring_of g) r ≡ false))
-IsPlaceAt g r image (Victim j) =
-    (b : ℕ) × ((victim (ring_of g) r ≡ Some b)
+IsPlaceAt g keep r image (Victim j) =
+    (b : ℕ) × ((victim (ring_of g) keep r ≡ Some b)
     × (IsOldFor g r.next b j image × ((r.next % g.slots ≡ 0) × (needs_recycling (ring_of g) r ≡ true))))
 
 -- there is such a place, or a block has to be recycled first and there is no victim
-abbrev pub IsPlace : Geometry → Recording → List ℕ → Option Place → Type 0
-IsPlace g r image None = recycling_first (needs_recycling (ring_of g) r) (victim (ring_of g) r) ≡ None
-IsPlace g r image (Some place) = IsPlaceAt g r image place
+abbrev pub IsPlace : Geometry → ℕ → Recording → List ℕ → Option Place → Type 0
+IsPlace g keep r image None = recycling_first (needs_recycling (ring_of g) r) (victim (ring_of g) keep r) ≡ None
+IsPlace g keep r image (Some place) = IsPlaceAt g keep r image place
 
 -- the image holds a recording with this next number, such a place is there, and no stray gate
-pub record IsKnown (g : Geometry) (next : ℕ) (place : Place) (image : List ℕ) : Type 0 where
+pub record IsKnown (g : Geometry) (keep next : ℕ) (place : Place) (image : List ℕ) : Type 0 where
   pub recording : Recording
   pub held : Holds g recording image
   pub next_is : recording.next ≡ next
-  pub is_place : IsPlaceAt g recording image place
+  pub is_place : IsPlaceAt g keep recording image place
   pub unstray : HasNoneStray g image
 
 -- the steps before the stores of an append: a recycling, or none
-abbrev pub steps_before : Geometry → Recording → List Step
-steps_before g r = steps_or_none (recycling_first (needs_recycling (ring_of g) r) (victim (ring_of g) r))
+abbrev pub steps_before : Geometry → ℕ → Recording → List Step
+steps_before g keep r = steps_or_none (recycling_first (needs_recycling (ring_of g) r) (victim (ring_of g) keep r))
 
 -- the header of the segment at a place, before the frames are stored
 abbrev pub head_at : Geometry → ℕ → SegmentHead
@@ -83,14 +83,14 @@ pub record IsGrownAt (g : Geometry) (next count j : ℕ) (old new : List ℕ) : 
   pub version : version_in new ≡ version_in old
 
 -- why there is no place: no number is left, or otherwise a block has to be recycled first and there is no victim
-abbrev pub RefusesPlace : Geometry → Recording → StoreFault → Type 0
-RefusesPlace g r fault =
+abbrev pub RefusesPlace : Geometry → ℕ → Recording → StoreFault → Type 0
+RefusesPlace g keep r fault =
     (fault ≡ NumbersSpent) × (r.next ≡ last_number (ring_of g))
     ⊎ (fault ≡ AllLocked)
     × ((r.next ≢ last_number (ring_of g))
-    × (recycling_first (needs_recycling (ring_of g) r) (victim (ring_of g) r) ≡ None))
+    × (recycling_first (needs_recycling (ring_of g) r) (victim (ring_of g) keep r) ≡ None))
 
 -- the answer to where frames go, for a recording that an image holds
-abbrev pub AnswersPlace : Geometry → Recording → List ℕ → Result Place StoreFault → Type 0
-AnswersPlace g r image (Ok place) = (r.next ≢ last_number (ring_of g)) × IsPlaceAt g r image place
-AnswersPlace g r image (Err fault) = RefusesPlace g r fault
+abbrev pub AnswersPlace : Geometry → ℕ → Recording → List ℕ → Result Place StoreFault → Type 0
+AnswersPlace g keep r image (Ok place) = (r.next ≢ last_number (ring_of g)) × IsPlaceAt g keep r image place
+AnswersPlace g keep r image (Err fault) = RefusesPlace g keep r fault

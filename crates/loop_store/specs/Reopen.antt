@@ -1,11 +1,15 @@
 -- What opening finds on a disk, and what it leaves of it.
-use Rattle.std.specs.Prelude.{◌≡◌, ◌⊎◌, ℕ, Err, List}
-use Rattle.loop_disk.specs.Medium.{Medium}
+use Rattle.std.specs.Prelude.{◌≡◌, ◌⊎◌, ◌||◌, ◌==◌, ◌-◌, nat_lt, ℕ, Bool, true, false, IfErr, IfOk, Result, Ok, Err, List}
+use Rattle.loop_disk.specs.Calls.{Called, Stays}
+use Rattle.loop_disk.specs.Medium.{LeavesOnly, Medium}
 use Rattle.loop_record.specs.declared.damage.LayoutFault.{LayoutFault}
 use Rattle.loop_record.specs.Layout.{version_in}
-use Rattle.loop_record.specs.Reading.{Holds, reading}
+use Rattle.loop_record.specs.Reading.{Contents, Holds, reading}
 use Rattle.loop_record.specs.Recording.{Recording}
+use Rattle.loop_store.specs.declared.fault.OpenRefused.{OpenRefused}
 use Rattle.loop_store.specs.declared.fault.StoreFault.{StoreFault}
+use Rattle.loop_store.specs.Faults.{is_disk}
+use Rattle.loop_store.specs.Make.{disk_after, failed_opening}
 use Rattle.loop_store.specs.Seen.{Seen, StandsFor, Tells}
 
 -- the second image reads as the first does, in the same version of the layout
@@ -27,10 +31,38 @@ pub record IsOpened {D : Type 0} (medium : D → Medium) (image : List ℕ) (sto
   pub version_is : version_in image ≡ store.version
   pub stands : StandsFor medium store recording
 
--- the refusal is what the image reads as, or memory was refused, or a call of the disk failed
-abbrev pub IsRefusedOpen : List ℕ → StoreFault → Type 0
-IsRefusedOpen image StoreFault.NoMemory = Unit {0}
-IsRefusedOpen image (StoreFault.Disk fault) = Unit {0}
-IsRefusedOpen image StoreFault.NotFormatted = reading image ≡ Err LayoutFault.NotFormatted
-IsRefusedOpen image (StoreFault.Damaged damage) = reading image ≡ Err (LayoutFault.Damaged damage)
-IsRefusedOpen image _ = ⊥
+-- so many of the newest blocks can't be kept in a ring of so many segments: none, or so many that no block could go
+abbrev pub is_bad_keep : ℕ → ℕ → Bool
+is_bad_keep segments keep = (keep == 0) || nat_lt (segments - 1) keep
+
+-- the image reads as a recording in whose ring so many blocks can't be kept
+abbrev pub IsBadKeep : ℕ → List ℕ → Type 0
+IsBadKeep keep image =
+    (c : Contents) × ((reading image ≡ Ok c) × (is_bad_keep c.geometry.segments keep ≡ true))
+
+-- the refusal is what the image reads as, or so many blocks can't be kept there, or memory was refused, or a call of
+-- the disk failed
+abbrev pub IsRefusedOpen : ℕ → List ℕ → StoreFault → Type 0
+IsRefusedOpen keep image StoreFault.NoMemory = Unit {0}
+IsRefusedOpen keep image (StoreFault.Disk fault) = Unit {0}
+IsRefusedOpen keep image StoreFault.NotFormatted = reading image ≡ Err LayoutFault.NotFormatted
+IsRefusedOpen keep image (StoreFault.Damaged damage) = reading image ≡ Err (LayoutFault.Damaged damage)
+IsRefusedOpen keep image StoreFault.BadKeep = IsBadKeep keep image
+IsRefusedOpen keep image _ = ⊥
+
+-- What a call does that opens a disk, and keeps so many of the newest blocks. The disk's image reads as before then,
+-- and so does each image that a stop within the call leaves, unless a stop before the call could have left it. A
+-- refusal but for a failed call of the disk leaves it as it was.
+pub record Reopens {D : Type 0} (medium : D → Medium) (keep : ℕ) (disk : D) (result : Result (Seen D) (OpenRefused D)) :
+    Type 0 where
+  pub opened : (medium disk).honest → IfOk result (IsOpened medium (medium disk).bytes)
+  pub tells : IfOk result TellsOne
+  pub kept : IfOk result (λ store. (store.keep ≡ keep) × (is_bad_keep store.geometry.segments keep ≡ false))
+  pub fine : IfOk result (λ store. store.must_reopen ≡ false)
+  pub refused : (medium disk).honest → IfErr result (λ refused. IsRefusedOpen keep (medium disk).bytes refused.fault)
+  pub alike : (medium disk).honest → ReadsAlike (medium disk).bytes (medium (disk_after result)).bytes
+  pub stays : (medium disk).honest
+      → IfErr result (λ refused. is_disk refused.fault ≡ false → Stays (medium disk) (medium refused.disk))
+  pub moments : (medium disk).honest
+      → LeavesOnly (medium disk) (medium (disk_after result)) (WasOrReadsAlike (medium disk))
+  pub called : Called (medium disk) (medium (disk_after result)) (failed_opening result)

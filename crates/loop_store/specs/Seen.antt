@@ -11,12 +11,14 @@ use Rattle.loop_store.specs.declared.fault.StoreFault.TheVariants.{Disk}
 use Rattle.loop_store.specs.declared.index.Index.{Index}
 use Rattle.loop_store.specs.Numbers.{is_among, numbers_under}
 
--- the disk, the geometry and the version of the layout, and what a store tells of its recording: the number that comes
--- next, the numbers that are held, the clip of each id; and whether a call that writes has failed
+-- the disk, the geometry and the version of the layout, how many of the newest blocks are kept, and what a store tells
+-- of its recording: the number that comes next, the numbers that are held, the clip of each id; and whether a call that
+-- writes has failed
 pub record Seen (D : Type 0) : Type 0 where
   pub disk : D
   pub geometry : Geometry
   pub version : ℕ
+  pub keep : ℕ
   pub next : ℕ
   pub numbers : List ℕ
   pub clips : List (Option Span)
@@ -32,6 +34,7 @@ seen_with disk index must_reopen = record {
   disk = disk;
   geometry = index.ring.geometry;
   version = index.version;
+  keep = index.table.keep;
   next = index.next;
   numbers = numbers_under index.ring.geometry.slots index.table.heads;
   clips = index.clips;

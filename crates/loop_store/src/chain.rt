@@ -25,8 +25,9 @@ pub fn format_and_append<D: Disk + Drop, A: Allocator + Copy>(
     requires room { length frames.now ≤ geometry.slots }
     requires sizes { All (λ frame. length frame.bytes.items ≡ frame_bytes geometry) frames.now }
     ensures { IfOk result (λ store. Stands D.medium store (record {
-      recording = plain (ring_of geometry) empty (steps_asked (ring_of geometry) empty (pictures frames.now));
+      recording = plain (ring_of geometry) empty (steps_asked (ring_of geometry) 1 empty (pictures frames.now));
       version = 2;
+      keep = 1;
       must_reopen = false;
     })) }
 {

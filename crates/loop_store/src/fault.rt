@@ -40,7 +40,8 @@ pub enum StoreFault {
     /// The next number is the first of a block whose frames would reach 2^62.
     #[error("no number is left")]
     NumbersSpent,
-    /// A block has to be recycled first, and there is none that may go: each is locked by a clip or is the newest.
+    /// A block has to be recycled first, and there is none that may go: each is locked by a clip or among the newest
+    /// that are kept.
     #[error("no block may go")]
     AllLocked,
     /// The clip's first number is above its last one.
@@ -70,6 +71,9 @@ pub enum StoreFault {
     /// A clip with a tag other than 0 in version 1 of the layout, which has no place for it.
     #[error("the layout has no tags: it is to be upgraded first")]
     OldLayout,
+    /// So many of the newest blocks can't be kept: none, or as many as there are segments or more.
+    #[error("so many blocks can't be kept")]
+    BadKeep,
 }
 
 impl StoreFault {
@@ -96,6 +100,7 @@ impl StoreFault {
             StoreFault::HandFull => 18,
             StoreFault::HandEmpty => 19,
             StoreFault::OldLayout => 21,
+            StoreFault::BadKeep => 22,
         }
     }
 
@@ -122,6 +127,7 @@ impl StoreFault {
             StoreFault::HandFull => "HandFull",
             StoreFault::HandEmpty => "HandEmpty",
             StoreFault::OldLayout => "OldLayout",
+            StoreFault::BadKeep => "BadKeep",
         }
     }
 }

@@ -12,6 +12,7 @@ ghost use Rattle.loop_store.specs.declared.place.Place.TheVariants.{Victim};
 ghost use Rattle.loop_store.specs.Grow.{HasNext, IsFreeFor, IsNewestSegment, Makes};
 ghost use Rattle.loop_store.specs.Place.{IsBegunAt, IsGrownAt, IsKnown, place_segment, steps_before};
 
+use crate::index::Index;
 use crate::place::Place;
 use loop_disk::{Disk, DiskFault};
 use loop_ring::{Group, Ring};
@@ -57,60 +58,60 @@ fn store_group<D: Disk, A: Allocator>(
 }
 
 /// Retires the victim's segment, and begins the block of the next number there.
-fn replace<D: Disk>(disk: &mut D, ring: &Ring, segment: u32, next: u64) -> Result<(), DiskFault>
-    requires extent { (D.medium disk.old).size ≡ disk_size ring.now.geometry }
-    requires segment { segment < ring.now.geometry.segments }
+fn replace<D: Disk, A: Allocator>(disk: &mut D, index: &Index<A>, segment: u32, next: u64) -> Result<(), DiskFault>
+    requires extent { (D.medium disk.old).size ≡ disk_size index.now.ring.geometry }
+    requires segment { segment < index.now.ring.geometry.segments }
     requires settled { (D.medium disk.old).honest → IsSettled (D.medium disk.old) }
     requires known { (D.medium disk.old).honest
-        → IsKnown ring.now.geometry next (Victim segment) (D.medium disk.old).bytes }
-    ensures { let g = ring.now.geometry in let old = D.medium disk.old in
-        Makes g (HasNext next) (steps_before g) (λ image. IsNewestSegment g next segment image
+        → IsKnown index.now.ring.geometry index.now.table.keep next (Victim segment) (D.medium disk.old).bytes }
+    ensures { let g = index.now.ring.geometry in let old = D.medium disk.old in
+        Makes g (HasNext next) (steps_before g index.now.table.keep) (λ image. IsNewestSegment g next segment image
         × IsBegunAt g next segment old.bytes image)
         old (D.medium disk.new) result }
 {
-    ring.retire(disk, segment)?;
-    begin(disk, ring, segment, next)
+    index.ring.retire(disk, segment)?;
+    begin(disk, &index.ring, segment, next)
 }
 
 /// Makes room for the next frames at a place: a block is recycled and another begun, or one is begun, or
 /// nothing is to be done.
-fn make_room<D: Disk>(disk: &mut D, ring: &Ring, place: Place, next: u64) -> Result<(), DiskFault>
-    requires extent { (D.medium disk.old).size ≡ disk_size ring.now.geometry }
-    requires segment { place_segment place < ring.now.geometry.segments }
+fn make_room<D: Disk, A: Allocator>(disk: &mut D, index: &Index<A>, place: Place, next: u64) -> Result<(), DiskFault>
+    requires extent { (D.medium disk.old).size ≡ disk_size index.now.ring.geometry }
+    requires segment { place_segment place < index.now.ring.geometry.segments }
     requires settled { (D.medium disk.old).honest → IsSettled (D.medium disk.old) }
-    requires known { (D.medium disk.old).honest → IsKnown ring.now.geometry next place (D.medium disk.old).bytes }
-    ensures { let g = ring.now.geometry in let old = D.medium disk.old in let j = place_segment place in
-        Makes g (HasNext next) (steps_before g) (λ image. IsNewestSegment g next j image
+    requires known { (D.medium disk.old).honest → IsKnown index.now.ring.geometry index.now.table.keep next place (D.medium disk.old).bytes }
+    ensures { let g = index.now.ring.geometry in let old = D.medium disk.old in let j = place_segment place in
+        Makes g (HasNext next) (steps_before g index.now.table.keep) (λ image. IsNewestSegment g next j image
         × IsBegunAt g next j old.bytes image)
         old (D.medium disk.new) result }
 {
     match place {
         Place::Newest(_) => Ok(()),
-        Place::Closed(segment) => begin(disk, ring, segment, next),
-        Place::Victim(segment) => replace(disk, ring, segment, next),
+        Place::Closed(segment) => begin(disk, &index.ring, segment, next),
+        Place::Victim(segment) => replace(disk, index, segment, next),
     }
 }
 
 /// Makes room at a place, and stores a group of frames there.
 pub(crate) fn append_group<D: Disk, A: Allocator>(
     disk: &mut D,
-    ring: &Ring,
+    index: &Index<A>,
     place: Place,
     group: &Group<A>,
 ) -> Result<(), DiskFault>
-    requires extent { (D.medium disk.old).size ≡ disk_size ring.now.geometry }
-    requires segment { place_segment place < ring.now.geometry.segments }
+    requires extent { (D.medium disk.old).size ≡ disk_size index.now.ring.geometry }
+    requires segment { place_segment place < index.now.ring.geometry.segments }
     requires some { 1 ≤ length group.now.frames }
-    requires room { group.now.first % ring.now.geometry.slots + length group.now.frames ≤ ring.now.geometry.slots }
-    requires size { group.now.size ≡ frame_bytes ring.now.geometry }
+    requires room { group.now.first % index.now.ring.geometry.slots + length group.now.frames ≤ index.now.ring.geometry.slots }
+    requires size { group.now.size ≡ frame_bytes index.now.ring.geometry }
     requires settled { (D.medium disk.old).honest → IsSettled (D.medium disk.old) }
     requires known { (D.medium disk.old).honest
-        → IsKnown ring.now.geometry group.now.first place (D.medium disk.old).bytes }
-    ensures { let g = ring.now.geometry in let old = D.medium disk.old in
-        Makes g (HasNext group.now.first) (λ r. steps_before g r ++ map store group.now.frames)
+        → IsKnown index.now.ring.geometry index.now.table.keep group.now.first place (D.medium disk.old).bytes }
+    ensures { let g = index.now.ring.geometry in let old = D.medium disk.old in
+        Makes g (HasNext group.now.first) (λ r. steps_before g index.now.table.keep r ++ map store group.now.frames)
         (IsGrownAt g group.now.first (length group.now.frames) (place_segment place) old.bytes)
         old (D.medium disk.new) result }
 {
-    make_room(disk, ring, place, group.first())?;
-    store_group(disk, ring, place.segment(), group)
+    make_room(disk, index, place, group.first())?;
+    store_group(disk, &index.ring, place.segment(), group)
 }

@@ -80,7 +80,7 @@ impl<A: Allocator> Index<A> {
         requires { IsIndex self.now }
         ensures within { IfSome result (λ segment. segment < length self.now.table.heads) }
         ensures place { (r : Recording) (image : List ℕ) → IsIndexOf self.now r image
-            → IsPlaceOf self.now.table.heads (victim (ring_of self.now.ring.geometry) r) result }
+            → IsPlaceOf self.now.table.heads (victim (ring_of self.now.ring.geometry) self.now.table.keep r) result }
     {
         let block = self.table.victim()?;
         self.find(block)
@@ -94,7 +94,7 @@ impl<A: Allocator> Index<A> {
         ensures place { (r : Recording) (image : List ℕ) → IsIndexOf self.now r image
             → r.next ≢ last_number (ring_of self.now.ring.geometry)
             → position (is_of (r.next / self.now.ring.geometry.slots)) (heads_of self.now.ring.geometry image) ≡ None
-            → IsPlace self.now.ring.geometry r image result }
+            → IsPlace self.now.ring.geometry self.now.table.keep r image result }
     {
         if self.table.held_blocks() == self.ring.geometry.segments {
             return match self.victim_segment() {
@@ -114,7 +114,8 @@ impl<A: Allocator> Index<A> {
         requires { IsIndex self.now }
         ensures within { IfSome result (λ place. place_segment place < self.now.ring.geometry.segments) }
         ensures place { (r : Recording) (image : List ℕ) → IsIndexOf self.now r image
-            → r.next ≢ last_number (ring_of self.now.ring.geometry) → IsPlace self.now.ring.geometry r image result }
+            → r.next ≢ last_number (ring_of self.now.ring.geometry)
+            → IsPlace self.now.ring.geometry self.now.table.keep r image result }
     {
         match self.find(self.next / u64::from(self.ring.geometry.slots)) {
             Some(segment) => Some(Place::Newest(segment)),
@@ -131,7 +132,7 @@ impl<A: Allocator> Index<A> {
         ensures spent { (result ≡ Err StoreFault.NumbersSpent) ↔ (self.now.next
             ≡ last_number (ring_of self.now.ring.geometry)) }
         ensures answers { (r : Recording) (image : List ℕ) → IsIndexOf self.now r image
-            → AnswersPlace self.now.ring.geometry r image result }
+            → AnswersPlace self.now.ring.geometry self.now.table.keep r image result }
     {
         if self.next == last_number(&self.ring.geometry) {
             return Err(StoreFault::NumbersSpent);
@@ -190,6 +191,7 @@ fn set_head<A: Allocator>(
     requires some { 0 < head.frames }
     requires counted { table.old.clips ≡ clip_counts (ring_of ring.now.geometry) clips.now table.old.heads }
     ensures heads { table.new.heads ≡ slice_set table.old.heads segment (Some head) }
+    ensures keep { table.new.keep ≡ table.old.keep }
     ensures counted { table.new.clips ≡ clip_counts (ring_of ring.now.geometry) clips.now table.new.heads }
 {
     if has_frame_of(table.get(segment), head.block) {
@@ -211,6 +213,7 @@ fn uncount_clip<A: Allocator>(
     requires id { id < 64 }
     requires counted { table.old.clips ≡ clip_counts (ring_of ring.now.geometry) clips.now table.old.heads }
     ensures heads { table.new.heads ≡ table.old.heads }
+    ensures keep { table.new.keep ≡ table.old.keep }
     ensures counted { table.new.clips
         ≡ clip_counts (ring_of ring.now.geometry) (slice_set clips.now id None) table.old.heads }
 {
@@ -232,6 +235,7 @@ fn count_clip<A: Allocator>(
     requires free { slice_index_or clips.now id None ≡ None }
     requires counted { table.old.clips ≡ clip_counts (ring_of ring.now.geometry) clips.now table.old.heads }
     ensures heads { table.new.heads ≡ table.old.heads }
+    ensures keep { table.new.keep ≡ table.old.keep }
     ensures counted { table.new.clips
         ≡ clip_counts (ring_of ring.now.geometry) (slice_set clips.now id clip) table.old.heads }
 {

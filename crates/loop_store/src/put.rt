@@ -42,7 +42,7 @@ pub(crate) fn put<D: Disk, A: Allocator>(
         return Err(StoreFault::MustReopen);
     }
     let place = index.place()?;
-    match append_group(disk, &index.ring, place, group) {
+    match append_group(disk, index, place, group) {
         Ok(()) => {
             let number = index.next;
             index.note(place.segment(), group.len() as u32);

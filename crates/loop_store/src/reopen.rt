@@ -1,15 +1,14 @@
 //! Finds the recording on a disk again.
 
-ghost use Rattle.std.specs.Prelude.{◌≡◌, Err, IfErr, IfOk, false};
+ghost use Rattle.std.specs.Prelude.{◌≡◌, Err, IfErr, IfOk, false, true};
 ghost use Rattle.loop_disk.specs.Calls.{Called, Stays};
 ghost use Rattle.loop_disk.specs.Medium.{IsSettled, LeavesOnly};
 ghost use Rattle.loop_record.specs.Reading.{reading};
 ghost use Rattle.loop_store.specs.Faults.{is_disk, failed_in};
-ghost use Rattle.loop_store.specs.Make.{disk_after, failed_opening};
-ghost use Rattle.loop_store.specs.Reopen.{IsOpened, IsRefusedOpen, ReadsAlike, TellsOne, WasOrReadsAlike};
+ghost use Rattle.loop_store.specs.Reopen.{IsRefusedOpen, ReadsAlike, Reopens, WasOrReadsAlike, is_bad_keep};
 ghost use Rattle.loop_store.specs.Grow.{Brings};
-ghost use Rattle.loop_store.specs.Found.{Finds, Recovers};
-ghost use Rattle.loop_store.specs.Index.{IsFitting, IsRecoveredIn, SaysRecording};
+ghost use Rattle.loop_store.specs.Found.{Finds};
+ghost use Rattle.loop_store.specs.Index.{IsFitting, IsRecoveredIn, SaysRecording, keeping};
 ghost use Rattle.loop_store.specs.Store.{IsGroupFor, IsPresent};
 
 use crate::index::Index;
@@ -48,15 +47,52 @@ fn clear_newest<D: Disk, A: Allocator>(disk: &mut D, index: &Index<A>) -> Result
     }
 }
 
+/// Keeps so many of the newest blocks, where the ring has a segment more than that: `BadKeep` otherwise.
+fn keep_newest<A: Allocator>(index: &mut Index<A>, keep: u32) -> Result<(), StoreFault>
+    ensures kept { IfOk result (λ done. (index.new ≡ keeping keep index.old)
+        × (is_bad_keep index.old.ring.geometry.segments keep ≡ false)) }
+    ensures bad { IfErr result (λ fault. (fault ≡ StoreFault.BadKeep)
+        × (is_bad_keep index.old.ring.geometry.segments keep ≡ true)) }
+{
+    if keep == 0 || keep > index.ring.geometry.segments - 1 {
+        return Err(StoreFault::BadKeep);
+    }
+    index.table.keep_newest(keep);
+    Ok(())
+}
+
+/// Syncs, and finds what the disk's image reads as, with so many of the newest blocks kept. It writes nothing.
+fn find<D: Disk, A: Allocator + Copy>(
+    alloc: A,
+    disk: &mut D,
+    keep: u32,
+) -> Result<Index<A>, StoreFault>
+    ensures known { IfOk result (λ index. IsFitting index (D.medium disk.old).size × SaysRecording index) }
+    ensures kept { IfOk result (λ index. (index.table.keep ≡ keep)
+        × (is_bad_keep index.ring.geometry.segments keep ≡ false)) }
+    ensures found { (D.medium disk.old).honest → IfOk result (λ index.
+        IsRecoveredIn index (D.medium disk.old).bytes × IsSettled (D.medium disk.new)) }
+    ensures refused { (D.medium disk.old).honest → IfErr result (IsRefusedOpen keep (D.medium disk.old).bytes) }
+    ensures stays { (D.medium disk.old).honest → Stays (D.medium disk.old) (D.medium disk.new) }
+    ensures called { Called (D.medium disk.old) (D.medium disk.new) (failed_in result) }
+{
+    let mut index = reread(alloc, disk)?;
+    keep_newest(&mut index, keep)?;
+    Ok(index)
+}
+
 /// Finds the recording on a disk again, and makes the disk ready for a store.
 fn reopen<D: Disk, A: Allocator + Copy>(
     alloc: A,
     disk: &mut D,
+    keep: u32,
 ) -> Result<(Index<A>, Group<A>), StoreFault>
     ensures known { IfOk result (λ found. (IsFitting found.0 (D.medium disk.new).size × SaysRecording found.0)
         × IsGroupFor found.0 found.1) }
-    ensures present { (D.medium disk.old).honest → Recovers result (λ found. IsPresent found.0 (D.medium disk.new))
-        (λ fault. reading (D.medium disk.old).bytes ≡ Err fault) }
+    ensures kept { IfOk result (λ found. (found.0.table.keep ≡ keep)
+        × (is_bad_keep found.0.ring.geometry.segments keep ≡ false)) }
+    ensures present { (D.medium disk.old).honest → IfOk result (λ found. IsPresent found.0 (D.medium disk.new)) }
+    ensures refused { (D.medium disk.old).honest → IfErr result (IsRefusedOpen keep (D.medium disk.old).bytes) }
     ensures moments { (D.medium disk.old).honest
         → LeavesOnly (D.medium disk.old) (D.medium disk.new) (WasOrReadsAlike (D.medium disk.old)) }
     ensures alike { (D.medium disk.old).honest → ReadsAlike (D.medium disk.old).bytes (D.medium disk.new).bytes }
@@ -64,14 +100,14 @@ fn reopen<D: Disk, A: Allocator + Copy>(
         → IfErr result (λ fault. is_disk fault ≡ false → Stays (D.medium disk.old) (D.medium disk.new)) }
     ensures called { Called (D.medium disk.old) (D.medium disk.new) (failed_in result) }
 {
-    let index = reread(alloc, disk)?;
+    let index = find(alloc, disk, keep)?;
     let group = Group::new(alloc, &index.ring.geometry)?;
     clear_newest(disk, &index)?;
     Ok((index, group))
 }
 
 impl<D: Disk + Drop, A: Allocator + Copy> Store<D, A> {
-    /// Finds the recording on a disk again, and hands out its store.
+    /// Finds the recording on a disk again, and hands out its store, which keeps the newest block.
     ///
     /// First it syncs, so that a stop leaves what a read gives. Then it reads the superblock, each header, the
     /// first `HEAD_SIZE` bytes of each slot before the first closed gate of an open segment, and the clip
@@ -84,21 +120,21 @@ impl<D: Disk + Drop, A: Allocator + Copy> Store<D, A> {
     /// image reads as before. So does each image that a stop within the call leaves, unless a stop before the
     /// call could have left it.
     pub fn open(alloc: A, disk: D) -> Result<Store<D, A>, OpenRefused<D>>
-        ensures opened { (D.medium disk).honest → IfOk result (λ store. IsOpened D.medium (D.medium disk).bytes store) }
-        ensures tells { IfOk result TellsOne }
-        ensures fine { IfOk result (λ store. store.must_reopen ≡ false) }
-        ensures refused { (D.medium disk).honest
-            → IfErr result (λ refused. IsRefusedOpen (D.medium disk).bytes refused.fault) }
-        ensures alike { (D.medium disk).honest → ReadsAlike (D.medium disk).bytes (D.medium (disk_after result)).bytes }
-        ensures stays { (D.medium disk).honest
-            → IfErr result (λ refused. is_disk refused.fault ≡ false
-            → Stays (D.medium disk) (D.medium refused.disk)) }
-        ensures moments { (D.medium disk).honest
-            → LeavesOnly (D.medium disk) (D.medium (disk_after result)) (WasOrReadsAlike (D.medium disk)) }
-        ensures called { Called (D.medium disk) (D.medium (disk_after result)) (failed_opening result) }
+        ensures { Reopens D.medium 1 disk result }
+    {
+        Store::open_keeping(alloc, disk, 1)
+    }
+
+    /// Does the same, and from then on the `keep` newest blocks of held frames never go: where each other is locked by
+    /// a clip, an append is refused as `AllLocked`. How many are kept isn't on the disk: each store has its own.
+    ///
+    /// `BadKeep`, after `NotFormatted` and `Damaged`, where `keep` is 0 or above the segments but one. It hands the disk
+    /// back, to which nothing was written.
+    pub fn open_keeping(alloc: A, disk: D, keep: u32) -> Result<Store<D, A>, OpenRefused<D>>
+        ensures { Reopens D.medium keep disk result }
     {
         let mut disk = disk;
-        match reopen(alloc, &mut disk) {
+        match reopen(alloc, &mut disk, keep) {
             Ok((index, group)) => Ok(Store {
                 disk,
                 index,

@@ -59,6 +59,14 @@ impl<D: Disk + Drop, A: Allocator> Store<D, A> {
         self.index.version
     }
 
+    /// How many of the newest blocks of held frames never go: 1, the newest held frame's, unless the store was opened
+    /// by `Store::open_keeping`.
+    pub fn keep(&self) -> u32
+        ensures { result ≡ self.now.keep }
+    {
+        self.index.table.keep()
+    }
+
     /// Whether a call that writes has failed, so that the disk is to be taken out and opened again.
     pub fn must_reopen(&self) -> bool
         ensures { result ≡ self.now.must_reopen }
@@ -119,10 +127,11 @@ impl<D: Disk + Drop, A: Allocator> Store<D, A> {
     }
 
     /// The block that goes when an append needs room: the least block of a held frame that no clip meets and
-    /// that isn't the newest's. Nothing where none may go. Where the store must be reopened, it is that of
-    /// before the call that failed.
+    /// that isn't among the newest that are kept. Nothing where none may go. Where the store must be reopened, it is
+    /// that of before the call that failed.
     pub fn victim(&self) -> Option<u64>
-        ensures { (r : Recording) → StandsFor D.medium self.now r → result ≡ victim (ring_in self.now) r }
+        ensures { (r : Recording) → StandsFor D.medium self.now r
+            → result ≡ victim (ring_in self.now) self.now.keep r }
     {
         self.index.table.victim()
     }
@@ -145,8 +154,8 @@ impl<D: Disk + Drop, A: Allocator> Store<D, A> {
     /// Stores a group of 1 to 8 frames behind the others, all or none, and answers the number of the first.
     /// Each has as many bytes as the geometry says, and they fit into the block of the next number, as `room` says: a
     /// caller that isn't proved to see to it uses loop_desk's `Desk`, which refuses a frame of another size. Where that
-    /// block has to be begun and each segment holds one, the least block that isn't locked by a clip and isn't the
-    /// newest goes first.
+    /// block has to be begun and each segment holds one, the least block that isn't locked by a clip and isn't among
+    /// the newest that are kept goes first.
     ///
     /// `MustReopen` where a call that writes has failed; otherwise `NumbersSpent` where no number is left; then
     /// `AllLocked` where a block would have to go and none may. It takes no memory, and reads nothing. After

@@ -17,5 +17,6 @@ returns g c = λ s stands fine honest crashed there.
     (g.E.Disk.medium c.args.crashed).bytes s stands fine honest c.requires.left (c.in-Ok.ensures.opened crashed)
     c.in-Ok.ensures.fine in
     let now = c.in-Ok.ensures.called.honest.0 crashed in
-    read-held _ c.in-Ok.opened.geometry s c.args.number c.read.result c.read.new.out (now, same.stands) fine there
-    (c.read.ensures.goes.answers s (told-of g.E.Disk.medium c.in-Ok.opened s same.stands)).0
+    read-held _ c.in-Ok.opened.geometry (record s { keep = c.in-Ok.opened.keep }) c.args.number c.read.result c.read.new.out (now, same.stands) fine there
+    (c.read.ensures.goes.answers (record s { keep = c.in-Ok.opened.keep })
+    (told-of g.E.Disk.medium c.in-Ok.opened (record s { keep = c.in-Ok.opened.keep }) same.stands)).0

@@ -45,7 +45,13 @@ returns-in-Ok-lay_out-clause-formatted g c =
           ap (λ (s : Segments). s.clips) c.in-Ok.ensures;
       none = c.empty.ensures;
     } in
-    record { geometry = c.new-in-Ok-lay_out.ensures; version = refl; tells = fresh-tells c.args.head c.lay_out.new.disk index new; must_reopen = refl }
+    record {
+      geometry = c.new-in-Ok-lay_out.ensures;
+      version = refl;
+      keep = ap (λ (s : Segments). s.keep) c.in-Ok.ensures;
+      tells = fresh-tells c.args.head c.lay_out.new.disk index new;
+      must_reopen = refl;
+    }
 
 pub returns-in-Ok-lay_out-clause-stands : goal.returns-in-Ok-lay_out-clause-stands
 returns-in-Ok-lay_out-clause-stands g c =

@@ -40,7 +40,7 @@ returns-in_err-place-clause-goes g c =
     (λ honest. g.met.D.Disk.sound c.args.disk.now honest) c.if-must_reopen.false c.in_err-place.ensures.refusals
     (λ r told.
     let known = c.requires.kept.known in
-    refuses-same i.ring.geometry known.recording r fault
+    refuses-same i.ring.geometry i.table.keep known.recording r fault
     (alike-by medium c.args.disk.now i c.args.must_reopen.now r c.requires.kept told)
     (c.in_err-place.ensures.answers known.recording (drawn_image i.ring.geometry i.table.heads i.clips)
     known.known)))
@@ -52,14 +52,14 @@ pub append_group-requires-clause-known : goal.append_group-requires-clause-known
 append_group-requires-clause-known g c = λ honest.
     let i = c.args.index.now in
     let present = c.requires.kept.present c.if-must_reopen.false honest in
-    subst (λ (n : ℕ). IsKnown i.ring.geometry n c.in_ok-place.place (g.D.Disk.medium c.args.disk.now).bytes) (sym c.requires.first)
+    subst (λ (n : ℕ). IsKnown i.ring.geometry i.table.keep n c.in_ok-place.place (g.D.Disk.medium c.args.disk.now).bytes) (sym c.requires.first)
     (place-known i (g.D.Disk.medium c.args.disk.now).bytes c.in_ok-place.place present.recorded present.unstray c.in_ok-place.ensures.answers)
 
 -- what the group has grown to, by the count that the index takes
-grew-by : {D : Type 0} (medium : D → Medium) (g : Geometry) (old new : D) (first next n j : ℕ) (ps : List Picture)
-    → first ≡ next → n ≡ length ps → Grew medium g old new first (length ps) j ps → Grew medium g old new next n j ps
-grew-by medium g old new first next n j ps same count grew =
-    subst (λ (k : ℕ). Grew medium g old new k n j ps) same (subst (λ (k : ℕ). Grew medium g old new first k j ps) (sym count) grew)
+grew-by : {D : Type 0} (medium : D → Medium) (g : Geometry) (keep : ℕ) (old new : D) (first next n j : ℕ) (ps : List Picture)
+    → first ≡ next → n ≡ length ps → Grew medium g keep old new first (length ps) j ps → Grew medium g keep old new next n j ps
+grew-by medium g keep old new first next n j ps same count grew =
+    subst (λ (k : ℕ). Grew medium g keep old new k n j ps) same (subst (λ (k : ℕ). Grew medium g keep old new first k j ps) (sym count) grew)
 
 pub returns-in-Ok-clause-kept : goal.returns-in-Ok-clause-kept
 returns-in-Ok-clause-kept g c =
@@ -69,14 +69,14 @@ returns-in-Ok-clause-kept g c =
     let j = place_segment c.in_ok-place.place in
     let n = c.len.result in
     let medium = g.D.Disk.medium in
-    let first : Grew medium h c.args.disk.now c.append_group.new.disk c.args.group.now.first (length ps) j ps = record {
+    let first : Grew medium h i.table.keep c.args.disk.now c.append_group.new.disk c.args.group.now.first (length ps) j ps = record {
       back = c.append_group.ensures.called.honest.1;
       count = refl;
       grown = c.in-Ok.ensures.such;
       settled = c.in-Ok.ensures.settled;
       stored = c.in-Ok.ensures.held;
     } in
-    let grew = grew-by medium h c.args.disk.now c.append_group.new.disk c.args.group.now.first i.next n j ps c.requires.first c.len.ensures.count first in
+    let grew = grew-by medium h i.table.keep c.args.disk.now c.append_group.new.disk c.args.group.now.first i.next n j ps c.requires.first c.len.ensures.count first in
     let noted = noted-at i c.note.new.self c.segment.result j n c.segment.ensures c.note.ensures in
     let placed : IsPlaced i c.in_ok-place.place n = record {
       within = c.in_ok-place.ensures.within;
@@ -98,14 +98,14 @@ returns-in-Ok-clause-goes g c =
     let medium = g.D.Disk.medium in
     let must = c.args.must_reopen.now in
     let fine = c.if-must_reopen.false in
-    let first : Grew medium h c.args.disk.now c.append_group.new.disk c.args.group.now.first (length ps) j ps = record {
+    let first : Grew medium h i.table.keep c.args.disk.now c.append_group.new.disk c.args.group.now.first (length ps) j ps = record {
       back = c.append_group.ensures.called.honest.1;
       count = refl;
       grown = c.in-Ok.ensures.such;
       settled = c.in-Ok.ensures.settled;
       stored = c.in-Ok.ensures.held;
     } in
-    let grew = grew-by medium h c.args.disk.now c.append_group.new.disk c.args.group.now.first i.next n j ps c.requires.first c.len.ensures.count first in
+    let grew = grew-by medium h i.table.keep c.args.disk.now c.append_group.new.disk c.args.group.now.first i.next n j ps c.requires.first c.len.ensures.count first in
     let noted = noted-at i c.note.new.self c.segment.result j n c.segment.ensures c.note.ensures in
     let placed : IsPlaced i c.in_ok-place.place n = record {
       within = c.in_ok-place.ensures.within;
@@ -119,6 +119,7 @@ returns-in-Ok-clause-goes g c =
       one = one-kept medium c.args.disk.now i must c.requires.kept;
       geometry = ap (λ (x : Ring). x.geometry) noted.ring;
       version = noted.version;
+      keep = noted.keep;
       called = c.in-Ok.ensures.called;
       tells = λ r told. told-grown medium c.args.disk.now c.append_group.new.disk i c.note.new.self
           c.in_ok-place.place n j ps must r c.requires.kept told refl placed noted grew.count;
@@ -126,14 +127,14 @@ returns-in-Ok-clause-goes g c =
           let known = c.requires.kept.known in
           let image = drawn_image h i.table.heads i.clips in
           let at = c.in_ok-place.ensures.answers known.recording image known.known in
-          place-alike h known.recording r (alike-by medium c.args.disk.now i must r c.requires.kept told)
-          (record { unspent = at.0; some = place-some h known.recording image c.in_ok-place.place at.1 });
+          place-alike h i.table.keep known.recording r (alike-by medium c.args.disk.now i must r c.requires.kept told)
+          (record { unspent = at.0; some = place-some h i.table.keep known.recording image c.in_ok-place.place at.1 });
       moments = λ r stands honest.
           let known = known-by medium c.args.disk.now i must r c.requires.kept stands fine honest in
           let at = c.in_ok-place.ensures.answers r (medium c.args.disk.now).bytes known in
           subst (λ (l : List Step). LeavesOnly (medium c.args.disk.now) (medium c.append_group.new.disk)
-          (HoldsSome h r l)) (steps-are h r ps at.0
-          (place-some h r (medium c.args.disk.now).bytes c.in_ok-place.place at.1))
+          (HoldsSome h r l)) (steps-are h i.table.keep r ps at.0
+          (place-some h i.table.keep r (medium c.args.disk.now).bytes c.in_ok-place.place at.1))
           (c.append_group.ensures.moments r (sym known.next_is ∙ sym c.requires.first) honest known.held);
       stands = λ r stands. stands-grown medium c.args.disk.now c.append_group.new.disk i c.note.new.self
           c.in_ok-place.place n j ps must r c.requires.kept fine stands refl placed noted grew;
@@ -163,13 +164,13 @@ returns-in-Err-clause-goes g c =
           let known = c.requires.kept.known in
           let image = drawn_image h i.table.heads i.clips in
           let at = c.in_ok-place.ensures.answers known.recording image known.known in
-          place-alike h known.recording r (alike-by medium c.args.disk.now i must r c.requires.kept told)
-          (record { unspent = at.0; some = place-some h known.recording image c.in_ok-place.place at.1 });
+          place-alike h i.table.keep known.recording r (alike-by medium c.args.disk.now i must r c.requires.kept told)
+          (record { unspent = at.0; some = place-some h i.table.keep known.recording image c.in_ok-place.place at.1 });
       moments = λ r stands honest.
           let known = known-by medium c.args.disk.now i must r c.requires.kept stands c.if-must_reopen.false honest in
           let at = c.in_ok-place.ensures.answers r (medium c.args.disk.now).bytes known in
           subst (λ (l : List Step). LeavesOnly (medium c.args.disk.now) (medium c.append_group.new.disk)
-          (HoldsSome h r l)) (steps-are h r ps at.0
-          (place-some h r (medium c.args.disk.now).bytes c.in_ok-place.place at.1))
+          (HoldsSome h r l)) (steps-are h i.table.keep r ps at.0
+          (place-some h i.table.keep r (medium c.args.disk.now).bytes c.in_ok-place.place at.1))
           (c.append_group.ensures.moments r (sym known.next_is ∙ sym c.requires.first) honest known.held);
     })

@@ -3,30 +3,30 @@ use Rattle.loop_store.proofs.reopen.reopen.Goals as goal
 
 pub returns-in_err-index-clause-moments : goal.returns-in_err-index-clause-moments
 returns-in_err-index-clause-moments g c = λ honest.
-    stays-moments _ _ (g.met.D.Disk.sound c.args.disk.now honest) (c.reread.ensures.finds.stays honest)
+    stays-moments _ _ (g.met.D.Disk.sound c.args.disk.now honest) (c.find.ensures.stays honest)
 
 pub returns-in_err-group-clause-moments : goal.returns-in_err-group-clause-moments
 returns-in_err-group-clause-moments g c = λ honest.
-    stays-moments _ _ (g.met.D.Disk.sound c.args.disk.now honest) (c.reread.ensures.finds.stays honest)
+    stays-moments _ _ (g.met.D.Disk.sound c.args.disk.now honest) (c.find.ensures.stays honest)
 
 pub returns-in_err-clear_newest-clause-moments : goal.returns-in_err-clear_newest-clause-moments
 returns-in_err-clear_newest-clause-moments g c = λ honest.
-    moments-on _ _ _ (g.met.D.Disk.sound c.args.disk.now honest) (c.reread.ensures.finds.stays honest)
-    (c.clear_newest.ensures.moments (c.reread.ensures.finds.called.honest.0 honest))
+    moments-on _ _ _ (g.met.D.Disk.sound c.args.disk.now honest) (c.find.ensures.stays honest)
+    (c.clear_newest.ensures.moments (c.find.ensures.called.honest.0 honest))
 
 pub returns-in_err-clear_newest-clause-alike : goal.returns-in_err-clear_newest-clause-alike
 returns-in_err-clear_newest-clause-alike g c = λ honest.
-    let mid = c.reread.ensures.finds.called.honest.0 honest in
+    let mid = c.find.ensures.called.honest.0 honest in
     alike-on _ _ _ (g.met.D.Disk.sound c.clear_newest.new.disk (c.clear_newest.ensures.called.honest.0 mid))
-    (c.reread.ensures.finds.stays honest) (c.clear_newest.ensures.moments mid)
+    (c.find.ensures.stays honest) (c.clear_newest.ensures.moments mid)
 
 pub returns-clause-moments : goal.returns-clause-moments
 returns-clause-moments g c = λ honest.
-    moments-on _ _ _ (g.met.D.Disk.sound c.args.disk.now honest) (c.reread.ensures.finds.stays honest)
-    (c.clear_newest.ensures.moments (c.reread.ensures.finds.called.honest.0 honest))
+    moments-on _ _ _ (g.met.D.Disk.sound c.args.disk.now honest) (c.find.ensures.stays honest)
+    (c.clear_newest.ensures.moments (c.find.ensures.called.honest.0 honest))
 
 pub returns-clause-alike : goal.returns-clause-alike
 returns-clause-alike g c = λ honest.
-    let mid = c.reread.ensures.finds.called.honest.0 honest in
+    let mid = c.find.ensures.called.honest.0 honest in
     alike-on _ _ _ (g.met.D.Disk.sound c.clear_newest.new.disk (c.clear_newest.ensures.called.honest.0 mid))
-    (c.reread.ensures.finds.stays honest) (c.clear_newest.ensures.moments mid)
+    (c.find.ensures.stays honest) (c.clear_newest.ensures.moments mid)

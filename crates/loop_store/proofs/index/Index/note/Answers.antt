@@ -9,6 +9,7 @@ returns g c =
     let old = c.args.self.now in record {
       ring = refl;
       version = refl;
+      keep = c.set_head.ensures.keep;
       next = ap (λ n. old.next + n) c.from.ensures;
       heads = c.set_head.ensures.heads
           ∙ (λ i. set old.table.heads c.args.segment

@@ -13,6 +13,7 @@ returns g c =
     let clip = c.args.clip in record {
       ring = refl;
       version = refl;
+      keep = c.count_clip.ensures.keep ∙ c.uncount_clip.ensures.keep;
       next = refl;
       heads = c.count_clip.ensures.heads ∙ c.uncount_clip.ensures.heads;
       clips = c.set-2.ensures ∙ ap (λ (l : List (Option Span)). set l id clip) c.set.ensures ∙ set-set old.clips id None clip;

@@ -7,13 +7,13 @@ use Rattle.loop_store.proofs.index.Index.place_of_new.Goals as goal
 
 pub returns-in-Some-clause-place : goal.returns-in-Some-clause-place
 returns-in-Some-clause-place g c = λ r image known unspent missing.
-    victim-place c.args.self.now.ring.geometry r image c.in-Some.segment c.held_blocks.result
+    victim-place c.args.self.now.ring.geometry c.args.self.now.table.keep r image c.in-Some.segment c.held_blocks.result
     c.args.self.now.table.heads known.held known.heads_are unspent missing c.held_blocks.ensures
     c.if-held_blocks-self.true (c.in-Some.ensures.place r image known)
 
 pub returns-in-None-clause-place : goal.returns-in-None-clause-place
 returns-in-None-clause-place g c = λ r image known unspent missing.
-    no-victim c.args.self.now.ring.geometry r image c.held_blocks.result c.args.self.now.table.heads known.held
+    no-victim c.args.self.now.ring.geometry c.args.self.now.table.keep r image c.held_blocks.result c.args.self.now.table.heads known.held
     known.heads_are missing c.held_blocks.ensures c.if-held_blocks-self.true (c.in-None.ensures.place r image known)
 
 pub returns-in-Some-first_closed-clause-place : goal.returns-in-Some-first_closed-clause-place

@@ -8,12 +8,12 @@ pub returns-in_err-block-clause-place : goal.returns-in_err-block-clause-place
 returns-in_err-block-clause-place g c = λ r image known.
     let i = c.args.self.now in
     let counted = c.requires.counted ∙ ap (λ clips. clip_counts (ring_of i.ring.geometry) clips i.table.heads) known.clips_are in
-    subst (λ (o : Option ℕ). IsPlaceOf i.table.heads (victim (ring_of i.ring.geometry) r) o) (sym c.from_residual.ensures)
+    subst (λ (o : Option ℕ). IsPlaceOf i.table.heads (victim (ring_of i.ring.geometry) i.table.keep r) o) (sym c.from_residual.ensures)
     (sym (c.victim.ensures.victim i.ring.geometry r image known.held known.heads_are counted) ∙ c.in_err-block.was)
 
 pub returns-clause-place : goal.returns-clause-place
 returns-clause-place g c = λ r image known.
     let i = c.args.self.now in
     let counted = c.requires.counted ∙ ap (λ clips. clip_counts (ring_of i.ring.geometry) clips i.table.heads) known.clips_are in
-    victim-placed i.ring.geometry r image i.table.heads c.in_ok-block.block c.find.result known.held known.heads_are
+    victim-placed i.ring.geometry i.table.keep r image i.table.heads c.in_ok-block.block c.find.result known.held known.heads_are
     (sym c.in_ok-block.was ∙ c.victim.ensures.victim i.ring.geometry r image known.held known.heads_are counted) c.find.ensures.place

@@ -1,0 +1,52 @@
+use Rattle.std.proofs.Common.{false, refl}
+use Rattle.loop_record.proofs.Bounds.{limits}
+use Rattle.loop_store.specs.Drawn.{drawn_image}
+use Rattle.loop_store.proofs.Reopened.{present-opened}
+use Rattle.loop_store.proofs.Looks.{told-by}
+use Rattle.loop_store.proofs.store.Store.open_keeping.Goals as goal
+
+pub invariant_of-result : goal.invariant_of-result
+invariant_of-result g c = (
+  record {
+    fits = c.in-Ok.ensures.known.0.0;
+    known = c.in-Ok.ensures.known.0.1;
+    present = λ fine honest. c.in-Ok.ensures.present (c.reopen.ensures.called.honest.1 honest);
+  },
+  c.in-Ok.ensures.known.1,
+)
+
+pub returns-in-Ok : goal.returns-in-Ok
+returns-in-Ok g c =
+    let index = c.in-Ok.index in
+    let known = c.in-Ok.ensures.known.0.1 in
+    record {
+      opened = λ honest. present-opened g.D.Disk.medium c.reopen.new.disk index (g.D.Disk.medium c.args.disk).bytes
+          (limits index.ring.geometry index.ring.good).slots.0 c.in-Ok.ensures.known.0.0.whole.within
+          (c.in-Ok.ensures.present honest) (c.reopen.ensures.alike honest);
+      tells = (
+        known.recording,
+        told-by c.reopen.new.disk index false known.recording
+            (drawn_image index.ring.geometry index.table.heads index.clips)
+            (limits index.ring.geometry index.ring.good).slots.0 c.in-Ok.ensures.known.0.0.whole.within known.known,
+      );
+      kept = c.in-Ok.ensures.kept;
+      fine = refl;
+      refused = λ honest. tt;
+      alike = c.reopen.ensures.alike;
+      stays = λ honest. tt;
+      moments = c.reopen.ensures.moments;
+      called = c.in-Ok.ensures.called;
+    }
+
+pub returns-in-Err : goal.returns-in-Err
+returns-in-Err g c = record {
+  opened = λ honest. tt;
+  tells = tt;
+  kept = tt;
+  fine = tt;
+  refused = c.in-Err.ensures.refused;
+  alike = c.reopen.ensures.alike;
+  stays = c.in-Err.ensures.stays;
+  moments = c.reopen.ensures.moments;
+  called = c.in-Err.ensures.called;
+}
