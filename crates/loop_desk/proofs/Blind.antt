@@ -1,5 +1,5 @@
 -- Nothing in the model of a desk looks at pixels.
-use Rattle.std.proofs.Common.{◌≡◌, ℕ, ◌+◌, ◌-◌, ◌%◌, Bool, true, false, not, min, if◌then◌else◌, is_some, Option, Some, None, Result, Ok, Err, List, [], ◌∷◌, length, take, map, refl, sym, ap, ◌∙◌, subst}
+use Rattle.std.proofs.Common.{◌≡◌, ℕ, ◌+◌, ◌-◌, ◌%◌, Bool, true, false, not, min, if◌then◌else◌, is_some, Option, Some, None, Result, Ok, Err, List, [], ◌∷◌, length, take, map, refl, sym, ap, ◌∙◌, subst, max}
 use Rattle.std.proofs.lemmas.List.{drop-map, length-map, map-append, take-map}
 use Rattle.std.specs.Prelude.{◌==◌, ◌&&◌, ◌||◌, nat_lt}
 use Rattle.std.specs.List.{filter, find, range_with_len}
@@ -92,14 +92,14 @@ stores-bare : (ps : List Picture) → map store (map bare ps) ≡ map bare_step 
 stores-bare [] = refl
 stores-bare (p ∷ ps) = ap (λ l. store (bare p) ∷ l) (stores-bare ps)
 
-steps-bare : (ring : Ring) (r : Recording) (ps : List Picture) → steps ring (bare_recording r)
-    (map bare ps) ≡ option_map (map bare_step) (steps ring r ps)
-steps-bare ring r ps =
+steps-bare : (ring : Ring) (keep : ℕ) (r : Recording) (ps : List Picture) → steps ring keep (bare_recording r)
+    (map bare ps) ≡ option_map (map bare_step) (steps ring keep r ps)
+steps-bare ring keep r ps =
     let same = blocks-bare ring r.frames in
     (λ i. if r.next == last_number ring then None else stores_after
     (recycling_first ((r.next % ring.slots == 0) && (length (same i) == ring.segments))
-    (find (λ b. not (is_locked ring r b)) (take (length (same i) - 1) (same i)))) (map bare ps))
-    ∙ go (r.next == last_number ring) (needs_recycling ring r) (victim ring r)
+    (find (λ b. not (is_locked ring r b)) (take (length (same i) - max 1 keep) (same i)))) (map bare ps))
+    ∙ go (r.next == last_number ring) (needs_recycling ring r) (victim ring keep r)
   where
     go : (b n : Bool) (v : Option ℕ) → (if b then None else stores_after (recycling_first n v) (map bare ps)) ≡
         option_map (map bare_step) (if b then None else stores_after (recycling_first n v) ps)
@@ -112,22 +112,23 @@ or-none-bare : (o : Option (List Step)) → steps_or_none (option_map (map bare_
 or-none-bare None = refl
 or-none-bare (Some l) = refl
 
-asked-bare : (g : Geometry) (r : Recording) (ps : List Picture) → steps_asked (ring_of g) (bare_recording r)
-    (map bare ps) ≡ map bare_step (steps_asked (ring_of g) r ps)
-asked-bare g r ps = ap steps_or_none (steps-bare (ring_of g) r ps) ∙ or-none-bare (steps (ring_of g) r ps)
+asked-bare : (g : Geometry) (keep : ℕ) (r : Recording) (ps : List Picture) → steps_asked (ring_of g) keep
+    (bare_recording r) (map bare ps) ≡ map bare_step (steps_asked (ring_of g) keep r ps)
+asked-bare g keep r ps = ap steps_or_none (steps-bare (ring_of g) keep r ps) ∙ or-none-bare (steps (ring_of g) keep r ps)
 
 -- ---- the answers of the store
 
-victim-bare : (ring : Ring) (r : Recording) → lacks_victim ring (bare_recording r) ≡ lacks_victim ring r
-victim-bare ring r =
+victim-bare : (ring : Ring) (keep : ℕ) (r : Recording)
+    → lacks_victim ring keep (bare_recording r) ≡ lacks_victim ring keep r
+victim-bare ring keep r =
     let same = blocks-bare ring r.frames in
     λ i. (r.next % ring.slots == 0 && length (same i) == ring.segments) && not
-    (is_some (find (λ b. not (is_locked ring r b)) (take (length (same i) - 1) (same i))))
+    (is_some (find (λ b. not (is_locked ring r b)) (take (length (same i) - max 1 keep) (same i))))
 
 checks-bare : (g : Geometry) (s : StoreState) (c : Call) → checks (ring_of g) (bare_store s) (bare_stored c) ≡ checks
     (ring_of g) s c
 checks-bare g s (appended ps result) =
-    let same = victim-bare (ring_of g) s.recording in
+    let same = victim-bare (ring_of g) s.keep s.recording in
     λ i. due s.must_reopen StoreFault.MustReopen
     ∷ due (s.recording.next == last_number (ring_of g)) StoreFault.NumbersSpent
     ∷ due (same i) StoreFault.AllLocked ∷ []
@@ -202,7 +203,7 @@ answered-bare (Some fault) l = refl
 steps-of-bare : (g : Geometry) (s : StoreState) (c : Call) → steps_of (ring_of g) (bare_store s)
     (bare_stored c) ≡ map bare_step
     (steps_of (ring_of g) s c)
-steps-of-bare g s (appended ps result) = asked-bare g s.recording ps
+steps-of-bare g s (appended ps result) = asked-bare g s.keep s.recording ps
 steps-of-bare g s (locked span result) = refl
 steps-of-bare g s (unlocked id result) = refl
 steps-of-bare g s (was_read number result) = refl
@@ -241,7 +242,7 @@ stored-bare g s c =
     let recording = ap (plain ring (bare_recording s.recording)) (made-bare g s c) ∙ plain-bare ring s.recording (made_by (ring_of g) s c) in
     let failed = failed-bare c in
     let version = version-bare s.version c in
-    λ i. record { recording = recording i; version = version i; must_reopen = s.must_reopen || failed i }
+    λ i. record { recording = recording i; version = version i; keep = s.keep; must_reopen = s.must_reopen || failed i }
 
 -- calls of the store
 record IsStoreBlind (g : Geometry) (s : StoreState) (calls : List Call) : Type 0 where
@@ -363,6 +364,7 @@ outline-tells medium d outline s told stands now =
     let tells = stands.store.recording.told in
     record {
       version = told.version ∙ stands.store.version;
+      keep = told.keep ∙ stands.store.keep;
       next = told.next ∙ tells.next_is;
       frames = told.frames s.store.recording stands.store.recording;
       clips = told.clips ∙ ap (clip_list 0) tells.clips_are;
@@ -373,6 +375,7 @@ pub outline-bare : {A : Type 0} (s : DeskState) (outline : Outline A) → IsOutl
     → IsOutlineOf (bare_state s) outline
 outline-bare s outline is = record {
   version = is.version;
+  keep = is.keep;
   next = is.next;
   frames = is.frames ∙ sym (numbers-bare s.store.recording.frames);
   clips = is.clips;

@@ -24,9 +24,10 @@ frames-stores [] = refl
 frames-stores (p ∷ ps) = ap (λ l. p ∷ l) (frames-stores ps)
 
 -- an append's steps store its frames
-frames-steps : (ring : Ring) (r : Recording) (group : List Picture) → steps ring r group ≢ None
-    → frames_stored (steps_or_none (steps ring r group)) ≡ group
-frames-steps ring r group some = go (r.next == last_number ring) (needs_recycling ring r) (victim ring r) some
+frames-steps : (ring : Ring) (keep : ℕ) (r : Recording) (group : List Picture) → steps ring keep r group ≢ None
+    → frames_stored (steps_or_none (steps ring keep r group)) ≡ group
+frames-steps ring keep r group some =
+    go (r.next == last_number ring) (needs_recycling ring r) (victim ring keep r) some
   where
     go : (b n : Bool) (v : Option ℕ) → (if b then None else stores_after (recycling_first n v) group) ≢ None
         → frames_stored (steps_or_none (if b then None else stores_after (recycling_first n v) group)) ≡ group
@@ -52,9 +53,9 @@ flush-frames : (g : Geometry) (w : DeskState) (s : StoreState) (group : List Pic
     → frames_stored (made_in (ring_of g) s (append_of group (Ok f))) ++ drop f.stored w.pending ≡ w.pending
 flush-frames g w s [] f told said whole = (λ i. drop (told.1 i).stored w.pending) ∙ whole
 flush-frames g w s (p ∷ ps) f told said whole =
-    let list = steps_or_none (steps (ring_of g) s.recording (p ∷ ps)) in
+    let list = steps_or_none (steps (ring_of g) s.keep s.recording (p ∷ ps)) in
     let frames : frames_stored (list ++ []) ≡ p ∷ ps = ap frames_stored (append-nil list)
-    ∙ frames-steps (ring_of g) s.recording (p ∷ ps) (answered-some (Unit {0}) g s (p ∷ ps) f.first said.0) in
+    ∙ frames-steps (ring_of g) s.keep s.recording (p ∷ ps) (answered-some (Unit {0}) g s (p ∷ ps) f.first said.0) in
     let count = told.1 in
     (λ i. frames i ++ drop (count i).stored w.pending) ∙ whole
 

@@ -20,7 +20,7 @@ abbrev pub bare_recording : Recording → Recording
 bare_recording r = record r { frames = map bare_frame r.frames }
 
 abbrev pub bare_store : StoreState → StoreState
-bare_store s = record { recording = bare_recording s.recording; version = s.version; must_reopen = s.must_reopen }
+bare_store s = record s { recording = bare_recording s.recording }
 
 abbrev pub bare_state : DeskState → DeskState
 bare_state s = record { store = bare_store s.store; pending = map bare s.pending }
@@ -47,6 +47,7 @@ pub record IsBlind (k : Rules) (s : DeskState) (calls : List DeskCall) : Type 0 
 -- the outline says what the state is
 pub record IsOutlineOf {A : Type 0} (s : DeskState) (outline : Outline A) : Type 0 where
   pub version : outline.version ≡ s.store.version
+  pub keep : outline.keep ≡ s.store.keep
   pub next : outline.next ≡ s.store.recording.next
   pub frames : outline.frames.items ≡ map (λ f. f.0) s.store.recording.frames
   pub clips : outline.clips.items ≡ clip_list 0 s.store.recording.clips

@@ -33,7 +33,8 @@ pub data DeskCall : Type 0 where
   status_told : Status → DeskCall
   layout_upgraded : Result Bool StoreFault → DeskCall
 
--- what is recorded and in which version of the layout, whether a call that writes has failed, and what waits
+-- what is recorded and in which version of the layout, how many of the newest blocks are kept, whether a call that
+-- writes has failed, and what waits
 pub record DeskState : Type 0 where
   pub store : StoreState
   pub pending : List Picture

@@ -70,6 +70,7 @@ pub record TellsStatus {D : Type 0} (medium : D → Medium) (d : SeenDesk D) (st
 
 pub record TellsOutline {D A : Type 0} (medium : D → Medium) (d : SeenDesk D) (outline : Outline A) : Type 0 where
   pub version : outline.version ≡ d.store.version
+  pub keep : outline.keep ≡ d.store.keep
   pub next : outline.next ≡ d.store.next
   pub pending : outline.pending ≡ length d.pending
   pub clips : outline.clips.items ≡ clip_list 0 d.store.clips

@@ -237,6 +237,13 @@ impl<D: Disk + Drop, A: Allocator> Desk<D, A> {
         self.store.version()
     }
 
+    /// How many of the newest blocks of held frames never go, as `Store::keep`.
+    pub fn keep(&self) -> u32
+        ensures { result ≡ self.now.store.keep }
+    {
+        self.store.keep()
+    }
+
     /// Makes version 2 of a layout of version 1, as `Store::upgrade`, and answers whether it did. What waits isn't
     /// looked at.
     pub fn upgrade(&mut self) -> Result<bool, StoreFault>
@@ -286,8 +293,8 @@ impl<D: Disk + Drop, A: Allocator + Copy> Desk<D, A> {
         self.store.read_frame_in(alloc, spare, number)
     }
 
-    /// What the desk holds: the version of the layout, the next number, the numbers of the held frames, the clips, and
-    /// how many frames wait.
+    /// What the desk holds: the version of the layout, how many of the newest blocks never go, the next number, the
+    /// numbers of the held frames, the clips, and how many frames wait.
     /// `MustReopen` where a call that writes has failed; otherwise `NoMemory`.
     pub fn outline(&self, alloc: A) -> Result<Outline<A>, StoreFault>
         ensures outline { IfOk result (TellsOutline D.medium self.now) }
@@ -298,6 +305,7 @@ impl<D: Disk + Drop, A: Allocator + Copy> Desk<D, A> {
         let clips = self.store.clips(alloc)?;
         Ok(Outline {
             version: self.store.version(),
+            keep: self.store.keep(),
             next: self.store.next(),
             frames,
             clips,

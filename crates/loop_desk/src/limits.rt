@@ -43,6 +43,8 @@ pub struct Status {
 pub struct Outline<A: Allocator = Global> {
     /// The version of the layout.
     pub version: u32,
+    /// How many of the newest blocks never go.
+    pub keep: u32,
     /// The number that the next stored frame gets.
     pub next: u64,
     /// The numbers of the held frames, which rise.

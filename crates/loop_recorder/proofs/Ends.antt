@@ -15,6 +15,7 @@ module _ {D A B : Type 0} (medium : D → Medium) (one : Outline A) (other : Out
   tells-same : (d : SeenDesk D) → TellsOutline medium d one → TellsOutline medium d other
   tells-same d tells = record {
     version = sym same.version ∙ tells.version;
+    keep = sym same.keep ∙ tells.keep;
     next = sym same.next ∙ tells.next;
     pending = sym same.pending ∙ tells.pending;
     clips = sym same.clips ∙ tells.clips;

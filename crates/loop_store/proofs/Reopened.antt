@@ -1,8 +1,9 @@
 -- What opening makes of a disk.
-use Rattle.std.proofs.Common.{◌≡◌, ◌≢◌, ◌⊎◌, inl, inr, ℕ, ◌+◌, ◌*◌, ◌/◌, ◌%◌, ◌^◌, ◌<◌, ◌≤◌, Bool, true, false, not, eqb, Option, Some, None, Result, Ok, Err, List, [], ◌∷◌, ◌++◌, length, set, get_or, map, refl, sym, ap, ◌∙◌, subst, arith}
+use Rattle.std.proofs.Common.{◌≡◌, ◌≢◌, ◌⊎◌, inl, inr, ℕ, ◌+◌, ◌-◌, ◌*◌, ◌/◌, ◌%◌, ◌^◌, ◌<◌, ◌≤◌, Bool, true, false, not, eqb, ltb, Option, Some, None, Result, Ok, Err, List, [], ◌∷◌, ◌++◌, length, set, get_or, map, refl, sym, ap, ◌∙◌, subst, arith}
 use Rattle.std.proofs.Math.Nat.{add-mul, div-eq_of_lt-le, mul-le-mul_right, mul_comm}
 use Rattle.std.proofs.lemmas.Nat.{le-div}
 use Rattle.std.proofs.lemmas.Bool.{cases_lt}
+use Rattle.std.proofs.lemmas.Bool.Decides.{nat_tests}
 use Rattle.std.proofs.lemmas.List.{length-map, set-get_or}
 use Rattle.std.proofs.lemmas.List.Folds.{list_any_at}
 use Rattle.std.specs.List.{All, list_any, position, range_with_len}
@@ -10,6 +11,7 @@ use Rattle.loop_disk.specs.Calls.{Stays}
 use Rattle.loop_disk.specs.Medium.{Medium, IsSettled, IsSound, LeavesOnly}
 use Rattle.loop_disk.proofs.Moments.{each_now, goes_on, joined, started, weaker}
 use Rattle.loop_record.specs.declared.clip.Span.{Span}
+use Rattle.loop_record.specs.declared.damage.LayoutFault.{LayoutFault}
 use Rattle.loop_record.specs.declared.geometry.Geometry.{Geometry}
 use Rattle.loop_record.specs.declared.image.Found.{Found}
 use Rattle.loop_record.specs.declared.segment.SegmentHead.{SegmentHead}
@@ -17,7 +19,7 @@ use Rattle.loop_record.specs.Change.{ShowsSegment}
 use Rattle.loop_record.specs.Geometry.{frame_bytes, segment_at, segment_size, slot_at}
 use Rattle.loop_record.specs.Layout.{Segment, segment_in, slot_in, version_in, whole_frames}
 use Rattle.loop_record.specs.Plain.{AreIn, IsIn, segments_of}
-use Rattle.loop_record.specs.Reading.{Holds, by_block, recording_or_damage, lacks_frame, next_after, open_segments, parts_of, reading}
+use Rattle.loop_record.specs.Reading.{Contents, Holds, by_block, recording_or_damage, lacks_frame, next_after, open_segments, parts_of, reading}
 use Rattle.loop_record.specs.Recording.{Recording, last_number, ring_of}
 use Rattle.loop_record.proofs.Bounds.{limits}
 use Rattle.loop_record.proofs.Changes.{shown_of, is_overfull, next_after-behind}
@@ -28,6 +30,7 @@ use Rattle.loop_record.proofs.Segments.{placed_there}
 use Rattle.loop_ring.specs.Heads.{heads_of, is_of}
 use Rattle.loop_ring.specs.Writes.{HasNoStray}
 use Rattle.loop_ring.proofs.Heads.{head_of, head-there, heads-length, heads-shown, newest-found, one-entry, position-none}
+use Rattle.loop_store.specs.Faults.{is_disk}
 use Rattle.loop_store.specs.Grow.{HasNoneStray}
 use Rattle.loop_store.specs.declared.index.Index.{Index}
 use Rattle.loop_store.specs.declared.fault.StoreFault.{StoreFault}
@@ -320,3 +323,28 @@ refused-as keep image StoreFault.HandFull P said = absurd said
 refused-as keep image StoreFault.HandEmpty P said = absurd said
 refused-as keep image StoreFault.OldLayout P said = absurd said
 refused-as keep image StoreFault.BadKeep P said = absurd said
+
+-- the newest block may always be kept
+pub newest-kept : (image : List ℕ) → IsBadKeep 1 image → ⊥
+newest-kept image (c, (is, bad)) =
+    let most = (limits c.geometry (geometry-good c.geometry image (reading-stages c.geometry c.recording image is).geometry)).segments.0 in
+    few c.geometry.segments most bad
+  where
+    few : (n : ℕ) → 2 ≤ n → ltb (n - 1) 1 ≡ true → ⊥
+    few n most less = grind (arith, nat_tests, most, less)
+
+-- so an image that holds a recording is refused only for want of memory, or where a call of the disk failed
+pub refused-held : (g : Geometry) (r : Recording) (image : List ℕ) (fault : StoreFault) → Holds g r image
+    → IsRefusedOpen 1 image fault → (fault ≡ StoreFault.NoMemory) ⊎ (is_disk fault ≡ true)
+refused-held g r image StoreFault.NoMemory holds refused = inl refl
+refused-held g r image (StoreFault.Disk f) holds refused = inr refl
+refused-held g r image StoreFault.NotFormatted holds refused = absurd (apart (sym holds ∙ refused))
+  where
+    apart : {c : Contents} {f : LayoutFault} → (let x : Result Contents LayoutFault = Ok c in x ≡ Err f) → ⊥
+    apart e = absurd cc
+refused-held g r image (StoreFault.Damaged d) holds refused = absurd (apart (sym holds ∙ refused))
+  where
+    apart : {c : Contents} {f : LayoutFault} → (let x : Result Contents LayoutFault = Ok c in x ≡ Err f) → ⊥
+    apart e = absurd cc
+refused-held g r image StoreFault.BadKeep holds refused = absurd (newest-kept image refused)
+refused-held g r image _ holds refused = absurd refused

@@ -211,19 +211,19 @@ given_rest H r first to count n high p old mid inner rise there before =
 nothing_yet : (held : Option (List ℕ)) (bytes : List ℕ) → AppendsSome held held bytes
 nothing_yet held bytes = ([], bytes, refl, Appends-nil held)
 
--- the state of a store of this version that needn't be reopened
-abbrev pub running : ℕ → Recording → StoreState
-running version r = record { recording = r; version = version; must_reopen = false }
+-- the state of a store of this version, which keeps so many blocks and needn't be reopened
+abbrev pub running : ℕ → ℕ → Recording → StoreState
+running version keep r = record { recording = r; version = version; keep = keep; must_reopen = false }
 
 -- a read of a held frame is refused only where the disk failed or isn't honest
-pub part_refused : (H K : Type 0) → (H → K) → (g : Geometry) (version : ℕ) (r : Recording) (number at : ℕ) (p : Picture)
+pub part_refused : (H K : Type 0) → (H → K) → (g : Geometry) (version keep : ℕ) (r : Recording) (number at : ℕ) (p : Picture)
     (fault : StoreFault) (held : Option (List ℕ)) (bytes : List ℕ) → frame_under r.frames number ≡ Some p
-    → IsAnswered K (ring_of g) (running version r) (was_read_part number at (Err fault)) → Stopped H (Store fault) held held bytes
-part_refused H K to g version r number at p fault held bytes there said =
-    go fault (due-some (first_of (checks (ring_of g) (running version r) (was_read_part number at (Err fault))))
+    → IsAnswered K (ring_of g) (running version keep r) (was_read_part number at (Err fault)) → Stopped H (Store fault) held held bytes
+part_refused H K to g version keep r number at p fault held bytes there said =
+    go fault (due-some (first_of (checks (ring_of g) (running version keep r) (was_read_part number at (Err fault))))
     (was_read_part number at (Err fault)) (ReadFails K fault) said)
   where
-    none : first_of (checks (ring_of g) (running version r) (was_read_part number at (Err fault))) ≡ None
+    none : first_of (checks (ring_of g) (running version keep r) (was_read_part number at (Err fault))) ≡ None
     none = passed (not (holds r number)) NotHeld [] (ap (λ (o : Option Picture). not (is_some o)) there)
 
     apart : (f : StoreFault) → let x : Option StoreFault = None in x ≡ Some f → ⊥
@@ -233,8 +233,8 @@ part_refused H K to g version r number at p fault held bytes there said =
     failed (store.Disk f) e = λ h. nothing_yet held bytes
     failed f e = absurd cc
 
-    go : (f : StoreFault) → (first_of (checks (ring_of g) (running version r) (was_read_part number at (Err fault))) ≡ Some f)
-        ⊎ ((first_of (checks (ring_of g) (running version r) (was_read_part number at (Err fault))) ≡ None) × ReadFails K f)
+    go : (f : StoreFault) → (first_of (checks (ring_of g) (running version keep r) (was_read_part number at (Err fault))) ≡ Some f)
+        ⊎ ((first_of (checks (ring_of g) (running version keep r) (was_read_part number at (Err fault))) ≡ None) × ReadFails K f)
         → Stopped H (Store f) held held bytes
     go f (inl e) = absurd (apart f (sym none ∙ e))
     go f (inr x) = fails x.1
@@ -244,10 +244,10 @@ part_refused H K to g version r number at p fault held bytes there said =
         fails (inr damaged) = subst (λ (k : StoreFault). Stopped H (Store k) held held bytes) (sym damaged.0) (λ h. damaged.1 (to h))
 
 -- a part that was read of an honest disk is one of the frame
-pub part_given : (H : Type 0) (g : Geometry) (version : ℕ) (r : Recording) (number at : ℕ) (bytes : List ℕ)
-    → IsAnswered H (ring_of g) (running version r) (was_read_part number at (Ok bytes)) → H → IsPart r number at bytes
-part_given H g version r number at bytes said =
-    (due-none (first_of (checks (ring_of g) (running version r) (was_read_part number at (Ok bytes))))
+pub part_given : (H : Type 0) (g : Geometry) (version keep : ℕ) (r : Recording) (number at : ℕ) (bytes : List ℕ)
+    → IsAnswered H (ring_of g) (running version keep r) (was_read_part number at (Ok bytes)) → H → IsPart r number at bytes
+part_given H g version keep r number at bytes said =
+    (due-none (first_of (checks (ring_of g) (running version keep r) (was_read_part number at (Ok bytes))))
     (was_read_part number at (Ok bytes)) (H → IsPart r number at bytes) said refl).1
 
 -- the bytes that were read are those of the frame

@@ -1,8 +1,19 @@
-use Rattle.std.proofs.Common.{sym, ap, ◌∙◌}
+use Rattle.std.proofs.Common.{List, ℕ, sym, ap, subst, ◌∙◌}
 use Rattle.loop_record.specs.Geometry.{frame_bytes}
+use Rattle.loop_record.specs.Reading.{Holds}
 use Rattle.loop_store.proofs.Crashed.{opened-same, read-held}
 use Rattle.loop_store.proofs.Gone.{told-of}
+use Rattle.loop_store.proofs.Reopened.{refused-held}
 use Rattle.loop_store.proofs.chain.read_after_crash.Goals as goal
+
+pub returns-in-Err : goal.returns-in-Err
+returns-in-Err g c = λ s stands fine honest crashed there.
+    let kept = stands.must_reopen ∙ fine in
+    let image = (g.E.Disk.medium c.args.crashed).bytes in
+    let same = stands.recording.settled kept honest image c.requires.left in
+    refused-held c.args.store.now.geometry s.recording image c.in-Err.field-0.fault
+    (subst (λ (i : List ℕ). Holds c.args.store.now.geometry s.recording i) (sym same) (stands.recording.held kept honest))
+    (c.in-Err.ensures.refused crashed)
 
 pub returns-then-out-frame_bytes : goal.returns-then-out-frame_bytes
 returns-then-out-frame_bytes g c = λ s stands fine honest crashed there.
