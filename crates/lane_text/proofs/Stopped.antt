@@ -9,6 +9,7 @@ use Rattle.loop_store.specs.Calls.{StoreState}
 use Rattle.loop_store.specs.Goes.{Stands}
 use Rattle.loop_store.specs.Reopen.{IsOpened, IsRefusedOpen}
 use Rattle.loop_store.specs.Seen.{Seen, StandsFor}
+use Rattle.loop_store.proofs.Reopened.{newest-kept}
 use Rattle.loop_desk.specs.declared.event.LaneEvent.{LaneEvent}
 use Rattle.loop_desk.specs.declared.event.LaneReply.{LaneReply}
 use Rattle.loop_desk.specs.declared.lane.Lane.{Lane}
@@ -45,13 +46,14 @@ module _ {D E P A : Type 0} (meaning : P → Plane) (medium : D → Medium) (oth
 
   pub for-want : (keeps : LaneKeeps meaning medium old new events replies) (why : StoreFault)
       → Stands medium old.desk.store s → s.must_reopen ≡ false
-      → IsLeftBehind medium other old.desk new.desk left → IsRefusedOpen (other left).bytes why → IsForWant (fault.Open why)
+      → IsLeftBehind medium other old.desk new.desk left → IsRefusedOpen 1 (other left).bytes why → IsForWant (fault.Open why)
   for-want keeps why stands fine is refused = go why (left-whole keeps stands fine is).held refused
     where
       go : (why : StoreFault) {r : Recording} → Holds old.desk.store.geometry r (other left).bytes
-          → IsRefusedOpen (other left).bytes why → IsForWant (fault.Open why)
+          → IsRefusedOpen 1 (other left).bytes why → IsForWant (fault.Open why)
       go StoreFault.NoMemory held refused = tt
       go (StoreFault.Disk failed) held refused = tt
       go StoreFault.NotFormatted held refused = absurd cc
       go (StoreFault.Damaged damage) held refused = absurd cc
+      go StoreFault.BadKeep held refused = absurd (newest-kept (other left).bytes refused)
       go _ held refused = absurd refused

@@ -63,7 +63,7 @@ fn perform<
 >(rt: &R, task: Task<'_>, input: I, out: &mut W, err: &mut E) -> u8 {
     match task {
         Task::Simulate => simulate(rt.alloc(), input, out, err),
-        Task::Record(frames, source, paths) => run_record(rt, frames, source, paths, out, err),
+        Task::Record(recording) => run_record(rt, recording, out, err),
         Task::OnFile(path, command) => run_on_file(rt, path, command, out, err),
     }
 }

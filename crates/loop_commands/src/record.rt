@@ -7,7 +7,7 @@ use loop_disk::Disk;
 use loop_file::FileDisk;
 use loop_plane::{MmapPlane, PlaneMemory};
 use loop_recorder::Ended;
-use loop_script::{Paths, print_line, print_parts, print_refusal};
+use loop_script::{Recording, print_line, print_parts, print_refusal};
 use loop_store::{OpenRefused, Store, StoreFault};
 use loop_y4m::Y4mReader;
 use std::alloc::{AllocError, AllocGlobal, Global};
@@ -74,15 +74,15 @@ impl FrameSource for Source {
     }
 }
 
-/// Records so many frame periods from a source into the stores in the files of these paths, prints each camera's next
-/// number, and answers the program's status: 0; 1 where a file can't be had, a store can't be opened or a camera can't
-/// be set up, which `err` then names, and where `out` or `err` fails. What a store refuses meanwhile leaves it at 0.
+/// Records into the stores in files, prints each camera's next number, and answers the program's status: 0; 1 where a
+/// file can't be had, a store can't be opened or can't keep so many blocks, or a camera can't be set up, which `err`
+/// then names, and where `out` or `err` fails. What a store refuses meanwhile leaves it at 0.
 pub(crate) fn run_record<
     R: AllocGlobal + Files<File = File> + Threads + Wait + Clock + Sync,
     W: Write,
     E: Write,
->(rt: &R, frames: u32, source: &str, paths: Paths<'_>, out: &mut W, err: &mut E) -> u8 {
-    match perform(rt, frames, source, paths.words(), out) {
+>(rt: &R, recording: Recording<'_>, out: &mut W, err: &mut E) -> u8 {
+    match perform(rt, &recording, out) {
         Ok(()) => 0,
         Err(undone) => tell(undone, err),
     }
@@ -117,18 +117,17 @@ fn print_path<E: Write>(err: &mut E, what: &str, path: &str) -> io::Result<()> {
 // Opens each file in the order of the words, records, and prints what came of it. Memory to print comes first.
 fn perform<'a, R: AllocGlobal + Files<File = File> + Threads + Wait + Clock + Sync, W: Write>(
     rt: &R,
-    frames: u32,
-    source: &'a str,
-    paths: &[&'a str],
+    recording: &Recording<'a>,
     out: &mut W,
 ) -> Result<(), Undone<'a>> {
+    let paths = recording.paths.words();
     let Ok(mut out) = BufWriter::new(rt.alloc(), &mut *out) else {
         return Err(Undone::Refused(StoreFault::NoMemory));
     };
-    let sources = open_sources(rt, source, paths.len())?;
+    let sources = open_sources(rt, recording.source, paths.len())?;
     let disks = open_disks(rt, paths)?;
-    let stores = find_stores(rt.alloc(), disks)?;
-    let ended = match record_from(rt, sources, stores, frames) {
+    let stores = find_stores(rt.alloc(), disks, recording.keep)?;
+    let ended = match record_from(rt, sources, stores, recording.frames) {
         Ok(ended) => ended,
         Err(unrecorded) => return Err(blame(unrecorded, paths)),
     };
@@ -202,16 +201,17 @@ fn open_disks<'a, R: AllocGlobal + Files<File = File>>(
     Ok(disks)
 }
 
-// The store on each disk.
+// The store on each disk, which keeps so many of its newest blocks.
 fn find_stores<'a, D: Disk + Drop>(
     alloc: Global,
     disks: Vec<D>,
+    keep: u32,
 ) -> Result<Vec<Store<D>>, Undone<'a>>
     ensures { IfOk result (λ stores. vec_len stores ≡ vec_len disks) }
 {
     let mut stores = Vec::with_capacity(alloc, disks.len())?;
     for disk in disks {
-        match Store::open(alloc, disk) {
+        match Store::open_keeping(alloc, disk, keep) {
             Err(OpenRefused { fault, disk: _ }) => return Err(Undone::Refused(fault)),
             Ok(store) => stores.push_reserved(store),
         }

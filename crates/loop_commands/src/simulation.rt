@@ -163,7 +163,7 @@ impl<A: Allocator + Copy> Simulation<A> {
             (Command::FormatV1(geometry), _) => {
                 self.begin(Session::format_v1(self.alloc, geometry), out)
             }
-            (Command::Reopen, _) => self.reopen(out),
+            (Command::Reopen(keep), _) => self.reopen(keep, out),
             (_, None) => print_refusal(out, StoreFault::NotFormatted),
             (Command::Store(count), Some(session)) => store(session, self.alloc, count, out),
             (Command::Submit(count), Some(session)) => submit(session, self.alloc, count, out),
@@ -191,18 +191,32 @@ impl<A: Allocator + Copy> Simulation<A> {
         }
     }
 
-    // Opens the store's disk again; refused, it leaves no store.
-    fn reopen<W: Write>(&mut self, out: &mut W) -> io::Result<()> {
-        match self.session.take() {
-            None => print_refusal(out, StoreFault::NotFormatted),
-            Some(session) => match session.reopen(self.alloc) {
-                Err(fault) => print_refusal(out, fault),
-                Ok(session) => {
-                    self.session = Some(session);
-                    print_line(out, "opened", &[])
-                }
-            },
+    // Opens the store's disk again, with so many of the newest blocks kept; where they can't be, with the newest kept,
+    // and that is refused. Refused for want of memory, it leaves no store.
+    fn reopen<W: Write>(&mut self, keep: u32, out: &mut W) -> io::Result<()> {
+        let Some(session) = self.session.take() else {
+            return print_refusal(out, StoreFault::NotFormatted);
+        };
+        let (keep, refusal) = if session.can_keep(keep) {
+            (keep, None)
+        } else {
+            (1, Some(StoreFault::BadKeep))
+        };
+        match session.reopen(self.alloc, keep) {
+            Err(fault) => print_refusal(out, fault),
+            Ok(session) => {
+                self.session = Some(session);
+                print_opened(refusal, out)
+            }
         }
+    }
+}
+
+// Prints that a store was opened, or why it wasn't as was asked for.
+fn print_opened<W: Write>(refusal: Option<StoreFault>, out: &mut W) -> io::Result<()> {
+    match refusal {
+        Some(fault) => print_refusal(out, fault),
+        None => print_line(out, "opened", &[]),
     }
 }
 

@@ -4,24 +4,29 @@ use Rattle.loop_record.specs.declared.damage.LayoutFault.{LayoutFault}
 use Rattle.loop_record.specs.declared.geometry.Geometry.{Geometry}
 use Rattle.loop_record.specs.Reading.{Contents, Holds}
 use Rattle.loop_record.specs.Recording.{Recording}
+use Rattle.loop_record.proofs.Decided.{clash}
 use Rattle.loop_store.specs.declared.fault.StoreFault.{StoreFault}
-use Rattle.loop_store.specs.declared.fault.StoreFault.TheVariants.{Damaged, Disk, NoMemory, NotFormatted}
+use Rattle.loop_store.specs.declared.fault.StoreFault.TheVariants.{BadKeep, Damaged, Disk, NoMemory, NotFormatted}
 use Rattle.loop_store.specs.Faults.{is_disk}
-use Rattle.loop_store.specs.Reopen.{IsRefusedOpen}
-
--- want of memory, where no call of the disk failed
-pub refused_for_memory : (g : Geometry) (r : Recording) (image : List ℕ) (fault : StoreFault) → Holds g r image
-    → IsRefusedOpen image fault → is_disk fault ≡ false → fault ≡ NoMemory
-refused_for_memory g r image NoMemory holds refused fine = refl
-refused_for_memory g r image (Disk f) holds refused fine = absurd cc
-refused_for_memory g r image NotFormatted holds refused fine = absurd cc
-refused_for_memory g r image (Damaged d) holds refused fine = absurd cc
-refused_for_memory g r image _ holds refused fine = absurd refused
+use Rattle.loop_store.specs.Reopen.{IsRefusedOpen, is_bad_keep}
 
 -- the geometry of what is read, or another where nothing is
 abbrev geometry_read : Geometry → Result Contents LayoutFault → Geometry
 geometry_read g (Ok c) = c.geometry
 geometry_read g (Err fault) = g
+
+-- want of memory, where no call of the disk failed
+pub refused_for_memory : (g : Geometry) (keep : ℕ) (r : Recording) (image : List ℕ) (fault : StoreFault)
+    → Holds g r image → is_bad_keep g.segments keep ≡ false → IsRefusedOpen keep image fault → is_disk fault ≡ false
+    → fault ≡ NoMemory
+refused_for_memory g keep r image NoMemory holds can refused fine = refl
+refused_for_memory g keep r image (Disk f) holds can refused fine = absurd cc
+refused_for_memory g keep r image NotFormatted holds can refused fine = absurd cc
+refused_for_memory g keep r image (Damaged d) holds can refused fine = absurd cc
+refused_for_memory g keep r image BadKeep holds can (c, (is, bad)) fine =
+    absurd (clash (is_bad_keep g.segments keep)
+    (ap (λ (h : Geometry). is_bad_keep h.segments keep) (ap (geometry_read g) (sym holds ∙ is)) ∙ bad) can)
+refused_for_memory g keep r image _ holds can refused fine = absurd refused
 
 -- an image reads as a recording of one geometry
 pub same_geometry : (g h : Geometry) (r s : Recording) (image : List ℕ) → Holds g r image → Holds h s image → g ≡ h

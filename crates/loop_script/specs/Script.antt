@@ -82,14 +82,15 @@ counted_said name (argument ∷ []) =
     if bytes_eq name (codes "store") then option_map Store (number argument)
     else if bytes_eq name (codes "submit") then option_map Submit (number argument)
     else if bytes_eq name (codes "read") then option_map Read (number argument)
-    else if bytes_eq name (codes "unlock") then option_map Unlock (small_number argument) else None
+    else if bytes_eq name (codes "unlock") then option_map Unlock (small_number argument)
+    else if bytes_eq name (codes "reopen") then option_map Reopen (small_number argument) else None
 counted_said name _ = None
 
 -- what a name alone asks for
 abbrev pub named_said : List ℕ → Option Command
 named_said name =
     if bytes_eq name (codes "list") then Some ListAll
-    else if bytes_eq name (codes "reopen") then Some Reopen
+    else if bytes_eq name (codes "reopen") then Some (Reopen 1)
     else if bytes_eq name (codes "flush") then Some Flush
     else if bytes_eq name (codes "upgrade") then Some Upgrade else None
 

@@ -1,10 +1,12 @@
 -- What the words behind the program's name mean.
-use Rattle.std.specs.Prelude.{ℕ, List, [], ◌∷◌, Option, Some, None, option_map, if◌then◌else◌, codes}
+use Rattle.std.specs.Prelude.{ℕ, ◌==◌, ◌&&◌, List, [], ◌∷◌, Option, Some, None, option_map, if◌then◌else◌, codes}
+use Rattle.std.specs.List.{after_first, before_first, list_any}
 use Rattle.std.specs.Option.{option_zip}
 use Rattle.std.specs.Str.{bytes_eq}
 use denote.Ref.{Bor}
 use Rattle.loop_script.specs.declared.task.FileCommand.{FileCommand}
 use Rattle.loop_script.specs.declared.task.FileCommand.TheVariants.{Export, Format, List as ListAll, Lock, Unlock, Upgrade}
+use Rattle.loop_script.specs.declared.task.Recording.{Recording}
 use Rattle.loop_script.specs.declared.task.Task.{Task}
 use Rattle.loop_script.specs.declared.task.Task.TheVariants.{OnFile, Record, Simulate}
 use Rattle.loop_record.specs.Geometry.{format_named}
@@ -33,10 +35,33 @@ abbrev pub other_said : List ℕ → List (Bor (List ℕ)) → Option Task
 other_said name [] = if bytes_eq name (codes "simulate") then Some Simulate else None
 other_said name (path ∷ words) = option_map (OnFile path) (on_file_said name words)
 
--- what the words behind `record` ask for: a count, a source, and one path or more
+-- what stands behind `keep=` in a word that begins so
+abbrev pub keep_value : List ℕ → Option (List ℕ)
+keep_value word =
+    if list_any (λ b. b == 61) word && bytes_eq (before_first (λ b. b == 61) word) (codes "keep")
+    then Some (after_first (λ b. b == 61) word) else None
+
+-- the recording of a count, a source, how many blocks are kept, and one path or more, where there is each of them
+abbrev pub recording_of : Option ℕ → Bor (List ℕ) → Option ℕ → List (Bor (List ℕ)) → Option Task
+recording_of (Some frames) source (Some keep) (path ∷ paths) =
+    Some (Record (record { frames = frames; source = source; keep = keep; paths = path ∷ paths }))
+recording_of frames source keep paths = None
+
+-- the recording of a count, a source and paths, with the word before them that says how many blocks are kept, or without
+abbrev pub recording_kept
+    : Option ℕ → Bor (List ℕ) → Option (List ℕ) → Bor (List ℕ) → List (Bor (List ℕ)) → Option Task
+recording_kept frames source None path paths = recording_of frames source (Some 1) (path ∷ paths)
+recording_kept frames source (Some value) word paths = recording_of frames source (small_number value) paths
+
+-- what the words behind a source ask for
+abbrev pub kept_said : Option ℕ → Bor (List ℕ) → List (Bor (List ℕ)) → Option Task
+kept_said frames source [] = None
+kept_said frames source (first ∷ more) = recording_kept frames source (keep_value first.now) first more
+
+-- what the words behind `record` ask for: a count, a source, how many blocks are kept, which may be left out, and one
+-- path or more
 abbrev pub recording_said : List (Bor (List ℕ)) → Option Task
-recording_said (count ∷ source ∷ path ∷ paths) =
-    option_map (λ frames. Record frames source (path ∷ paths)) (small_number count.now)
+recording_said (count ∷ source ∷ more) = kept_said (small_number count.now) source more
 recording_said _ = None
 
 -- what a name and the words behind it ask for, if they can be read

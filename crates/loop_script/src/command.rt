@@ -29,8 +29,9 @@ pub enum Command {
     List,
     /// `upgrade`: version 2 of the layout is made of version 1.
     Upgrade,
-    /// `reopen`: the store's disk is taken out, and the store found on it again.
-    Reopen,
+    /// `reopen K`: the store's disk is taken out, and the store found on it again, which keeps the K newest blocks; the
+    /// newest one where K is left out.
+    Reopen(u32),
 }
 
 /// What a line, without its 0x0A, asks for; `None` where it can't be read.
@@ -53,7 +54,7 @@ fn named(name: &str) -> Option<Command>
 {
     match name {
         "list" => Some(Command::List),
-        "reopen" => Some(Command::Reopen),
+        "reopen" => Some(Command::Reopen(1)),
         "flush" => Some(Command::Flush),
         "upgrade" => Some(Command::Upgrade),
         _ => None,
@@ -73,6 +74,7 @@ fn counted(name: &str, text: &str) -> Option<Command>
         "submit" => Some(Command::Submit(number(argument)?)),
         "read" => Some(Command::Read(number(argument)?)),
         "unlock" => Some(Command::Unlock(small_number(argument)?)),
+        "reopen" => Some(Command::Reopen(small_number(argument)?)),
         _ => None,
     }
 }

@@ -32,5 +32,5 @@ pub use print::{print_line, print_parts};
 pub use refusal::{RefusalWords, print_refusal};
 pub use runs::run_length;
 pub use session::{LIMITS, Session};
-pub use task::{FileCommand, Paths, Task, read_task};
+pub use task::{FileCommand, Paths, Recording, Task, read_task};
 pub use upgrade::upgrade_words;

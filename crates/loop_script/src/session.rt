@@ -6,7 +6,7 @@ ghost use Rattle.loop_record.specs.declared.damage.Damage.TheVariants.{SlotHead}
 ghost use Rattle.loop_record.specs.Geometry.{disk_size, frame_bytes, is_good};
 ghost use Rattle.loop_record.specs.Recording.{Recording, picture};
 ghost use Rattle.loop_store.specs.Faults.{is_disk};
-ghost use Rattle.loop_store.specs.Reopen.{IsOpened, IsRefusedOpen};
+ghost use Rattle.loop_store.specs.Reopen.{IsOpened, IsRefusedOpen, is_bad_keep};
 ghost use Rattle.loop_store.specs.Runs.{read_of};
 ghost use Rattle.loop_store.specs.Seen.{StandsFor};
 ghost use Rattle.loop_script.specs.Pattern.{pattern_picture};
@@ -16,7 +16,7 @@ use crate::pattern::pattern_frame;
 use loop_desk::{Desk, DeskLimits, Flushed, Outline};
 use loop_disk::{Disk, MemDisk};
 use loop_record::{Frame, Geometry};
-use loop_store::{OpenRefused, ReadFrame, Store, StoreFault};
+use loop_store::{OpenRefused, ReadFrame, Store, StoreFault, can_keep};
 use std::alloc::{AllocError, Allocator, Global};
 use std::marker::Model;
 
@@ -163,27 +163,37 @@ impl<A: Allocator + Copy> Session<A> {
         self.desk.upgrade()
     }
 
-    /// Takes the disk out of the desk and finds the store on it again; what waited is lost, and the frames that were
-    /// accepted stay so. It answers NoMemory, and then leaves nothing behind. So does a disk that holds no store of
-    /// this geometry, which is refused as NotFormatted, Damaged or BadGeometry. A store that stands for a recording is
-    /// refused for want of memory alone.
+    /// Whether the session's store can keep so many of its newest blocks.
+    pub fn can_keep(&self, keep: u32) -> bool
+        ensures { result ≡ not (is_bad_keep self.now.desk.store.geometry.segments keep) }
+    {
+        can_keep(&self.desk.geometry(), keep)
+    }
+
+    /// Takes the disk out of the desk and finds the store on it again, which keeps so many of the newest blocks, as
+    /// `can_keep` says it can; what waited is lost, and the frames that were accepted stay so. It answers NoMemory, and
+    /// then leaves nothing behind. So does a disk that holds no store of this geometry, which is refused as
+    /// NotFormatted, Damaged, BadKeep or BadGeometry. A store that stands for a recording is refused for want of memory
+    /// alone.
     #[tactic(auto, using(crate::proofs::Reopened::refused_for_memory, crate::proofs::Reopened::same_geometry))]
-    pub fn reopen(self, alloc: A) -> Result<Self, StoreFault>
+    pub fn reopen(self, alloc: A, keep: u32) -> Result<Self, StoreFault>
+        requires { is_bad_keep self.desk.store.geometry.segments keep ≡ false }
         ensures opened { IfOk result (λ s. IsOpened ⟦<MemDisk<A> as Disk>⟧.medium
             (⟦<MemDisk<A> as Disk>⟧.medium self.desk.store.disk).bytes s.desk.store) }
         ensures geometry { IfOk result (λ s. s.desk.store.geometry ≡ self.desk.store.geometry) }
         ensures fine { IfOk result (λ s. s.desk.store.must_reopen ≡ false) }
+        ensures kept { IfOk result (λ s. s.desk.store.keep ≡ keep) }
         ensures desk { IfOk result (λ s. IsNewDesk s.desk) }
         ensures accepted { IfOk result (λ s. s.accepted ≡ self.accepted) }
         ensures refused { IfErr result (λ fault. (fault ≡ StoreFault.BadGeometry)
-            ⊎ IsRefusedOpen (⟦<MemDisk<A> as Disk>⟧.medium self.desk.store.disk).bytes fault) }
+            ⊎ IsRefusedOpen keep (⟦<MemDisk<A> as Disk>⟧.medium self.desk.store.disk).bytes fault) }
         ensures refusals { IfErr result (λ fault. is_disk fault ≡ false) }
         ensures sound { (r : Recording) → StandsFor ⟦<MemDisk<A> as Disk>⟧.medium self.desk.store r
             → IfErr result (λ fault. fault ≡ StoreFault.NoMemory) }
     {
         let Session { desk, accepted } = self;
         let geometry = desk.geometry();
-        match Store::open(alloc, desk.into_disk()) {
+        match Store::open_keeping(alloc, desk.into_disk(), keep) {
             Err(OpenRefused { fault, disk: _ }) => Err(fault),
             Ok(store) => {
                 // The frames that follow are of this geometry too.

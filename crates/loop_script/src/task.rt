@@ -1,6 +1,7 @@
 // The words behind the program's name.
-ghost use Rattle.std.specs.Prelude.{◌≡◌, ◌∷◌, []};
-ghost use Rattle.loop_script.specs.Tasks.{on_file_said, recording_said, task_said};
+ghost use Rattle.std.specs.Prelude.{◌≡◌, ◌∷◌, [], option_map};
+ghost use Rattle.loop_script.specs.Script.{small_number as said_small_number};
+ghost use Rattle.loop_script.specs.Tasks.{keep_value, kept_said, on_file_said, recording_of, recording_said, task_said};
 
 use crate::command::{geometry_in, span_in};
 use crate::number::{number, small_number};
@@ -12,10 +13,24 @@ use std::marker::Model;
 pub enum Task<'a> {
     /// `simulate`: a script from the input.
     Simulate,
-    /// `record N SOURCE PATH..`: so many frame periods, from the source of this name, into the stores in these files.
-    Record(u32, &'a str, Paths<'a>),
+    /// `record N SOURCE keep=K PATH..`: a recording into the stores in files.
+    Record(Recording<'a>),
     /// A command on the store in the file of this path.
     OnFile(&'a str, FileCommand<'a>),
+}
+
+/// A recording: so many frame periods, from the source of this name, into the stores in the files of these paths, of
+/// which each keeps so many of its newest blocks, 1 where `keep=K` is left out.
+#[derive(Drop)]
+pub struct Recording<'a> {
+    /// How many frame periods.
+    pub frames: u32,
+    /// The source: `-`, which is a pattern, or a file or pipe.
+    pub source: &'a str,
+    /// How many of the newest blocks never go while it is recorded.
+    pub keep: u32,
+    /// The files of the stores, one for each camera.
+    pub paths: Paths<'a>,
 }
 
 /// Paths, one or more, in the order of the words. Contracts see the words.
@@ -73,19 +88,59 @@ pub fn read_task<'a>(name: &str, words: &'a [&'a str]) -> Option<Task<'a>>
     }
 }
 
-// What the words behind `record` ask for: how many frame periods, a source, and one path or more.
+// What the words behind `record` ask for: how many frame periods, a source, how many blocks are kept, which may be left
+// out, and one path or more.
 fn read_recording<'a>(words: &'a [&'a str]) -> Option<Task<'a>>
     ensures { result ≡ recording_said words.now }
 {
     match words {
         [] => None,
         [_] => None,
-        [_, _] => None,
-        [count, source, words @ ..] => {
-            let paths = Paths { words };
-            Some(Task::Record(small_number(count)?, source, paths))
-        }
+        [count, source, words @ ..] => read_kept(count, source, words),
     }
+}
+
+// The same, of the words behind the source.
+fn read_kept<'a>(count: &str, source: &'a str, words: &'a [&'a str]) -> Option<Task<'a>>
+    ensures { result ≡ kept_said (said_small_number count.now) source words.now }
+{
+    match words {
+        [] => None,
+        [first, paths @ ..] => match keep_value(first) {
+            None => made_of(count, source, Some(1), words),
+            Some(value) => made_of(count, source, small_number(value), paths),
+        },
+    }
+}
+
+// What stands behind `keep=` in a word that begins so.
+fn keep_value(word: &str) -> Option<&str>
+    ensures { option_map (λ value. value.now) result ≡ keep_value word.now }
+{
+    match word.split_once('=') {
+        Some((name, value)) if name == "keep" => Some(value),
+        _ => None,
+    }
+}
+
+// The recording of these parts, where there is each of them.
+fn made_of<'a>(
+    count: &str,
+    source: &'a str,
+    keep: Option<u32>,
+    words: &'a [&'a str],
+) -> Option<Task<'a>>
+    ensures { result ≡ recording_of (said_small_number count.now) source keep words.now }
+{
+    if words.is_empty() {
+        return None;
+    }
+    Some(Task::Record(Recording {
+        frames: small_number(count)?,
+        source,
+        keep: keep?,
+        paths: Paths { words },
+    }))
 }
 
 // What a name and the words behind the path of a file ask for.

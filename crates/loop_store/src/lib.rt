@@ -42,4 +42,5 @@ pub use fault::{OpenRefused, StoreFault};
 pub use loop_clips::Clip;
 pub use make::{format, format_v1};
 pub use memory::frame_memory;
+pub use reopen::can_keep;
 pub use store::Store;

@@ -1,6 +1,6 @@
 //! Finds the recording on a disk again.
 
-ghost use Rattle.std.specs.Prelude.{◌≡◌, Err, IfErr, IfOk, false, true};
+ghost use Rattle.std.specs.Prelude.{◌≡◌, Err, IfErr, IfOk, false, not, true};
 ghost use Rattle.loop_disk.specs.Calls.{Called, Stays};
 ghost use Rattle.loop_disk.specs.Medium.{IsSettled, LeavesOnly};
 ghost use Rattle.loop_record.specs.Reading.{reading};
@@ -15,6 +15,7 @@ use crate::index::Index;
 use crate::recover::recover;
 use crate::{OpenRefused, Store, StoreFault};
 use loop_disk::{Disk, DiskFault};
+use loop_record::Geometry;
 use loop_ring::Group;
 use std::alloc::Allocator;
 
@@ -47,14 +48,22 @@ fn clear_newest<D: Disk, A: Allocator>(disk: &mut D, index: &Index<A>) -> Result
     }
 }
 
-/// Keeps so many of the newest blocks, where the ring has a segment more than that: `BadKeep` otherwise.
+/// Whether so many of the newest blocks can be kept in a ring of this geometry: one at least, and one block less than it
+/// has segments.
+pub fn can_keep(geometry: &Geometry, keep: u32) -> bool
+    ensures { result ≡ not (is_bad_keep geometry.now.segments keep) }
+{
+    0 < keep && keep < geometry.segments
+}
+
+/// Keeps so many of the newest blocks. `BadKeep` where they can't be kept.
 fn keep_newest<A: Allocator>(index: &mut Index<A>, keep: u32) -> Result<(), StoreFault>
     ensures kept { IfOk result (λ done. (index.new ≡ keeping keep index.old)
         × (is_bad_keep index.old.ring.geometry.segments keep ≡ false)) }
     ensures bad { IfErr result (λ fault. (fault ≡ StoreFault.BadKeep)
         × (is_bad_keep index.old.ring.geometry.segments keep ≡ true)) }
 {
-    if keep == 0 || keep > index.ring.geometry.segments - 1 {
+    if !can_keep(&index.ring.geometry, keep) {
         return Err(StoreFault::BadKeep);
     }
     index.table.keep_newest(keep);
