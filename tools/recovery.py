@@ -9,7 +9,7 @@ FRONT, HEADER, HEAD, ENTRY, CLIPS = 2560, 512, 32, 32, 64
 NUMBERS_END = 2 ** 62
 
 Geometry = namedtuple("Geometry", "width height format num den segments slots size")
-Recording = namedtuple("Recording", "geometry next frames clips")
+Recording = namedtuple("Recording", "geometry version next frames clips")
 Refused = namedtuple("Refused", "text")
 
 
@@ -38,8 +38,8 @@ def slot_at(geometry, index, slot):
 
 
 def superblock(geometry):
-    """The first 512 bytes of a store."""
-    front = b"\xa5LOOPREC" + struct.pack("<III4sIIIII", 1, *geometry)
+    """The first 512 bytes of a store, in version 2 of the layout."""
+    front = b"\xa5LOOPREC" + struct.pack("<III4sIIIII", 1, *geometry) + b"\xa5"
     return front.ljust(512, b"\0")
 
 
@@ -60,10 +60,11 @@ def headers(image, geometry):
     return found
 
 
-def clips_of(image):
-    """The open entries of the clip table: the id, the first number and the last."""
+def clips_of(image, version):
+    """The open entries of the clip table: the id, the first number, the last and the tag, which is 0 in version 1 of the layout."""
     entries = [(index, 512 + ENTRY * index) for index in range(CLIPS)]
-    return [(index, *struct.unpack_from("<QQ", image, at + 8)) for index, at in entries if image[at] == OPEN]
+    clips = [(index, *struct.unpack_from("<QQQ", image, at + 8)) for index, at in entries if image[at] == OPEN]
+    return clips if version == 2 else [(index, first, last, 0) for index, first, last, _ in clips]
 
 
 def is_held(found, geometry, number):
@@ -81,9 +82,9 @@ def read(image):
     """What an image reads as: a recording, or why it is refused, in the program's words."""
     if len(image) < 512 or image[0] != OPEN or image[1:8] != b"LOOPREC":
         return Refused("refused 4 NotFormatted")
-    version, *numbers = struct.unpack_from("<III4sIIIII", image, 8)
-    geometry = Geometry(*numbers)
-    if version != 1 or not is_good(geometry) or any(image[45:512]):
+    one, *numbers = struct.unpack_from("<III4sIIIII", image, 8)
+    geometry, version = Geometry(*numbers), 2 if image[44] == OPEN else 1
+    if one != 1 or not is_good(geometry) or any(image[45:512]):
         return Refused("refused 5 Damaged 2")
     if len(image) != segment_at(geometry, geometry.segments):
         return Refused("refused 5 Damaged 1")
@@ -100,13 +101,13 @@ def read(image):
             at = slot_at(geometry, index, slot)
             if struct.unpack_from("<Q", image, at)[0] != block * geometry.slots + slot or struct.unpack_from("<I", image, at + 24)[0] != geometry.size:
                 return Refused("refused 5 Damaged 5")
-    clips = clips_of(image)
-    if any(first > last or first_missing(found, geometry, first, last) for _, first, last in clips):
+    clips = clips_of(image, version)
+    if any(first > last or first_missing(found, geometry, first, last) for _, first, last, _ in clips):
         return Refused("refused 5 Damaged 7")
     frames = {block * geometry.slots + slot: image[slot_at(geometry, index, slot) + HEAD: slot_at(geometry, index, slot) + HEAD + geometry.size]
               for index, (block, whole) in found.items() for slot in range(whole)}
     following = max((block * geometry.slots + whole for block, whole in found.values()), default=0)
-    return Recording(geometry, following, frames, clips)
+    return Recording(geometry, version, following, frames, clips)
 
 
 def listed(recording):
@@ -119,7 +120,8 @@ def listed(recording):
             run = [number, number]
             lines.append(run)
     lines = [line if isinstance(line, str) else f"frames {line[0]}..{line[1]}" for line in lines]
-    return "\n".join(lines + [f"clip {index} {first}..{last}" for index, first, last in recording.clips]) + "\n"
+    clips = [f"clip {index} {first}..{last}" + (f" tag {tag}" if tag else "") for index, first, last, tag in recording.clips]
+    return "\n".join(lines + clips) + "\n"
 
 
 def answer(found):

@@ -144,13 +144,14 @@ def footage(number, run):
 
 
 class Plain:
-    """The plain recorder: the frames by their numbers, each as its byte, the clips, and the next number."""
+    """The plain recorder: the frames by their numbers, each as its byte, the clips, the next number, and the layout's version."""
 
-    def __init__(self, geometry, frames=None, clips=None, following=0):
+    def __init__(self, geometry, frames=None, clips=None, following=0, version=2):
         self.geometry, self.frames, self.clips, self.next = geometry, dict(frames or {}), list(clips or []), following
+        self.version = version
 
     def copy(self):
-        return Plain(self.geometry, self.frames, self.clips, self.next)
+        return Plain(self.geometry, self.frames, self.clips, self.next, self.version)
 
     def victim(self):
         """The block that has to go before the next frame is stored, if one has to."""
@@ -158,7 +159,7 @@ class Plain:
         blocks = sorted({number // slots for number in self.frames})
         if self.next % slots or len(blocks) < self.geometry.segments:
             return None
-        free = [block for block in blocks[:-1] if not any(first // slots <= block <= last // slots for _, first, last in self.clips)]
+        free = [block for block in blocks[:-1] if not any(first // slots <= block <= last // slots for _, first, last, _ in self.clips)]
         return free[0] if free else None
 
     def store(self, byte):
@@ -171,10 +172,10 @@ class Plain:
         self.next += 1
         return states + [self.copy()]
 
-    def lock(self, first, last):
+    def lock(self, first, last, tag=0):
         """The state behind a lock."""
-        taken = {index for index, _, _ in self.clips}
-        self.clips = sorted(self.clips + [(min(set(range(64)) - taken), first, last)])
+        taken = {clip[0] for clip in self.clips}
+        self.clips = sorted(self.clips + [(min(set(range(64)) - taken), first, last, tag)])
         return [self.copy()]
 
     def unlock(self, index):
@@ -182,10 +183,15 @@ class Plain:
         self.clips = [clip for clip in self.clips if clip[0] != index]
         return [self.copy()]
 
+    def upgrade(self):
+        """The state behind an upgrade of version 1."""
+        self.version = 2
+        return [self.copy()]
+
     def reads_as(self):
         """What an image of this state reads as."""
         frames = {number: bytes([byte]) * self.geometry.size for number, byte in self.frames.items()}
-        return recovery.Recording(self.geometry, self.next, frames, self.clips)
+        return recovery.Recording(self.geometry, self.version, self.next, frames, self.clips)
 
 
 def list_of(program, path):

@@ -33,7 +33,7 @@ entry-size version s entry e = ap length e.is
 closed_none : (c : List ℕ) (id : ℕ) → is_open c (clip_at id) ≡ false → clip_in c id ≡ None
 closed_none c id e = rw e refl
 
-none_closed : (c : List ℕ) (id : ℕ) → clip_in c id ≡ None → is_open c (clip_at id) ≡ false
+pub none_closed : (c : List ℕ) (id : ℕ) → clip_in c id ≡ None → is_open c (clip_at id) ≡ false
 none_closed c id e = go (is_open c (clip_at id)) _ e
   where
     go : (t : Bool) (s : Span) → cond t (Some s) None ≡ None → t ≡ false

@@ -12,30 +12,49 @@ use Rattle.loop_disk.proofs.Moments.{each_now, called_on, started, goes_on, join
 use Rattle.loop_record.specs.declared.clip.Span.{Span}
 use Rattle.loop_record.specs.Change.{KeepsClips, SameButTags, HasNoTags}
 use Rattle.loop_record.specs.Geometry.{clip_at}
-use Rattle.loop_record.specs.Layout.{is_open, version_in}
+use Rattle.loop_record.specs.Layout.{clip_in, is_open, version_in}
 use Rattle.loop_record.proofs.Decided.{clash}
 use Rattle.loop_record.proofs.Fields.{moved_number}
 use Rattle.loop_record.proofs.Upgraded.{kept-on, kept-tags, kept-opened}
 use Rattle.loop_clips.specs.Upgrade.{AreOpen, IsUpgraded}
+use Rattle.loop_clips.proofs.Locking.{none_closed}
 
 -- ---- images
 
 same : (image : List ℕ) → SameButTags image image
-same image = record { size = refl; before = λ i l. refl; entries = λ id k l u. refl; behind = λ i l. refl }
+same image = record {
+  size = refl;
+  before = λ i l. refl;
+  entries = λ id k l u. refl;
+  closed = λ id k l u e. refl;
+  behind = λ i l. refl;
+}
 
--- any bytes in the place of one tag
-torn-tag : (id : ℕ) (old mid new : List ℕ) → id < 64 → SameButTags old mid → SameOutside (clip_at id + 24) 8 mid new
-    → SameButTags old new
-torn-tag id old mid new l s torn = record {
+-- any bytes in the place of one tag, of an open entry
+torn-tag : (id : ℕ) (old mid new : List ℕ) → id < 64 → is_open old (clip_at id) ≡ true → SameButTags old mid
+    → SameOutside (clip_at id + 24) 8 mid new → SameButTags old new
+torn-tag id old mid new l gate s torn = record {
   size = torn.size ∙ s.size;
   before = λ i u. torn.before i (omega (arith, u)) ∙ s.before i u;
   entries = λ j k u v. entry j k v (cases_lt id j) ∙ s.entries j k u v;
+  closed = λ j k u v e. other j k v e (cases_lt id j) ∙ s.closed j k u v e;
   behind = λ i u. torn.behind i (omega (arith, u, l)) ∙ s.behind i u;
 }
   where
     entry : (j k : ℕ) → k < 24 → (id < j) ⊎ (j ≤ id) → get_or new (clip_at j + k) 0 ≡ get_or mid (clip_at j + k) 0
     entry j k v (inl a) = torn.behind (clip_at j + k) (omega (arith, a))
     entry j k v (inr a) = torn.before (clip_at j + k) (omega (arith, a, v))
+
+    differs : (j : ℕ) → is_open old (clip_at j) ≡ false → (j < id) ⊎ (id ≤ j) → j ≤ id → j < id
+    differs j e (inl b) a = b
+    differs j e (inr b) a =
+        let at : id ≡ j = omega (arith, a, b) in
+        absurd (clash (is_open old (clip_at j)) (ap (λ (i : ℕ). is_open old (clip_at i)) (sym at) ∙ gate) e)
+
+    other : (j k : ℕ) → k < 32 → is_open old (clip_at j) ≡ false → (id < j) ⊎ (j ≤ id)
+        → get_or new (clip_at j + k) 0 ≡ get_or mid (clip_at j + k) 0
+    other j k v e (inl a) = torn.behind (clip_at j + k) (omega (arith, a))
+    other j k v e (inr a) = torn.before (clip_at j + k) (omega (arith, differs j e (cases_lt j id) a, v))
 
 -- the gates of the entries stay
 same-gate : (id : ℕ) (old new : List ℕ) → id < 64 → SameButTags old new → is_open new (clip_at id) ≡ is_open old
@@ -85,12 +104,12 @@ pub present : (old new : Medium) (P : List ℕ → Type 0) → IsSound new → L
 present old new P sound run = each_now old new P sound run new.bytes sound.present
 
 -- a write of zeros behind it, done or failed
-pub clearing : {T : Type 0} (id : ℕ) (old mid new : Medium) (r : Result T DiskFault) → id < 64 → IsSound mid
-    → LeavesOnly old mid (SameButTags old.bytes) → Writes (clip_at id + 24) (replicate 8 0) mid new r
-    → LeavesOnly old new (SameButTags old.bytes)
-clearing id old mid new r l sound run writes =
+pub clearing : {T : Type 0} (id : ℕ) (old mid new : Medium) (r : Result T DiskFault) → id < 64
+    → is_open old.bytes (clip_at id) ≡ true → IsSound mid → LeavesOnly old mid (SameButTags old.bytes)
+    → Writes (clip_at id + 24) (replicate 8 0) mid new r → LeavesOnly old new (SameButTags old.bytes)
+clearing id old mid new r l gate sound run writes =
     goes_on old mid new (SameButTags old.bytes) (TornAt (clip_at id + 24) 8 mid) run writes.time (λ c torn.
-    torn-tag id old.bytes torn.0 c l (each_now old mid (SameButTags old.bytes) sound run torn.0 torn.1) torn.2)
+    torn-tag id old.bytes torn.0 c l gate (each_now old mid (SameButTags old.bytes) sound run torn.0 torn.1) torn.2)
 
 -- ---- the loop
 
@@ -107,15 +126,20 @@ cleared-none m sound settled = record {
   called = record { size = refl; honest = (λ honest. honest, λ honest. honest); failures = refl };
 }
 
+-- an id whose clip stands has an open entry
+pub known-open : (clips : List (Option Span)) (id : ℕ) (image : List ℕ) → id < 64 → AreOpen clips image
+    → is_some (get_or clips id None) ≡ true → is_open image (clip_at id) ≡ true
+known-open clips id image l known stands = known id l ∙ stands
+
 -- an id whose clip stands
 pub cleared-more : {T : Type 0} (id : ℕ) (old mid new : Medium) (r : Result T DiskFault) → id < 64 → 2560 ≤ mid.size
-    → (mid.honest → IsSound mid) → IsCleared id old mid
+    → (mid.honest → IsSound mid) → (old.honest → is_open old.bytes (clip_at id) ≡ true) → IsCleared id old mid
     → (mid.honest → Writes (clip_at id + 24) (replicate 8 0) mid new r)
     → (mid.honest → new.bytes ≡ with_bytes_at (clip_at id + 24) (replicate 8 0) mid.bytes) → Called mid new None → IsCleared (id + 1) old new
-cleared-more id old mid new r l room sound so_far writes done called = record {
+cleared-more id old mid new r l room sound gate so_far writes done called = record {
   moments = λ honest.
       let there = so_far.called.honest.0 honest in
-      clearing id old mid new r l (sound there) (so_far.moments honest) (writes there);
+      clearing id old mid new r l (gate honest) (sound there) (so_far.moments honest) (writes there);
   none = λ honest.
       let there = so_far.called.honest.0 honest in
       subst (HasNoTags (id + 1)) (sym (done there)) (zeros-more id mid.bytes (omega (arith, (sound there).length_is, room, l)) (so_far.none honest));
@@ -161,14 +185,25 @@ pub opened-ok : {T : Type 0} (old mid new : Medium) (r : Result T DiskFault) →
     → Stores 44 (165 ∷ []) mid new r
     → OnOk r (IsUpgraded old.bytes new.bytes)
 opened-ok old mid new r first room sound run none stores =
-    on_ok_weaker r (λ (done : new.bytes ≡ with_bytes_at 44 (165 ∷ []) mid.bytes). subst (IsUpgraded old.bytes) (sym done) (kept, second)) stores.done
+    on_ok_weaker r (λ (done : new.bytes ≡ with_bytes_at 44 (165 ∷ []) mid.bytes). subst (IsUpgraded old.bytes) (sym done)
+    (record { clips = kept; closed = closed; version = second })) stores.done
   where
     fits : 2560 ≤ length mid.bytes
     fits = omega (arith, sound.length_is, room)
 
+    tags : SameButTags old.bytes mid.bytes
+    tags = present old mid (SameButTags old.bytes) sound run
+
+    torn : SameOutside 44 1 mid.bytes (with_bytes_at 44 (165 ∷ []) mid.bytes)
+    torn = written_outside 44 (165 ∷ []) mid.bytes (omega (arith, fits))
+
     kept : KeepsClips old.bytes (with_bytes_at 44 (165 ∷ []) mid.bytes)
-    kept = opened-kept old.bytes mid.bytes _ first (present old mid (SameButTags old.bytes) sound run) none
-        (written_outside 44 (165 ∷ []) mid.bytes (omega (arith, fits)))
+    kept = opened-kept old.bytes mid.bytes _ first tags none torn
+
+    closed : (id k : ℕ) → id < 64 → k < 32 → clip_in old.bytes id ≡ None
+        → get_or (with_bytes_at 44 (165 ∷ []) mid.bytes) (clip_at id + k) 0 ≡ get_or old.bytes (clip_at id + k) 0
+    closed id k l u e =
+        torn.behind (clip_at id + k) (omega arith) ∙ tags.closed id k l u (none_closed old.bytes id e)
 
     second : version_in (with_bytes_at 44 (165 ∷ []) mid.bytes) ≡ 2
     second = ap (λ (b : ℕ). cond (eqb b 0xA5) 2 1) (get_or-written_there 44 (165 ∷ []) mid.bytes 0 (omega (arith, fits)) (omega arith))

@@ -81,8 +81,8 @@ impl ClipTable {
     }
 
     /// Writes a clip under an id that has none, with a tag other than 0 only in version 2 of the layout: the entry
-    /// behind its gate, a sync, the gate, a sync. At Ok it stands; after a failure, as at each moment before, it stands on
-    /// the disk or it doesn't. What the table has in memory is another call's: `set`.
+    /// behind its gate, a sync, the gate, a sync. At Ok it stands; after a failure, as at each moment before, it stands
+    /// on the disk or it doesn't. What the table has in memory is another call's: `set`.
     pub fn lock<D: Disk>(&self, disk: &mut D, id: u32, span: Span) -> Result<(), DiskFault>
         requires extent { 2560 ≤ (D.medium disk.old).size }
         requires id { id < 64 }

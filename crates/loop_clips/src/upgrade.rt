@@ -1,5 +1,5 @@
 // The layout of a store becomes version 2, in which clips have tags.
-ghost use Rattle.std.specs.Prelude.{◌≡◌, ◌+◌, ◌≤◌, ◌<◌, ℕ, IfErr, List, None, OnOk, length, replicate, slice_index_or, true};
+ghost use Rattle.std.specs.Prelude.{◌≡◌, ◌+◌, ◌≤◌, ◌<◌, ℕ, IfErr, None, OnOk, length, replicate, slice_index_or, true};
 ghost use Rattle.loop_clips.specs.Upgrade.{AreOpen, IsUpgraded};
 ghost use Rattle.loop_disk.specs.Calls.{Called, Writes, failed_call, is_write_or_sync};
 ghost use Rattle.loop_disk.specs.Medium.{IsSettled, LeavesOnly};
@@ -64,8 +64,8 @@ fn settle_tags<D: Disk>(disk: &mut D, clips: &[Option<Span>]) -> Result<(), Disk
 
 impl ClipTable {
     /// Makes version 2 of a layout of version 1: a sync, zeros in the place of the tag of each clip, one write a clip,
-    /// a sync, the version's gate, a sync. At Ok the layout has version 2; after a failure, as at each moment before,
-    /// it has version 1 or 2, and the same clips without tags.
+    /// a sync, the version's gate, a sync. At Ok the layout has version 2, and the entries without a clip are as they
+    /// were; after a failure, as at each moment before, it has version 1 or 2, and the same clips without tags.
     pub fn upgrade<D: Disk>(&self, disk: &mut D) -> Result<(), DiskFault>
         requires extent { 2560 ≤ (D.medium disk.old).size }
         requires settled { (D.medium disk.old).honest → IsSettled (D.medium disk.old) }

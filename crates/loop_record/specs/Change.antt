@@ -1,5 +1,5 @@
 -- One part of an image, changed.
-use Rattle.std.specs.Prelude.{◌≡◌, ℕ, ◌+◌, ◌<◌, ◌≤◌, true, Option, List, length, get_or}
+use Rattle.std.specs.Prelude.{◌≡◌, ℕ, ◌+◌, ◌<◌, ◌≤◌, true, false, Option, List, length, get_or}
 use Rattle.loop_disk.specs.Medium.{SameOutside}
 use Rattle.loop_record.specs.declared.clip.Span.{Span}
 use Rattle.loop_record.specs.declared.geometry.Geometry.{Geometry}
@@ -20,11 +20,13 @@ pub record KeepsClips (old new : List ℕ) : Type 0 where
   pub behind : (i : ℕ) → 2560 ≤ i → get_or new i 0 ≡ get_or old i 0
   pub clips : (id : ℕ) → id < 64 → clip_in new id ≡ clip_in old id
 
--- the old image, but for the places of the clips' tags
+-- the old image, but for the places of the tags of the open entries
 pub record SameButTags (old new : List ℕ) : Type 0 where
   pub size : length new ≡ length old
   pub before : (i : ℕ) → i < 512 → get_or new i 0 ≡ get_or old i 0
   pub entries : (id k : ℕ) → id < 64 → k < 24 → get_or new (clip_at id + k) 0 ≡ get_or old (clip_at id + k) 0
+  pub closed : (id k : ℕ) → id < 64 → k < 32 → is_open old (clip_at id) ≡ false
+      → get_or new (clip_at id + k) 0 ≡ get_or old (clip_at id + k) 0
   pub behind : (i : ℕ) → 2560 ≤ i → get_or new i 0 ≡ get_or old i 0
 
 -- zeros stand in the place of each clip's tag, for the ids below this one

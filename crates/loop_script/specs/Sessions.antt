@@ -30,7 +30,7 @@ pub record IsNewDesk {D : Type 0} (d : SeenDesk D) : Type 0 where
   pub limits : d.limits ≡ script_limits
 
 -- it was formatted so, its store stands for the empty recording, and no frame was accepted yet
-pub record IsFresh {D : Type 0} (medium : D → Medium) (h : SuperHead) (s : Shown D) : Type 0 where
+pub record IsFreshSession {D : Type 0} (medium : D → Medium) (h : SuperHead) (s : Shown D) : Type 0 where
   pub formatted : IsFormatted h s.desk.store
   pub stands : StandsFor medium s.desk.store empty
   pub desk : IsNewDesk s.desk

@@ -143,8 +143,9 @@ pub fn geometry_in(
     segments: &str,
     slots: &str,
 ) -> Option<Geometry>
-    ensures { result ≡ geometry_of (said_small_number width.now) (said_small_number height.now) (format_named format.now)
-        (rate_said rate.now) (said_small_number segments.now) (said_small_number slots.now) }
+    ensures { result ≡ geometry_of (said_small_number width.now) (said_small_number height.now)
+        (format_named format.now) (rate_said rate.now) (said_small_number segments.now)
+        (said_small_number slots.now) }
 {
     let width = small_number(width)?;
     let height = small_number(height)?;

@@ -10,7 +10,7 @@ ghost use Rattle.loop_store.specs.Reopen.{IsOpened, IsRefusedOpen, is_bad_keep};
 ghost use Rattle.loop_store.specs.Runs.{read_of};
 ghost use Rattle.loop_store.specs.Seen.{StandsFor};
 ghost use Rattle.loop_script.specs.Pattern.{pattern_picture};
-ghost use Rattle.loop_script.specs.Sessions.{IsFresh, IsNewDesk, RefusesFrame, accepted_after, calls_of_store, calls_of_submit, script_limits};
+ghost use Rattle.loop_script.specs.Sessions.{IsFreshSession, IsNewDesk, RefusesFrame, accepted_after, calls_of_store, calls_of_submit, script_limits};
 
 use crate::pattern::pattern_frame;
 use loop_desk::{Desk, DeskLimits, Flushed, Outline};
@@ -54,7 +54,7 @@ impl<A: Allocator + Copy> Session<A> {
         ensures bad { (result ≡ Err StoreFault.BadGeometry) ↔ (is_good geometry ≡ false) }
         ensures refusals { IfErr result (λ fault. (fault ≡ StoreFault.BadGeometry)
             ⊎ (fault ≡ StoreFault.NoMemory)) }
-        ensures fresh { IfOk result (IsFresh ⟦<MemDisk<A> as Disk>⟧.medium
+        ensures fresh { IfOk result (IsFreshSession ⟦<MemDisk<A> as Disk>⟧.medium
             (record { geometry = geometry; version = 2 })) }
     {
         let disk = disk_for(alloc, &geometry)?;
@@ -69,7 +69,7 @@ impl<A: Allocator + Copy> Session<A> {
         ensures bad { (result ≡ Err StoreFault.BadGeometry) ↔ (is_good geometry ≡ false) }
         ensures refusals { IfErr result (λ fault. (fault ≡ StoreFault.BadGeometry)
             ⊎ (fault ≡ StoreFault.NoMemory)) }
-        ensures fresh { IfOk result (IsFresh ⟦<MemDisk<A> as Disk>⟧.medium
+        ensures fresh { IfOk result (IsFreshSession ⟦<MemDisk<A> as Disk>⟧.medium
             (record { geometry = geometry; version = 1 })) }
     {
         let disk = disk_for(alloc, &geometry)?;

@@ -90,7 +90,7 @@ kept-upgraded medium old new index must kept fine up =
           let back = up.called.honest.1 honest in
           let present = kept.present fine back in
           let known = present.recorded.known in
-          let k = (up.such back).0 in record {
+          let k = (up.such back).clips in record {
             recorded = record {
               recording = present.recorded.recording;
               known = record {
@@ -100,7 +100,7 @@ kept-upgraded medium old new index must kept fine up =
                 clips_are = known.clips_are;
               };
             };
-            version = (up.such back).1;
+            version = (up.such back).version;
             settled = up.settled back;
             unstray = kept-unstray g (medium old).bytes (medium new).bytes few k present.unstray;
           };
@@ -146,8 +146,8 @@ goes-upgraded medium old new index must kept fine differs up =
         settled = λ still there. up.settled (up.called.honest.1 there);
         held = λ still there.
             let back = up.called.honest.1 there in
-            kept-held index.ring.geometry r (medium old).bytes (medium new).bytes (stands.held fine back) (up.such back).0;
-        version_is = λ still there. (up.such (up.called.honest.1 there)).1;
+            kept-held index.ring.geometry r (medium old).bytes (medium new).bytes (stands.held fine back) (up.such back).clips;
+        version_is = λ still there. (up.such (up.called.honest.1 there)).version;
       };
     })
   where

@@ -4,7 +4,6 @@ use Rattle.loop_disk.specs.declared.fault.DiskFault.{DiskFault}
 use Rattle.loop_disk.specs.Calls.{Called}
 use Rattle.loop_disk.specs.Medium.{LeavesOnly, Medium}
 use Rattle.loop_record.specs.declared.damage.LayoutFault.TheVariants.{NotFormatted}
-use Rattle.loop_record.specs.declared.geometry.Geometry.{Geometry}
 use Rattle.loop_record.specs.declared.superblock.SuperHead.{SuperHead}
 use Rattle.loop_record.specs.Geometry.{disk_size, is_good}
 use Rattle.loop_record.specs.Reading.{HoldsIn, reading}
@@ -59,5 +58,6 @@ pub record Formats {D : Type 0} (medium : D → Medium) (h : SuperHead) (disk : 
   pub untouched : IfErr result (λ refused. is_disk refused.fault ≡ false → refused.disk ≡ disk)
   pub formatted : IfOk result (IsFormatted h)
   pub stands : IfOk result (λ store. StandsFor medium store empty)
-  pub moments : (medium disk).honest → LeavesOnly (medium disk) (medium (disk_after result)) (WasOrEmpty h (medium disk))
+  pub moments : (medium disk).honest
+      → LeavesOnly (medium disk) (medium (disk_after result)) (WasOrEmpty h (medium disk))
   pub called : Called (medium disk) (medium (disk_after result)) (failed_opening result)

@@ -35,6 +35,8 @@ pub(crate) struct Case<'a> {
     pub(crate) base: Vec<u8>,
     /// An image to compare with.
     pub(crate) kept: Vec<u8>,
+    /// A store that the program before version 2 of the layout has left.
+    pub(crate) old: Vec<u8>,
     pub(crate) store: Option<CaseStore<'a>>,
     /// No store is opened anew beside it, since one call fails.
     pub(crate) is_failing: bool,
@@ -49,14 +51,15 @@ pub(crate) struct Case<'a> {
 }
 
 impl<'a> Case<'a> {
-    /// A case of nothing.
-    pub(crate) fn new(alloc: Global, calls: &'a Cell<u64>) -> Case<'a> {
+    /// A case of nothing, with an old store at hand.
+    pub(crate) fn new(alloc: Global, calls: &'a Cell<u64>, old: Vec<u8>) -> Case<'a> {
         Case {
             alloc,
             calls,
             image: Vec::new(alloc),
             base: Vec::new(alloc),
             kept: Vec::new(alloc),
+            old,
             store: None,
             is_failing: false,
             acts: Vec::new(alloc),
@@ -103,7 +106,8 @@ fn of_store(
         "list" => list::list(case, words, told),
         "format" => make::format(case, 2, words, told),
         "format1" => make::format(case, 1, words, told),
-        "format-stops" => make::stops(case, words, told),
+        "format-stops" => make::stops(case, 2, words, told),
+        "format1-stops" => make::stops(case, 1, words, told),
         "stops" => stops::stops(case, words, told),
         "stop" => stops::stop(case, words, told),
         "torn" => stops::torn(case, words, told),
@@ -119,6 +123,7 @@ pub(crate) fn run(case: &mut Case, asked: &str, told: &mut Vec<u8>) -> Result<()
     match first {
         "image" => image::image(case, 2, &mut words, told),
         "image1" => image::image(case, 1, &mut words, told),
+        "old" => image::old(case, told),
         "filled" => image::filled(case, &mut words, told),
         "cut" => image::cut(case, &mut words, told),
         "put" => image::put_bytes(case, &mut words, told),
@@ -129,6 +134,7 @@ pub(crate) fn run(case: &mut Case, asked: &str, told: &mut Vec<u8>) -> Result<()
         "keep" => image::keep(case, told),
         "same" => image::same(case, told),
         "opens" => image::opens(case, &mut words, told),
+        "export" => image::exports(case, &mut words, told),
         "disk" => pile::run(case, &mut words, told),
         _ => of_store(case, first, &mut words, told),
     }

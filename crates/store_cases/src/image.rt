@@ -11,6 +11,7 @@ use anyhow::{Result, anyhow};
 use loop_disk::MemDisk;
 use loop_record::{Geometry, OPEN, SuperHead, encode_slot, encode_super};
 use loop_store::{OpenRefused, Store};
+use loop_y4m::{ExportFault, export};
 use std::alloc::{AllocError, Global};
 use std::io::Write;
 use std::str::SplitWhitespace;
@@ -63,6 +64,13 @@ pub(crate) fn image(
     let geometry = good(any_geometry(words)?)?;
     let image = fresh(case.alloc, geometry, version)?;
     case.image = with_groups(case.alloc, image, words)?;
+    print_size(case, told)
+}
+
+/// `old`: the store that the program before version 2 of the layout has left.
+pub(crate) fn old(case: &mut Case, told: &mut Vec<u8>) -> Result<()> {
+    close(case)?;
+    case.image = case.old.clone()?;
     print_size(case, told)
 }
 
@@ -242,4 +250,22 @@ pub(crate) fn opens(
         Ok(store) => print_held(case.alloc, store, told),
         Err(refused) => print_refused(refused, &image, told),
     }
+}
+
+/// `export FROM TO`: the text of the image's frames between these numbers.
+pub(crate) fn exports(
+    case: &mut Case,
+    words: &mut SplitWhitespace,
+    told: &mut Vec<u8>,
+) -> Result<()> {
+    close(case)?;
+    let (from, to) = (number(words)?, number(words)?);
+    let mut store = opened(case.alloc, MemDisk::of(case.image.clone()?))?;
+    let mut text = Vec::new(case.alloc);
+    match export(case.alloc, &mut store, from, to, &mut text) {
+        Ok(_count) => text::print_bytes(told, &text)?,
+        Err(ExportFault::Store(fault)) => write!(told, "{fault:?}")?,
+        Err(ExportFault::Write) => told.write_all(b"Write")?,
+    }
+    Ok(())
 }

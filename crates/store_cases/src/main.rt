@@ -10,6 +10,9 @@
 //! - `list` does lists of commands, `make` formats, `stops` stops at each call with each spoilt content, `fails`
 //!   fails each call in turn;
 //! - `pile` is a disk that remembers, fails and reads ahead, without a store.
+//!
+//! `data/version1.loop` is a store that the program wrote before there was version 2 of the layout: seven frames of its
+//! pattern by `record`, then `lock 2 2`, `lock 6 6`, `lock 3 6` and `unlock 1`.
 #![tactic(auto)]
 
 mod acts;
@@ -28,8 +31,11 @@ mod words;
 
 use crate::case::Case;
 use anyhow::Result;
+use std::alloc::AllocGlobal;
 use std::cell::Cell;
+use std::fs;
 use std::io::{BufRead, BufWriter, Write};
+use std::rt::Files;
 
 // Answers a line, which is printed up to its arrow.
 fn answer<W: Write>(case: &mut Case, line: &str, out: &mut W) -> Result<()> {
@@ -61,8 +67,22 @@ fn answers<R: BufRead + Drop, W: Write>(case: &mut Case, input: R, out: &mut W) 
     Ok(())
 }
 
+// Where the old store lies: in the folder that the gate runs the program in, or below the crate's.
+const OLD: [&str; 2] = ["version1.loop", "data/version1.loop"];
+
+// The bytes of the old store, or none where it isn't there.
+fn old_store(rt: &(impl AllocGlobal + Files)) -> Vec<u8> {
+    for path in OLD {
+        if let Ok(bytes) = fs::read(rt, path) {
+            return bytes;
+        }
+    }
+    Vec::new(rt.alloc())
+}
+
 fn main(rt: HostRuntime) -> Result<()> {
     let mut out = BufWriter::new(rt.alloc(), rt.stdout())?;
     let calls = Cell::new(0);
-    answers(&mut Case::new(rt.alloc(), &calls), rt.reader(), &mut out)
+    let mut case = Case::new(rt.alloc(), &calls, old_store(&rt));
+    answers(&mut case, rt.reader(), &mut out)
 }

@@ -10,7 +10,7 @@ use crate::image::{fresh, put};
 use crate::stops::{SPOILS, left_at};
 use crate::words::any_geometry;
 use anyhow::{Result, anyhow};
-use loop_disk::{CrashDisk, MemDisk, Spoil};
+use loop_disk::{CrashDisk, Disk, MemDisk, Spoil};
 use loop_record::Geometry;
 use loop_store::{OpenRefused, Store, StoreFault};
 use std::alloc::Global;
@@ -62,12 +62,12 @@ fn formatted(
 }
 
 // Formats a disk in a version of the layout.
-fn format_in<'a>(
+fn format_in<D: Disk + Drop>(
     alloc: Global,
-    disk: Counted<'a, MemDisk>,
+    disk: D,
     geometry: Geometry,
     version: u32,
-) -> Result<Store<Counted<'a, MemDisk>>, OpenRefused<Counted<'a, MemDisk>>> {
+) -> Result<Store<D>, OpenRefused<D>> {
     match version {
         1 => loop_store::format_v1(alloc, disk, geometry),
         _ => loop_store::format(alloc, disk, geometry),
@@ -103,10 +103,10 @@ pub(crate) fn format(
     }
 }
 
-// What a disk shows, or nothing where it isn't formatted.
-fn shown(alloc: Global, disk: MemDisk) -> Result<Option<Vec<u64>>> {
+// What a disk shows, and in which version of the layout, or nothing where it isn't formatted.
+fn shown(alloc: Global, disk: MemDisk) -> Result<Option<(Vec<u64>, u32)>> {
     match Store::open(alloc, disk) {
-        Ok(mut store) => Ok(Some(held(alloc, &mut store, u64::MAX)?)),
+        Ok(mut store) => Ok(Some((held(alloc, &mut store, u64::MAX)?, store.version()))),
         Err(refused) => match refused.fault {
             StoreFault::NotFormatted => Ok(None),
             fault => Err(anyhow!("{fault:?}")),
@@ -115,9 +115,9 @@ fn shown(alloc: Global, disk: MemDisk) -> Result<Option<Vec<u64>>> {
 }
 
 // Formats the image on a disk that remembers its calls.
-fn recorded(case: &Case, geometry: Geometry) -> Result<CrashDisk> {
+fn recorded(case: &Case, geometry: Geometry, version: u32) -> Result<CrashDisk> {
     let disk = CrashDisk::of(case.alloc, case.image.clone()?)?;
-    match loop_store::format(case.alloc, disk, geometry) {
+    match format_in(case.alloc, disk, geometry, version) {
         Ok(store) => Ok(store.into_disk()),
         Err(refused) => {
             let fault = refused.fault;
@@ -127,15 +127,19 @@ fn recorded(case: &Case, geometry: Geometry) -> Result<CrashDisk> {
 }
 
 // Whether a stop behind so many of all calls may leave this: what isn't formatted, or what reads as before, or the
-// empty recording. This one only once the gate of the superblock is written, and always after the last call.
+// empty recording in this version. This one only once the gate of the superblock is written, and always after the last
+// call.
 fn is_left(
-    found: &Option<Vec<u64>>,
-    before: &Option<Vec<u64>>,
+    found: &Option<(Vec<u64>, u32)>,
+    before: &Option<(Vec<u64>, u32)>,
+    version: u32,
     passed: usize,
     calls: usize,
 ) -> bool {
     match found {
-        Some(numbers) if numbers.is_empty() => calls <= passed.wrapping_add(1),
+        Some((numbers, of)) if numbers.is_empty() && *of == version => {
+            calls <= passed.wrapping_add(1)
+        }
         Some(_) => passed < calls && *found == *before,
         None => passed < calls,
     }
@@ -145,29 +149,32 @@ fn is_left(
 fn stops_at(
     alloc: Global,
     disk: &CrashDisk,
-    before: &Option<Vec<u64>>,
+    before: &Option<(Vec<u64>, u32)>,
+    version: u32,
     passed: usize,
 ) -> Result<()> {
     for spoil in SPOILS {
         let found = shown(alloc, left_at(disk, passed, spoil)?)?;
-        if !is_left(&found, before, passed, disk.calls()) {
+        if !is_left(&found, before, version, passed, disk.calls()) {
             return Err(anyhow!("after {passed} calls, {spoil:?}: {found:?}"));
         }
     }
     Ok(())
 }
 
-/// `format-stops GEOMETRY`: stops a format of the image after each of its calls, with each spoilt content.
+/// `format-stops GEOMETRY`, and `format1-stops` for version 1 of the layout: stops a format of the image after each of
+/// its calls, with each spoilt content.
 pub(crate) fn stops(
     case: &mut Case,
+    version: u32,
     words: &mut SplitWhitespace,
     told: &mut Vec<u8>,
 ) -> Result<()> {
     close(case)?;
-    let disk = recorded(case, any_geometry(words)?)?;
+    let disk = recorded(case, any_geometry(words)?, version)?;
     let before = shown(case.alloc, left_at(&disk, 0, Spoil::Keep)?)?;
     for passed in 0..=disk.calls() {
-        stops_at(case.alloc, &disk, &before, passed)?;
+        stops_at(case.alloc, &disk, &before, version, passed)?;
     }
     let calls = disk.calls();
     write!(

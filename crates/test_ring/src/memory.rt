@@ -238,6 +238,11 @@ fn the_victim_follows_locks_and_appends(rt: HostRuntime) -> Result<(), Fail> {
     Ok(())
 }
 
+// A clip of these frames, with a tag.
+fn tagged(from: u64, to: u64, tag: u64) -> Option<Span> {
+    Some(Span { from, to, tag })
+}
+
 // The clip of an id.
 fn listed(id: u32, from: u64, to: u64, tag: u64) -> Clip {
     Clip { id, from, to, tag }
@@ -274,24 +279,15 @@ fn lists(
 
 #[test]
 fn clips_are_kept_as_they_were_read(rt: HostRuntime) -> Result<(), Fail> {
-    let two_to_five = Some(Span {
-        from: 2,
-        to: 5,
-        tag: 9,
-    });
     let mut clips = [None; CLIPS];
-    clips[0] = two_to_five;
+    clips[0] = tagged(2, 5, 9);
     // One that is empty.
-    clips[2] = Some(Span {
-        from: 256,
-        to: 255,
-        tag: 8,
-    });
+    clips[2] = tagged(256, 255, 8);
     clips[63] = clip(u64::MAX);
     let table = ClipTable::of(clips);
     same!(rt; table.as_slice(), clips.as_slice());
     let ids = [
-        (0, two_to_five),
+        (0, tagged(2, 5, 9)),
         (1, None),
         (63, clip(u64::MAX)),
         (64, None),

@@ -2,7 +2,7 @@ use Rattle.std.proofs.Common.{◌≡◌, ◌≤◌, ◌+◌, ℕ, ◌∙◌, sym
 use Rattle.std.proofs.lemmas.Result.{err_from_is_err_and}
 use Rattle.loop_disk.proofs.Moments.{called_on}
 use Rattle.loop_record.specs.Change.{HasNoTags}
-use Rattle.loop_clips.proofs.Upgrading.{IsCleared, cleared-none, cleared-more, cleared-past, clearing}
+use Rattle.loop_clips.proofs.Upgrading.{IsCleared, cleared-none, cleared-more, cleared-past, clearing, known-open}
 use Rattle.loop_clips.proofs.upgrade.clear_tags.Goals.{then-is_some+in_ok-clear_tag, else-is_some}
 use Rattle.loop_clips.proofs.upgrade.clear_tags.Goals as goal
 
@@ -15,7 +15,9 @@ clear_tag-requires-clause-extent g c = omega (arith, c.loop-id.invariant.called.
 pub returns-in_err-clear_tag-clause-moments : goal.returns-in_err-clear_tag-clause-moments
 returns-in_err-clear_tag-clause-moments g c = λ honest.
     let there = c.loop-id.invariant.called.honest.0 honest in
-    clearing c.loop-id.id _ _ _ c.clear_tag.result (omega arith) (g.met.D.Disk.sound c.loop-id.disk there)
+    clearing c.loop-id.id _ _ _ c.clear_tag.result (omega arith)
+    (known-open c.args.clips.now c.loop-id.id _ (omega arith) (c.requires.known honest) (sym c.is_some.ensures ∙ c.if-is_some.true))
+    (g.met.D.Disk.sound c.loop-id.disk there)
     (c.loop-id.invariant.moments honest) (c.clear_tag.ensures.disk there)
 
 pub returns-in_err-clear_tag-clause-called : goal.returns-in_err-clear_tag-clause-called
@@ -31,7 +33,9 @@ loop-id-preserved g c =
     let room : 2560 ≤ (g.D.Disk.medium c.loop-id.disk).size = omega (arith, c.loop-id.invariant.called.size, c.requires.extent) in
     elim c.if-is_some.branch [
       | then-is_some+in_ok-clear_tag w ↦ subst (λ d. IsCleared (c.loop-id.id + 1) old (g.D.Disk.medium d)) (sym w.disk-is)
-          (cleared-more c.loop-id.id old _ _ w.clear_tag.result (omega arith) room sound c.loop-id.invariant
+          (cleared-more c.loop-id.id old _ _ w.clear_tag.result (omega arith) room sound
+          (λ honest. known-open c.args.clips.now c.loop-id.id _ (omega arith) (c.requires.known honest) (sym c.is_some.ensures ∙ w.if-is_some.true))
+          c.loop-id.invariant
           w.clear_tag.ensures.disk (λ there. (w.in_ok-clear_tag.ensures.disk there).done)
           w.in_ok-clear_tag.ensures.called)
       | else-is_some w ↦ subst (λ d. IsCleared (c.loop-id.id + 1) old (g.D.Disk.medium d)) (sym w.disk-is)
