@@ -197,7 +197,7 @@ impl<A: Allocator + Copy> Session<A> {
             Err(OpenRefused { fault, disk: _ }) => Err(fault),
             Ok(store) => {
                 // The frames that follow are of this geometry too.
-                if store.geometry() != geometry {
+                if !is_same(store.geometry(), geometry) {
                     return Err(StoreFault::BadGeometry);
                 }
                 session_before(alloc, store, accepted)
@@ -262,6 +262,13 @@ fn disk_for<A: Allocator>(alloc: A, geometry: &Geometry) -> Result<MemDisk<A>, S
     }
     let disk = MemDisk::new(alloc, geometry.disk_size())?;
     Ok(disk)
+}
+
+// Whether two geometries are the same.
+fn is_same(one: Geometry, other: Geometry) -> bool
+    ensures { IsTrue result ↔ one ≡ other }
+{
+    one == other
 }
 
 // A session before a store, of so many accepted frames. It answers NoMemory.

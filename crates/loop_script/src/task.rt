@@ -102,7 +102,7 @@ fn read_recording<'a>(words: &'a [&'a str]) -> Option<Task<'a>>
 
 // The same, of the words behind the source.
 fn read_kept<'a>(count: &str, source: &'a str, words: &'a [&'a str]) -> Option<Task<'a>>
-    ensures { result ≡ kept_said (said_small_number count.now) source words.now }
+    ensures { result ≡ kept_said (said_small_number count.now) source.entry words.now }
 {
     match words {
         [] => None,
@@ -130,7 +130,7 @@ fn made_of<'a>(
     keep: Option<u32>,
     words: &'a [&'a str],
 ) -> Option<Task<'a>>
-    ensures { result ≡ recording_of (said_small_number count.now) source keep words.now }
+    ensures { result ≡ recording_of (said_small_number count.now) source.entry keep words.now }
 {
     if words.is_empty() {
         return None;
