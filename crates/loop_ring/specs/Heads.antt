@@ -61,7 +61,8 @@ going_first ring keep clips heads = least_going ring clips heads (floor_block ke
 
 -- ---- the count of clips of each segment
 
--- what the header of each segment says, how many clips meet the block of each, and how many of the newest blocks are kept
+-- what the header of each segment says, how many clips meet the block of each, and how many of the newest blocks are
+-- kept
 pub record Segments : Type 0 where
   pub heads : List (Option SegmentHead)
   pub clips : List ℕ

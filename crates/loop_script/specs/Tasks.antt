@@ -47,7 +47,7 @@ recording_of (Some frames) source (Some keep) (path ∷ paths) =
     Some (Record (record { frames = frames; source = source; keep = keep; paths = path ∷ paths }))
 recording_of frames source keep paths = None
 
--- the recording of a count, a source and paths, with the word before them that says how many blocks are kept, or without
+-- the recording of a count, a source and paths, with a word before them that says how many blocks are kept, or without
 abbrev pub recording_kept
     : Option ℕ → Bor (List ℕ) → Option (List ℕ) → Bor (List ℕ) → List (Bor (List ℕ)) → Option Task
 recording_kept frames source None path paths = recording_of frames source (Some 1) (path ∷ paths)

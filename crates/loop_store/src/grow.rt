@@ -58,7 +58,12 @@ fn store_group<D: Disk, A: Allocator>(
 }
 
 /// Retires the victim's segment, and begins the block of the next number there.
-fn replace<D: Disk, A: Allocator>(disk: &mut D, index: &Index<A>, segment: u32, next: u64) -> Result<(), DiskFault>
+fn replace<D: Disk, A: Allocator>(
+    disk: &mut D,
+    index: &Index<A>,
+    segment: u32,
+    next: u64,
+) -> Result<(), DiskFault>
     requires extent { (D.medium disk.old).size ≡ disk_size index.now.ring.geometry }
     requires segment { segment < index.now.ring.geometry.segments }
     requires settled { (D.medium disk.old).honest → IsSettled (D.medium disk.old) }
@@ -75,11 +80,17 @@ fn replace<D: Disk, A: Allocator>(disk: &mut D, index: &Index<A>, segment: u32, 
 
 /// Makes room for the next frames at a place: a block is recycled and another begun, or one is begun, or
 /// nothing is to be done.
-fn make_room<D: Disk, A: Allocator>(disk: &mut D, index: &Index<A>, place: Place, next: u64) -> Result<(), DiskFault>
+fn make_room<D: Disk, A: Allocator>(
+    disk: &mut D,
+    index: &Index<A>,
+    place: Place,
+    next: u64,
+) -> Result<(), DiskFault>
     requires extent { (D.medium disk.old).size ≡ disk_size index.now.ring.geometry }
     requires segment { place_segment place < index.now.ring.geometry.segments }
     requires settled { (D.medium disk.old).honest → IsSettled (D.medium disk.old) }
-    requires known { (D.medium disk.old).honest → IsKnown index.now.ring.geometry index.now.table.keep next place (D.medium disk.old).bytes }
+    requires known { (D.medium disk.old).honest
+        → IsKnown index.now.ring.geometry index.now.table.keep next place (D.medium disk.old).bytes }
     ensures { let g = index.now.ring.geometry in let old = D.medium disk.old in let j = place_segment place in
         Makes g (HasNext next) (steps_before g index.now.table.keep) (λ image. IsNewestSegment g next j image
         × IsBegunAt g next j old.bytes image)
@@ -102,7 +113,8 @@ pub(crate) fn append_group<D: Disk, A: Allocator>(
     requires extent { (D.medium disk.old).size ≡ disk_size index.now.ring.geometry }
     requires segment { place_segment place < index.now.ring.geometry.segments }
     requires some { 1 ≤ length group.now.frames }
-    requires room { group.now.first % index.now.ring.geometry.slots + length group.now.frames ≤ index.now.ring.geometry.slots }
+    requires room { group.now.first % index.now.ring.geometry.slots + length group.now.frames
+        ≤ index.now.ring.geometry.slots }
     requires size { group.now.size ≡ frame_bytes index.now.ring.geometry }
     requires settled { (D.medium disk.old).honest → IsSettled (D.medium disk.old) }
     requires known { (D.medium disk.old).honest

@@ -48,8 +48,8 @@ fn clear_newest<D: Disk, A: Allocator>(disk: &mut D, index: &Index<A>) -> Result
     }
 }
 
-/// Whether so many of the newest blocks can be kept in a ring of this geometry: one at least, and one block less than it
-/// has segments.
+/// Whether so many of the newest blocks can be kept in a ring of this geometry: at least one, and at most one less than
+/// there are segments.
 pub fn can_keep(geometry: &Geometry, keep: u32) -> bool
     ensures { result ≡ not (is_bad_keep geometry.now.segments keep) }
 {
@@ -137,8 +137,8 @@ impl<D: Disk + Drop, A: Allocator + Copy> Store<D, A> {
     /// Does the same, and from then on the `keep` newest blocks of held frames never go: where each other is locked by
     /// a clip, an append is refused as `AllLocked`. How many are kept isn't on the disk: each store has its own.
     ///
-    /// `BadKeep`, after `NotFormatted` and `Damaged`, where `keep` is 0 or above the segments but one. It hands the disk
-    /// back, to which nothing was written.
+    /// `BadKeep`, after `NotFormatted` and `Damaged`, where `keep` is 0 or above the number of segments less one. It
+    /// hands the disk back, to which nothing was written.
     pub fn open_keeping(alloc: A, disk: D, keep: u32) -> Result<Store<D, A>, OpenRefused<D>>
         ensures { Reopens D.medium keep disk result }
     {

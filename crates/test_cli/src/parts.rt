@@ -54,7 +54,7 @@ fn a_line_of_4096_bytes_is_read_and_a_longer_one_is_not(rt: HostRuntime) -> Resu
 }
 
 // A refusal, and its line.
-static REFUSALS: [(StoreFault, &str); 9] = [
+static REFUSALS: [(StoreFault, &str); 10] = [
     (StoreFault::NoMemory, "refused 1 NoMemory\n"),
     (StoreFault::Disk(DiskFault::Sync), "refused 2 Disk\n"),
     (StoreFault::MustReopen, "refused 3 MustReopen\n"),
@@ -73,6 +73,7 @@ static REFUSALS: [(StoreFault, &str); 9] = [
     ),
     (StoreFault::NumbersSpent, "refused 14 NumbersSpent\n"),
     (StoreFault::OldLayout, "refused 21 OldLayout\n"),
+    (StoreFault::BadKeep, "refused 22 BadKeep\n"),
 ];
 
 // Prints each refusal, and then where nothing can be printed.

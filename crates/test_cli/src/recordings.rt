@@ -167,6 +167,62 @@ fn what_a_store_refuses_meanwhile_is_no_refusal(rt: HostRuntime) -> Result<(), F
     Ok(())
 }
 
+// Recordings that keep blocks: 1, 2 and 3 are held, of which a clip meets the first.
+static KEPT: [Step; 8] = [
+    (&["lock", "kept.img", "2", "2"], "locked 0\n", "", 0),
+    (
+        &["record", "1", "-", "keep=3", "kept.img"],
+        "",
+        "refused 22 BadKeep\n",
+        1,
+    ),
+    (
+        &["record", "1", "-", "keep=0", "kept.img"],
+        "",
+        "refused 22 BadKeep\n",
+        1,
+    ),
+    (
+        &["list", "kept.img"],
+        "next 7\nframes 2..6\nclip 0 2..2\n",
+        "",
+        0,
+    ),
+    // The frame 7 still has room; for what is behind it no block may go.
+    (
+        &["record", "4", "-", "keep=2", "kept.img"],
+        "camera 0 next 8\n",
+        "",
+        0,
+    ),
+    (
+        &["list", "kept.img"],
+        "next 8\nframes 2..7\nclip 0 2..2\n",
+        "",
+        0,
+    ),
+    (
+        &["record", "1", "-", "keep=1", "kept.img"],
+        "camera 0 next 9\n",
+        "",
+        0,
+    ),
+    (
+        &["list", "kept.img"],
+        "next 9\nframes 2..3\nframes 6..8\nclip 0 2..2\n",
+        "",
+        0,
+    ),
+];
+
+#[test]
+fn the_newest_blocks_are_kept_while_it_is_recorded(rt: HostRuntime) -> Result<(), Fail> {
+    fs::write(&rt, "kept.img", ring().as_slice())?;
+    each_does(&rt, &KEPT);
+    fs::remove_file(&rt, "kept.img")?;
+    Ok(())
+}
+
 // Four buffers of 1024x1024 bytes have just the pages of a ledger, of a row more they need more.
 static SIZES: [Step; 5] = [
     (

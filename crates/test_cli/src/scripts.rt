@@ -33,8 +33,8 @@ static RUNS: [Row; 10] = [
         0,
     ),
     (
-        b"upgrade\nlock 0 0 9\n",
-        "refused 4 NotFormatted\nrefused 4 NotFormatted\n",
+        b"upgrade\nlock 0 0 9\nreopen 0\n",
+        "refused 4 NotFormatted\nrefused 4 NotFormatted\nrefused 4 NotFormatted\n",
         "",
         0,
     ),
@@ -74,7 +74,7 @@ static RUNS: [Row; 10] = [
 ];
 
 // Lines that can't be read, each alone.
-static BAD_LINES: [&[u8]; 48] = [
+static BAD_LINES: [&[u8]; 50] = [
     b"\n",
     b"list\r\n",
     b"list \n",
@@ -96,7 +96,9 @@ static BAD_LINES: [&[u8]; 48] = [
     b"read\n",
     b"read x\n",
     b"read 1 2",
-    b"reopen 1\n",
+    b"reopen 1 1\n",
+    b"reopen x\n",
+    b"reopen 4294967296\n",
     b"reopen \n",
     b"flush 1\n",
     b"submit\n",

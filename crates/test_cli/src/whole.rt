@@ -3,7 +3,7 @@
 use crate::scripts::Row;
 
 /// Each begins with a `format`.
-pub(crate) static WHOLE: [Row; 21] = [
+pub(crate) static WHOLE: [Row; 23] = [
     // A ring that is opened again keeps what it holds, and goes on.
     (
         b"format 4 2 YM12 25:1 3 2\nstore 7\nlist\nread 3\nread 1\nreopen\nlist\nstore 2\nreopen\n\
@@ -63,6 +63,27 @@ pub(crate) static WHOLE: [Row; 21] = [
         b"format 4 2 YM12 25:1 3 2\nstore 1\nupgrade\nlock 0 0 18446744073709551615\nlock 0 0 0\nlock 1 1 9\nlist\n",
         "formatted\nstored 0..0\nalready 2\nlocked 0\nlocked 1\nrefused 10 ClipNotHeld 1\nnext 1\n\
             frames 0..0\nclip 0 0..0 tag 18446744073709551615\nclip 1 0..0\n",
+        "",
+        0,
+    ),
+    // Blocks that are kept don't go, though no clip meets them; how many are kept isn't on the disk, and where they
+    // can't be, the newest is.
+    (
+        b"format 4 2 YM12 25:1 4 2\nstore 8\nlock 0 3\nreopen 2\nstore 1\nreopen 1\nstore 1\nread 8\nlist\n\
+            reopen 4\n",
+        "formatted\nstored 0..7\nlocked 0\nopened\nrefused 6 AllLocked\nopened\nstored 8..8\n\
+            frame 8 sequence 9 time 360000 bytes 090a0b0c0d0e0f10\nnext 9\nframes 0..3\nframes 6..8\n\
+            clip 0 0..3\nrefused 22 BadKeep\n",
+        "",
+        0,
+    ),
+    (
+        b"format 4 2 YM12 25:1 4 2\nstore 8\nreopen 3\nstore 1\nlist\nreopen 0\nlist\nstore 1\nreopen 3\n\
+            lock 2 3\nstore 1\nlist\nreopen 4294967295\nstore 1\nlist\n",
+        "formatted\nstored 0..7\nopened\nstored 8..8\nnext 9\nframes 2..8\nrefused 22 BadKeep\nnext 9\n\
+            frames 2..8\nstored 9..9\nopened\nlocked 0\nrefused 6 AllLocked\nnext 10\nframes 2..9\n\
+            clip 0 2..3\nrefused 22 BadKeep\nstored 10..10\nnext 11\nframes 2..3\nframes 6..10\n\
+            clip 0 2..3\n",
         "",
         0,
     ),

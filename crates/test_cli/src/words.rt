@@ -13,7 +13,7 @@ use std::thread::Threads;
 use std::time::Clock;
 
 // Words, what they tell beside the script's output, and the status.
-static WORDS: [(&[&str], &str, u8); 31] = [
+static WORDS: [(&[&str], &str, u8); 36] = [
     (&[], "", 0),
     (&["simulate"], "", 0),
     (&["help"], "bad command\n", 2),
@@ -46,6 +46,27 @@ static WORDS: [(&[&str], &str, u8); 31] = [
     (&["record", "-1", "-", "words.img"], "bad command\n", 2),
     (
         &["record", "4294967296", "-", "words.img"],
+        "bad command\n",
+        2,
+    ),
+    (&["record", "1", "-", "keep=2"], "bad command\n", 2),
+    (
+        &["record", "1", "-", "keep=", "words.img"],
+        "bad command\n",
+        2,
+    ),
+    (
+        &["record", "1", "-", "keep=x", "words.img"],
+        "bad command\n",
+        2,
+    ),
+    (
+        &["record", "1", "-", "keep=1=1", "words.img"],
+        "bad command\n",
+        2,
+    ),
+    (
+        &["record", "1", "-", "keep=4294967296", "words.img"],
         "bad command\n",
         2,
     ),
