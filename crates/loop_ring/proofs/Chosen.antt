@@ -232,9 +232,14 @@ above-older g keep r image b k at =
     let hs = filter_map held_block (heads_of g image) in
     let x = front-counted (max 1 keep) k.low b bs k.rises at in
     let c = next-above (max 1 keep) k.low b bs k.rises x.0 x.1 (omega arith) in
-    let most = c.1.1.1 in
-    (c.0, (c.1.1.0, filter-among (λ n. leb keep (count_by (leb n) hs)) c.0 hs (k.from c.0 c.1.0)
-    (at_most_test keep (count_by (leb c.0) hs) (omega (arith, most, k.counts c.0)))))
+    let most = c.1.1.1 in (
+      c.0,
+      (
+        c.1.1.0,
+        filter-among (λ n. leb keep (count_by (leb n) hs)) c.0 hs (k.from c.0 c.1.0)
+            (at_most_test keep (count_by (leb c.0) hs) (omega (arith, most, k.counts c.0))),
+      ),
+    )
 
 floor-is : (g : Geometry) (keep : ℕ) (r : Recording) (image : List ℕ) (floor : ℕ) → Blocks g r image
     → floor_block keep (heads_of g image) ≡ Some floor → IsFloor (ring_of g) keep r floor

@@ -36,8 +36,11 @@ impl<A: Allocator> Model for SegmentIndex<A> {
 
     ghost view = { λ index. record { heads = index.heads.items; clips = index.clips.items; keep = index.keep } };
 
-    ghost invariant = { λ index. IsMended (record { heads = index.heads.items; clips = index.clips.items;
-        keep = index.keep }) index.entries.items (vec_capacity index.entries) index.held index.victim };
+    ghost invariant = { λ index. IsMended (record {
+      heads = index.heads.items;
+      clips = index.clips.items;
+      keep = index.keep;
+    }) index.entries.items (vec_capacity index.entries) index.held index.victim };
 }
 
 impl<A: Allocator + Copy> SegmentIndex<A> {

@@ -40,12 +40,22 @@ pub record IsLook (c : Call) : Type 0 where
   pub fine : has_failed c ≡ false
 
 pub look-read : (number : ℕ) (result : Result (FrameHead × List ℕ) StoreFault) → IsLook (was_read number result)
-look-read number result = record { steps = λ g s. made-either (fault_in result); begins =
-    λ g s. none-either (answers_disk result); version = λ v. refl; fine = refl }
+look-read number result = record {
+  steps = λ g s. made-either (fault_in result);
+  begins =
+      λ g s. none-either (answers_disk result);
+  version = λ v. refl;
+  fine = refl;
+}
 
 pub look-part : (number at : ℕ) (result : Result (List ℕ) StoreFault) → IsLook (was_read_part number at result)
-look-part number at result = record { steps = λ g s. made-either (fault_in result); begins =
-    λ g s. none-either (answers_disk result); version = λ v. refl; fine = refl }
+look-part number at result = record {
+  steps = λ g s. made-either (fault_in result);
+  begins =
+      λ g s. none-either (answers_disk result);
+  version = λ v. refl;
+  fine = refl;
+}
 
 -- what is known of a read
 pub record Looked {D : Type 0} (medium : D → Medium) (old : Seen D) (disk : D) (c : Call) : Type 0 where

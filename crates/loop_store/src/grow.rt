@@ -58,7 +58,12 @@ fn store_group<D: Disk, A: Allocator>(
 }
 
 /// Retires the victim's segment, and begins the block of the next number there.
-fn replace<D: Disk, A: Allocator>(disk: &mut D, index: &Index<A>, segment: u32, next: u64) -> Result<(), DiskFault>
+fn replace<D: Disk, A: Allocator>(
+    disk: &mut D,
+    index: &Index<A>,
+    segment: u32,
+    next: u64,
+) -> Result<(), DiskFault>
     requires extent { (D.medium disk.old).size ≡ disk_size index.now.ring.geometry }
     requires segment { segment < index.now.ring.geometry.segments }
     requires settled { (D.medium disk.old).honest → IsSettled (D.medium disk.old) }
@@ -75,7 +80,12 @@ fn replace<D: Disk, A: Allocator>(disk: &mut D, index: &Index<A>, segment: u32, 
 
 /// Makes room for the next frames at a place: a block is recycled and another begun, or one is begun, or
 /// nothing is to be done.
-fn make_room<D: Disk, A: Allocator>(disk: &mut D, index: &Index<A>, place: Place, next: u64) -> Result<(), DiskFault>
+fn make_room<D: Disk, A: Allocator>(
+    disk: &mut D,
+    index: &Index<A>,
+    place: Place,
+    next: u64,
+) -> Result<(), DiskFault>
     requires extent { (D.medium disk.old).size ≡ disk_size index.now.ring.geometry }
     requires segment { place_segment place < index.now.ring.geometry.segments }
     requires settled { (D.medium disk.old).honest → IsSettled (D.medium disk.old) }

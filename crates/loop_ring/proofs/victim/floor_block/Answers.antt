@@ -26,8 +26,7 @@ loop-entry-preserved-then-has_frame c =
     left-last c.args.heads.now c.args.entries.now _ _ _ _ c.loop-entry.invariant.0 c.in-Some.ensures.steps in
     let some = c.loop-entry.invariant.1.0 in
     let most = c.loop-entry.invariant.1.1 in
-    let more = above-one c.loop-entry.left some c.if-left-eq1.false in
-    (
+    let more = above-one c.loop-entry.left some c.if-left-eq1.false in (
       left-less c.args.heads.now c.args.entries.now _ c.in-Some.entry.now _ _ true last
           (sym c.has_frame.ensures ∙ c.if-has_frame.true) (one-less c.args.keep c.loop-entry.left more most),
       (omega (arith, more), omega (arith, most)),
@@ -36,8 +35,7 @@ loop-entry-preserved-then-has_frame c =
 pub loop-entry-preserved : goal.loop-entry-preserved
 loop-entry-preserved c =
     let last : IsLast c.args.heads.now c.args.entries.now c.next.new.self.iter.rest.now c.in-Some.entry.now _ =
-    left-last c.args.heads.now c.args.entries.now _ _ _ _ c.loop-entry.invariant.0 c.in-Some.ensures.steps in
-    (
+    left-last c.args.heads.now c.args.entries.now _ _ _ _ c.loop-entry.invariant.0 c.in-Some.ensures.steps in (
       left-less c.args.heads.now c.args.entries.now _ c.in-Some.entry.now _ _ false last
           (sym c.has_frame.ensures ∙ c.if-has_frame.false) (omega arith),
       c.loop-entry.invariant.1,

@@ -12,8 +12,13 @@ pub invariant_of-result : goal.invariant_of-result
 invariant_of-result g c =
     let h = c.args.head.geometry in
     let fits = both (is_good h) (eqb (g.D.Disk.medium c.args.disk).size (disk_size h)) (sym c.fits.ensures ∙ c.if-not-fits.false) in
-    let index : Index g.row.A.Denot = record { ring = c.new-in-Ok-lay_out.result; version = c.args.head.version;
-        table = c.in-Ok.table; clips = c.empty.result; next = 0 } in
+    let index : Index g.row.A.Denot = record {
+      ring = c.new-in-Ok-lay_out.result;
+      version = c.args.head.version;
+      table = c.in-Ok.table;
+      clips = c.empty.result;
+      next = 0;
+    } in
     let new : IsNew index c.args.head = record {
       geometry = c.new-in-Ok-lay_out.ensures;
       version = refl;
@@ -34,8 +39,13 @@ invariant_of-result g c =
 
 pub returns-in-Ok-lay_out-clause-formatted : goal.returns-in-Ok-lay_out-clause-formatted
 returns-in-Ok-lay_out-clause-formatted g c =
-    let index : Index g.row.A.Denot = record { ring = c.new-in-Ok-lay_out.result; version = c.args.head.version;
-        table = c.in-Ok.table; clips = c.empty.result; next = 0 } in
+    let index : Index g.row.A.Denot = record {
+      ring = c.new-in-Ok-lay_out.result;
+      version = c.args.head.version;
+      table = c.in-Ok.table;
+      clips = c.empty.result;
+      next = 0;
+    } in
     let new : IsNew index c.args.head = record {
       geometry = c.new-in-Ok-lay_out.ensures;
       version = refl;
@@ -57,8 +67,13 @@ pub returns-in-Ok-lay_out-clause-stands : goal.returns-in-Ok-lay_out-clause-stan
 returns-in-Ok-lay_out-clause-stands g c =
     let h = c.args.head.geometry in
     let fits = both (is_good h) (eqb (g.D.Disk.medium c.args.disk).size (disk_size h)) (sym c.fits.ensures ∙ c.if-not-fits.false) in
-    let index : Index g.row.A.Denot = record { ring = c.new-in-Ok-lay_out.result; version = c.args.head.version;
-        table = c.in-Ok.table; clips = c.empty.result; next = 0 } in
+    let index : Index g.row.A.Denot = record {
+      ring = c.new-in-Ok-lay_out.result;
+      version = c.args.head.version;
+      table = c.in-Ok.table;
+      clips = c.empty.result;
+      next = 0;
+    } in
     let new : IsNew index c.args.head = record {
       geometry = c.new-in-Ok-lay_out.ensures;
       version = refl;
