@@ -1,17 +1,17 @@
 -- The victim in words.
-use Rattle.std.proofs.Common.{◌≡◌, ◌⊎◌, inl, inr, ℕ, zero, suc, ◌+◌, ◌-◌, ◌*◌, ◌/◌, ◌<◌, ◌≤◌, Bool, true, false, not, ◌&&◌, cond, eqb, leb, max, IsTrue, Option, Some, None, List, [], ◌∷◌, length, map, take, refl, sym, ap, ◌∙◌, subst, arith}
+use Rattle.std.proofs.Common.{◌≡◌, ◌⊎◌, inl, inr, ℕ, zero, suc, ◌+◌, ◌-◌, ◌*◌, ◌/◌, ◌<◌, ◌≤◌, Bool, true, false, not, ◌&&◌, cond, eqb, leb, max, Option, Some, None, List, [], ◌∷◌, length, take, refl, sym, ap, ◌∙◌, subst, arith}
 use Rattle.std.proofs.Math.Nat.{div-mul-le_self, le-div_iff_mul-le, div-lt_iff_lt-mul, mul-div_cancel}
 use Rattle.std.proofs.lemmas.Bool.{cases_lt}
 use Rattle.std.proofs.lemmas.Bool.Decides.{nat_tests}
 use Rattle.std.proofs.lemmas.List.{length-take}
 use Rattle.std.proofs.lemmas.List.Sums.{count_by-le-length, sum_by-cons, sum_by-le-sum_by}
 use Rattle.std.specs.Prelude.{Contains, ◌↔◌}
-use Rattle.std.specs.List.{count_by, list_any, find}
+use Rattle.std.specs.List.{count_by, find}
 use Rattle.loop_record.specs.declared.clip.Span.{Span}
-use Rattle.loop_record.specs.Recording.{Picture, Recording, Ring, holds, block, meets, with_block, blocks_of, held_blocks, older_blocks, is_locked, victim, RiseBetween, RiseFrom, IsHeldBlock, IsWellFormed, MayGo, IsVictim}
-use Rattle.loop_record.proofs.Decided.{clash, both, not_true, untrue, equal, equal_test, differ, at_most, at_most_test}
+use Rattle.loop_record.specs.Recording.{Picture, Recording, Ring, block, meets, with_block, blocks_of, held_blocks, older_blocks, is_locked, victim, RiseBetween, RiseFrom, IsHeldBlock, IsWellFormed, MayGo, IsVictim}
+use Rattle.loop_record.proofs.Decided.{clash, both, not_true, untrue, equal, differ, at_most, at_most_test}
 use Rattle.loop_record.proofs.Retired.{outside_clip}
-use Rattle.loop_record.proofs.Rising.{Among, numbers_of, held-among, among-held, among-range, none-each, each-none}
+use Rattle.loop_record.proofs.Rising.{Among, numbers_of, held-among, among-held, none-each, each-none}
 
 -- ---- blocks that rise
 

@@ -4,7 +4,7 @@ use crate::acts::Act;
 use crate::counted::Counted;
 use crate::pile::{Call, Pile, Tape};
 use crate::words::word;
-use crate::{fails, image, line, list, make, pile, stops};
+use crate::{fails, image, keeping, line, list, make, pile, stops};
 use anyhow::{Result, anyhow};
 use loop_disk::{MemDisk, OnceDisk};
 use loop_store::{Clip, Store};
@@ -38,6 +38,10 @@ pub(crate) struct Case<'a> {
     /// A store that the program before version 2 of the layout has left.
     pub(crate) old: Vec<u8>,
     pub(crate) store: Option<CaseStore<'a>>,
+    /// How many of the newest blocks its stores keep.
+    pub(crate) keep: u32,
+    /// With so many kept, the image was refused.
+    pub(crate) is_refused: bool,
     /// No store is opened anew beside it, since one call fails.
     pub(crate) is_failing: bool,
     /// What was done since the opening.
@@ -61,6 +65,8 @@ impl<'a> Case<'a> {
             kept: Vec::new(alloc),
             old,
             store: None,
+            keep: 1,
+            is_refused: false,
             is_failing: false,
             acts: Vec::new(alloc),
             moments: Vec::new(alloc),
@@ -102,6 +108,8 @@ fn of_store(
         "clips" => line::clips(case, told),
         "version" => line::version(case, told),
         "victim" => line::victim(case, told),
+        "newest" => line::newest(case, told),
+        "victims" => keeping::victims(case, words, told),
         "look" => line::look(case, words, told),
         "list" => list::list(case, words, told),
         "format" => make::format(case, 2, words, told),

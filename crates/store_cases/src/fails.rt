@@ -3,16 +3,17 @@
 use crate::acts::{Act, does, frames_of};
 use crate::case::{Case, Moment, close};
 use crate::frames::{
-    append_again, append_next, held, is_beginning, opened, read, refused, unexpected,
+    append_again, append_next, held, is_beginning, opened_keeping, read, refused, unexpected,
 };
+use crate::keeping;
 use anyhow::{Result, anyhow};
 use loop_disk::{Disk, DiskFault, FuseDisk, MemDisk, OnceDisk};
 use loop_store::{Command, Store, StoreFault};
 use std::alloc::Global;
 use std::io::Write;
 
-// The most calls of an opening and of what is done then.
-const MAX_CALLS: u64 = 1000;
+/// The most calls of an opening and of what is done then.
+pub(crate) const MAX_CALLS: u64 = 1000;
 
 // How many bytes of a torn write are kept. Where nothing stands, the write isn't done.
 const KEEPS: [Option<usize>; 4] = [None, Some(0), Some(1), Some(20)];
@@ -78,11 +79,14 @@ fn does_some<D: Disk + Drop>(alloc: Global, store: &mut Store<D>, acts: &[Act]) 
     })
 }
 
-// Opens a disk and does acts, until a call is refused.
-fn tried<D: Disk + Drop>(alloc: Global, disk: D, acts: &[Act]) -> Result<(Done, D)> {
-    match Store::open(alloc, disk) {
+// Opens a disk and does what was done since the opening, until a call is refused. As many blocks are kept then.
+fn tried<D: Disk + Drop>(case: &Case, disk: D) -> Result<(Done, D)> {
+    match Store::open_keeping(case.alloc, disk, case.keep) {
         Ok(mut store) => {
-            let done = does_some(alloc, &mut store, acts)?;
+            let done = does_some(case.alloc, &mut store, &case.acts)?;
+            if store.keep() != case.keep {
+                return Err(anyhow!("it keeps other blocks than before"));
+            }
             Ok((done, store.into_disk()))
         }
         Err(refused) => {
@@ -138,16 +142,16 @@ fn ends_with(alloc: Global, store: &mut Store<MemDisk>, number: u64) -> Result<(
 
 // Opens what is left, stores a frame in a second attempt, and opens it again. What was given up doesn't come back.
 fn reopens(case: &Case, disk: MemDisk, done: &Done) -> Result<()> {
-    let mut store = opened(case.alloc, disk)?;
+    let mut store = opened_keeping(case.alloc, disk, case.keep)?;
     let Some(number) = goes_on(case, &mut store, done)? else {
         return Ok(());
     };
-    let mut store = opened(case.alloc, store.into_disk())?;
+    let mut store = opened_keeping(case.alloc, store.into_disk(), case.keep)?;
     ends_with(case.alloc, &mut store, number)
 }
 
-// The image when it was opened.
-fn base(case: &Case) -> Result<MemDisk> {
+/// The image when it was opened.
+pub(crate) fn base(case: &Case) -> Result<MemDisk> {
     Ok(MemDisk::of(case.base.clone()?))
 }
 
@@ -157,7 +161,7 @@ fn fails_once(case: &Case, call: u64, keep: Option<usize>) -> Result<Done> {
         Some(keep) => OnceDisk::torn(base(case)?, call, keep),
         None => OnceDisk::new(base(case)?, call),
     };
-    let (done, disk) = tried(case.alloc, disk, &case.acts)?;
+    let (done, disk) = tried(case, disk)?;
     reopens(case, disk.into_inner(), &done)?;
     Ok(done)
 }
@@ -165,7 +169,7 @@ fn fails_once(case: &Case, call: u64, keep: Option<usize>) -> Result<Done> {
 // Fails the calls from one on.
 fn fails_from(case: &Case, call: u64) -> Result<Done> {
     let disk = FuseDisk::new(base(case)?, call);
-    let (done, disk) = tried(case.alloc, disk, &case.acts)?;
+    let (done, disk) = tried(case, disk)?;
     if disk.left != 0 {
         return Err(anyhow!("more calls were expected"));
     }
@@ -184,8 +188,8 @@ fn fails_at(case: &Case, call: u64) -> Result<Option<StoreFault>> {
     Ok(done.refused)
 }
 
-// The letter of a call that failed: sync, read or write.
-fn letter(fault: StoreFault) -> u8 {
+/// The letter of a call that failed: sync, read or write.
+pub(crate) fn letter(fault: StoreFault) -> u8 {
     match fault {
         StoreFault::Disk(DiskFault::Read) => b'r',
         StoreFault::Disk(DiskFault::Write) => b'w',
@@ -198,6 +202,9 @@ fn letter(fault: StoreFault) -> u8 {
 /// letters of the calls that failed, and that each left a beginning.
 pub(crate) fn fails(case: &mut Case, told: &mut Vec<u8>) -> Result<()> {
     close(case)?;
+    if case.is_refused {
+        return keeping::fails(case, told);
+    }
     for call in 0..MAX_CALLS {
         match fails_at(case, call) {
             Err(error) => return Err(anyhow!(", and at call {call}: {error}")),

@@ -218,32 +218,44 @@ fn meets(geometry: &Geometry, clip: &Clip, number: u64) -> bool {
     block_of(geometry, clip.from) <= block && block <= block_of(geometry, clip.to)
 }
 
-// Whether the block of each frame is the newest, or a clip meets it.
-fn all_stay(geometry: &Geometry, frames: &[u64], newest: u64, clips: &[Clip]) -> bool {
+// How many blocks frames lie in from a number on. The first frame of each is held.
+fn count_blocks(geometry: &Geometry, frames: &[u64], from: u64) -> usize {
+    frames
+        .iter()
+        .filter(|number: &&u64| {
+            from <= **number && **number % u64::from(geometry.slots.max(1)) == 0
+        })
+        .count()
+}
+
+// Whether the block of a frame is among so many of the newest: fewer lie above it.
+fn is_kept(geometry: &Geometry, frames: &[u64], number: u64, keep: u32) -> bool {
+    count_blocks(geometry, frames, number.wrapping_add(1)) < keep as usize
+}
+
+// Whether the block of each frame is among so many of the newest, or a clip meets it.
+fn all_stay(geometry: &Geometry, frames: &[u64], keep: u32, clips: &[Clip]) -> bool {
     frames.iter().all(|number| {
-        block_of(geometry, *number) == newest
+        is_kept(geometry, frames, *number, keep)
             || clips.iter().any(|clip| meets(geometry, clip, *number))
     })
 }
 
-// How many blocks frames lie in. The first frame of each is held.
-fn count_blocks(geometry: &Geometry, frames: &[u64]) -> usize {
-    frames
-        .iter()
-        .filter(|number: &&u64| **number % u64::from(geometry.slots.max(1)) == 0)
-        .count()
-}
-
-/// Whether no frame more has a place, by the rules: the newest block is full, each segment holds a block, and no block
-/// may go.
-pub(crate) fn is_all_locked(geometry: &Geometry, frames: &[u64], clips: &[Clip]) -> bool {
+/// Whether no frame more has a place where so many blocks are kept, by the rules: the newest block is full, each segment
+/// holds a block, and no block may go.
+pub(crate) fn is_all_locked(
+    geometry: &Geometry,
+    frames: &[u64],
+    clips: &[Clip],
+    keep: u32,
+) -> bool {
     let Some(last) = frames.last() else {
         return false;
     };
     let newest = block_of(geometry, *last);
     block_of(geometry, last.wrapping_add(1)) != newest
-        && count_blocks(geometry, frames) == geometry.segments as usize
-        && all_stay(geometry, frames, newest, clips)
+        && count_blocks(geometry, frames, 0) == geometry.segments as usize
+        && all_stay(geometry, frames, keep, clips)
 }
 
 /// Stores a frame in a second attempt, and answers its number; nothing where it is refused because each block stays,
@@ -254,7 +266,7 @@ pub(crate) fn append_again<D: Disk + Drop>(
     found: &[u64],
     clips: &[Clip],
 ) -> Result<Option<u64>> {
-    let is_full = is_all_locked(&store.geometry(), found, clips);
+    let is_full = is_all_locked(&store.geometry(), found, clips, store.keep());
     match append_next(alloc, store, 1, 1)? {
         Ok(number) if !is_full => Ok(Some(number)),
         Err(StoreFault::AllLocked) if is_full => Ok(None),
@@ -265,7 +277,16 @@ pub(crate) fn append_again<D: Disk + Drop>(
 
 /// The store of a disk that has a recording.
 pub(crate) fn opened<D: Disk + Drop>(alloc: Global, disk: D) -> Result<Store<D>> {
-    match Store::open(alloc, disk) {
+    opened_keeping(alloc, disk, 1)
+}
+
+/// The store of a disk that has a recording, with so many of the newest blocks kept.
+pub(crate) fn opened_keeping<D: Disk + Drop>(
+    alloc: Global,
+    disk: D,
+    keep: u32,
+) -> Result<Store<D>> {
+    match Store::open_keeping(alloc, disk, keep) {
         Ok(store) => Ok(store),
         Err(refused) => {
             let fault = refused.fault;

@@ -4,10 +4,10 @@
 use crate::acts::{Act, does, print_answer};
 use crate::case::{self, Case, CaseStore, Moment};
 use crate::counted::Counted;
-use crate::frames::{held, opened, read, refused};
+use crate::frames::{held, opened_keeping, read, refused};
 use crate::text::{print_bytes, print_clips, print_numbers};
-use crate::words::number;
-use crate::{acts, words};
+use crate::words::{number, small};
+use crate::{acts, keeping, words};
 use anyhow::{Result, anyhow};
 use loop_disk::{MemDisk, OnceDisk};
 use std::alloc::Global;
@@ -21,20 +21,21 @@ enum Ask {
     Frames,
     Clips,
     Victim,
+    Newest,
     Version,
     Act(Act),
 }
 
-// Opens an image on a disk of which this call fails.
+// Opens an image with so many blocks kept, on a disk of which this call fails.
 fn open_image<'a>(
     alloc: Global,
     calls: &'a Cell<u64>,
     image: Vec<u8>,
-    fails: u64,
+    (keep, fails): (u32, u64),
 ) -> Result<CaseStore<'a>> {
     calls.set(0);
     let inner = OnceDisk::new(MemDisk::of(image), fails);
-    opened(alloc, Counted { inner, calls })
+    opened_keeping(alloc, Counted { inner, calls }, keep)
 }
 
 // The numbers of the held frames. To read each takes two calls of the disk, and nothing else takes one.
@@ -100,6 +101,10 @@ fn tell(
             let version = store.version();
             write!(told, "{version}")?;
         }
+        Ask::Newest => {
+            let keep = store.keep();
+            write!(told, "{keep}")?;
+        }
         Ask::Victim => {
             calls.set(0);
             match store.victim() {
@@ -122,7 +127,7 @@ fn left_by(alloc: Global, store: CaseStore) -> Result<Vec<u8>> {
 // The store of the image, opened anew.
 fn open_anew<'a>(case: &Case<'a>) -> Result<CaseStore<'a>> {
     let image = case.image.clone()?;
-    open_image(case.alloc, case.calls, image, u64::MAX)
+    open_image(case.alloc, case.calls, image, (case.keep, u64::MAX))
 }
 
 // Asks a store that is opened anew, which has to answer the same.
@@ -166,11 +171,14 @@ fn remember(case: &mut Case, calls: u64) -> Result<()> {
     Ok(())
 }
 
-// Begins a case over the image, on a disk of which this call fails. Answers in how many calls it is opened.
-fn begin(case: &mut Case, fails: u64) -> Result<u64> {
+// Begins a case over the image with so many blocks kept, on a disk of which this call fails. Answers in how many calls
+// it is opened.
+fn begin(case: &mut Case, keep: u32, fails: u64) -> Result<u64> {
+    case.keep = keep;
+    case.is_refused = false;
     case.base = case.image.clone()?;
     case.image = left_by(case.alloc, open_anew(case)?)?;
-    let store = open_image(case.alloc, case.calls, case.base.clone()?, fails)?;
+    let store = open_image(case.alloc, case.calls, case.base.clone()?, (keep, fails))?;
     case.store = Some(store);
     case.is_failing = fails < u64::MAX;
     case.acts = Vec::new(case.alloc);
@@ -178,14 +186,19 @@ fn begin(case: &mut Case, fails: u64) -> Result<u64> {
     Ok(case.calls.get())
 }
 
-/// `open`, or `open failing CALL`: opens the image, in so many calls of the disk.
+/// `open`, `open failing CALL` or `open keeping COUNT`: opens the image, in so many calls of the disk.
 pub(crate) fn open(case: &mut Case, words: &mut SplitWhitespace, told: &mut Vec<u8>) -> Result<()> {
     case::close(case)?;
-    let fails = match words.next() {
-        Some(_) => number(words)?,
-        None => u64::MAX,
-    };
-    let count = begin(case, fails)?;
+    match words.next() {
+        Some("keeping") => keeping::open(case, small(words)?, told),
+        Some(_) => opens(case, 1, number(words)?, told),
+        None => opens(case, 1, u64::MAX, told),
+    }
+}
+
+/// Opens the image with so many blocks kept, on a disk of which this call fails.
+pub(crate) fn opens(case: &mut Case, keep: u32, fails: u64, told: &mut Vec<u8>) -> Result<()> {
+    let count = begin(case, keep, fails)?;
     if !case.is_failing {
         remember(case, count)?;
     }
@@ -226,6 +239,12 @@ pub(crate) fn version(case: &mut Case, told: &mut Vec<u8>) -> Result<()> {
 /// `victim`: the block that would go next.
 pub(crate) fn victim(case: &mut Case, told: &mut Vec<u8>) -> Result<()> {
     asks(case, Ask::Victim, told)?;
+    Ok(())
+}
+
+/// `newest`: how many of the newest blocks are kept.
+pub(crate) fn newest(case: &mut Case, told: &mut Vec<u8>) -> Result<()> {
+    asks(case, Ask::Newest, told)?;
     Ok(())
 }
 

@@ -9,6 +9,7 @@
 //!   the store;
 //! - `list` does lists of commands, `make` formats, `stops` stops at each call with each spoilt content, `fails`
 //!   fails each call in turn;
+//! - `keeping` opens with so many of the newest blocks kept;
 //! - `pile` is a disk that remembers, fails and reads ahead, without a store.
 //!
 //! `data/version1.loop` is a store that the program wrote before there was version 2 of the layout: seven frames of its
@@ -21,6 +22,7 @@ mod counted;
 mod fails;
 mod frames;
 mod image;
+mod keeping;
 mod line;
 mod list;
 mod make;

@@ -4,8 +4,10 @@
 use crate::acts::{Act, does, frames_of};
 use crate::case::{Case, Moment};
 use crate::frames::{
-    append_again, frame, held, is_beginning, opened, refused, size_of_frames, unexpected,
+    append_again, frame, held, is_beginning, opened, opened_keeping, refused, size_of_frames,
+    unexpected,
 };
+use crate::keeping;
 use crate::list::run;
 use crate::text::print_numbers;
 use crate::words::{number, spoil};
@@ -80,7 +82,7 @@ fn does_again(case: &Case, store: &mut Store<CrashDisk>, by_list: bool) -> Resul
 // A disk that has made the calls of the opening and of the acts since.
 fn recorded(case: &Case, by_list: bool) -> Result<CrashDisk> {
     let disk = CrashDisk::of(case.alloc, case.base.clone()?)?;
-    let mut store = opened(case.alloc, disk)?;
+    let mut store = opened_keeping(case.alloc, disk, case.keep)?;
     does_again(case, &mut store, by_list)?;
     let disk = store.into_disk();
     let calls = case.moments.last().map_or(0, |moment| moment.at);
@@ -167,11 +169,11 @@ fn stores_again(
 
 // Opens what a stop left on a disk that remembers its calls, and stores a frame in a second attempt, which is
 // stopped too. A stop within an unlock may leave the clip, and then the frame may have no place.
-fn tries_again(alloc: Global, left: MemDisk, found: &[u64], clips: &[Clip]) -> Result<()> {
-    let disk = CrashDisk::of(alloc, left.bytes().to_vec(alloc)?)?;
-    let mut store = opened(alloc, disk)?;
-    let after = stores_again(alloc, &mut store, found, clips)?;
-    stops_again(alloc, &store.into_disk(), found, &after)
+fn tries_again(case: &Case, left: MemDisk, found: &[u64], clips: &[Clip]) -> Result<()> {
+    let disk = CrashDisk::of(case.alloc, left.bytes().to_vec(case.alloc)?)?;
+    let mut store = opened_keeping(case.alloc, disk, case.keep)?;
+    let after = stores_again(case.alloc, &mut store, found, clips)?;
+    stops_again(case.alloc, &store.into_disk(), found, &after)
 }
 
 // The frames of what a stop behind so many calls leaves.
@@ -197,7 +199,7 @@ fn stops_at(case: &Case, disk: &CrashDisk, calls: usize, spoil: Spoil) -> Result
     if !AGAIN.contains(&spoil) {
         return Ok(());
     }
-    tries_again(case.alloc, left_at(disk, calls, spoil)?, &found, &clips)
+    tries_again(case, left_at(disk, calls, spoil)?, &found, &clips)
 }
 
 // Opens what stops behind so many calls leave.
@@ -218,6 +220,9 @@ pub(crate) fn stops(
     words: &mut SplitWhitespace,
     told: &mut Vec<u8>,
 ) -> Result<()> {
+    if case.is_refused {
+        return keeping::stops(case, told);
+    }
     let disk = recorded(case, words.next().is_some())?;
     for calls in 0..=disk.calls() {
         stops_behind(case, &disk, calls)?;

@@ -243,6 +243,83 @@ fn tagged(from: u64, to: u64, tag: u64) -> Option<Span> {
     Some(Span { from, to, tag })
 }
 
+/// The headers of three segments of two slots, the clips, and the block that goes where one, two or three of the newest
+/// are kept.
+type KeptRow = (
+    [Option<SegmentHead>; 3],
+    [Option<Span>; 2],
+    [Option<u64>; 3],
+);
+
+// The block that goes with each count.
+fn goes_keeping(rt: &impl Abort, alloc: Global, row: &KeptRow) -> Result<(), AllocError> {
+    let heads = Vec::from_slice(alloc, &row.0)?;
+    let mut index = SegmentIndex::of(alloc, &SMALL, heads, &row.1)?;
+    let mut keep = 1u32;
+    for victim in row.2.as_slice() {
+        index.keep_newest(keep);
+        same!(rt; (index.keep(), index.victim()), (keep, *victim), (row.0, row.1));
+        keep = keep.wrapping_add(1);
+    }
+    Ok(())
+}
+
+#[test]
+fn so_many_of_the_newest_held_blocks_stay(rt: HostRuntime) -> Result<(), Fail> {
+    // Block 3 is begun and has no frame: 1 and 2 are the newest.
+    let begun = [open(3, 0), open(1, 2), open(2, 2)];
+    let full = [open(3, 2), open(1, 2), open(2, 2)];
+    let apart = [open(9, 1), open(1, 2), open(4, 2)];
+    let rows = [
+        ([None, None, open(0, 2)], [None, None], [None, None, None]),
+        (begun, [None, None], [Some(1), None, None]),
+        (full, [None, None], [Some(1), Some(1), None]),
+        (full, [clip(2), None], [Some(2), None, None]),
+        (full, [None, clip(4)], [Some(1), Some(1), None]),
+        (full, [clip(2), clip(4)], [None, None, None]),
+        (apart, [None, None], [Some(1), Some(1), None]),
+        (apart, [clip(2), None], [Some(4), None, None]),
+    ];
+    for row in rows.as_slice() {
+        goes_keeping(&rt, rt.alloc(), row)?;
+    }
+    Ok(())
+}
+
+// So many of the newest blocks are kept, and this one goes.
+fn keeps<A: Allocator>(rt: &impl Abort, index: &SegmentIndex<A>, keep: u32, victim: Option<u64>) {
+    same!(rt; (index.keep(), index.victim()), (keep, victim));
+}
+
+#[test]
+fn the_kept_blocks_follow_locks_and_appends(rt: HostRuntime) -> Result<(), Fail> {
+    let memory = Budget::new(rt.alloc());
+    memory.allow(3);
+    let mut index = index(&memory, [open(3, 2), open(1, 2), open(4, 1)])?;
+    memory.allow(0);
+    keeps(&rt, &index, 1, Some(1));
+    index.keep_newest(2);
+    keeps(&rt, &index, 2, Some(1));
+    index.lock_clip(&SMALL, span(2));
+    keeps(&rt, &index, 2, None);
+    index.keep_newest(1);
+    keeps(&rt, &index, 1, Some(3));
+    index.keep_newest(2);
+    // Block 5 is begun in the segment of 3: until it has a frame, 1 and 4 are the newest, locked or not.
+    index.set(0, open(5, 0), 0);
+    index.unlock_clip(&SMALL, span(2));
+    keeps(&rt, &index, 2, None);
+    index.set(0, open(5, 1), 0);
+    keeps(&rt, &index, 2, Some(1));
+    index.keep_newest(u32::MAX);
+    keeps(&rt, &index, u32::MAX, None);
+    // To keep none is to keep one.
+    index.keep_newest(0);
+    keeps(&rt, &index, 0, Some(1));
+    same!(rt; memory.left(), 0);
+    Ok(())
+}
+
 // The clip of an id.
 fn listed(id: u32, from: u64, to: u64, tag: u64) -> Clip {
     Clip { id, from, to, tag }

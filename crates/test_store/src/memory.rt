@@ -67,27 +67,53 @@ fn grows_in_format(
     Ok(())
 }
 
-// Opens an image where each growth is refused in turn.
+// Opens an image with so many of the newest blocks kept, where each growth is refused in turn.
 fn grows_in_open<'a>(
     rt: &impl Abort,
     alloc: Global,
     memory: &'a Budget,
     image: &[u8],
-    growths: u64,
+    (keep, growths): (u32, u64),
 ) -> Result<Store<MemDisk, &'a Budget>, Fail> {
     for allowed in 0..growths {
         memory.allow(allowed);
-        let Err(refused) = Store::open(memory, MemDisk::of(image.to_vec(alloc)?)) else {
+        let disk = MemDisk::of(image.to_vec(alloc)?);
+        let Err(refused) = Store::open_keeping(memory, disk, keep) else {
             return Err("more growths are needed".into());
         };
         same!(rt; (refused.fault, memory.left()), (StoreFault::NoMemory, 0));
         so!(rt; refused.disk.bytes().iter().eq(image.iter()));
     }
     memory.allow(growths);
-    match Store::open(memory, MemDisk::of(image.to_vec(alloc)?)) {
+    match Store::open_keeping(memory, MemDisk::of(image.to_vec(alloc)?), keep) {
         Ok(store) => Ok(store),
         Err(_) => Err("these growths are enough".into()),
     }
+}
+
+// Opens an image with as many of the newest blocks kept as there are segments. The memory of a group isn't asked for.
+fn refuses_to_keep(
+    rt: &impl Abort,
+    alloc: Global,
+    memory: &Budget,
+    image: &[u8],
+    growths: u64,
+) -> Result<(), Fail> {
+    for allowed in 0..=growths {
+        memory.allow(allowed);
+        let disk = MemDisk::of(image.to_vec(alloc)?);
+        let Err(refused) = Store::open_keeping(memory, disk, 3) else {
+            return Err("three blocks of three can't be kept".into());
+        };
+        let fault = if allowed < growths {
+            StoreFault::NoMemory
+        } else {
+            StoreFault::BadKeep
+        };
+        same!(rt; (refused.fault, memory.left()), (fault, 0), allowed);
+        so!(rt; refused.disk.bytes().iter().eq(image.iter()));
+    }
+    Ok(())
 }
 
 // Upgrades a store of version 1 where no memory is granted, and then again.
@@ -168,7 +194,9 @@ fn each_growth_is_refused_in_turn(rt: HostRuntime) -> Result<(), Fail> {
     grows_in_format(&rt, alloc, &memory, 4)?;
     upgrades_without_growth(&rt, alloc, &memory)?;
     let seven = image_of(&rt, alloc, 7)?;
-    let mut store = grows_in_open(&rt, alloc, &memory, &seven, 5)?;
+    refuses_to_keep(&rt, alloc, &memory, &seven, 4)?;
+    let mut store = grows_in_open(&rt, alloc, &memory, &seven, (2, 5))?;
+    same!(rt; store.keep(), 2);
     stores_without_growth(&rt, alloc, &memory, &mut store)?;
     stores_without_growth(&rt, alloc, &memory, &mut store)?;
     holds(&rt, alloc, &mut store, &[(4, 8)])?;

@@ -23,6 +23,7 @@ fn a_refusal_has_its_number_and_its_name(rt: HostRuntime) {
         (StoreFault::NumbersSpent, 14, "NumbersSpent"),
         (StoreFault::BadGeometry, 16, "BadGeometry"),
         (StoreFault::OldLayout, 21, "OldLayout"),
+        (StoreFault::BadKeep, 22, "BadKeep"),
     ];
     for (fault, number, name) in faults {
         same!(rt; (fault.number(), fault.name()), (number, name));
@@ -45,6 +46,7 @@ fn a_refused_opening_is_printed_as_its_fault_with_the_cause(rt: HostRuntime) -> 
             "the clip has number 7, of which no frame is held",
         ),
         (StoreFault::NotFormatted, "the disk isn't formatted"),
+        (StoreFault::BadKeep, "so many blocks can't be kept"),
     ];
     for (fault, sentence) in sentences {
         let refused = OpenRefused { fault, disk: () };

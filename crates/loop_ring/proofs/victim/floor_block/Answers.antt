@@ -1,6 +1,6 @@
-use Rattle.std.proofs.Common.{◌≡◌, ◌-◌, false, true, arith, max, sym, subst, ◌∙◌, length}
+use Rattle.std.proofs.Common.{false, true, arith, sym, subst, ◌∙◌, length}
 use Rattle.loop_ring.proofs.Indexed.{IsOpen, there-entry}
-use Rattle.loop_ring.proofs.Oldest.{IsLast, IsLeft, above-one, fewer, floor-found, floor-missing, left-last, left-less, one-less}
+use Rattle.loop_ring.proofs.Oldest.{IsLast, above-one, fewer, floor-found, floor-missing, left-last, left-less, one-less}
 use Rattle.loop_ring.proofs.victim.floor_block.Goals as goal
 
 pub bounds-heads-entry : goal.bounds-heads-entry
