@@ -42,16 +42,16 @@ keep_value word =
     then Some (after_first (λ b. b == 61) word) else None
 
 -- the recording of a count, a source, how many blocks are kept, and one path or more, where there is each of them
-abbrev pub recording_of : Option ℕ → Bor (List ℕ) → Option ℕ → List (Bor (List ℕ)) → Option Task
-recording_of (Some frames) source (Some keep) (path ∷ paths) =
+abbrev pub recording_named : Option ℕ → Bor (List ℕ) → Option ℕ → List (Bor (List ℕ)) → Option Task
+recording_named (Some frames) source (Some keep) (path ∷ paths) =
     Some (Record (record { frames = frames; source = source; keep = keep; paths = path ∷ paths }))
-recording_of frames source keep paths = None
+recording_named frames source keep paths = None
 
 -- the recording of a count, a source and paths, with a word before them that says how many blocks are kept, or without
 abbrev pub recording_kept
     : Option ℕ → Bor (List ℕ) → Option (List ℕ) → Bor (List ℕ) → List (Bor (List ℕ)) → Option Task
-recording_kept frames source None path paths = recording_of frames source (Some 1) (path ∷ paths)
-recording_kept frames source (Some value) word paths = recording_of frames source (small_number value) paths
+recording_kept frames source None path paths = recording_named frames source (Some 1) (path ∷ paths)
+recording_kept frames source (Some value) word paths = recording_named frames source (small_number value) paths
 
 -- what the words behind a source ask for
 abbrev pub kept_said : Option ℕ → Bor (List ℕ) → List (Bor (List ℕ)) → Option Task

@@ -37,8 +37,8 @@ impl<A: Allocator + Copy> Listing<A> {
         })
     }
 
-    /// What is listed of a desk's outline: all but how many frames wait, how many blocks are kept, and the version of the
-    /// layout.
+    /// What is listed of a desk's outline: all but how many frames wait, how many blocks are kept, and the version of
+    /// the layout.
     pub fn of_outline(outline: Outline<A>) -> Self
         ensures { result
             ≡ record { next = outline.next; numbers = outline.frames; clips = outline.clips } }

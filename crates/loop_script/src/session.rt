@@ -180,11 +180,10 @@ impl<A: Allocator + Copy> Session<A> {
         requires { is_bad_keep self.desk.store.geometry.segments keep ≡ false }
         ensures opened { IfOk result (λ s. IsOpened ⟦<MemDisk<A> as Disk>⟧.medium
             (⟦<MemDisk<A> as Disk>⟧.medium self.desk.store.disk).bytes s.desk.store) }
-        ensures geometry { IfOk result (λ s. s.desk.store.geometry ≡ self.desk.store.geometry) }
-        ensures fine { IfOk result (λ s. s.desk.store.must_reopen ≡ false) }
-        ensures kept { IfOk result (λ s. s.desk.store.keep ≡ keep) }
+        ensures same { IfOk result (λ s. (s.desk.store.geometry ≡ self.desk.store.geometry)
+            × (s.accepted ≡ self.accepted)) }
+        ensures kept { IfOk result (λ s. (s.desk.store.keep ≡ keep) × (s.desk.store.must_reopen ≡ false)) }
         ensures desk { IfOk result (λ s. IsNewDesk s.desk) }
-        ensures accepted { IfOk result (λ s. s.accepted ≡ self.accepted) }
         ensures refused { IfErr result (λ fault. (fault ≡ StoreFault.BadGeometry)
             ⊎ IsRefusedOpen keep (⟦<MemDisk<A> as Disk>⟧.medium self.desk.store.disk).bytes fault) }
         ensures refusals { IfErr result (λ fault. is_disk fault ≡ false) }

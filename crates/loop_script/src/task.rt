@@ -1,7 +1,7 @@
 // The words behind the program's name.
 ghost use Rattle.std.specs.Prelude.{◌≡◌, ◌∷◌, [], option_map};
 ghost use Rattle.loop_script.specs.Script.{small_number as said_small_number};
-ghost use Rattle.loop_script.specs.Tasks.{keep_value, kept_said, on_file_said, recording_of, recording_said, task_said};
+ghost use Rattle.loop_script.specs.Tasks.{keep_value, kept_said, on_file_said, recording_named, recording_said, task_said};
 
 use crate::command::{geometry_in, span_in};
 use crate::number::{number, small_number};
@@ -130,7 +130,7 @@ fn made_of<'a>(
     keep: Option<u32>,
     words: &'a [&'a str],
 ) -> Option<Task<'a>>
-    ensures { result ≡ recording_of (said_small_number count.now) source.entry keep words.now }
+    ensures { result ≡ recording_named (said_small_number count.now) source.entry keep words.now }
 {
     if words.is_empty() {
         return None;

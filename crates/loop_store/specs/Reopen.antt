@@ -53,7 +53,7 @@ IsRefusedOpen keep image _ = ⊥
 -- What a call does that opens a disk, and keeps so many of the newest blocks. The disk's image reads as before then,
 -- and so does each image that a stop within the call leaves, unless a stop before the call could have left it. A
 -- refusal but for a failed call of the disk leaves it as it was.
-pub record Reopens {D : Type 0} (medium : D → Medium) (keep : ℕ) (disk : D) (result : Result (Seen D) (OpenRefused D)) :
+pub record OpensKeeping {D : Type 0} (medium : D → Medium) (keep : ℕ) (disk : D) (result : Result (Seen D) (OpenRefused D)) :
     Type 0 where
   pub opened : (medium disk).honest → IfOk result (IsOpened medium (medium disk).bytes)
   pub tells : IfOk result TellsOne

@@ -5,7 +5,7 @@ ghost use Rattle.loop_disk.specs.Calls.{Called, Stays};
 ghost use Rattle.loop_disk.specs.Medium.{IsSettled, LeavesOnly};
 ghost use Rattle.loop_record.specs.Reading.{reading};
 ghost use Rattle.loop_store.specs.Faults.{is_disk, failed_in};
-ghost use Rattle.loop_store.specs.Reopen.{IsRefusedOpen, ReadsAlike, Reopens, WasOrReadsAlike, is_bad_keep};
+ghost use Rattle.loop_store.specs.Reopen.{IsRefusedOpen, ReadsAlike, OpensKeeping, WasOrReadsAlike, is_bad_keep};
 ghost use Rattle.loop_store.specs.Grow.{Brings};
 ghost use Rattle.loop_store.specs.Found.{Finds};
 ghost use Rattle.loop_store.specs.Index.{IsFitting, IsRecoveredIn, SaysRecording, keeping};
@@ -129,7 +129,7 @@ impl<D: Disk + Drop, A: Allocator + Copy> Store<D, A> {
     /// image reads as before. So does each image that a stop within the call leaves, unless a stop before the
     /// call could have left it.
     pub fn open(alloc: A, disk: D) -> Result<Store<D, A>, OpenRefused<D>>
-        ensures { Reopens D.medium 1 disk result }
+        ensures { OpensKeeping D.medium 1 disk result }
     {
         Store::open_keeping(alloc, disk, 1)
     }
@@ -140,7 +140,7 @@ impl<D: Disk + Drop, A: Allocator + Copy> Store<D, A> {
     /// `BadKeep`, after `NotFormatted` and `Damaged`, where `keep` is 0 or above the number of segments less one. It
     /// hands the disk back, to which nothing was written.
     pub fn open_keeping(alloc: A, disk: D, keep: u32) -> Result<Store<D, A>, OpenRefused<D>>
-        ensures { Reopens D.medium keep disk result }
+        ensures { OpensKeeping D.medium keep disk result }
     {
         let mut disk = disk;
         match reopen(alloc, &mut disk, keep) {
