@@ -38,7 +38,7 @@ QUESTIONS = {
 }
 # The clauses that say what a power loss leaves, and of the records that say more than that, the fields that do.
 LOSS = {"", "goes", "ran", "moments", "headline", "footage"}
-FIELDS = {"Goes": {"leaves"}, "DeskGoes": {"store", "pending"}, "LaneRan": {"calls", "shown", "desk"}, "LaneKeeps": {"ran", "footage"}}
+FIELDS = {"Formats": {"moments"}, "OpensKeeping": {"moments"}, "Goes": {"leaves"}, "DeskGoes": {"store", "pending"}, "LaneRan": {"calls", "shown", "desk"}, "LaneKeeps": {"ran", "footage"}}
 BEGIN = re.compile(r"(?:abbrev pub|pub record|pub data|abbrev|record|data|pub(?! mod)) ([^ :({]+)")
 USE = re.compile(r"use Rattle\.(\w+)\.specs\.([\w.]+?)(?:\.\{([^}]*)\}| as (\w+))\s*;?$", re.M)
 WORD = re.compile(r"(?<![\w'.])[A-Za-z_][\w']*(?:\.[A-Za-z_][\w']*)?")
