@@ -187,7 +187,8 @@ fn each_frame_that_waits_takes_one_block_of_memory_and_without_it_nothing_is_cha
     submits(&rt, &budget, &mut session, 1, Ok(1001));
     reads(&rt, &budget, &mut session, (1, 999), Ok(999));
     budget.allow(1000);
-    let mut session = session.reopen(&budget)?;
+    assert!(rt; session.can_keep(1));
+    let mut session = session.reopen(&budget, 1)?;
     same!(rt; session.next(), 1000);
     same!(rt; session.flush(), Ok(stored(1000, 0)));
     submits(&rt, &budget, &mut session, 1000, Ok(1000));
