@@ -53,8 +53,8 @@ IsRefusedOpen keep image _ = ⊥
 -- What a call does that opens a disk, and keeps so many of the newest blocks. The disk's image reads as before then,
 -- and so does each image that a stop within the call leaves, unless a stop before the call could have left it. A
 -- refusal but for a failed call of the disk leaves it as it was.
-pub record OpensKeeping {D : Type 0} (medium : D → Medium) (keep : ℕ) (disk : D) (result : Result (Seen D) (OpenRefused D)) :
-    Type 0 where
+pub record OpensKeeping {D : Type 0} (medium : D → Medium) (keep : ℕ) (disk : D)
+    (result : Result (Seen D) (OpenRefused D)) : Type 0 where
   pub opened : (medium disk).honest → IfOk result (IsOpened medium (medium disk).bytes)
   pub tells : IfOk result TellsOne
   pub kept : IfOk result (λ store. (store.keep ≡ keep) × (is_bad_keep store.geometry.segments keep ≡ false))
