@@ -5,7 +5,7 @@ use Rattle.std.specs.Prelude.{IsTrue}
 use Rattle.std.specs.List.{find, range_with_len}
 use Rattle.loop_record.specs.declared.clip.Span.{Span}
 use Rattle.loop_record.specs.Layout.{has_tag_place}
-use Rattle.loop_record.specs.Recording.{Recording, Ring, free_id, holds, holds_all, lock, may_lock}
+use Rattle.loop_record.specs.Recording.{Recording, Ring, free_id, holds, holds_all, may_lock}
 use Rattle.loop_record.proofs.Decided.{at_most_test, differ_test, equal_test, not_below, not_below_test, not_false}
 use Rattle.loop_record.proofs.Rising.{each-all_range}
 use Rattle.loop_store.specs.declared.fault.StoreFault.TheVariants.{ClipEmpty, ClipNotHeld, ClipTableFull, OldLayout}

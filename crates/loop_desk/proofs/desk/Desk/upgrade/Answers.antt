@@ -1,4 +1,4 @@
-use Rattle.std.proofs.Common.{◌≡◌, ap, ◌∙◌, arith}
+use Rattle.std.proofs.Common.{ap, ◌∙◌, arith}
 use Rattle.loop_record.specs.Plain.{pictures}
 use Rattle.loop_store.specs.Calls.{upgraded}
 use Rattle.loop_store.specs.Seen.{Seen}
