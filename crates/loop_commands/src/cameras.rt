@@ -134,8 +134,9 @@ fn supply_for(alloc: Global, shape: &Shape) -> Result<Supply, PageFault> {
     Ok(supply)
 }
 
-// A camera before a store: a desk at which nothing waits, and a queue without buffers.
-fn camera_before<D: Disk + Drop>(
+/// A camera before a store: a desk at which nothing waits, with the script's limits, and a queue without buffers.
+/// `MustReopen` where the store must be reopened; `NoMemory`.
+pub fn camera_before<D: Disk + Drop>(
     alloc: Global,
     store: Store<D>,
 ) -> Result<Camera<D, MmapPlane>, Unrecorded>
@@ -159,15 +160,16 @@ fn camera_before<D: Disk + Drop>(
     Ok((desk, queue, FdTable::new(alloc)))
 }
 
-// What a camera's queue is started with: its buffer type, and memory for its buffers.
+/// What a camera's queue is started with: its buffer type, and memory for its buffers.
 #[derive(Drop)]
-struct Start {
+pub struct Start {
     buf_type: BufferType,
     supply: Supply,
 }
 
-// What the queue of the camera of this number is started with.
-fn start_of<D: Disk + Drop>(
+/// What the queue of the camera of this number is started with. `TooLarge` where its buffers need more than 1,024 pages;
+/// `NoMemory`.
+pub fn start_of<D: Disk + Drop>(
     alloc: Global,
     camera: &Camera<D, MmapPlane>,
     number: u32,
@@ -219,8 +221,8 @@ fn ask<R: Wait, D: Disk + Drop>(
     }
 }
 
-// Gives a camera's queue its buffers, queues them and turns streaming on.
-fn start_one<R: Wait, D: Disk + Drop>(
+/// Gives a camera's queue, which has just been made, its buffers, queues them and turns streaming on. `NoMemory`.
+pub fn start_queue<R: Wait, D: Disk + Drop>(
     rt: &R,
     recorder: &Recorder<D, MmapPlane>,
     camera: u32,
@@ -258,7 +260,7 @@ fn start_all<R: Wait, D: Disk + Drop>(
 {
     let mut camera = 0;
     for with in starts {
-        start_one(rt, recorder, camera, with)?;
+        start_queue(rt, recorder, camera, with)?;
         camera += 1;
     }
     Ok(())

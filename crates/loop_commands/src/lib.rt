@@ -18,6 +18,7 @@ mod program;
 mod record;
 mod simulation;
 
+pub use cameras::{Start, Unrecorded, camera_before, start_of, start_queue};
 pub use even::EvenWriter;
 pub use files::run_on_file;
 pub use on_store::{

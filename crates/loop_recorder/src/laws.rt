@@ -1,0 +1,24 @@
+//! What follows of one session behind another. The functions do nothing: their contracts are the laws.
+
+ghost use Rattle.loop_desk.specs.Seen.{TellsOutline};
+ghost use Rattle.loop_recorder.specs.Follows.{Follows};
+ghost use Rattle.loop_recorder.specs.Sessions.{IsFaithful};
+
+use crate::EndedCamera;
+use loop_desk::Outline;
+use loop_disk::Disk;
+use std::alloc::Allocator;
+
+/// Where the desk at which a session ended is given to a new recorder, whose outline of it is `between`, and that one
+/// ends too: the second session began with all that the first one left, and its history is legal from there. So no step
+/// that was acknowledged in the first is lost on the way to the second.
+pub fn sessions_join<D: Disk + Drop, A: Allocator>(
+    first: &EndedCamera<D, A>,
+    between: &Outline<A>,
+    second: &EndedCamera<D, A>,
+)
+    ensures { IsFaithful D.medium first.now.outline first.now.history.items first.now.desk
+        → TellsOutline D.medium first.now.desk between.now
+        → IsFaithful D.medium between.now second.now.history.items second.now.desk
+        → Follows D.medium first.now.desk between.now second.now.history.items second.now.desk }
+{}
