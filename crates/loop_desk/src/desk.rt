@@ -1,12 +1,13 @@
 //! A desk: frames that wait, before a store.
 
-ghost use Rattle.std.specs.Prelude.{◌≡◌, ◌≢◌, ◌≤◌, ◌+◌, ◌∷◌, [], Err, Ok, IfErr, IfOk, drop, false, length, true};
+ghost use Rattle.std.specs.Prelude.{◌≡◌, ◌≢◌, ◌≤◌, ◌+◌, ◌∷◌, [], Err, List, Ok, ℕ, IfErr, IfOk, drop, false, length, true};
 ghost use Rattle.circular_buffer.specs.Buffer.{buffer};
 ghost use Rattle.loop_record.specs.Geometry.{frame_bytes};
 ghost use Rattle.loop_record.specs.Plain.{pictures};
 ghost use Rattle.loop_record.specs.Recording.{last_number, picture, ring_of};
 ghost use Rattle.loop_desk.specs.Desk.{DeskState, clip_locked, clip_unlocked, flushed, frame_read, layout_upgraded, submit_answer, submitted};
 ghost use Rattle.loop_desk.specs.Seen.{DeskGoes, IsDesk, Opens, OutlineRefuses, SeenDesk, TellsDesk, TellsOutline, TellsStatus, answer_of, rules_of};
+ghost use Rattle.loop_store.specs.Calls.{read_with};
 ghost use Rattle.loop_store.specs.Reopen.{TellsOne};
 ghost use Rattle.loop_store.specs.Runs.{read_of};
 ghost use Rattle.loop_store.specs.Seen.{Refused};
@@ -15,7 +16,7 @@ use crate::group::append_first;
 use crate::{DeskLimits, Flushed, Outline, Status};
 use circular_buffer::HeapCircularBuffer;
 use loop_disk::Disk;
-use loop_record::{Frame, Geometry};
+use loop_record::{Frame, FrameHead, Geometry};
 use loop_store::laws::{a_store_is_opened, a_store_tells};
 use loop_store::{ReadFrame, Store, StoreFault};
 use std::alloc::{Allocator, Global};
@@ -228,6 +229,16 @@ impl<D: Disk + Drop, A: Allocator> Desk<D, A> {
         ensures refused { Refused self.old.store self.new.store result }
     {
         self.store.unlock(id)
+    }
+
+    /// Reads the head of a stored frame and none of its bytes, as `Store::read_head`. A frame that waits isn't held yet.
+    pub fn read_head(&mut self, number: u64) -> Result<FrameHead, StoreFault>
+        ensures goes { (bytes : List ℕ)
+            × DeskGoes D.medium self.old self.new (frame_read number (read_with result bytes) ∷ []) }
+        ensures same { self.new
+            ≡ record self.old { store = record self.old.store { disk = self.new.store.disk } } }
+    {
+        self.store.read_head(number)
     }
 
     /// The version of the layout.

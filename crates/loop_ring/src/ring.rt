@@ -6,9 +6,9 @@ ghost use Rattle.loop_disk.specs.Steps.{Changes};
 ghost use Rattle.loop_record.specs.Change.{ShowsSegment};
 ghost use Rattle.loop_record.specs.declared.damage.Damage.{Damage};
 ghost use Rattle.loop_record.specs.Geometry.{disk_size, frame_bytes, is_good};
-ghost use Rattle.loop_record.specs.Layout.{segment_in, whole_frames};
+ghost use Rattle.loop_record.specs.Layout.{segment_in, slot_head, whole_frames};
 ghost use Rattle.loop_record.specs.Reading.{empty_segment};
-ghost use Rattle.loop_ring.specs.Reads.{AnswersSlot, failed_read, slot_of, AnswersPart};
+ghost use Rattle.loop_ring.specs.Reads.{AnswersHead, AnswersSlot, failed_read, slot_of, AnswersPart};
 ghost use Rattle.loop_ring.specs.Writes.{HasNoStray, ShowsBeginning, ShowsFrames, ShowsOrNot};
 
 use crate::group::MAX_GROUP;
@@ -150,11 +150,34 @@ impl Ring {
         ensures disk { (D.medium disk.old).honest → Stays (D.medium disk.old) (D.medium disk.new) }
         ensures called { Called (D.medium disk.old) (D.medium disk.new) (failed_read result) }
     {
+        let head = self.read_head(disk, segment, slot, number)?;
+        let place = self.geometry.slot_at(segment, slot);
+        disk.read(place + HEAD_SIZE as u64 + u64::from(at), out)?;
+        Ok(head)
+    }
+
+    /// Reads the head of a slot that should hold frame `number`, and no pixel: one read, of 32 bytes.
+    pub fn read_head<D: Disk>(
+        &self,
+        disk: &mut D,
+        segment: u32,
+        slot: u32,
+        number: u64,
+    ) -> Result<FrameHead, SlotFault>
+        requires extent { (D.medium disk.old).size ≡ disk_size self.now.geometry }
+        requires segment { segment < self.now.geometry.segments }
+        requires slot { slot < self.now.geometry.slots }
+        ensures head { (D.medium disk.old).honest
+            → AnswersHead (slot_head (frame_bytes self.now.geometry) number
+            (slot_of self.now.geometry (D.medium disk.old).bytes segment slot)) result }
+        ensures damage { (damage : Damage) → result ≡ Err (SlotFault.Damaged damage) → damage ≡ Damage.SlotHead }
+        ensures disk { (D.medium disk.old).honest → Stays (D.medium disk.old) (D.medium disk.new) }
+        ensures called { Called (D.medium disk.old) (D.medium disk.new) (failed_read result) }
+    {
         let place = self.geometry.slot_at(segment, slot);
         let mut bytes = [0; HEAD_SIZE];
         disk.read(place, &mut bytes)?;
         let head = decode_head(&bytes, number, self.geometry.frame_bytes())?;
-        disk.read(place + HEAD_SIZE as u64 + u64::from(at), out)?;
         Ok(head)
     }
 }

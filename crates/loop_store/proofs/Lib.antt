@@ -29,6 +29,7 @@ pub mod Once
 pub mod Putting
 pub mod Locked
 pub mod Reading
+pub mod KeptReads
 pub mod Crashed
 pub mod Noted
 pub mod Crossing

@@ -30,7 +30,7 @@ use Rattle.loop_ring.proofs.Held.{held-number}
 use Rattle.loop_store.specs.declared.fault.StoreFault.{StoreFault}
 use Rattle.loop_store.specs.declared.fault.StoreFault.TheVariants.{Damaged}
 use Rattle.loop_store.specs.Faults.{failed_by, is_disk, slot_refusal}
-use Rattle.loop_store.specs.Look.{AnswersFrame, AnswersFramePart, ReadsHeld}
+use Rattle.loop_store.specs.Look.{AnswersFrame, AnswersFramePart, ReadsHeld, bytes_under}
 
 below : (m n : ℕ) → ltb m n ≡ true → m < n
 below m n e = grind (arith, nat_tests, e)
@@ -160,6 +160,15 @@ answers-ok g r number s h out is said bytes = record {
   head_is = sym (ok_head (head number s.picture) h (sym (right-head (frame_bytes g) number s is.right) ∙ said));
   bytes_are = bytes;
 }
+
+-- so it is with a read of its head alone: the bytes are those that stand there
+pub held-head : (g : Geometry) (r : Recording) (image : List ℕ) (j n slots : ℕ) (h : FrameHead) → Holds g r image
+    → j < g.segments → slots ≡ g.slots → has_number g.slots n (get_or (heads_of g image) j None) ≡ true
+    → slot_head (frame_bytes g) n (slot_of g image j (n % slots)) ≡ Ok h
+    → AnswersFrame r n (Ok h) (bytes_under g image j n)
+held-head g r image j n slots h held l same has said =
+    answers-ok g r n (slot_of g image j (n % g.slots)) h (bytes_under g image j n) (held-slot g r image j n held l has)
+    (sym (ap (λ (m : ℕ). slot_head (frame_bytes g) n (slot_of g image j (n % m))) same) ∙ said) refl
 
 -- or refused: a call of the disk has failed
 pub answers-err : (g : Geometry) (r : Recording) (number : ℕ) (s : Slot) (fault : SlotFault) (out : List ℕ)

@@ -1,5 +1,5 @@
 -- What a read of a held frame answers. Only the store's own code looks at this.
-use Rattle.std.specs.Prelude.{◌≡◌, ◌⊎◌, ℕ, true, None, Result, Ok, Err, IfErr, List, slice_index_or}
+use Rattle.std.specs.Prelude.{◌≡◌, ◌⊎◌, ◌%◌, ℕ, true, None, Result, Ok, Err, IfErr, List, slice_index_or}
 use Rattle.loop_disk.specs.Calls.{Called, Stays}
 use Rattle.loop_disk.specs.Medium.{Medium}
 use Rattle.loop_record.specs.declared.damage.Damage.TheVariants.{SlotHead}
@@ -8,6 +8,7 @@ use Rattle.loop_record.specs.declared.geometry.Geometry.{Geometry}
 use Rattle.loop_record.specs.Reading.{Holds}
 use Rattle.loop_record.specs.Recording.{Recording, holds}
 use Rattle.loop_ring.specs.Heads.{has_number, heads_of}
+use Rattle.loop_ring.specs.Reads.{slot_of}
 use Rattle.loop_store.specs.declared.fault.StoreFault.{StoreFault}
 use Rattle.loop_store.specs.declared.fault.StoreFault.TheVariants.{Damaged}
 use Rattle.loop_store.specs.Calls.{IsHeldFrame, IsPart}
@@ -22,6 +23,10 @@ AnswersFrame r number (Err fault) out = (is_disk fault ≡ true) × (holds r num
 abbrev pub AnswersFramePart : Recording → ℕ → ℕ → Result (Unit {0}) StoreFault → List ℕ → Type 0
 AnswersFramePart r number at (Ok done) out = IsPart r number at out
 AnswersFramePart r number at (Err fault) out = (is_disk fault ≡ true) × (holds r number ≡ true)
+
+-- the pixels that stand where a segment has the frame of a number
+abbrev pub bytes_under : Geometry → List ℕ → ℕ → ℕ → List ℕ
+bytes_under g image segment number = (slot_of g image segment (number % g.slots)).picture.bytes
 
 -- What a read in a segment did: where an honest disk holds a recording, and its header there has that number, it
 -- answers so for that recording. It fails for the slot's head or a call of the disk, and an honest disk stays.

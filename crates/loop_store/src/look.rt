@@ -8,7 +8,7 @@ ghost use Rattle.loop_record.specs.Plain.{AreIn};
 ghost use Rattle.loop_record.specs.Recording.{Recording, holds};
 ghost use Rattle.loop_ring.specs.Heads.{has_number};
 ghost use Rattle.loop_store.specs.Numbers.{IsLeastFrom, numbers_in, numbers_under};
-ghost use Rattle.loop_store.specs.Look.{AnswersFrame, AnswersFramePart, ReadsHeld};
+ghost use Rattle.loop_store.specs.Look.{AnswersFrame, AnswersFramePart, ReadsHeld, bytes_under};
 ghost use Rattle.loop_store.specs.Found.{IsHeadIn};
 ghost use Rattle.loop_store.specs.Index.{IsIndex, IsIndexOf};
 
@@ -95,6 +95,23 @@ pub(crate) fn read_held<D: Disk>(
 {
     let slot = (number % u64::from(ring.geometry.slots)) as u32;
     Ok(ring.read_slot(disk, segment, slot, number, out)?)
+}
+
+/// Reads the head of the frame of a number, which its segment has, and none of its bytes: those are what lies there.
+pub(crate) fn read_held_head<D: Disk>(
+    disk: &mut D,
+    ring: &Ring,
+    segment: u32,
+    number: u64,
+) -> Result<FrameHead, StoreFault>
+    requires extent { (D.medium disk.old).size ≡ disk_size ring.now.geometry }
+    requires segment { segment < ring.now.geometry.segments }
+    ensures { let g = ring.now.geometry in let old = D.medium disk.old in
+        ReadsHeld g segment number (λ r. AnswersFrame r number result (bytes_under g old.bytes segment number)) old
+        (D.medium disk.new) result }
+{
+    let slot = (number % u64::from(ring.geometry.slots)) as u32;
+    Ok(ring.read_head(disk, segment, slot, number)?)
 }
 
 /// Reads a part of the frame of a number, which its segment has, from byte `at` on.

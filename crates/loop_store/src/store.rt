@@ -1,6 +1,6 @@
 //! A store: a disk that holds a recording, and what is known of it in memory.
 
-ghost use Rattle.std.specs.Prelude.{◌≡◌, ◌≢◌, ◌+◌, ◌-◌, ◌%◌, ◌≤◌, ◌↔◌, ◌⊎◌, ◌∷◌, [], All, Ok, Err, IfErr, IfOk, IsTrue, false, length, map, ◌<◌, IfSome};
+ghost use Rattle.std.specs.Prelude.{◌≡◌, ◌≢◌, ◌+◌, ◌-◌, ◌%◌, ◌≤◌, ◌↔◌, ◌⊎◌, ◌∷◌, [], All, Ok, Err, List, ℕ, IfErr, IfOk, IsTrue, false, length, map, ◌<◌, IfSome};
 ghost use Rattle.loop_clips.specs.Table.{clip_list};
 ghost use Rattle.loop_disk.specs.Calls.{Stays};
 ghost use Rattle.loop_record.specs.Geometry.{frame_bytes, is_good};
@@ -16,7 +16,9 @@ use crate::StoreFault;
 use crate::found::in_order;
 use crate::index::{Index, last_number};
 use crate::lock::{lock_clip, unlock_clip};
-use crate::look::{count_held, next_held, numbers_of, read_held, read_held_part, segment_with};
+use crate::look::{
+    count_held, next_held, numbers_of, read_held, read_held_head, read_held_part, segment_with,
+};
 use crate::put::put;
 use crate::upgrade::upgrade_layout;
 use loop_clips::Clip;
@@ -269,6 +271,26 @@ impl<D: Disk + Drop, A: Allocator> Store<D, A> {
         }
         match segment_with(&self.index, number) {
             Some(segment) => read_held(&mut self.disk, &self.index.ring, segment, number, out),
+            None => Err(StoreFault::NotHeld),
+        }
+    }
+
+    /// Reads the head of the frame of a number, and none of its bytes: the model's read, for the bytes that the frame has.
+    ///
+    /// `MustReopen` where a call that writes has failed; otherwise `NotHeld`; then `Disk`, or `Damaged` where
+    /// the disk isn't honest. It takes no memory, and makes one call of the disk, of 32 bytes.
+    pub fn read_head(&mut self, number: u64) -> Result<FrameHead, StoreFault>
+        ensures goes { (bytes : List ℕ)
+            × Goes D.medium self.old self.new (was_read number (read_with result bytes) ∷ []) }
+        ensures stays { (D.medium self.old.disk).honest → Stays (D.medium self.old.disk) (D.medium self.new.disk) }
+        ensures same { self.new ≡ record self.old { disk = self.new.disk } }
+        ensures memory { result ≢ Err StoreFault.NoMemory }
+    {
+        if self.must_reopen {
+            return Err(StoreFault::MustReopen);
+        }
+        match segment_with(&self.index, number) {
+            Some(segment) => read_held_head(&mut self.disk, &self.index.ring, segment, number),
             None => Err(StoreFault::NotHeld),
         }
     }

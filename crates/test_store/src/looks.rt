@@ -1,10 +1,11 @@
-//! A store that is opened over a disk that is never written to.
+//! A store that is looked at: heads that are read alone, and a store that is opened over a disk that is never written to.
 
 use crate::common::*;
 use crate::told::{holds as so, same};
-use loop_disk::{Disk, MemDisk};
+use loop_disk::{Disk, DiskFault, FuseDisk, MemDisk};
 use loop_overlay::OverlayDisk;
-use loop_store::Store;
+use loop_record::FrameHead;
+use loop_store::{Store, StoreFault};
 use std::alloc::Global;
 use std::process::Abort;
 use std::test::Fail;
@@ -46,5 +47,30 @@ fn a_store_is_looked_at_and_tried_without_a_write(rt: HostRuntime) -> Result<(),
     let tried = store.into_disk();
     so!(rt; tried.written() > 1);
     same!(rt; tried.into_inner().bytes(), image.as_slice());
+    Ok(())
+}
+
+// Reads heads over a disk that passes one call more.
+fn reads_heads<D: Disk + Drop>(rt: &impl Abort, store: &mut Store<D>) {
+    let head = FrameHead {
+        number: 1,
+        sequence: 1,
+        flags: 0x2000,
+        timestamp: 40_000,
+    };
+    same!(rt; store.read_head(3), Err(StoreFault::NotHeld));
+    same!(rt; store.read_head(1), Ok(head));
+    same!(rt; store.read_head(1), Err(StoreFault::Disk(DiskFault::Read)));
+    same!(rt; store.lock(0, 1, 0), Err(StoreFault::Disk(DiskFault::Write)));
+    same!(rt; store.read_head(1), Err(StoreFault::MustReopen));
+}
+
+// The opening of three frames in three segments makes nine calls: a sync, and reads of the superblock, of the clips, of
+// each header and of each slot's head.
+#[test]
+fn a_head_is_read_with_one_call_of_the_disk(rt: HostRuntime) -> Result<(), Fail> {
+    let alloc = rt.alloc();
+    let disk = FuseDisk::new(MemDisk::of(image_of(&rt, alloc, 3)?), 10);
+    reads_heads(&rt, &mut opens(alloc, disk)?);
     Ok(())
 }

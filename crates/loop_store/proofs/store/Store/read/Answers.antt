@@ -1,16 +1,11 @@
-use Rattle.std.proofs.Common.{◌≡◌, true, None, Option, Err, List, [], ◌∷◌, get_or, refl, sym, ap, ◌∙◌, subst}
-use Rattle.loop_record.specs.declared.segment.SegmentHead.{SegmentHead}
-use Rattle.loop_record.proofs.Decided.{clash}
-use Rattle.loop_ring.specs.Heads.{has_number}
+use Rattle.std.proofs.Common.{Err, [], ◌∷◌, refl, sym, ap, ◌∙◌, subst}
 use Rattle.loop_store.specs.declared.fault.StoreFault.TheVariants.{MustReopen, NotHeld}
 use Rattle.loop_store.specs.Calls.{read_with, was_read}
-use Rattle.loop_store.specs.Goes.{Goes, Stands}
+use Rattle.loop_store.specs.Goes.{Goes}
 use Rattle.loop_store.specs.Seen.{Seen, seen_with}
-use Rattle.loop_store.specs.Drawn.{drawn_image}
-use Rattle.loop_store.proofs.Looks.{alike-by, known-by, looked-kept, one-kept, one-seen, there-alike}
-use Rattle.loop_store.proofs.Same.{holds-same}
+use Rattle.loop_store.proofs.KeptReads.{goes-held, goes-missing}
+use Rattle.loop_store.proofs.Looks.{looked-kept, one-seen}
 use Rattle.loop_store.proofs.Once.{goes-must}
-use Rattle.loop_store.proofs.Reading.{goes-looked, goes-unread, look-read, read-answered, read-failed, read-late, read-missing}
 use Rattle.loop_store.proofs.store.Store.read.Goals as goal
 
 pub returns-then-self-clause-goes : goal.returns-then-self-clause-goes
@@ -31,41 +26,15 @@ invariant_of-self g c = (
 pub returns-in-Some-clause-goes : goal.returns-in-Some-clause-goes
 returns-in-Some-clause-goes g c =
     let s = c.self.inside in
-    let medium = g.D.Disk.medium in
-    let old : Seen g.row.D.Denot = seen_with s.disk s.index s.must_reopen in
-    subst (λ (v : Seen g.row.D.Denot). Goes medium v (record old { disk = c.read_held.new.disk })
+    subst (λ (v : Seen g.row.D.Denot). Goes g.D.Disk.medium v (record (seen_with s.disk s.index s.must_reopen) { disk = c.read_held.new.disk })
     (was_read c.args.number (read_with c.read_held.result c.read_held.new.out) ∷ [])) c.self.view_is
-    (goes-looked medium old c.read_held.new.disk
-    (was_read c.args.number (read_with c.read_held.result c.read_held.new.out))
-    (look-read c.args.number (read_with c.read_held.result c.read_held.new.out))
-    (λ honest. g.met.D.Disk.sound s.disk honest)
-    (record {
-      one = one-kept medium s.disk s.index s.must_reopen c.self.invariant.0;
-      answers = λ t told. read-answered ((medium s.disk).honest × Stands medium old t) s.index.ring.geometry t
-          c.args.number c.read_held.result c.read_held.new.out (sym told.must_reopen ∙ c.if-self.false)
-          (there-alike medium s.disk s.index s.must_reopen t.recording c.args.number c.in-Some.segment
-          c.self.invariant.0 told.recording c.in-Some.ensures.within c.in-Some.ensures.there)
-          c.read_held.ensures.refusals (λ held.
-          let known = known-by medium s.disk s.index s.must_reopen t.recording c.self.invariant.0 held.1.recording c.if-self.false held.0 in
-          let has = subst (λ (hs : List (Option SegmentHead)). has_number s.index.ring.geometry.slots c.args.number
-          (get_or hs c.in-Some.segment None) ≡ true) known.heads_are c.in-Some.ensures.there in
-          c.read_held.ensures.frame t.recording held.0 (held.1.recording.held c.if-self.false held.0) has);
-      stays = c.read_held.ensures.stays;
-      called = read-failed c.read_held.result c.read_held.new.out _ _ c.read_held.ensures.called;
-      unmoved = λ early. absurd (clash _ early (read-late c.args.number c.read_held.result c.read_held.new.out c.read_held.ensures.refusals));
-    }))
+    (goes-held g.D.Disk.medium s.disk s.index s.must_reopen c.self.invariant.0 c.if-self.false
+    (λ honest. g.met.D.Disk.sound s.disk honest) c.read_held.new.disk c.args.number c.in-Some.segment
+    c.read_held.result c.read_held.new.out c.in-Some.ensures.within c.in-Some.ensures.there c.read_held.ensures)
 
 pub returns-in-None-clause-goes : goal.returns-in-None-clause-goes
 returns-in-None-clause-goes g c =
     let s = c.self.inside in
-    let medium = g.D.Disk.medium in
-    subst (λ (v : Seen g.row.D.Denot). Goes medium v v (was_read c.args.number (Err NotHeld) ∷ [])) c.self.view_is
-    (goes-unread medium (seen_with s.disk s.index s.must_reopen) (was_read c.args.number (Err NotHeld))
-    (look-read c.args.number (Err NotHeld)) (one-kept medium s.disk s.index s.must_reopen c.self.invariant.0)
-    (λ honest. g.met.D.Disk.sound s.disk honest) refl
-    (λ H t told.
-    let known = c.self.invariant.0.known in
-    let same = alike-by medium s.disk s.index s.must_reopen t.recording c.self.invariant.0 told.recording in
-    read-missing H s.index.ring.geometry t c.args.number (sym told.must_reopen ∙ c.if-self.false)
-    (sym (holds-same known.recording t.recording c.args.number same) ∙ c.in-None.ensures.missing known.recording
-    (drawn_image s.index.ring.geometry s.index.table.heads s.index.clips) known.known)))
+    subst (λ (v : Seen g.row.D.Denot). Goes g.D.Disk.medium v v (was_read c.args.number (Err NotHeld) ∷ [])) c.self.view_is
+    (goes-missing g.D.Disk.medium s.disk s.index s.must_reopen c.self.invariant.0 c.if-self.false
+    (λ honest. g.met.D.Disk.sound s.disk honest) c.args.number c.in-None.ensures.missing)
