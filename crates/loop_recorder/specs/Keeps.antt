@@ -2,7 +2,7 @@
 use Rattle.std.specs.Prelude.{◌≡◌, ℕ, ◌+◌, ◌-◌, Bool, ◌&&◌, nat_le, Option, None, Result, Ok, List, [], ◌∷◌, ◌++◌, All, OnOk, length, map}
 use Rattle.std.specs.List.{filter, flat_map, range_with_len}
 use Rattle.std.specs.Option.{option_map, option_to_list}
-use Rattle.loop_clips.specs.declared.table.Clip.{Clip}
+use Rattle.loop_clips.specs.declared.clip.Clip.{Clip}
 use Rattle.loop_disk.specs.Medium.{Medium}
 use Rattle.loop_record.specs.declared.clip.Span.{Span}
 use Rattle.loop_record.specs.declared.frame.FrameHead.{FrameHead}
@@ -125,7 +125,7 @@ pub record Seeks {D A : Type 0} (medium : D → Medium) (camera : ℕ) (times : 
   pub rest : List Noted
   pub notes : Notes medium camera (map read_noted heads ++ rest) old new before after given back
   pub whole : OnOk result ((rest ≡ []) × (map (λ x. x.0) heads ≡ numbers))
-  pub runs : OnOk result (numbers_of_spans more
+  pub found : OnOk result (numbers_of_spans more
       ≡ numbers_of_spans runs ++ map (λ x. x.0) (filter (λ x. is_in times x.1.timestamp) heads))
   pub tags : All (λ (s : Span). s.tag ≡ tag) runs → All (λ (s : Span). s.tag ≡ tag) more
 
@@ -148,7 +148,7 @@ pub record KeepsNumbers {D A : Type 0} (medium : D → Medium) (camera : ℕ) (t
       given back
   pub tags : All (λ (c : Clip). c.tag ≡ tag) kept.clips.items
   pub whole : kept.fault ≡ None → (rest ≡ []) × (map (λ x. x.0) heads ≡ numbers)
-  pub numbers : kept.fault ≡ None → numbers_of_spans (spans_of kept.clips.items)
+  pub covered : kept.fault ≡ None → numbers_of_spans (spans_of kept.clips.items)
       ≡ map (λ x. x.0) (filter (λ x. is_in times x.1.timestamp) heads)
 
 -- what a keep of all held frames did, from each state that the desk stood for

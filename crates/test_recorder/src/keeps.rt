@@ -1,0 +1,235 @@
+//! What a keep locks: the held frames of a time, a clip for each run of their numbers, and what it notes.
+
+ghost use Rattle.std.specs.Prelude.{◌<◌, length};
+
+use crate::calls::{SIZE, ends, last};
+use crate::common::{AtOnce, Rec, frame, limits, recorder};
+use crate::told::{holds, same};
+use loop_record::Span;
+use loop_recorder::{Noted, Pass, SessionFault, Stamp, Times};
+use loop_store::{Clip, StoreFault};
+use std::alloc::Global;
+use std::process::Abort;
+use std::sync::Wait;
+
+/// Frames that are stored one by one, by their times, some clips that are locked behind so many of them, and a keep.
+struct Case<'a> {
+    times: &'a [u64],
+    /// Behind so many frames a span is locked, so many times.
+    lock: (u64, Span, u32),
+    keep: Times,
+    /// The clips that the keep tells, and why no further one.
+    clips: &'a [Clip],
+    fault: Option<SessionFault>,
+    /// How many heads it reads.
+    heads: u64,
+    /// How many calls the history may have.
+    calls: u32,
+}
+
+const TAG: u64 = 7;
+
+const NO_LOCK: (u64, Span, u32) = (0, span(0, 0), 0);
+
+const fn span(from: u64, to: u64) -> Span {
+    Span { from, to, tag: 3 }
+}
+
+const fn clip(id: u32, from: u64, to: u64) -> Clip {
+    Clip {
+        id,
+        from,
+        to,
+        tag: TAG,
+    }
+}
+
+const fn times(since: u64, until: u64) -> Times {
+    Times { since, until }
+}
+
+// Three segments of two slots each.
+const CASES: [Case<'static>; 9] = [
+    // Both ends are among the time.
+    Case {
+        times: &[10, 20, 30, 40, 50, 60],
+        lock: NO_LOCK,
+        keep: times(30, 50),
+        clips: &[clip(0, 2, 4)],
+        fault: None,
+        heads: 6,
+        calls: 1000,
+    },
+    // No frame is of that time, and none is held at all.
+    Case {
+        times: &[10, 20, 30],
+        lock: NO_LOCK,
+        keep: times(31, 39),
+        clips: &[],
+        fault: None,
+        heads: 3,
+        calls: 1000,
+    },
+    Case {
+        times: &[],
+        lock: NO_LOCK,
+        keep: times(0, u64::MAX),
+        clips: &[],
+        fault: None,
+        heads: 0,
+        calls: 1000,
+    },
+    // Times that don't rise: a clip for each run.
+    Case {
+        times: &[10, 50, 20, 60, 70, 30],
+        lock: NO_LOCK,
+        keep: times(50, 100),
+        clips: &[clip(0, 1, 1), clip(1, 3, 4)],
+        fault: None,
+        heads: 6,
+        calls: 1000,
+    },
+    // The block of 2 and 3 has gone, since 0 is locked.
+    Case {
+        times: &[10, 20, 30, 40, 50, 60, 70],
+        lock: (2, span(0, 0), 1),
+        keep: times(0, 100),
+        clips: &[clip(1, 0, 1), clip(2, 4, 6)],
+        fault: None,
+        heads: 5,
+        calls: 1000,
+    },
+    // Frames that went aren't held, whatever their time was.
+    Case {
+        times: &[10, 20, 30, 40, 50, 60, 70, 80],
+        lock: NO_LOCK,
+        keep: times(10, 35),
+        clips: &[clip(0, 2, 2)],
+        fault: None,
+        heads: 6,
+        calls: 1000,
+    },
+    // One id is left, and there are two runs: the first stays locked.
+    Case {
+        times: &[10, 50, 20, 60],
+        lock: (1, span(0, 0), 63),
+        keep: times(50, 100),
+        clips: &[clip(63, 1, 1)],
+        fault: Some(SessionFault::Desk(StoreFault::ClipTableFull)),
+        heads: 4,
+        calls: 1000,
+    },
+    // The history has room for two calls more: no clip is locked.
+    Case {
+        times: &[10, 20, 30],
+        lock: NO_LOCK,
+        keep: times(0, 100),
+        clips: &[],
+        fault: Some(SessionFault::SessionFull),
+        heads: 2,
+        calls: 8,
+    },
+    // It has room for the heads alone.
+    Case {
+        times: &[10, 20],
+        lock: NO_LOCK,
+        keep: times(0, 100),
+        clips: &[],
+        fault: Some(SessionFault::SessionFull),
+        heads: 2,
+        calls: 6,
+    },
+];
+
+// Stores a frame of this time.
+fn stores<R: Wait + Abort>(
+    rt: &R,
+    alloc: Global,
+    recorder: &Rec,
+    pass: &mut Pass,
+    sequence: u32,
+    timestamp: u64,
+)
+    requires { 0 < length recorder.now.outlines }
+{
+    let stamp = Stamp {
+        sequence,
+        flags: 0x2000,
+        timestamp,
+    };
+    let given = frame(alloc, stamp, SIZE).expect(rt, "memory for a frame");
+    holds!(*rt; recorder.submit(rt, 0, pass, given).is_ok(), sequence);
+    holds!(*rt; recorder.flush(rt, 0, pass, &AtOnce).is_ok(), sequence);
+}
+
+// Locks a span, so many times.
+fn locks<R: Wait + Abort>(rt: &R, recorder: &Rec, pass: &mut Pass, span: Span, count: u32)
+    requires { 0 < length recorder.now.outlines }
+{
+    for at in 0..count {
+        let answer = recorder.lock_clip(rt, 0, pass, span.from, span.to, span.tag);
+        holds!(*rt; answer.is_ok(), at);
+    }
+}
+
+// Brings the frames of a case, and locks its clips behind so many of them.
+fn brings<R: Wait + Abort>(
+    rt: &R,
+    alloc: Global,
+    recorder: &Rec,
+    pass: &mut Pass,
+    case: &Case<'_>,
+)
+    requires { 0 < length recorder.now.outlines }
+{
+    let (behind, span, count) = case.lock;
+    for (place, time) in case.times.iter().enumerate() {
+        stores(rt, alloc, recorder, pass, place as u32 & 0xFFFF, *time);
+        if place as u64 + 1 == behind {
+            locks(rt, recorder, pass, span, count);
+        }
+    }
+}
+
+// The receipts of a keep, behind those of before: the heads in the order of their numbers, and then the clips.
+fn are_noted(rt: &impl Abort, pass: &Pass, before: usize, case: &Case<'_>, at: usize) {
+    let noted = pass.receipts().get(before..).unwrap_or(&[]);
+    let mut heads = 0u64;
+    let mut clips = 0u64;
+    let mut last = None;
+    for receipt in noted {
+        match receipt.call {
+            Noted::Read(number, Ok(head)) => {
+                holds!(*rt; clips == 0 && last < Some(number) && head.number == number, at);
+                last = Some(number);
+                heads = heads.wrapping_add(1);
+            }
+            Noted::Lock(_, Ok(_)) => clips = clips.wrapping_add(1),
+            _ => {}
+        }
+    }
+    same!(*rt; (heads, clips), (case.heads, case.clips.len() as u64), at);
+}
+
+#[test]
+fn a_keep_locks_the_held_frames_of_its_time(rt: HostRuntime) {
+    let alloc = rt.alloc();
+    for (at, case) in CASES.iter().enumerate() {
+        keeps(&rt, alloc, case, at);
+    }
+}
+
+// A keep of a case.
+fn keeps<R: Wait + Abort>(rt: &R, alloc: Global, case: &Case<'_>, at: usize) {
+    let (recorder, mut passes) = recorder(rt, alloc, 1, limits(64, case.calls), 1);
+    let mut pass = last(rt, &mut passes);
+    brings(rt, alloc, &recorder, &mut pass, case);
+    let before = pass.receipts().len();
+    let kept = recorder.keep(rt, alloc, 0, &mut pass, case.keep, TAG);
+    same!(*rt; kept.clips.as_slice(), case.clips, at);
+    same!(*rt; kept.fault, case.fault, at);
+    are_noted(rt, &pass, before, case, at);
+    passes.push(pass).expect(rt, "memory for a list");
+    let ended = ends(rt, recorder, passes);
+    same!(*rt; ended.cameras.len(), 1, at);
+}
