@@ -14,7 +14,7 @@
 mod command;
 mod lines;
 mod listing;
-mod number;
+pub mod number;
 mod pattern;
 mod print;
 mod refusal;
@@ -23,7 +23,7 @@ mod session;
 mod task;
 mod upgrade;
 
-pub use command::{Command, read_command};
+pub use command::{Command, geometry_in, read_command};
 pub use lines::{BadLine, MAX_LINE, next_line};
 pub use listing::Listing;
 pub use number::small_number;

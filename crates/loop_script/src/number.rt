@@ -1,4 +1,4 @@
-// Numbers in scripts.
+//! Numbers in scripts.
 ghost use Rattle.std.specs.Prelude.{◌≡◌, ◌^◌};
 ghost use Rattle.std.specs.Char.{is_ascii_digit};
 ghost use Rattle.std.specs.List.{list_all};
