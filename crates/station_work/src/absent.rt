@@ -1,0 +1,35 @@
+//! Why a camera's store isn't there.
+
+use loop_file::FileFault;
+use loop_store::StoreFault;
+
+/// Why a camera's store isn't there, so that it can't be asked.
+#[derive(Clone, Copy, Debug, PartialEq, Eq)]
+pub enum Absent {
+    /// There is none yet, and the source that it is to be made for hasn't come.
+    NoStore,
+    /// Its file can't be had.
+    File(FileFault),
+    /// It can't be opened.
+    Store(StoreFault),
+    /// No store holds as much as it is to keep, or its source says no rate.
+    NoGeometry,
+    /// Four buffers of its frames need more pages than there are, or there is no memory for them.
+    NoBuffers,
+    /// The program comes to its end.
+    Stopped,
+}
+
+impl Absent {
+    /// Its name.
+    pub fn name(&self) -> &'static str {
+        match self {
+            Absent::NoStore => "NoStore",
+            Absent::File(_) => "CannotOpen",
+            Absent::Store(fault) => fault.name(),
+            Absent::NoGeometry => "NoGeometry",
+            Absent::NoBuffers => "NoBuffers",
+            Absent::Stopped => "Stopped",
+        }
+    }
+}

@@ -1,0 +1,39 @@
+//! The time that frames get.
+
+use std::io;
+use std::time::{Clock, Instant};
+
+/// The time since 1970 in microseconds, as the system's clock had it when the program began, and from then on by a clock
+/// that never goes back.
+#[derive(Clone, Copy)]
+pub struct Timeline {
+    start: u64,
+    began: Instant,
+}
+
+impl Timeline {
+    /// One that begins now.
+    pub fn new<R: Clock>(rt: &R) -> io::Result<Timeline> {
+        let since = rt.since_1970()?;
+        Ok(Timeline {
+            start: u64::try_from(since.as_micros()).unwrap_or(u64::MAX),
+            began: Instant::now(rt)?,
+        })
+    }
+
+    /// The time now; that of the beginning where the clock can't be read.
+    pub fn now<R: Clock>(&self, rt: &R) -> u64 {
+        match self.began.elapsed(rt) {
+            Ok(passed) => {
+                let passed = u64::try_from(passed.as_micros()).unwrap_or(u64::MAX);
+                self.start.saturating_add(passed)
+            }
+            Err(_) => self.start,
+        }
+    }
+}
+
+/// So many seconds in microseconds, at most 2^64 - 1.
+pub fn micros(seconds: u32) -> u64 {
+    u64::from(seconds).saturating_mul(1_000_000)
+}

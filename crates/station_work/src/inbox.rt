@@ -1,0 +1,107 @@
+//! Where one thread asks another, which answers.
+
+use std::sync::{Condvar, Mutex, Wait};
+
+/// What stands between who asks and who answers: one question at a time, and its answer.
+#[derive(Drop)]
+struct Desk<Q: Drop, A: Drop, N: Drop + Copy> {
+    /// Someone has asked, and hasn't taken the answer.
+    busy: bool,
+    question: Option<Q>,
+    answer: Option<Result<A, N>>,
+    /// Nobody answers now, and why.
+    nobody: Option<N>,
+    /// Who answers is to leave.
+    over: bool,
+}
+
+/// One thread asks and waits, another answers. Where nobody does, that is the answer, as an `N` that says why.
+#[derive(Drop)]
+pub struct Inbox<Q: Drop, A: Drop, N: Drop + Copy> {
+    desk: Mutex<Desk<Q, A, N>>,
+    changed: Condvar,
+}
+
+impl<Q: Drop, A: Drop, N: Drop + Copy> Inbox<Q, A, N> {
+    /// One at which nobody answers yet: a question waits for who comes.
+    pub fn new() -> Self {
+        Inbox {
+            desk: Mutex::new(Desk {
+                busy: false,
+                question: None,
+                answer: None,
+                nobody: None,
+                over: true,
+            }),
+            changed: Condvar::new(),
+        }
+    }
+
+    /// Asks, once nobody else does. The answer has to be taken by `answer`.
+    pub fn ask<R: Wait>(&self, rt: &R, question: Q) {
+        let mut desk = self
+            .changed
+            .wait_while(rt, self.desk.lock(rt), |desk| desk.busy);
+        desk.busy = true;
+        match desk.nobody {
+            Some(why) => desk.answer = Some(Err(why)),
+            None => desk.question = Some(question),
+        }
+        self.changed.notify_all();
+    }
+
+    /// Waits for the answer.
+    pub fn answer<R: Wait>(&self, rt: &R) -> Option<Result<A, N>> {
+        let mut desk = self
+            .changed
+            .wait_while(rt, self.desk.lock(rt), |desk| desk.answer.is_none());
+        desk.busy = false;
+        self.changed.notify_all();
+        desk.answer.take()
+    }
+
+    /// Waits for a question; None where who answers is to leave. A question that stands then waits for the next one.
+    pub fn next<R: Wait>(&self, rt: &R) -> Option<Q> {
+        let mut desk = self
+            .changed
+            .wait_while(rt, self.desk.lock(rt), |desk| {
+                desk.question.is_none() && !desk.over
+            });
+        if desk.over {
+            return None;
+        }
+        desk.question.take()
+    }
+
+    /// Answers the question that was taken.
+    pub fn reply<R: Wait>(&self, rt: &R, answer: A) {
+        let mut desk = self.desk.lock(rt);
+        desk.answer = Some(Ok(answer));
+        self.changed.notify_all();
+    }
+
+    /// From now on someone answers.
+    pub fn open<R: Wait>(&self, rt: &R) {
+        let mut desk = self.desk.lock(rt);
+        desk.over = false;
+        desk.nobody = None;
+    }
+
+    /// Who answers is to leave, and another one comes.
+    pub fn close<R: Wait>(&self, rt: &R) {
+        let mut desk = self.desk.lock(rt);
+        desk.over = true;
+        self.changed.notify_all();
+    }
+
+    /// Nobody answers from now on; a question that stands is answered so too.
+    pub fn leave<R: Wait>(&self, rt: &R, why: N) {
+        let mut desk = self.desk.lock(rt);
+        desk.over = true;
+        desk.nobody = Some(why);
+        if desk.question.take().is_some() {
+            desk.answer = Some(Err(why));
+        }
+        self.changed.notify_all();
+    }
+}

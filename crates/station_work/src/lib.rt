@@ -1,0 +1,32 @@
+//! A station: cameras that are recorded without end, and orders meanwhile.
+//!
+//! Each camera has a thread for its source (`source`), which puts frames into a `feed`, and one for its sessions
+//! (`sessions`): it opens or makes the store, and records into it by the workers of loop_recorder, a session behind the
+//! other. `state` is what the threads of a camera share, and leads its recordings; `link` is what source and store know of
+//! each other, `counts` what is counted, `absent` why a store isn't there, `clock` the time of frames.
+//!
+//! `run` starts all that; `orders` reads orders and does them: it asks a camera through its `inbox`, where a visitor of the
+//! recording answers (`clerk`). `save` writes a clip meanwhile, `told` makes lines of answers, and `outlet` prints them.
+//!
+//! What an order means, and the choice of a store's size, is station_words', and proved there; that a keep locks just the
+//! held frames of its time is `Recorder::keep`, and what a session leaves to the next one `sessions_join`, both of
+//! loop_recorder. Which thread comes when, and time, are said by no clause.
+#![tactic(auto)]
+
+mod absent;
+mod clerk;
+mod clock;
+mod counts;
+mod feed;
+mod inbox;
+mod link;
+mod orders;
+mod outlet;
+mod run;
+mod save;
+mod sessions;
+mod source;
+mod state;
+mod told;
+
+pub use run::{NotBegun, run_station};

@@ -1,0 +1,264 @@
+//! The program: threads for each camera, and orders meanwhile.
+
+ghost use Rattle.std.specs.Prelude.{◌≤◌, ◌+◌, vec_len};
+ghost use Rattle.std.specs.Vec.{vec_capacity};
+
+use crate::clock::Timeline;
+use crate::orders::{Station, status, take_orders};
+use crate::outlet::Outlet;
+use crate::sessions::run_camera;
+use crate::source::run_source;
+use crate::state::CameraState;
+use loop_script::MAX_LINE;
+use station_words::{CameraConfig, Config};
+use std::alloc::{AllocError, AllocGlobal};
+use std::fs::{File, OpenFile};
+use std::io;
+use std::io::{BufReader, Read, Write};
+use std::rt::Files;
+use std::sync::atomic::{AtomicU64, Ordering};
+use std::sync::{Arc, Wait};
+use std::thread;
+use std::thread::{JoinHandle, Scope, Threads};
+use std::time::{Clock, Duration};
+
+/// How often it is looked whether a status is due.
+const STATUS_STEPS: u32 = 10;
+
+/// How often a stop waits ten milliseconds for clips that are being written.
+const SAVE_STEPS: u32 = 3_000;
+
+/// Why the program couldn't begin.
+#[derive(Drop)]
+pub enum NotBegun {
+    /// Memory or a thread was refused.
+    NoMemory,
+    /// The clock can't be read.
+    NoClock,
+}
+
+impl From<AllocError> for NotBegun {
+    fn from(_: AllocError) -> Self {
+        NotBegun::NoMemory
+    }
+}
+
+/// Records from each camera of a configuration into its store, and does the orders that come from the input, or from the
+/// pipe or file that the configuration names, until one says `stop`. Each answer is printed to `out`; where someone
+/// watches, a line for each camera tells every second how it stands. Where the input ends, it goes on.
+pub fn run_station<
+    R: AllocGlobal + Files<File = File> + Threads + Wait + Clock + Clone + Drop + Send + Sync + 'static,
+    I: Read + Drop,
+    W: Write + Drop + Send + 'static,
+>(
+    rt: &R,
+    config: Config,
+    input: I,
+    out: W,
+    watched: bool,
+) -> Result<(), NotBegun> {
+    let alloc = rt.alloc();
+    let Config { orders, cameras } = config;
+    let Ok(timeline) = Timeline::new(rt) else {
+        return Err(NotBegun::NoClock);
+    };
+    let mut states = Vec::with_capacity(alloc, cameras.len())?;
+    for camera in cameras {
+        states.push_reserved(Arc::new(alloc, CameraState::new(alloc, camera, timeline)?)?);
+    }
+    let station = Station {
+        cameras: states,
+        outlet: Arc::new(alloc, Outlet::new(out))?,
+        saves: Arc::new(alloc, AtomicU64::new(0))?,
+    };
+    start_sources(rt, &station)?;
+    let line = Vec::with_capacity(alloc, MAX_LINE + 1)?;
+    let input = BufReader::new(alloc, input)?;
+    let handles = Vec::with_capacity(alloc, station.cameras.len().saturating_add(1))?;
+    if !run_behind(rt, &station, orders, input, line, handles, watched) {
+        return Err(NotBegun::NoMemory);
+    }
+    station.outlet.put(rt, b"stopped\n");
+    Ok(())
+}
+
+// Starts a thread for each source. A source may keep its thread waiting for ever, so they aren't joined: they end with the
+// program.
+fn start_sources<
+    R: AllocGlobal + Files<File = File> + Threads + Wait + Clock + Clone + Drop + Send + Sync + 'static,
+    W: Write + Drop + Send + 'static,
+>(rt: &R, station: &Station<W>) -> Result<(), NotBegun> {
+    for state in station.cameras.as_slice() {
+        let state = Arc::try_clone(state)?;
+        let theirs = rt.clone();
+        if thread::spawn(rt, move || run_source(&theirs, &state)).is_err() {
+            return Err(NotBegun::NoMemory);
+        }
+    }
+    Ok(())
+}
+
+// The scope that the cameras' threads run in.
+fn run_behind<
+    R: AllocGlobal + Files<File = File> + Threads + Wait + Clock + Clone + Drop + Send + Sync + 'static,
+    I: Read + Drop,
+    W: Write + Drop + Send + 'static,
+>(
+    rt: &R,
+    station: &Station<W>,
+    orders: Option<String>,
+    input: BufReader<I>,
+    line: Vec<u8>,
+    handles: Vec<JoinHandle<()>>,
+    watched: bool,
+) -> bool {
+    let (rt, station) = (&*rt, &*station);
+    thread::scope(thread::scope_env(), rt, move |scope| -> bool {
+        run_in(rt, scope, station, orders, input, line, handles, watched)
+    })
+}
+
+// Starts the cameras' threads, does orders until one says `stop`, and joins the threads; whether all could be started.
+fn run_in<
+    's,
+    E,
+    R: AllocGlobal + Files<File = File> + Threads + Wait + Clock + Clone + Drop + Send + Sync + 'static,
+    I: Read + Drop,
+    W: Write + Drop + Send + 'static,
+>(
+    rt: &'s R,
+    scope: &Scope<'s, E>,
+    station: &'s Station<W>,
+    orders: Option<String>,
+    input: BufReader<I>,
+    line: Vec<u8>,
+    handles: Vec<JoinHandle<()>>,
+    watched: bool,
+) -> bool {
+    let mut handles = handles;
+    let all = start_cameras(rt, scope, station, &mut handles, watched);
+    if !all || serve(rt, station, orders, input, line) {
+        wait_saves(rt, station);
+        for state in station.cameras.as_slice() {
+            state.stop();
+        }
+    }
+    for handle in handles {
+        handle.join(rt);
+    }
+    all
+}
+
+// Starts a thread for each camera, and one that tells how they stand where someone watches; whether all could be started.
+fn start_cameras<
+    's,
+    E,
+    R: AllocGlobal + Files<File = File> + Threads + Wait + Clock + Sync + 'static,
+    W: Write + Drop + Send + 'static,
+>(
+    rt: &'s R,
+    scope: &Scope<'s, E>,
+    station: &'s Station<W>,
+    handles: &mut Vec<JoinHandle<()>>,
+    watched: bool,
+) -> bool
+    requires { vec_len handles.old + vec_len station.now.cameras + 1 ≤ vec_capacity handles.old }
+{
+    for state in station.cameras.as_slice() {
+        let Ok(handle) = scope.spawn(move || run_camera(rt, state)) else {
+            return false;
+        };
+        handles.push_reserved(handle);
+    }
+    if watched {
+        let Ok(handle) = scope.spawn(move || show(rt, station)) else {
+            return false;
+        };
+        handles.push_reserved(handle);
+    }
+    true
+}
+
+// Waits until no clip is being written any more, for a while.
+fn wait_saves<R: Clock, W: Write + Drop>(rt: &R, station: &Station<W>) {
+    for _ in 0..SAVE_STEPS {
+        if station.saves.load(Ordering::SeqCst) == 0 {
+            break;
+        }
+        thread::sleep(rt, Duration::from_millis(10));
+    }
+}
+
+// Tells every second how each camera stands, until the program comes to its end.
+fn show<R: AllocGlobal + Wait + Clock, W: Write + Drop>(rt: &R, station: &Station<W>) {
+    for _ in rt.forever() {
+        for _ in 0..STATUS_STEPS {
+            if station.cameras.iter().all(|state| state.is_stopped()) {
+                return;
+            }
+            thread::sleep(rt, Duration::from_millis(100));
+        }
+        let mut lines = Vec::new(rt.alloc());
+        if status(rt, station, &mut lines).is_ok() {
+            station.outlet.put(rt, &lines);
+        }
+    }
+}
+
+// Does orders, from the pipe or file that is named, which is opened again and again, or from the input; whether one said
+// `stop`.
+fn serve<
+    R: AllocGlobal + Files<File = File> + Threads + Wait + Clock + Clone + Drop + Send + Sync + 'static,
+    I: Read + Drop,
+    W: Write + Drop + Send + 'static,
+>(
+    rt: &R,
+    station: &Station<W>,
+    orders: Option<String>,
+    input: BufReader<I>,
+    line: Vec<u8>,
+) -> bool {
+    let (mut input, mut line) = (input, line);
+    let Some(path) = orders else {
+        return take_orders(rt, station, &mut input, &mut line);
+    };
+    for _ in rt.forever() {
+        match serve_file(rt, station, path.as_str(), &mut line) {
+            Served::Stop => return true,
+            Served::Once => break,
+            Served::Again => thread::sleep(rt, Duration::from_millis(100)),
+        }
+    }
+    false
+}
+
+// What came of the orders of a pipe or file.
+enum Served {
+    // One said `stop`.
+    Stop,
+    // It is a file, which is read once.
+    Once,
+    // It is a pipe, from which more may come, or isn't there yet.
+    Again,
+}
+
+// Does the orders of a pipe or file, from its beginning to its end.
+fn serve_file<
+    R: AllocGlobal + Files<File = File> + Threads + Wait + Clock + Clone + Drop + Send + Sync + 'static,
+    W: Write + Drop + Send + 'static,
+>(rt: &R, station: &Station<W>, path: &str, line: &mut Vec<u8>) -> Served {
+    let Ok(file) = File::open(rt, path) else {
+        return Served::Again;
+    };
+    let once = match file.metadata() {
+        Ok(metadata) => metadata.is_file(),
+        Err(_) => false,
+    };
+    let Ok(mut input) = BufReader::new(rt.alloc(), file) else {
+        return Served::Again;
+    };
+    if take_orders(rt, station, &mut input, line) {
+        return Served::Stop;
+    }
+    if once { Served::Once } else { Served::Again }
+}

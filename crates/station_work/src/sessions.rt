@@ -1,0 +1,248 @@
+//! A camera's thread: its store is opened or made, and recorded into, a session behind the other.
+
+ghost use Rattle.std.specs.Prelude.{◌≡◌, IfOk, IfSome, length, vec_len};
+ghost use Rattle.loop_recorder.specs.Opened.{IsReady};
+
+use crate::absent::Absent;
+use crate::feed::FeedSource;
+use crate::state::CameraState;
+use loop_capture::{Device, FrameSource};
+use loop_commands::{Start, Unrecorded, camera_before, run_on_file, start_of, start_queue};
+use loop_file::{FileDisk, FileFault};
+use loop_plane::{MmapPlane, PlaneMemory};
+use loop_record::Geometry;
+use loop_recorder::{Camera, EndRefused, Ended, NewRefused, Recorder, camera_again, record_led};
+use loop_script::FileCommand;
+use loop_store::{OpenRefused, Store, StoreFault};
+use station_words::{RingSize, Room, frames_in, ring_for, ring_within};
+use std::alloc::{AllocGlobal, Global};
+use std::fs::File;
+use std::rt::Files;
+use std::sync::{Arc, Wait};
+use std::thread;
+use std::thread::Threads;
+use std::time::{Clock, Duration};
+use std::sync::atomic::Ordering;
+
+/// How long a store that can't be had is left alone.
+const OPEN_AGAIN: Duration = Duration::from_millis(1_000);
+
+/// How long a header is waited for before it is looked whether the program ends.
+const LOOK_AGAIN: Duration = Duration::from_millis(100);
+
+/// The passes of a session: the camera's, the flusher's, the reader's, and those of who takes orders and who reads frames
+/// for a save.
+const PASSES: u32 = 5;
+
+/// A camera over a file.
+type FileCamera = Camera<FileDisk, MmapPlane>;
+
+/// Opens a camera's store, or makes it, and records into it, until the camera is stopped. Where the store can't be had
+/// or its disk fails, it is opened again.
+pub(crate) fn run_camera<R: AllocGlobal + Files<File = File> + Threads + Wait + Clock + Sync>(
+    rt: &R,
+    state: &CameraState,
+) {
+    for _ in rt.forever() {
+        if state.is_stopped() {
+            break;
+        }
+        let why = match open_store(rt, state) {
+            Ok(store) => record_into(rt, state, store),
+            Err(why) => why,
+        };
+        state.leave(rt, why);
+        if !state.is_stopped() {
+            state.counts.faults.fetch_add(1, Ordering::SeqCst);
+            thread::sleep(rt, OPEN_AGAIN);
+        }
+    }
+    state.leave(rt, Absent::Stopped);
+}
+
+/// The store of a camera, made for its source where it isn't there.
+fn open_store<R: AllocGlobal + Files<File = File> + Wait + Clock>(
+    rt: &R,
+    state: &CameraState,
+) -> Result<Store<FileDisk>, Absent> {
+    let path = state.config.store.as_str();
+    let disk = match FileDisk::open(rt, path) {
+        Ok(disk) => disk,
+        Err(FileFault::Missing) => make_store(rt, state, path)?,
+        Err(fault) => return Err(Absent::File(fault)),
+    };
+    match Store::open(rt.alloc(), disk) {
+        Ok(store) => Ok(store),
+        Err(OpenRefused { fault, disk: _ }) => Err(Absent::Store(fault)),
+    }
+}
+
+/// Makes the store of a camera for what its source's header says, once that is there, and opens its file.
+fn make_store<R: AllocGlobal + Files<File = File> + Wait + Clock>(
+    rt: &R,
+    state: &CameraState,
+    path: &str,
+) -> Result<FileDisk, Absent> {
+    state.leave(rt, Absent::NoStore);
+    let Some(header) = wait_header(rt, state) else {
+        return Err(Absent::Stopped);
+    };
+    let Some(geometry) = geometry_for(&header, &state.config.room) else {
+        return Err(Absent::NoGeometry);
+    };
+    let (mut told, mut refused) = (Vec::new(rt.alloc()), Vec::new(rt.alloc()));
+    let command = FileCommand::Format(geometry);
+    if run_on_file(rt, path, command, &mut told, &mut refused) != 0 {
+        return Err(Absent::File(FileFault::Failed));
+    }
+    match FileDisk::open(rt, path) {
+        Ok(disk) => Ok(disk),
+        Err(fault) => Err(Absent::File(fault)),
+    }
+}
+
+/// What the source's header says, once it is there; None where the camera is stopped before.
+fn wait_header<R: Wait + Clock>(rt: &R, state: &CameraState) -> Option<Geometry> {
+    for _ in rt.forever() {
+        if state.is_stopped() {
+            return None;
+        }
+        if let Some(header) = state.link.header(rt, LOOK_AGAIN) {
+            return Some(header);
+        }
+    }
+    unreachable!()
+}
+
+/// The geometry of a store for a header, with room for as much as is to be kept.
+fn geometry_for(header: &Geometry, room: &Room) -> Option<Geometry> {
+    let RingSize { segments, slots } = match room {
+        Room::Seconds(seconds) => ring_for(frames_in(*seconds, header.rate_num, header.rate_den)),
+        Room::Bytes(bytes) => ring_within(header.frame_bytes(), *bytes),
+    }?;
+    let geometry = Geometry {
+        segments,
+        slots,
+        ..*header
+    };
+    match geometry.check() {
+        Ok(()) => Some(geometry),
+        Err(_) => None,
+    }
+}
+
+/// Records into a store, a session behind the other, until the camera is stopped or the store must be reopened; why it
+/// ended.
+fn record_into<R: AllocGlobal + Threads + Wait + Clock + Sync>(
+    rt: &R,
+    state: &CameraState,
+    store: Store<FileDisk>,
+) -> Absent {
+    state.link.set_store(rt, store.geometry());
+    match camera_for(rt.alloc(), store) {
+        Ok((camera, start)) => run_sessions(rt, state, camera, start),
+        Err(_) => Absent::NoBuffers,
+    }
+}
+
+/// A camera before a store, and what its queue is started with.
+fn camera_for(
+    alloc: Global,
+    store: Store<FileDisk>,
+) -> Result<(FileCamera, Start), Unrecorded>
+    ensures { IfOk result (λ made. IsReady ⟦<MmapPlane as PlaneMemory>⟧.plane made.0) }
+{
+    let camera = camera_before(alloc, store)?;
+    let start = start_of(alloc, &camera, 0)?;
+    Ok((camera, start))
+}
+
+/// The sessions of a camera, and why they ended.
+fn run_sessions<R: AllocGlobal + Threads + Wait + Clock + Sync>(
+    rt: &R,
+    state: &CameraState,
+    camera: FileCamera,
+    start: Start,
+) -> Absent
+    requires { IsReady ⟦<MmapPlane as PlaneMemory>⟧.plane camera }
+{
+    let alloc = rt.alloc();
+    let Some(mut devices) = devices_for(alloc, state, camera.0.geometry().frame_bytes()) else {
+        return Absent::NoBuffers;
+    };
+    let mut next = run_session(rt, alloc, state, camera, Some(start), &mut devices);
+    'sessions: for _ in rt.forever() {
+        let Some(camera) = next else {
+            break;
+        };
+        if state.is_stopped() {
+            break;
+        }
+        next = run_session(rt, alloc, state, camera, None, &mut devices);
+    }
+    Absent::Store(StoreFault::MustReopen)
+}
+
+/// The device that takes a camera's frames, of so many bytes, where its source gives them.
+fn devices_for(alloc: Global, state: &CameraState, size: u32) -> Option<Vec<Device>>
+    ensures { IfSome result (λ devices. vec_len devices ≡ 1) }
+{
+    let feed = Arc::try_clone(&state.feed).ok()?;
+    let source = Box::new(alloc, FeedSource { feed }).ok()?;
+    let source: Box<dyn FrameSource + Send> = source;
+    let mut devices = Vec::with_capacity(alloc, 1).ok()?;
+    match Device::new(alloc, source, size) {
+        Ok(device) => devices.push_reserved(device),
+        Err(_) => return None,
+    }
+    Some(devices)
+}
+
+/// A session: a recorder of the camera is recorded until it is over, and ended. The camera for the next one; None where
+/// its store must be reopened, or memory was refused.
+fn run_session<R: Threads + Wait + Clock + Sync>(
+    rt: &R,
+    alloc: Global,
+    state: &CameraState,
+    camera: FileCamera,
+    start: Option<Start>,
+    devices: &mut [Device],
+) -> Option<FileCamera>
+    requires ready { IsReady ⟦<MmapPlane as PlaneMemory>⟧.plane camera }
+    requires one { length devices.old ≡ 1 }
+    ensures { IfSome result (IsReady ⟦<MmapPlane as PlaneMemory>⟧.plane) }
+{
+    let mut cameras = Vec::with_capacity(alloc, 1).ok()?;
+    cameras.push_reserved(camera);
+    let (recorder, passes) = match Recorder::new(alloc, cameras, PASSES) {
+        Ok(made) => made,
+        Err(NewRefused::NoMemory(_)) => return None,
+    };
+    if let Some(start) = start {
+        start_queue(rt, &recorder, 0, start).ok()?;
+    }
+    state.begin_session(rt);
+    match record_led(rt, alloc, recorder, passes, devices, state) {
+        Ok(ended) => camera_of(ended),
+        Err(EndRefused::TieBroken(_, ended)) => camera_of(ended),
+        Err(EndRefused::PassesMissing(_, _, _, _)) => None,
+        Err(EndRefused::NoMemory(_, _)) => None,
+    }
+}
+
+/// The camera of an end, where its desk can be written.
+fn camera_of(ended: Ended<FileDisk, MmapPlane>) -> Option<FileCamera>
+    ensures { IfSome result (IsReady ⟦<MmapPlane as PlaneMemory>⟧.plane) }
+{
+    let Ended {
+        mut cameras,
+        mut ports,
+        passes: _,
+        given_up: _,
+    } = ended;
+    let (camera, port) = (cameras.pop()?, ports.pop()?);
+    if camera.desk.status().must_reopen {
+        return None;
+    }
+    Some(camera_again(camera, port))
+}

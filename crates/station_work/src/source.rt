@@ -1,0 +1,184 @@
+//! A source's thread: it opens the source again and again, and gives its frames to the camera's feed.
+
+use crate::feed::Fed;
+use crate::link::SourceState;
+use crate::state::CameraState;
+use loop_capture::{FrameSource, Pattern};
+use loop_desk::frame_memory;
+use loop_record::Geometry;
+use loop_y4m::Y4mReader;
+use station_words::Source;
+use std::alloc::AllocGlobal;
+use std::fs::{File, OpenFile};
+use std::io::{BufReader, Read};
+use std::rt::Files;
+use std::sync::Wait;
+use std::sync::atomic::Ordering;
+use std::thread;
+use std::time::{Clock, Duration};
+
+/// How long a source that ended, broke or isn't there is left alone.
+const OPEN_AGAIN: Duration = Duration::from_millis(200);
+
+/// How many bytes of a source are fetched at once: as many as a pipe holds.
+const AT_ONCE: usize = 65_536;
+
+/// A source that is so many microseconds late gives its frames from now on.
+const LATE: u64 = 1_000_000;
+
+/// Gives a source's frames to a camera's feed, and opens it again where it ends or breaks, until the camera is stopped.
+pub(crate) fn run_source<R: AllocGlobal + Files<File = File> + Wait + Clock>(
+    rt: &R,
+    state: &CameraState,
+) {
+    for _ in rt.forever() {
+        if state.is_stopped() {
+            break;
+        }
+        match &state.config.source {
+            Source::Pattern(geometry) => play_pattern(rt, state, geometry),
+            Source::Path(path) => play_file(rt, state, path.as_str()),
+        }
+        thread::sleep(rt, OPEN_AGAIN);
+    }
+}
+
+/// When the frames of a source that doesn't come by itself are due.
+struct Beat {
+    start: u64,
+    count: u64,
+    num: u32,
+    den: u32,
+}
+
+impl Beat {
+    /// Sleeps until the next frame is due.
+    fn wait<R: Clock>(&mut self, rt: &R, state: &CameraState) {
+        let now = state.timeline.now(rt);
+        let passed = u128::from(self.count) * 1_000_000 * u128::from(self.den) / u128::from(self.num.max(1));
+        let due = self
+            .start
+            .saturating_add(u64::try_from(passed).unwrap_or(u64::MAX));
+        if due > now {
+            thread::sleep(rt, Duration::from_micros(due - now));
+        } else if now - due > LATE {
+            self.start = now;
+            self.count = 0;
+        }
+        self.count = self.count.saturating_add(1);
+    }
+}
+
+/// One that begins now, at a geometry's rate.
+fn beat<R: Clock>(rt: &R, state: &CameraState, geometry: &Geometry) -> Beat {
+    Beat {
+        start: state.timeline.now(rt),
+        count: 0,
+        num: geometry.rate_num,
+        den: geometry.rate_den,
+    }
+}
+
+/// Gives the frames of the pattern, each when it is due.
+fn play_pattern<R: AllocGlobal + Wait + Clock>(rt: &R, state: &CameraState, geometry: &Geometry) {
+    if !offer(rt, state, geometry) {
+        return;
+    }
+    let mut pattern = Pattern::new();
+    let mut beat = beat(rt, state, geometry);
+    for _ in rt.forever() {
+        if state.is_stopped() {
+            break;
+        }
+        beat.wait(rt, state);
+        let spare = state.feed.memory(rt);
+        let Ok(mut bytes) = frame_memory(rt.alloc(), spare, geometry.frame_bytes() as usize) else {
+            break;
+        };
+        let _more = pattern.next(&mut bytes);
+        let time = state.timeline.now(rt);
+        state.feed.give(rt, Fed { time, bytes });
+    }
+}
+
+/// Tells what a source's header says; whether the store takes its frames.
+fn offer<R: Wait>(rt: &R, state: &CameraState, geometry: &Geometry) -> bool {
+    state.counts.opened.fetch_add(1, Ordering::SeqCst);
+    state.link.offer(rt, *geometry)
+}
+
+/// Gives the frames of a file or pipe: those of a file each when it is due, those of a pipe as they come.
+fn play_file<R: AllocGlobal + Files<File = File> + Wait + Clock>(
+    rt: &R,
+    state: &CameraState,
+    path: &str,
+) {
+    let Ok(file) = File::open(rt, path) else {
+        state.link.set_source(rt, SourceState::Missing);
+        return;
+    };
+    let paced = match file.metadata() {
+        Ok(metadata) => metadata.is_file(),
+        Err(_) => false,
+    };
+    if let Ok(input) = BufReader::with_capacity(rt.alloc(), AT_ONCE, file) {
+        play_input(rt, state, input, paced);
+    }
+    if state.link.source(rt) == SourceState::On {
+        state.link.set_source(rt, SourceState::Missing);
+    }
+}
+
+/// Gives the frames of an input that begins with a header.
+fn play_input<R: AllocGlobal + Wait + Clock, I: Read + Drop>(
+    rt: &R,
+    state: &CameraState,
+    input: I,
+    paced: bool,
+) {
+    let Ok(mut reader) = Y4mReader::open(input) else {
+        state.link.set_source(rt, SourceState::Missing);
+        return;
+    };
+    // A ring of any size: the store's own is chosen elsewhere.
+    let Ok(geometry) = reader.geometry(2, 1) else {
+        state.link.set_source(rt, SourceState::Missing);
+        return;
+    };
+    if !offer(rt, state, &geometry) {
+        return;
+    }
+    let mut beat = beat(rt, state, &geometry);
+    for _ in rt.forever() {
+        if state.is_stopped() {
+            break;
+        }
+        if paced {
+            beat.wait(rt, state);
+        }
+        if !give_next(rt, state, &mut reader) {
+            break;
+        }
+    }
+}
+
+/// Reads a frame and gives it to the feed; whether there was one.
+fn give_next<R: AllocGlobal + Wait + Clock, I: Read + Drop>(
+    rt: &R,
+    state: &CameraState,
+    reader: &mut Y4mReader<I>,
+) -> bool {
+    let spare = state.feed.memory(rt);
+    let Ok(mut bytes) = frame_memory(rt.alloc(), spare, reader.frame_bytes() as usize) else {
+        return false;
+    };
+    match reader.next_frame(&mut bytes) {
+        Ok(true) => {
+            let time = state.timeline.now(rt);
+            state.feed.give(rt, Fed { time, bytes });
+            true
+        }
+        Ok(false) => false,
+        Err(_) => false,
+    }
+}
