@@ -114,7 +114,9 @@ fn config_of(alloc: Global, table: &Table) -> Result<Config, ConfigFault>
     let cameras = cameras_of(alloc, entries)?;
     let orders = match table.get("orders") {
         None => None,
-        Some(Value::String(path)) => Some(String::from_str(alloc, path.as_str())?),
+        Some(Value::String(path)) if !path.is_empty() => {
+            Some(String::from_str(alloc, path.as_str())?)
+        }
         Some(_) => return Err(ConfigFault::BadOrders),
     };
     Ok(Config { orders, cameras })

@@ -15,8 +15,8 @@ pub enum ConfigFault {
     /// A key beside `orders` and `camera`.
     #[error("there is a key other than orders and [[camera]]")]
     UnknownKey,
-    /// `orders` is no text.
-    #[error("orders is no text")]
+    /// `orders` is no text, or an empty one.
+    #[error("orders is a path")]
     BadOrders,
     /// `camera` is no array of tables.
     #[error("cameras are written below [[camera]]")]
@@ -47,10 +47,10 @@ pub enum CameraFault {
     /// A camera above it has this name.
     #[error("another camera has this name")]
     SameName,
-    /// No source.
+    /// `source` is no text, or an empty one, or isn't there.
     #[error("source is a path or \"pattern\"")]
     BadSource,
-    /// No store.
+    /// `store` is no text, or an empty one, or isn't there.
     #[error("store is a path")]
     BadStore,
     /// A camera above it has this store.
