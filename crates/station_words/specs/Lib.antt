@@ -1,2 +1,5 @@
 pub mod Names
 pub mod Orders
+pub mod Rings
+pub mod Shapes
+pub mod Config

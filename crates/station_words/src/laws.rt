@@ -1,8 +1,15 @@
-//! What lines mean, row by row. The functions do nothing: their contracts are the rows.
+//! What lines mean, row by row, and how large a ring's store is. The functions do nothing: their contracts are the rows
+//! and laws.
 
 ghost use Rattle.std.specs.Prelude.{◌≡◌, [], codes};
+ghost use Rattle.loop_record.specs.Geometry.{disk_size, frame_bytes};
 ghost use Rattle.station_words.specs.Orders.{order_said};
+ghost use Rattle.station_words.specs.Rings.{file_size};
+ghost use Rattle.station_words.specs.Shapes.{geometry_of};
 ghost use Rattle.station_words.specs.declared.order.Order.{Order};
+
+use crate::ring::RingSize;
+use crate::shape::Shape;
 
 /// Each order has a line.
 pub fn each_order_has_a_line()
@@ -28,4 +35,10 @@ pub fn other_lines_have_no_order()
     ensures no_name { order_said (codes "release 7 3") ≡ None }
     ensures out { order_said (codes "save left 3 ") ≡ None }
     ensures space { order_said (codes "list ") ≡ None }
+{}
+
+/// The bytes by which a ring is chosen are those of the store's disk.
+pub fn file_size_is_disk_size(shape: &Shape, ring: RingSize)
+    ensures { file_size (frame_bytes (geometry_of shape.now ring)) ring
+        ≡ disk_size (geometry_of shape.now ring) }
 {}

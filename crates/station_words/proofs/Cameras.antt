@@ -1,0 +1,31 @@
+-- One more camera.
+use Rattle.std.proofs.Common.{◌≡◌, ◌≢◌, ℕ, List, [], ◌∷◌, ◌++◌, false, get_or, sym, subst, ◌∙◌}
+use Rattle.std.specs.Prelude.{IsTrue, string_bytes}
+use Rattle.std.specs.List.{list_any}
+use Rattle.std.specs.Str.{bytes_eq}
+use Rattle.std.proofs.lemmas.Bool.{false≢true}
+use Rattle.std.proofs.lemmas.List.Elements.{All-push}
+use Rattle.std.proofs.lemmas.List.Folds.{list_any_at}
+use Rattle.std.proofs.lemmas.List.Quantifiers.{all_pairs_push}
+use Rattle.std.proofs.lemmas.Slice.Eq.{bytes_eq-Decides}
+use Rattle.station_words.specs.Config.{AreCameras}
+use Rattle.station_words.specs.Names.{is_name}
+use Rattle.station_words.specs.declared.config.CameraConfig.{CameraConfig}
+
+-- a camera with another name and another store than those before it
+pub cameras-push : (cameras : List CameraConfig) (camera : CameraConfig) (name store : List ℕ) → AreCameras cameras
+    → IsTrue (is_name name) → string_bytes camera.name ≡ name → string_bytes camera.store ≡ store
+    → list_any (λ c. bytes_eq (string_bytes c.name) name) cameras ≡ false
+    → list_any (λ c. bytes_eq (string_bytes c.store) store) cameras ≡ false → AreCameras (cameras ++ camera ∷ [])
+cameras-push cameras camera name store are good called kept names stores = record {
+  named = All-push (λ c. IsTrue (is_name (string_bytes c.name))) cameras camera are.named
+      (subst (λ bytes. IsTrue (is_name bytes)) (sym called) good);
+  names = all_pairs_push (λ a b. string_bytes a.name ≢ string_bytes b.name) cameras camera are.names (λ k d inside same.
+      let here = list_any_at (λ c. bytes_eq (string_bytes c.name) name) cameras k d inside
+      ((bytes_eq-Decides (string_bytes (get_or cameras k d).name) name).1 (same ∙ called)) in
+      false≢true (sym names ∙ here));
+  stores = all_pairs_push (λ a b. string_bytes a.store ≢ string_bytes b.store) cameras camera are.stores (λ k d inside same.
+      let here = list_any_at (λ c. bytes_eq (string_bytes c.store) store) cameras k d inside
+      ((bytes_eq-Decides (string_bytes (get_or cameras k d).store) store).1 (same ∙ kept)) in
+      false≢true (sym stores ∙ here));
+}

@@ -1,0 +1,8 @@
+use Rattle.station_words.proofs.Cameras.{cameras-push}
+use Rattle.station_words.proofs.config.add_camera.Goals as goal
+
+pub returns-clause-cameras : goal.returns-clause-cameras
+returns-clause-cameras c =
+    let pushed = cameras-push c.args.cameras.now.items c.in_ok-camera.camera c.args.draft.now.name.now c.args.draft.now.store.now
+    c.requires.cameras c.requires.name c.in_ok-camera.ensures.name c.in_ok-camera.ensures.store (cc) (cc) in
+    rw c.in_ok-push.ensures.items pushed

@@ -1,0 +1,119 @@
+// The lines that are printed.
+
+use loop_script::{Listing, print_line, print_parts};
+use loop_store::{Clip, StoreFault};
+use std::alloc::Allocator;
+use std::fmt::Display;
+use std::io;
+use std::io::Write;
+
+/// How a camera does.
+#[derive(Clone, Copy, Debug, PartialEq, Eq)]
+pub struct CameraStatus {
+    /// How many frames were stored since the program began.
+    pub stored: u64,
+    /// How many came and were given up.
+    pub given_up: u64,
+    /// How many wait before the store.
+    pub waiting: u64,
+    /// The bytes of the store's file.
+    pub room: u64,
+    /// How many of the store's calls were refused.
+    pub faults: u64,
+}
+
+/// `kept NAME ID A..B`, with its tag behind it where that isn't 0; `kept NAME none` where there was nothing to keep.
+pub fn print_kept<W: Write>(out: &mut W, camera: &str, clip: Option<Clip>) -> io::Result<()> {
+    match clip {
+        None => writeln!(out, "kept {camera} none"),
+        Some(
+            Clip {
+                id,
+                from,
+                to,
+                tag: 0,
+            },
+        ) => writeln!(out, "kept {camera} {id} {from}..{to}"),
+        Some(Clip { id, from, to, tag }) => {
+            writeln!(out, "kept {camera} {id} {from}..{to} tag {tag}")
+        }
+    }
+}
+
+/// `refused NAME NO FAULT`: a refusal's number and name; behind `Damaged` the number of the kind, and behind
+/// `ClipNotHeld` that of the frame.
+pub fn print_refused<W: Write>(out: &mut W, camera: &str, fault: StoreFault) -> io::Result<()> {
+    let number = fault.number();
+    let name = fault.name();
+    match fault {
+        StoreFault::Damaged(damage) => {
+            let kind = damage.number();
+            writeln!(out, "refused {camera} {number} {name} {kind}")
+        }
+        StoreFault::ClipNotHeld(frame) => writeln!(out, "refused {camera} {number} {name} {frame}"),
+        _ => writeln!(out, "refused {camera} {number} {name}"),
+    }
+}
+
+/// `released NAME ID`.
+pub fn print_released<W: Write>(out: &mut W, camera: &str, id: u32) -> io::Result<()> {
+    writeln!(out, "released {camera} {id}")
+}
+
+/// `saved NAME ID OUT K`: so many frames of a clip.
+pub fn print_saved<W: Write>(
+    out: &mut W,
+    camera: &str,
+    id: u32,
+    path: &str,
+    frames: u64,
+) -> io::Result<()> {
+    writeln!(out, "saved {camera} {id} {path} {frames}")
+}
+
+/// `not saved NAME ID OUT WHY`.
+pub fn print_not_saved<W: Write, Y: Display>(
+    out: &mut W,
+    camera: &str,
+    id: u32,
+    path: &str,
+    why: &Y,
+) -> io::Result<()> {
+    writeln!(out, "not saved {camera} {id} {path} {why}")
+}
+
+/// `camera NAME`, and below it what its store holds, as a script's `list` has it.
+pub fn print_camera<W: Write, A: Allocator + Copy>(
+    out: &mut W,
+    camera: &str,
+    listing: &Listing<A>,
+) -> io::Result<()> {
+    writeln!(out, "camera {camera}")?;
+    listing.print(out)
+}
+
+/// `status NAME stored N given up G waiting W room B faults X`.
+pub fn print_status<W: Write>(out: &mut W, camera: &str, status: &CameraStatus) -> io::Result<()> {
+    print_parts(out, "status ", &[])?;
+    print_line(
+        out,
+        camera,
+        &[
+            (" stored ", status.stored),
+            (" given up ", status.given_up),
+            (" waiting ", status.waiting),
+            (" room ", status.room),
+            (" faults ", status.faults),
+        ],
+    )
+}
+
+/// `no camera NAME`.
+pub fn print_no_camera<W: Write>(out: &mut W, camera: &str) -> io::Result<()> {
+    writeln!(out, "no camera {camera}")
+}
+
+/// `bad order`: a line that can't be read.
+pub fn print_bad_order<W: Write>(out: &mut W) -> io::Result<()> {
+    writeln!(out, "bad order")
+}

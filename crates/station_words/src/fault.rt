@@ -1,0 +1,95 @@
+// What is wrong with a file that says which cameras there are.
+
+use std::alloc::{AllocError, AllocFailed};
+use thiserror::Error;
+
+/// Why the file can't be used.
+#[derive(Clone, Copy, Debug, PartialEq, Eq, Error)]
+pub enum ConfigFault {
+    /// Memory was refused.
+    #[error("no memory")]
+    NoMemory,
+    /// The text is no TOML, on the line of this number, from 1.
+    #[error("line {0} can't be read as TOML")]
+    BadToml(u64),
+    /// A key beside `orders` and `camera`.
+    #[error("there is a key other than orders and [[camera]]")]
+    UnknownKey,
+    /// `orders` is no text, or an empty one.
+    #[error("orders is a path")]
+    BadOrders,
+    /// `camera` is no array of tables.
+    #[error("cameras are written below [[camera]]")]
+    BadCameras,
+    /// No camera.
+    #[error("there is no camera")]
+    NoCameras,
+    /// More than 16 cameras.
+    #[error("there are more than 16 cameras")]
+    TooMany,
+    /// Something is wrong with the camera at this place, from 1.
+    #[error("camera {0}: {1}")]
+    Camera(usize, CameraFault),
+}
+
+/// What is wrong with a camera.
+#[derive(Clone, Copy, Debug, PartialEq, Eq, Error)]
+pub enum CameraFault {
+    /// It is no table.
+    #[error("it is no table")]
+    NoTable,
+    /// A key that cameras don't have.
+    #[error("there is a key that cameras don't have")]
+    UnknownKey,
+    /// No name, or one that isn't 1 to 32 letters, digits, `-` and `_`, or all digits.
+    #[error("a name is 1 to 32 letters, digits, - and _, and not digits alone")]
+    BadName,
+    /// A camera above it has this name.
+    #[error("another camera has this name")]
+    SameName,
+    /// `source` is no text, or an empty one, or isn't there.
+    #[error("source is a path or \"pattern\"")]
+    BadSource,
+    /// `store` is no text, or an empty one, or isn't there.
+    #[error("store is a path")]
+    BadStore,
+    /// A camera above it has this store.
+    #[error("another camera has this store")]
+    SameStore,
+    /// Neither `minutes` nor `bytes`.
+    #[error("minutes or bytes has to be there")]
+    NoRoom,
+    /// Both `minutes` and `bytes`.
+    #[error("minutes and bytes can't both be there")]
+    TwoRooms,
+    /// `minutes` is no number above 0.
+    #[error("minutes is a number above 0")]
+    BadMinutes,
+    /// `bytes` is no whole number above 0.
+    #[error("bytes is a whole number above 0")]
+    BadBytes,
+    /// `keep` is no whole number of 32 bits.
+    #[error("keep is a whole number of seconds")]
+    BadKeep,
+    /// `tag` is no whole number, or a negative one.
+    #[error("tag is a whole number, not negative")]
+    BadTag,
+    /// `pattern` can't be read, or no store may have such frames.
+    #[error("pattern is a size, a format and a rate, as 640x480 YM12 25:1")]
+    BadPattern,
+    /// `pattern` stands beside another source.
+    #[error("pattern stands only beside the source \"pattern\"")]
+    NoPattern,
+}
+
+impl From<AllocError> for ConfigFault {
+    fn from(_refused: AllocError) -> ConfigFault {
+        ConfigFault::NoMemory
+    }
+}
+
+impl<T: Drop> From<AllocFailed<T>> for ConfigFault {
+    fn from(_refused: AllocFailed<T>) -> ConfigFault {
+        ConfigFault::NoMemory
+    }
+}

@@ -1,0 +1,60 @@
+// The frames of the pattern.
+ghost use Rattle.std.specs.Prelude.{◌≡◌, IfSome};
+ghost use Rattle.station_words.specs.Shapes.{IsShape, geometry_of};
+
+use crate::ring::RingSize;
+use loop_record::{Geometry, PixelFormat};
+use loop_script::geometry_in;
+
+/// What frames look like, and how fast they come.
+#[derive(Clone, Copy, Debug, PartialEq, Eq)]
+pub struct Shape {
+    /// Luma samples in a row.
+    pub width: u32,
+    /// Rows of luma.
+    pub height: u32,
+    /// How the planes of a frame lie behind one another.
+    pub format: PixelFormat,
+    /// Frames in `rate_den` seconds.
+    pub rate_num: u32,
+    /// Seconds in which there are `rate_num` frames.
+    pub rate_den: u32,
+}
+
+impl Shape {
+    /// The geometry of a store for such frames.
+    pub fn geometry(&self, ring: RingSize) -> Geometry
+        ensures { result ≡ geometry_of self.now ring }
+    {
+        Geometry {
+            width: self.width,
+            height: self.height,
+            format: self.format,
+            rate_num: self.rate_num,
+            rate_den: self.rate_den,
+            segments: ring.segments,
+            slots: ring.slots,
+        }
+    }
+}
+
+/// The shape that a text names, `WxH FORMAT N:D`, as `640x480 YM12 25:1`; `None` where it can't be read, or no store may
+/// have such frames.
+pub fn read_shape(text: &str) -> Option<Shape>
+    ensures { IfSome result IsShape }
+{
+    let (size, rest) = text.split_once(' ')?;
+    let (width, height) = size.split_once('x')?;
+    let (format, rate) = rest.split_once(' ')?;
+    let geometry = geometry_in(width, height, format, rate, "2", "1")?;
+    if geometry.check().is_err() {
+        return None;
+    }
+    Some(Shape {
+        width: geometry.width,
+        height: geometry.height,
+        format: geometry.format,
+        rate_num: geometry.rate_num,
+        rate_den: geometry.rate_den,
+    })
+}
