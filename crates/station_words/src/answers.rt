@@ -7,19 +7,21 @@ use std::fmt::Display;
 use std::io;
 use std::io::Write;
 
-/// How a camera does.
+/// How a camera stands.
 #[derive(Clone, Copy, Debug, PartialEq, Eq)]
-pub struct CameraStatus {
-    /// How many frames were stored since the program began.
+pub struct CameraStatus<'a> {
+    /// How many frames were stored since its store was made.
     pub stored: u64,
-    /// How many came and were given up.
+    /// How many came and were given up, since the program began.
     pub given_up: u64,
-    /// How many wait before the store.
+    /// How many wait at the desk.
     pub waiting: u64,
-    /// The bytes of the store's file.
+    /// How many blocks may still be locked.
     pub room: u64,
-    /// How many of the store's calls were refused.
+    /// How often its store was opened again, or couldn't be.
     pub faults: u64,
+    /// How its source is.
+    pub source: &'a str,
 }
 
 /// `kept NAME ID A..B`, with its tag behind it where that isn't 0; `kept NAME none` where there was nothing to keep.
@@ -92,10 +94,14 @@ pub fn print_camera<W: Write, A: Allocator + Copy>(
     listing.print(out)
 }
 
-/// `status NAME stored N given up G waiting W room B faults X`.
-pub fn print_status<W: Write>(out: &mut W, camera: &str, status: &CameraStatus) -> io::Result<()> {
+/// `status NAME stored N given up G waiting W room B faults X source S`.
+pub fn print_status<W: Write>(
+    out: &mut W,
+    camera: &str,
+    status: &CameraStatus<'_>,
+) -> io::Result<()> {
     print_parts(out, "status ", &[])?;
-    print_line(
+    print_parts(
         out,
         camera,
         &[
@@ -105,7 +111,14 @@ pub fn print_status<W: Write>(out: &mut W, camera: &str, status: &CameraStatus) 
             (" room ", status.room),
             (" faults ", status.faults),
         ],
-    )
+    )?;
+    print_parts(out, " source ", &[])?;
+    print_line(out, status.source, &[])
+}
+
+/// `absent NAME WHY`: the camera's store isn't there.
+pub fn print_absent<W: Write>(out: &mut W, camera: &str, why: &str) -> io::Result<()> {
+    writeln!(out, "absent {camera} {why}")
 }
 
 /// `no camera NAME`.

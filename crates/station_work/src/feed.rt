@@ -69,11 +69,11 @@ impl Feed {
     /// Takes the first frame that waits for the next tick, and answers when it was there; None where none comes for so
     /// long.
     pub fn make_ready<R: Wait + Clock>(&self, rt: &R, most: Duration) -> Option<u64> {
-        let (mut waiting, _) =
-            self.changed
-                .wait_timeout_while(rt, self.waiting.lock(rt), most, |waiting| {
-                    waiting.frames.is_empty()
-                });
+        let (mut waiting, _) = self
+            .changed
+            .wait_timeout_while(rt, self.waiting.lock(rt), most, |waiting| {
+                waiting.frames.is_empty()
+            });
         let frame = waiting.frames.pop_front()?;
         waiting.taken = waiting.taken.wrapping_add(1);
         self.changed.notify_all();

@@ -62,11 +62,9 @@ impl<Q: Drop, A: Drop, N: Drop + Copy> Inbox<Q, A, N> {
 
     /// Waits for a question; None where who answers is to leave. A question that stands then waits for the next one.
     pub fn next<R: Wait>(&self, rt: &R) -> Option<Q> {
-        let mut desk = self
-            .changed
-            .wait_while(rt, self.desk.lock(rt), |desk| {
-                desk.question.is_none() && !desk.over
-            });
+        let mut desk = self.changed.wait_while(rt, self.desk.lock(rt), |desk| {
+            desk.question.is_none() && !desk.over
+        });
         if desk.over {
             return None;
         }

@@ -3,10 +3,10 @@
 //! Each camera has a thread for its source (`source`), which puts frames into a `feed`, and one for its sessions
 //! (`sessions`): it opens or makes the store, and records into it by the workers of loop_recorder, a session behind the
 //! other. `state` is what the threads of a camera share, and leads its recordings; `link` is what source and store know of
-//! each other, `counts` what is counted, `absent` why a store isn't there, `clock` the time of frames.
+//! each other, `counts` what is counted, `absent` why a store isn't there, `clock` the time of frames, `size` their bytes.
 //!
 //! `run` starts all that; `orders` reads orders and does them: it asks a camera through its `inbox`, where a visitor of the
-//! recording answers (`clerk`). `save` writes a clip meanwhile, `told` makes lines of answers, and `outlet` prints them.
+//! recording answers (`clerk`). `save` writes a clip meanwhile, `places` opens files, `told` makes lines of answers, and `outlet` prints them.
 //!
 //! What an order means, and the choice of a store's size, is station_words', and proved there; that a keep locks just the
 //! held frames of its time is `Recorder::keep`, and what a session leaves to the next one `sessions_join`, both of
@@ -22,11 +22,14 @@ mod inbox;
 mod link;
 mod orders;
 mod outlet;
+mod places;
 mod run;
 mod save;
 mod sessions;
+mod size;
 mod source;
 mod state;
 mod told;
 
+pub use places::Places;
 pub use run::{NotBegun, run_station};

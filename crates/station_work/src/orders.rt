@@ -4,6 +4,7 @@ use crate::absent::Absent;
 use crate::clerk::{Answer, Request};
 use crate::clock::micros;
 use crate::outlet::Outlet;
+use crate::places::Places;
 use crate::save::run_save;
 use crate::state::CameraState;
 use crate::told::{tell_kept, tell_listed, tell_released, tell_status};
@@ -11,16 +12,12 @@ use loop_recorder::Times;
 use loop_script::{MAX_LINE, next_line};
 use station_words::{Order, print_bad_order, print_no_camera, print_not_saved, read_order};
 use std::alloc::{AllocGlobal, Global};
-use std::fs::File;
-use std::io;
 use std::io::{BufRead, Write};
-use std::rt::Files;
-use std::str;
 use std::sync::atomic::{AtomicU64, Ordering};
 use std::sync::{Arc, Wait};
-use std::thread;
 use std::thread::Threads;
 use std::time::Clock;
+use std::{io, str, thread};
 
 /// The cameras, where lines are printed, and how many clips are being written.
 #[derive(Drop)]
@@ -32,15 +29,10 @@ pub(crate) struct Station<W: Write + Drop> {
 
 /// Does the orders of an input until it ends, or one says so; whether one did.
 pub(crate) fn take_orders<
-    R: AllocGlobal + Files<File = File> + Threads + Wait + Clock + Clone + Drop + Send + Sync + 'static,
+    R: AllocGlobal + Places + Threads + Wait + Clock + Clone + Drop + Send + Sync + 'static,
     I: BufRead,
     W: Write + Drop + Send + 'static,
->(
-    rt: &R,
-    station: &Station<W>,
-    input: &mut I,
-    line: &mut Vec<u8>,
-) -> bool {
+>(rt: &R, station: &Station<W>, input: &mut I, line: &mut Vec<u8>) -> bool {
     for _ in 0..u64::MAX {
         match next_line(input, line) {
             Ok(true) => {}
@@ -83,7 +75,7 @@ fn bad_order<R: AllocGlobal + Wait, W: Write + Drop>(rt: &R, station: &Station<W
 
 // Does an order, and prints what came of it.
 fn perform<
-    R: AllocGlobal + Files<File = File> + Threads + Wait + Clock + Clone + Drop + Send + Sync + 'static,
+    R: AllocGlobal + Places + Threads + Wait + Clock + Clone + Drop + Send + Sync + 'static,
     W: Write + Drop + Send + 'static,
 >(rt: &R, station: &Station<W>, order: Order<'_>) {
     let mut lines = Vec::new(rt.alloc());
@@ -164,7 +156,10 @@ fn keep<R: Wait + Clock, W: Write + Drop, L: Write>(
 }
 
 // The camera of a name.
-fn camera_named<'a, W: Write + Drop>(station: &'a Station<W>, name: &str) -> Option<&'a Arc<CameraState>> {
+fn camera_named<'a, W: Write + Drop>(
+    station: &'a Station<W>,
+    name: &str,
+) -> Option<&'a Arc<CameraState>> {
     for state in station.cameras.as_slice() {
         if state.config.name.as_str() == name {
             return Some(state);
@@ -217,17 +212,10 @@ pub(crate) fn status<R: Wait, W: Write + Drop, L: Write>(
 
 // Begins to write a clip, in a thread of its own, which prints what comes of it.
 fn save<
-    R: AllocGlobal + Files<File = File> + Threads + Wait + Clone + Drop + Send + Sync + 'static,
+    R: AllocGlobal + Places + Threads + Wait + Clone + Drop + Send + Sync + 'static,
     W: Write + Drop + Send + 'static,
     L: Write,
->(
-    rt: &R,
-    station: &Station<W>,
-    name: &str,
-    id: u32,
-    out: &str,
-    lines: &mut L,
-) -> io::Result<()> {
+>(rt: &R, station: &Station<W>, name: &str, id: u32, out: &str, lines: &mut L) -> io::Result<()> {
     let Some(state) = camera_named(station, name) else {
         return print_no_camera(lines, name);
     };
@@ -237,9 +225,11 @@ fn save<
         Arc::try_clone(&station.saves),
         String::from_str(rt.alloc(), out),
     ) else {
-        return print_not_saved(lines, name, id, out, "NoMemory");
+        return print_not_saved(lines, name, id, out, &"NoMemory");
     };
-    let theirs = rt.clone();
+    let Ok(theirs) = rt.clone() else {
+        return print_not_saved(lines, name, id, out, &"NoMemory");
+    };
     saves.fetch_add(1, Ordering::SeqCst);
     match thread::spawn(rt, move || {
         run_save(&theirs, &state, &outlet, id, path.as_str());
@@ -248,7 +238,7 @@ fn save<
         Ok(_) => Ok(()),
         Err(_) => {
             station.saves.fetch_sub(1, Ordering::SeqCst);
-            print_not_saved(lines, name, id, out, "NoMemory")
+            print_not_saved(lines, name, id, out, &"NoMemory")
         }
     }
 }

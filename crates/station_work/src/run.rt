@@ -6,21 +6,19 @@ ghost use Rattle.std.specs.Vec.{vec_capacity};
 use crate::clock::Timeline;
 use crate::orders::{Station, status, take_orders};
 use crate::outlet::Outlet;
+use crate::places::Places;
 use crate::sessions::run_camera;
 use crate::source::run_source;
 use crate::state::CameraState;
 use loop_script::MAX_LINE;
 use station_words::{CameraConfig, Config};
-use std::alloc::{AllocError, AllocGlobal};
-use std::fs::{File, OpenFile};
-use std::io;
+use std::alloc::{AllocError, AllocGlobal, Global};
 use std::io::{BufReader, Read, Write};
-use std::rt::Files;
 use std::sync::atomic::{AtomicU64, Ordering};
 use std::sync::{Arc, Wait};
-use std::thread;
 use std::thread::{JoinHandle, Scope, Threads};
 use std::time::{Clock, Duration};
+use std::{io, thread};
 
 /// How often it is looked whether a status is due.
 const STATUS_STEPS: u32 = 10;
@@ -47,16 +45,10 @@ impl From<AllocError> for NotBegun {
 /// pipe or file that the configuration names, until one says `stop`. Each answer is printed to `out`; where someone
 /// watches, a line for each camera tells every second how it stands. Where the input ends, it goes on.
 pub fn run_station<
-    R: AllocGlobal + Files<File = File> + Threads + Wait + Clock + Clone + Drop + Send + Sync + 'static,
+    R: AllocGlobal + Places + Threads + Wait + Clock + Clone + Drop + Send + Sync + 'static,
     I: Read + Drop,
     W: Write + Drop + Send + 'static,
->(
-    rt: &R,
-    config: Config,
-    input: I,
-    out: W,
-    watched: bool,
-) -> Result<(), NotBegun> {
+>(rt: &R, config: Config, input: I, out: W, watched: bool) -> Result<(), NotBegun> {
     let alloc = rt.alloc();
     let Config { orders, cameras } = config;
     let Ok(timeline) = Timeline::new(rt) else {
@@ -64,16 +56,18 @@ pub fn run_station<
     };
     let mut states = Vec::with_capacity(alloc, cameras.len())?;
     for camera in cameras {
-        states.push_reserved(Arc::new(alloc, CameraState::new(alloc, camera, timeline)?)?);
+        states.push_reserved(shared(alloc, CameraState::new(alloc, camera, timeline)?)?);
     }
     let station = Station {
         cameras: states,
-        outlet: Arc::new(alloc, Outlet::new(out))?,
-        saves: Arc::new(alloc, AtomicU64::new(0))?,
+        outlet: shared(alloc, Outlet::new(out))?,
+        saves: shared(alloc, AtomicU64::new(0))?,
     };
     start_sources(rt, &station)?;
     let line = Vec::with_capacity(alloc, MAX_LINE + 1)?;
-    let input = BufReader::new(alloc, input)?;
+    let Ok(input) = BufReader::new(alloc, input) else {
+        return Err(NotBegun::NoMemory);
+    };
     let handles = Vec::with_capacity(alloc, station.cameras.len().saturating_add(1))?;
     if !run_behind(rt, &station, orders, input, line, handles, watched) {
         return Err(NotBegun::NoMemory);
@@ -82,15 +76,25 @@ pub fn run_station<
     Ok(())
 }
 
+// A value that threads share.
+fn shared<T: Drop>(alloc: Global, value: T) -> Result<Arc<T>, NotBegun> {
+    match Arc::new(alloc, value) {
+        Ok(shared) => Ok(shared),
+        Err(_) => Err(NotBegun::NoMemory),
+    }
+}
+
 // Starts a thread for each source. A source may keep its thread waiting for ever, so they aren't joined: they end with the
 // program.
 fn start_sources<
-    R: AllocGlobal + Files<File = File> + Threads + Wait + Clock + Clone + Drop + Send + Sync + 'static,
+    R: AllocGlobal + Places + Threads + Wait + Clock + Clone + Drop + Send + Sync + 'static,
     W: Write + Drop + Send + 'static,
 >(rt: &R, station: &Station<W>) -> Result<(), NotBegun> {
     for state in station.cameras.as_slice() {
         let state = Arc::try_clone(state)?;
-        let theirs = rt.clone();
+        let Ok(theirs) = rt.clone() else {
+            return Err(NotBegun::NoMemory);
+        };
         if thread::spawn(rt, move || run_source(&theirs, &state)).is_err() {
             return Err(NotBegun::NoMemory);
         }
@@ -100,7 +104,7 @@ fn start_sources<
 
 // The scope that the cameras' threads run in.
 fn run_behind<
-    R: AllocGlobal + Files<File = File> + Threads + Wait + Clock + Clone + Drop + Send + Sync + 'static,
+    R: AllocGlobal + Places + Threads + Wait + Clock + Clone + Drop + Send + Sync + 'static,
     I: Read + Drop,
     W: Write + Drop + Send + 'static,
 >(
@@ -122,7 +126,7 @@ fn run_behind<
 fn run_in<
     's,
     E,
-    R: AllocGlobal + Files<File = File> + Threads + Wait + Clock + Clone + Drop + Send + Sync + 'static,
+    R: AllocGlobal + Places + Threads + Wait + Clock + Clone + Drop + Send + Sync + 'static,
     I: Read + Drop,
     W: Write + Drop + Send + 'static,
 >(
@@ -153,7 +157,7 @@ fn run_in<
 fn start_cameras<
     's,
     E,
-    R: AllocGlobal + Files<File = File> + Threads + Wait + Clock + Sync + 'static,
+    R: AllocGlobal + Places + Threads + Wait + Clock + Sync + 'static,
     W: Write + Drop + Send + 'static,
 >(
     rt: &'s R,
@@ -208,7 +212,7 @@ fn show<R: AllocGlobal + Wait + Clock, W: Write + Drop>(rt: &R, station: &Statio
 // Does orders, from the pipe or file that is named, which is opened again and again, or from the input; whether one said
 // `stop`.
 fn serve<
-    R: AllocGlobal + Files<File = File> + Threads + Wait + Clock + Clone + Drop + Send + Sync + 'static,
+    R: AllocGlobal + Places + Threads + Wait + Clock + Clone + Drop + Send + Sync + 'static,
     I: Read + Drop,
     W: Write + Drop + Send + 'static,
 >(
@@ -244,10 +248,10 @@ enum Served {
 
 // Does the orders of a pipe or file, from its beginning to its end.
 fn serve_file<
-    R: AllocGlobal + Files<File = File> + Threads + Wait + Clock + Clone + Drop + Send + Sync + 'static,
+    R: AllocGlobal + Places + Threads + Wait + Clock + Clone + Drop + Send + Sync + 'static,
     W: Write + Drop + Send + 'static,
 >(rt: &R, station: &Station<W>, path: &str, line: &mut Vec<u8>) -> Served {
-    let Ok(file) = File::open(rt, path) else {
+    let Ok(file) = rt.open_input(path) else {
         return Served::Again;
     };
     let once = match file.metadata() {

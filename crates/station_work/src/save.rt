@@ -3,6 +3,7 @@
 use crate::absent::Absent;
 use crate::clerk::{Answer, Request};
 use crate::outlet::Outlet;
+use crate::places::Places;
 use crate::state::CameraState;
 use loop_record::Geometry;
 use loop_recorder::SessionFault;
@@ -10,9 +11,7 @@ use loop_store::{Clip, StoreFault};
 use loop_y4m::{write_frame, write_header};
 use station_words::{print_not_saved, print_saved};
 use std::alloc::{AllocGlobal, Global};
-use std::fs::{File, OpenFile, OpenOptions};
 use std::io::{BufWriter, Write};
-use std::rt::Files;
 use std::sync::Wait;
 
 /// How many bytes of a text are gathered before they are written.
@@ -52,7 +51,7 @@ impl NotSaved {
 }
 
 /// Writes a camera's clip into a file or pipe, and prints how many frames that were, or why they weren't.
-pub(crate) fn run_save<R: AllocGlobal + Files<File = File> + Wait, W: Write + Drop>(
+pub(crate) fn run_save<R: AllocGlobal + Places + Wait, W: Write + Drop>(
     rt: &R,
     state: &CameraState,
     outlet: &Outlet<W>,
@@ -63,7 +62,7 @@ pub(crate) fn run_save<R: AllocGlobal + Files<File = File> + Wait, W: Write + Dr
     let name = state.config.name.as_str();
     let printed = match save(rt, state, id, path) {
         Ok(count) => print_saved(&mut line, name, id, path, count),
-        Err(why) => print_not_saved(&mut line, name, id, path, why.name()),
+        Err(why) => print_not_saved(&mut line, name, id, path, &why.name()),
     };
     if printed.is_ok() {
         outlet.put(rt, &line);
@@ -71,7 +70,7 @@ pub(crate) fn run_save<R: AllocGlobal + Files<File = File> + Wait, W: Write + Dr
 }
 
 // Writes a camera's clip, and answers how many frames it has.
-fn save<R: AllocGlobal + Files<File = File> + Wait>(
+fn save<R: AllocGlobal + Places + Wait>(
     rt: &R,
     state: &CameraState,
     id: u32,
@@ -81,7 +80,9 @@ fn save<R: AllocGlobal + Files<File = File> + Wait>(
     let Some(geometry) = state.link.store(rt) else {
         return Err(NotSaved::Absent(Absent::NoStore));
     };
-    let file = open_out(rt, path)?;
+    let Ok(file) = rt.open_output(path) else {
+        return Err(NotSaved::CannotOpen);
+    };
     let Ok(mut out) = BufWriter::with_capacity(rt.alloc(), AT_ONCE, file) else {
         return Err(NotSaved::NoMemory);
     };
@@ -104,26 +105,6 @@ fn clip_of<R: AllocGlobal + Wait>(rt: &R, state: &CameraState, id: u32) -> Resul
         Some(Err(why)) => Err(NotSaved::Absent(why)),
         Some(Ok(_)) | None => Err(NotSaved::NoSuchClip),
     }
-}
-
-// Opens what a clip is written to. A file that is in use, as a store that is recorded into, is left alone; another one is
-// emptied.
-fn open_out<R: Files<File = File>>(rt: &R, path: &str) -> Result<File, NotSaved> {
-    let Ok(file) = OpenOptions::new().write(true).create(true).open(rt, path) else {
-        return Err(NotSaved::CannotOpen);
-    };
-    let Ok(metadata) = file.metadata() else {
-        return Err(NotSaved::CannotOpen);
-    };
-    if metadata.is_file() {
-        if file.try_lock().is_err() {
-            return Err(NotSaved::CannotOpen);
-        }
-        if metadata.len() > 0 && file.set_len(0).is_err() {
-            return Err(NotSaved::CannotWrite);
-        }
-    }
-    Ok(file)
 }
 
 // Writes the frames of a clip behind a header.

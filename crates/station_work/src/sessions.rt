@@ -5,30 +5,29 @@ ghost use Rattle.loop_recorder.specs.Opened.{IsReady};
 
 use crate::absent::Absent;
 use crate::feed::FeedSource;
+use crate::places::Places;
+use crate::size::size_of;
 use crate::state::CameraState;
 use loop_capture::{Device, FrameSource};
-use loop_commands::{Start, Unrecorded, camera_before, run_on_file, start_of, start_queue};
+use loop_commands::{Start, Unrecorded, camera_before, start_of, start_queue};
 use loop_file::{FileDisk, FileFault};
 use loop_plane::{MmapPlane, PlaneMemory};
 use loop_record::Geometry;
 use loop_recorder::{Camera, EndRefused, Ended, NewRefused, Recorder, camera_again, record_led};
-use loop_script::FileCommand;
 use loop_store::{OpenRefused, Store, StoreFault};
 use station_words::{RingSize, Room, frames_in, ring_for, ring_within};
 use std::alloc::{AllocGlobal, Global};
-use std::fs::File;
-use std::rt::Files;
+use std::sync::atomic::Ordering;
 use std::sync::{Arc, Wait};
 use std::thread;
 use std::thread::Threads;
 use std::time::{Clock, Duration};
-use std::sync::atomic::Ordering;
 
-/// How long a store that can't be had is left alone.
-const OPEN_AGAIN: Duration = Duration::from_millis(1_000);
+/// How many milliseconds a store that can't be had is left alone.
+const OPEN_AGAIN: u64 = 1_000;
 
-/// How long a header is waited for before it is looked whether the program ends.
-const LOOK_AGAIN: Duration = Duration::from_millis(100);
+/// How many milliseconds a header is waited for before it is looked whether the program ends.
+const LOOK_AGAIN: u64 = 100;
 
 /// The passes of a session: the camera's, the flusher's, the reader's, and those of who takes orders and who reads frames
 /// for a save.
@@ -39,7 +38,7 @@ type FileCamera = Camera<FileDisk, MmapPlane>;
 
 /// Opens a camera's store, or makes it, and records into it, until the camera is stopped. Where the store can't be had
 /// or its disk fails, it is opened again.
-pub(crate) fn run_camera<R: AllocGlobal + Files<File = File> + Threads + Wait + Clock + Sync>(
+pub(crate) fn run_camera<R: AllocGlobal + Places + Threads + Wait + Clock + Sync>(
     rt: &R,
     state: &CameraState,
 ) {
@@ -54,19 +53,19 @@ pub(crate) fn run_camera<R: AllocGlobal + Files<File = File> + Threads + Wait + 
         state.leave(rt, why);
         if !state.is_stopped() {
             state.counts.faults.fetch_add(1, Ordering::SeqCst);
-            thread::sleep(rt, OPEN_AGAIN);
+            thread::sleep(rt, Duration::from_millis(OPEN_AGAIN));
         }
     }
     state.leave(rt, Absent::Stopped);
 }
 
 /// The store of a camera, made for its source where it isn't there.
-fn open_store<R: AllocGlobal + Files<File = File> + Wait + Clock>(
+fn open_store<R: AllocGlobal + Places + Wait + Clock>(
     rt: &R,
     state: &CameraState,
 ) -> Result<Store<FileDisk>, Absent> {
     let path = state.config.store.as_str();
-    let disk = match FileDisk::open(rt, path) {
+    let disk = match rt.open_store(path) {
         Ok(disk) => disk,
         Err(FileFault::Missing) => make_store(rt, state, path)?,
         Err(fault) => return Err(Absent::File(fault)),
@@ -78,7 +77,7 @@ fn open_store<R: AllocGlobal + Files<File = File> + Wait + Clock>(
 }
 
 /// Makes the store of a camera for what its source's header says, once that is there, and opens its file.
-fn make_store<R: AllocGlobal + Files<File = File> + Wait + Clock>(
+fn make_store<R: AllocGlobal + Places + Wait + Clock>(
     rt: &R,
     state: &CameraState,
     path: &str,
@@ -90,12 +89,10 @@ fn make_store<R: AllocGlobal + Files<File = File> + Wait + Clock>(
     let Some(geometry) = geometry_for(&header, &state.config.room) else {
         return Err(Absent::NoGeometry);
     };
-    let (mut told, mut refused) = (Vec::new(rt.alloc()), Vec::new(rt.alloc()));
-    let command = FileCommand::Format(geometry);
-    if run_on_file(rt, path, command, &mut told, &mut refused) != 0 {
+    if !rt.make_store(path, geometry) {
         return Err(Absent::File(FileFault::Failed));
     }
-    match FileDisk::open(rt, path) {
+    match rt.open_store(path) {
         Ok(disk) => Ok(disk),
         Err(fault) => Err(Absent::File(fault)),
     }
@@ -107,7 +104,7 @@ fn wait_header<R: Wait + Clock>(rt: &R, state: &CameraState) -> Option<Geometry>
         if state.is_stopped() {
             return None;
         }
-        if let Some(header) = state.link.header(rt, LOOK_AGAIN) {
+        if let Some(header) = state.link.header(rt, Duration::from_millis(LOOK_AGAIN)) {
             return Some(header);
         }
     }
@@ -117,8 +114,12 @@ fn wait_header<R: Wait + Clock>(rt: &R, state: &CameraState) -> Option<Geometry>
 /// The geometry of a store for a header, with room for as much as is to be kept.
 fn geometry_for(header: &Geometry, room: &Room) -> Option<Geometry> {
     let RingSize { segments, slots } = match room {
-        Room::Seconds(seconds) => ring_for(frames_in(*seconds, header.rate_num, header.rate_den)),
-        Room::Bytes(bytes) => ring_within(header.frame_bytes(), *bytes),
+        Room::Seconds(seconds) => ring_for(frames_in(
+            *seconds,
+            header.rate_num,
+            header.rate_den.max(1),
+        )),
+        Room::Bytes(bytes) => ring_within(size_of(header)?, *bytes),
     }?;
     let geometry = Geometry {
         segments,
@@ -146,10 +147,7 @@ fn record_into<R: AllocGlobal + Threads + Wait + Clock + Sync>(
 }
 
 /// A camera before a store, and what its queue is started with.
-fn camera_for(
-    alloc: Global,
-    store: Store<FileDisk>,
-) -> Result<(FileCamera, Start), Unrecorded>
+fn camera_for(alloc: Global, store: Store<FileDisk>) -> Result<(FileCamera, Start), Unrecorded>
     ensures { IfOk result (λ made. IsReady ⟦<MmapPlane as PlaneMemory>⟧.plane made.0) }
 {
     let camera = camera_before(alloc, store)?;
@@ -167,7 +165,7 @@ fn run_sessions<R: AllocGlobal + Threads + Wait + Clock + Sync>(
     requires { IsReady ⟦<MmapPlane as PlaneMemory>⟧.plane camera }
 {
     let alloc = rt.alloc();
-    let Some(mut devices) = devices_for(alloc, state, camera.0.geometry().frame_bytes()) else {
+    let Some(mut devices) = devices_for(alloc, state, &camera.0.geometry()) else {
         return Absent::NoBuffers;
     };
     let mut next = run_session(rt, alloc, state, camera, Some(start), &mut devices);
@@ -183,10 +181,11 @@ fn run_sessions<R: AllocGlobal + Threads + Wait + Clock + Sync>(
     Absent::Store(StoreFault::MustReopen)
 }
 
-/// The device that takes a camera's frames, of so many bytes, where its source gives them.
-fn devices_for(alloc: Global, state: &CameraState, size: u32) -> Option<Vec<Device>>
+/// The device that takes a camera's frames where its source gives them.
+fn devices_for(alloc: Global, state: &CameraState, geometry: &Geometry) -> Option<Vec<Device>>
     ensures { IfSome result (λ devices. vec_len devices ≡ 1) }
 {
+    let size = size_of(geometry)?;
     let feed = Arc::try_clone(&state.feed).ok()?;
     let source = Box::new(alloc, FeedSource { feed }).ok()?;
     let source: Box<dyn FrameSource + Send> = source;

@@ -2,48 +2,53 @@
 
 use crate::feed::Fed;
 use crate::link::SourceState;
+use crate::places::Places;
+use crate::size::size_of;
 use crate::state::CameraState;
 use loop_capture::{FrameSource, Pattern};
 use loop_desk::frame_memory;
 use loop_record::Geometry;
 use loop_y4m::Y4mReader;
-use station_words::Source;
+use station_words::{RingSize, Source};
 use std::alloc::AllocGlobal;
-use std::fs::{File, OpenFile};
+use std::fs::OpenFile;
 use std::io::{BufReader, Read};
-use std::rt::Files;
 use std::sync::Wait;
 use std::sync::atomic::Ordering;
 use std::thread;
 use std::time::{Clock, Duration};
 
-/// How long a source that ended, broke or isn't there is left alone.
-const OPEN_AGAIN: Duration = Duration::from_millis(200);
+/// How many milliseconds a source that ended, broke or isn't there is left alone.
+const OPEN_AGAIN: u64 = 200;
 
 /// How many bytes of a source are fetched at once: as many as a pipe holds.
 const AT_ONCE: usize = 65_536;
+
+/// A ring of any size: the store's own is chosen elsewhere.
+const ANY_RING: RingSize = RingSize {
+    segments: 2,
+    slots: 1,
+};
 
 /// A source that is so many microseconds late gives its frames from now on.
 const LATE: u64 = 1_000_000;
 
 /// Gives a source's frames to a camera's feed, and opens it again where it ends or breaks, until the camera is stopped.
-pub(crate) fn run_source<R: AllocGlobal + Files<File = File> + Wait + Clock>(
-    rt: &R,
-    state: &CameraState,
-) {
+pub(crate) fn run_source<R: AllocGlobal + Places + Wait + Clock>(rt: &R, state: &CameraState) {
     for _ in rt.forever() {
         if state.is_stopped() {
             break;
         }
         match &state.config.source {
-            Source::Pattern(geometry) => play_pattern(rt, state, geometry),
+            Source::Pattern(shape) => play_pattern(rt, state, &shape.geometry(ANY_RING)),
             Source::Path(path) => play_file(rt, state, path.as_str()),
         }
-        thread::sleep(rt, OPEN_AGAIN);
+        thread::sleep(rt, Duration::from_millis(OPEN_AGAIN));
     }
 }
 
 /// When the frames of a source that doesn't come by itself are due.
+#[derive(Drop)]
 struct Beat {
     start: u64,
     count: u64,
@@ -55,13 +60,14 @@ impl Beat {
     /// Sleeps until the next frame is due.
     fn wait<R: Clock>(&mut self, rt: &R, state: &CameraState) {
         let now = state.timeline.now(rt);
-        let passed = u128::from(self.count) * 1_000_000 * u128::from(self.den) / u128::from(self.num.max(1));
+        let passed = u128::from(self.count) * 1_000_000 * u128::from(self.den)
+            / u128::from(self.num.max(1));
         let due = self
             .start
             .saturating_add(u64::try_from(passed).unwrap_or(u64::MAX));
         if due > now {
-            thread::sleep(rt, Duration::from_micros(due - now));
-        } else if now - due > LATE {
+            thread::sleep(rt, Duration::from_micros(due.saturating_sub(now)));
+        } else if now > due.saturating_add(LATE) {
             self.start = now;
             self.count = 0;
         }
@@ -70,7 +76,7 @@ impl Beat {
 }
 
 /// One that begins now, at a geometry's rate.
-fn beat<R: Clock>(rt: &R, state: &CameraState, geometry: &Geometry) -> Beat {
+fn beat_of<R: Clock>(rt: &R, state: &CameraState, geometry: &Geometry) -> Beat {
     Beat {
         start: state.timeline.now(rt),
         count: 0,
@@ -81,18 +87,21 @@ fn beat<R: Clock>(rt: &R, state: &CameraState, geometry: &Geometry) -> Beat {
 
 /// Gives the frames of the pattern, each when it is due.
 fn play_pattern<R: AllocGlobal + Wait + Clock>(rt: &R, state: &CameraState, geometry: &Geometry) {
+    let Some(size) = size_of(geometry) else {
+        return;
+    };
     if !offer(rt, state, geometry) {
         return;
     }
     let mut pattern = Pattern::new();
-    let mut beat = beat(rt, state, geometry);
+    let mut beat = beat_of(rt, state, geometry);
     for _ in rt.forever() {
         if state.is_stopped() {
             break;
         }
         beat.wait(rt, state);
         let spare = state.feed.memory(rt);
-        let Ok(mut bytes) = frame_memory(rt.alloc(), spare, geometry.frame_bytes() as usize) else {
+        let Ok(mut bytes) = frame_memory(rt.alloc(), spare, size as usize) else {
             break;
         };
         let _more = pattern.next(&mut bytes);
@@ -108,12 +117,8 @@ fn offer<R: Wait>(rt: &R, state: &CameraState, geometry: &Geometry) -> bool {
 }
 
 /// Gives the frames of a file or pipe: those of a file each when it is due, those of a pipe as they come.
-fn play_file<R: AllocGlobal + Files<File = File> + Wait + Clock>(
-    rt: &R,
-    state: &CameraState,
-    path: &str,
-) {
-    let Ok(file) = File::open(rt, path) else {
+fn play_file<R: AllocGlobal + Places + Wait + Clock>(rt: &R, state: &CameraState, path: &str) {
+    let Ok(file) = rt.open_input(path) else {
         state.link.set_source(rt, SourceState::Missing);
         return;
     };
@@ -140,15 +145,14 @@ fn play_input<R: AllocGlobal + Wait + Clock, I: Read + Drop>(
         state.link.set_source(rt, SourceState::Missing);
         return;
     };
-    // A ring of any size: the store's own is chosen elsewhere.
-    let Ok(geometry) = reader.geometry(2, 1) else {
+    let Ok(geometry) = reader.geometry(ANY_RING.segments, ANY_RING.slots) else {
         state.link.set_source(rt, SourceState::Missing);
         return;
     };
     if !offer(rt, state, &geometry) {
         return;
     }
-    let mut beat = beat(rt, state, &geometry);
+    let mut beat = beat_of(rt, state, &geometry);
     for _ in rt.forever() {
         if state.is_stopped() {
             break;

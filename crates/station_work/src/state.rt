@@ -18,16 +18,16 @@ use loop_recorder::{Lead, Pace, Pass, Recorder, SessionFault, Step};
 use loop_store::{ReadFrame, StoreFault};
 use station_words::CameraConfig;
 use std::alloc::{AllocError, Global};
-use std::sync::{Arc, Wait};
 use std::sync::atomic::{AtomicBool, Ordering};
-use std::time::{Clock, Duration};
+use std::sync::{Arc, Wait};
 use std::thread;
+use std::time::{Clock, Duration};
 
-/// How long a device waits for a frame before it looks whether its session is over.
-const LOOK_AGAIN: Duration = Duration::from_millis(50);
+/// How many milliseconds a device waits for a frame before it looks whether its session is over.
+const LOOK_AGAIN: u64 = 50;
 
-/// How long a flush that found no room is left alone.
-const FLUSH_AGAIN: Duration = Duration::from_millis(100);
+/// How many milliseconds a flush that found no room is left alone.
+const FLUSH_AGAIN: u64 = 100;
 
 /// With so many entries in its history a session ends, and the next one begins: far below the most calls that a history
 /// may have, so that what is under way finds room.
@@ -126,7 +126,7 @@ impl Lead for CameraState {
                 self.reader.close(rt);
                 return None;
             }
-            if let Some(time) = self.feed.make_ready(rt, LOOK_AGAIN) {
+            if let Some(time) = self.feed.make_ready(rt, Duration::from_millis(LOOK_AGAIN)) {
                 return Some(time);
             }
         }
@@ -152,7 +152,7 @@ impl Lead for CameraState {
     fn flushes_again<R: Wait + Clock>(&self, rt: &R, _camera: u32, fault: SessionFault) -> bool {
         match fault {
             SessionFault::NoMemory | SessionFault::Desk(StoreFault::AllLocked) => {
-                thread::sleep(rt, FLUSH_AGAIN);
+                thread::sleep(rt, Duration::from_millis(FLUSH_AGAIN));
                 !self.is_over()
             }
             _ => {

@@ -9,7 +9,10 @@ use loop_record::Geometry;
 use loop_recorder::SessionFault;
 use loop_script::Listing;
 use loop_store::{Clip, StoreFault};
-use station_words::{Stood, print_absent, print_camera, print_kept, print_kept_none, print_refused, print_released, print_status};
+use station_words::{
+    CameraStatus, print_absent, print_camera, print_kept, print_refused, print_released,
+    print_status,
+};
 use std::io;
 use std::io::Write;
 use std::sync::Wait;
@@ -31,10 +34,10 @@ pub(crate) fn tell_kept<L: Write>(
         _ => return Ok(()),
     };
     for clip in kept.clips.as_slice() {
-        print_kept(lines, name, *clip)?;
+        print_kept(lines, name, Some(*clip))?;
     }
     if kept.clips.is_empty() && kept.fault.is_none() {
-        print_kept_none(lines, name)?;
+        print_kept(lines, name, None)?;
     }
     if let Some(fault) = refused {
         tell_fault(name, fault, lines)?;
@@ -79,8 +82,7 @@ pub(crate) fn tell_listed<L: Write>(
     let name = state.config.name.as_str();
     match answered {
         Some(Ok(Answer::Looked(Ok(outline)))) => {
-            print_camera(lines, name)?;
-            Listing::of_outline(outline).print(lines)
+            print_camera(lines, name, &Listing::of_outline(outline))
         }
         Some(Ok(Answer::Looked(Err(fault)))) => print_refused(lines, name, fault),
         Some(Err(why)) => print_absent(lines, name, why.name()),
@@ -114,14 +116,14 @@ pub(crate) fn tell_status<R: Wait, L: Write>(
     print_status(
         lines,
         name,
-        Stood {
+        &CameraStatus {
             stored: outline.next,
             given_up: state.counts.given_up.load(Ordering::SeqCst),
             waiting: u64::from(outline.pending),
             room,
             faults: state.counts.faults.load(Ordering::SeqCst),
+            source,
         },
-        source,
     )
 }
 
@@ -150,7 +152,5 @@ fn free_blocks(geometry: &Geometry, outline: &Outline) -> u64 {
 
 // Whether some clip has a frame of a block.
 fn meets_any(clips: &[Clip], block: u64, slots: u64) -> bool {
-    clips
-        .iter()
-        .any(|clip| clip.from / slots.max(1) <= block && block <= clip.to / slots.max(1))
+    clips.iter().any(|clip| clip.from / slots.max(1) <= block && block <= clip.to / slots.max(1))
 }
