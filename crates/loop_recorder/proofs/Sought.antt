@@ -1,6 +1,6 @@
 -- The held frames of a time: what their heads say, and which numbers are put into runs.
 use Rattle.std.proofs.Common.{◌≡◌, ℕ, ◌+◌, ◌≤◌, Bool, true, false, cond, Option, Some, None, Ok, List, [], ◌∷◌, ◌++◌, length, map, refl, sym, ap, ◌∙◌, subst, arith}
-use Rattle.std.specs.Prelude.{All, ◌==◌, if◌then◌else◌}
+use Rattle.std.specs.Prelude.{◌==◌, if◌then◌else◌}
 use Rattle.std.specs.List.{filter}
 use Rattle.std.proofs.lemmas.Bool.{eq-eqb, ne_eqb}
 use Rattle.std.proofs.lemmas.List.{map-append}
@@ -23,8 +23,13 @@ use Rattle.loop_recorder.specs.Histories.{noted_call}
 use Rattle.loop_recorder.specs.Keeps.{is_in, numbers_in_time, read_noted}
 
 -- a head is that of the frame under its number
-IsTold : List (ℕ × Picture) → ℕ × FrameHead → Type 0
+abbrev IsTold : List (ℕ × Picture) → ℕ × FrameHead → Type 0
 IsTold fs x = (p : Picture) × ((frame_under fs x.0 ≡ Some p) × (x.1 ≡ head x.0 p))
+
+-- so is each
+abbrev AreTold : List (ℕ × Picture) → List (ℕ × FrameHead) → Type 0
+AreTold fs [] = Unit {0}
+AreTold fs (x ∷ xs) = IsTold fs x × AreTold fs xs
 
 -- ---- heads that were read
 
@@ -35,10 +40,10 @@ due-read None n x given = given
 due-read (Some fault) n x clash = absurd cc
 
 reads-told : (k : Rules) (t : DeskState) (heads : List (ℕ × FrameHead))
-    → AreDeskAnswers k t (map (λ x. noted_call (read_noted x)) heads) → All (IsTold t.store.recording.frames) heads
+    → AreDeskAnswers k t (map (λ x. noted_call (read_noted x)) heads) → AreTold t.store.recording.frames heads
 reads-told k t [] answers = tt
 reads-told k t (x ∷ xs) answers =
-    let held = due-read _ x.0 (x.1, []) answers.0.1.0 tt in
+    let held = due-read {G = Unit {0} → IsHeldFrame t.store.recording x.0 x.1 []} _ x.0 (x.1, []) answers.0.1.0 tt in
     ((held.picture, (held.there, held.head_is)), reads-told k (desk_after k t (frame_read x.0 (Ok (x.1, [])))) xs answers.1)
 
 -- ---- heads beside frames
@@ -53,7 +58,7 @@ told-rest f fs x above told =
 
 told-all-rest : (f : ℕ × Picture) (fs : List (ℕ × Picture)) (xs : List (ℕ × FrameHead)) (low high : ℕ)
     (gs : List (ℕ × Picture)) → f.0 + 1 ≤ low → RiseBetween low high gs → map (λ x. x.0) xs ≡ map (λ g. g.0) gs
-    → All (IsTold (f ∷ fs)) xs → All (IsTold fs) xs
+    → AreTold (f ∷ fs) xs → AreTold fs xs
 told-all-rest f fs [] low high gs above rise same told = tt
 told-all-rest f fs (x ∷ xs) low high [] above rise same told = absurd cc
 told-all-rest f fs (x ∷ xs) low high (g ∷ gs) above rise same told =
@@ -73,7 +78,7 @@ told-first f fs x same told =
 
 -- the numbers of heads that pass a test of their time are those of the frames that do
 filter-same : (times : Times) (low high : ℕ) (fs : List (ℕ × Picture)) (xs : List (ℕ × FrameHead)) → RiseBetween low high fs
-    → map (λ x. x.0) xs ≡ map (λ f. f.0) fs → All (IsTold fs) xs
+    → map (λ x. x.0) xs ≡ map (λ f. f.0) fs → AreTold fs xs
     → map (λ x. x.0) (filter (λ x. is_in times x.1.timestamp) xs)
     ≡ map (λ f. f.0) (filter (λ f. is_in times f.1.timestamp) fs)
 filter-same times low high [] [] rise same told = refl
@@ -133,19 +138,20 @@ pub sought : {D : Type 0} (medium : D → Medium) (old new : SeenDesk D) (calls 
     → StandsAt medium old s → (medium old.store.disk).honest → old.store.must_reopen ≡ false
     → map (λ x. x.0) heads ≡ map (λ f. f.0) s.store.recording.frames
     → map (λ x. x.0) (filter (λ x. is_in times x.1.timestamp) heads) ≡ numbers_in_time times s.store.recording
-sought medium old new calls heads locks rest times s goes noted stands now open same =
+sought medium old new calls heads locks rest times s goes noted stands now fine same =
     let k = rules_of old in
     let model = answers-are medium old new calls s goes stands now in
     let bare = (blind k s calls).answers model.0 in
     let all = subst (λ (cs : List DeskCall). AreDeskAnswers k (bare_state s) cs) (sym noted
-        ∙ map-append noted_call (map read_noted heads ++ locks) rest
-        ∙ ap (λ l. l ++ map noted_call rest) (map-append noted_call (map read_noted heads) locks
-        ∙ ap (λ l. l ++ map noted_call locks) (map-map noted_call read_noted heads))) bare in
+    ∙ map-append noted_call (map read_noted heads ++ locks) rest
+    ∙ ap (λ l. l ++ map noted_call rest) (map-append noted_call (map read_noted heads) locks
+    ∙ ap (λ l. l ++ map noted_call locks) (map-map noted_call read_noted heads))) bare in
     let front = each-parts (desk_after k) (IsDeskAnswer k) (bare_state s)
-        (map (λ x. noted_call (read_noted x)) heads ++ map noted_call locks) (map noted_call rest) all in
+    (map (λ x. noted_call (read_noted x)) heads ++ map noted_call locks) (map noted_call rest) all in
     let first = each-parts (desk_after k) (IsDeskAnswer k) (bare_state s) (map (λ x. noted_call (read_noted x)) heads)
-        (map noted_call locks) front.0 in
-    let formed : IsWellFormed s.store.recording = reading-well_formed _ _ _ (stands.store.recording.held open now) in
+    (map noted_call locks) front.0 in
+    let formed : IsWellFormed s.store.recording = reading-well_formed old.store.geometry s.store.recording (medium old.store.disk).bytes
+    (stands.store.recording.held fine now) in
     filter-same times 0 s.store.recording.next (map bare_frame s.store.recording.frames) heads
     (rise-bare 0 s.store.recording.next s.store.recording.frames formed.rising)
     (same ∙ sym (numbers-bare s.store.recording.frames)) (reads-told k (bare_state s) heads first.0)

@@ -17,6 +17,7 @@ use Rattle.loop_recorder.specs.declared.entry.Pass.{Pass}
 use Rattle.loop_recorder.specs.declared.entry.Receipt.{Receipt}
 use Rattle.loop_recorder.specs.declared.fault.SessionFault.{SessionFault}
 use Rattle.loop_recorder.specs.declared.keep.Kept.{Kept}
+use Rattle.loop_recorder.specs.declared.keep.Run.{Run}
 use Rattle.loop_recorder.specs.declared.keep.Times.{Times}
 use Rattle.loop_recorder.specs.Histories.{noted_call}
 use Rattle.loop_recorder.specs.Receipts.{entry, heard, pass_number, receipt, receipts_of}
@@ -32,21 +33,29 @@ is_in times moment = nat_le times.since moment && nat_le moment times.until
 abbrev pub numbers_in_time : Times → Recording → List ℕ
 numbers_in_time times r = map (λ f. f.0) (filter (λ f. is_in times f.1.timestamp) r.frames)
 
--- the numbers from the first of a span to its last
-abbrev pub numbers_of_span : Span → List ℕ
-numbers_of_span s = range_with_len s.from (s.to + 1 - s.from)
+-- the numbers from the first of a run to its last
+abbrev pub numbers_of_run : Run → List ℕ
+numbers_of_run r = range_with_len r.from (r.to + 1 - r.from)
 
--- those of spans, one behind the other
-abbrev pub numbers_of_spans : List Span → List ℕ
-numbers_of_spans spans = flat_map numbers_of_span spans
+-- those of runs, one behind the other
+abbrev pub numbers_of_runs : List Run → List ℕ
+numbers_of_runs runs = flat_map numbers_of_run runs
 
--- the frames of a clip
-abbrev pub span_of : Clip → Span
-span_of c = record { from = c.from; to = c.to; tag = c.tag }
+-- the run of a clip
+abbrev pub run_in : Clip → Run
+run_in c = record { from = c.from; to = c.to }
 
 -- those of clips, in their order
-abbrev pub spans_of : List Clip → List Span
-spans_of clips = map span_of clips
+abbrev pub runs_in : List Clip → List Run
+runs_in clips = map run_in clips
+
+-- the numbers of clips, one clip behind the other
+abbrev pub numbers_of_clips : List Clip → List ℕ
+numbers_of_clips clips = numbers_of_runs (runs_in clips)
+
+-- what a clip locks
+abbrev pub span_of : Clip → Span
+span_of c = record { from = c.from; to = c.to; tag = c.tag }
 
 -- ---- what is noted
 
@@ -85,7 +94,7 @@ pub record Keeps {D A : Type 0} (medium : D → Medium) (times : Times) (tag : �
   pub tags : All (λ (c : Clip). c.tag ≡ tag) kept.clips.items
   pub asked : SeenDesk D
   pub whole : kept.fault ≡ None → (medium asked.store.disk).honest → (s : DeskState) × (StandsAt medium asked s
-      × (numbers_of_spans (spans_of kept.clips.items) ≡ numbers_in_time times s.store.recording))
+      × (numbers_of_clips kept.clips.items ≡ numbers_in_time times s.store.recording))
 
 -- a keep under a desk's lock
 pub record KeepsNow {D A : Type 0} (medium : D → Medium) (camera : ℕ) (times : Times) (tag : ℕ) (old new : SeenSession)
@@ -118,25 +127,25 @@ pub record Notes {D A : Type 0} (medium : D → Medium) (camera : ℕ) (notes : 
   pub received : ReceivesAll camera (length before) notes given back
 
 -- the heads of these numbers were looked at, and those of frames whose time is among these were put into the runs
-pub record Seeks {D A : Type 0} (medium : D → Medium) (camera : ℕ) (times : Times) (tag : ℕ) (numbers : List ℕ)
-    (old new : SeenDesk D) (before after : List Entry) (given back : Pass A) (runs more : List Span)
+pub record Seeks {D A : Type 0} (medium : D → Medium) (camera : ℕ) (times : Times) (numbers : List ℕ)
+    (old new : SeenDesk D) (before after : List Entry) (given back : Pass A) (runs more : List Run)
     (result : Result (Unit {0}) SessionFault) : Type 0 where
   pub heads : List (ℕ × FrameHead)
   pub rest : List Noted
   pub notes : Notes medium camera (map read_noted heads ++ rest) old new before after given back
   pub whole : OnOk result ((rest ≡ []) × (map (λ x. x.0) heads ≡ numbers))
-  pub found : OnOk result (numbers_of_spans more
-      ≡ numbers_of_spans runs ++ map (λ x. x.0) (filter (λ x. is_in times x.1.timestamp) heads))
-  pub tags : All (λ (s : Span). s.tag ≡ tag) runs → All (λ (s : Span). s.tag ≡ tag) more
+  pub found : OnOk result (numbers_of_runs more
+      ≡ numbers_of_runs runs ++ map (λ x. x.0) (filter (λ x. is_in times x.1.timestamp) heads))
 
--- runs were locked, from the first on
-pub record Locks {D A : Type 0} (medium : D → Medium) (camera : ℕ) (runs : List Span) (clips : List Clip)
+-- runs were locked with a tag, from the first on
+pub record Locks {D A : Type 0} (medium : D → Medium) (camera tag : ℕ) (runs : List Run) (clips : List Clip)
     (old new : SeenDesk D) (before after : List Entry) (given back : Pass A) (result : Result (Unit {0}) SessionFault)
     : Type 0 where
   pub rest : List Noted
-  pub left : List Span
+  pub left : List Run
   pub notes : Notes medium camera (map lock_noted clips ++ rest) old new before after given back
-  pub spans : runs ≡ spans_of clips ++ left
+  pub tags : All (λ (c : Clip). c.tag ≡ tag) clips
+  pub locked : runs ≡ runs_in clips ++ left
   pub whole : OnOk result ((rest ≡ []) × (left ≡ []))
 
 -- what a keep of these numbers did
@@ -148,7 +157,7 @@ pub record KeepsNumbers {D A : Type 0} (medium : D → Medium) (camera : ℕ) (t
       given back
   pub tags : All (λ (c : Clip). c.tag ≡ tag) kept.clips.items
   pub whole : kept.fault ≡ None → (rest ≡ []) × (map (λ x. x.0) heads ≡ numbers)
-  pub covered : kept.fault ≡ None → numbers_of_spans (spans_of kept.clips.items)
+  pub covered : kept.fault ≡ None → numbers_of_clips kept.clips.items
       ≡ map (λ x. x.0) (filter (λ x. is_in times x.1.timestamp) heads)
 
 -- what a keep of all held frames did, from each state that the desk stood for
@@ -160,4 +169,4 @@ pub record KeepsHeld {D A : Type 0} (medium : D → Medium) (camera : ℕ) (time
       given back
   pub tags : All (λ (c : Clip). c.tag ≡ tag) kept.clips.items
   pub whole : kept.fault ≡ None → (medium old.store.disk).honest → (s : DeskState) → StandsAt medium old s
-      → numbers_of_spans (spans_of kept.clips.items) ≡ numbers_in_time times s.store.recording
+      → numbers_of_clips kept.clips.items ≡ numbers_in_time times s.store.recording

@@ -1,9 +1,9 @@
 //! The held frames of a time, locked under a desk's lock: their heads are read, and each run of numbers becomes a clip.
 
-ghost use Rattle.std.specs.Prelude.{◌≡◌, ◌∷◌, ◌++◌, ◌≤◌, All, OnOk, Some, [], length};
+ghost use Rattle.std.specs.Prelude.{◌≡◌, ◌∷◌, ◌++◌, ◌≤◌, OnOk, Some, [], length, vec_len};
 ghost use Rattle.std.specs.Option.{option_to_list};
 ghost use Rattle.std.specs.Vec.{vec_capacity};
-ghost use Rattle.loop_recorder.specs.Keeps.{KeepsHeld, KeepsNumbers, Locks, Notes, Seeks, head_note, is_in, numbers_of_span, numbers_of_spans};
+ghost use Rattle.loop_recorder.specs.Keeps.{KeepsHeld, KeepsNumbers, Locks, Notes, Seeks, head_note, is_in, numbers_of_run, numbers_of_runs};
 ghost use Rattle.loop_recorder.specs.Receipts.{lock_note};
 
 use crate::session::{note, reserve};
@@ -83,49 +83,48 @@ fn lock<D: Disk + Drop, A: Allocator + Copy>(
     }
 }
 
+/// Numbers that follow one another, from the first to the last.
+#[derive(Clone, Copy)]
+pub(crate) struct Run {
+    from: u64,
+    to: u64,
+}
+
 /// A run and a number behind it, as one run, or as two.
-fn with_number(run: Span, number: u64, tag: u64) -> (Span, Option<Span>)
-    ensures numbers { numbers_of_spans (result.0 ∷ option_to_list result.1) ≡ numbers_of_span run ++ number ∷ [] }
-    ensures tags { All (λ s. s.tag ≡ tag) (run ∷ []) → All (λ s. s.tag ≡ tag) (result.0 ∷ option_to_list result.1) }
+#[tactic(auto, using(crate::proofs::Keepings::longer))]
+fn with_number(run: Run, number: u64) -> (Run, Option<Run>)
+    ensures { numbers_of_runs (result.0 ∷ option_to_list result.1) ≡ numbers_of_run run ++ number ∷ [] }
 {
-    if run.from <= run.to && run.to.checked_add(1) == Some(number) {
-        let longer = Span {
+    if run.from <= run.to && run.to < number && number - run.to == 1 {
+        let longer = Run {
             from: run.from,
             to: number,
-            tag: run.tag,
         };
         return (longer, None);
     }
-    (run, Some(run_of(number, tag)))
+    (run, Some(one(number)))
 }
 
 /// The run of one number.
-fn run_of(number: u64, tag: u64) -> Span
-    ensures { result ≡ record { from = number; to = number; tag = tag } }
+fn one(number: u64) -> Run
+    ensures { result ≡ record { from = number; to = number } }
 {
-    Span {
+    Run {
         from: number,
         to: number,
-        tag,
     }
 }
 
 /// Puts a number behind the last run, or as a run of its own.
-fn add_number<A: Allocator>(
-    runs: &mut Vec<Span, A>,
-    number: u64,
-    tag: u64,
-) -> Result<(), AllocError>
-    ensures numbers { OnOk result (numbers_of_spans runs.new.items
-        ≡ numbers_of_spans runs.old.items ++ number ∷ []) }
-    ensures tags { All (λ s. s.tag ≡ tag) runs.old.items → All (λ s. s.tag ≡ tag) runs.new.items }
+fn add_number<A: Allocator>(runs: &mut Vec<Run, A>, number: u64) -> Result<(), AllocError>
+    ensures { OnOk result (numbers_of_runs runs.new.items ≡ numbers_of_runs runs.old.items ++ number ∷ []) }
 {
     runs.reserve(1)?;
     let Some(last) = runs.pop() else {
-        runs.push_reserved(run_of(number, tag));
+        runs.push_reserved(one(number));
         return Ok(());
     };
-    let (last, next) = with_number(last, number, tag);
+    let (last, next) = with_number(last, number);
     runs.push_reserved(last);
     if let Some(next) = next {
         runs.push_reserved(next);
@@ -141,15 +140,14 @@ fn seek_one<D: Disk + Drop, A: Allocator + Copy>(
     pass: &mut Pass<A>,
     number: u64,
     times: Times,
-    tag: u64,
-    runs: &mut Vec<Span, A>,
+    runs: &mut Vec<Run, A>,
 ) -> Result<(), SessionFault>
-    ensures { Seeks D.medium camera times tag (number ∷ []) desk.old desk.new history.old.items history.new.items
+    ensures { Seeks D.medium camera times (number ∷ []) desk.old desk.new history.old.items history.new.items
         pass.old pass.new runs.old.items runs.new.items result }
 {
     let head = look(desk, history, camera, pass, number)?;
     if times.has(head.timestamp) {
-        match add_number(runs, number, tag) {
+        match add_number(runs, number) {
             Ok(()) => {}
             Err(_) => return Err(SessionFault::NoMemory),
         }
@@ -165,41 +163,38 @@ fn seek_all<D: Disk + Drop, A: Allocator + Copy>(
     pass: &mut Pass<A>,
     numbers: &[u64],
     times: Times,
-    tag: u64,
-    runs: &mut Vec<Span, A>,
+    runs: &mut Vec<Run, A>,
 ) -> Result<(), SessionFault>
-    ensures { Seeks D.medium camera times tag numbers.now desk.old desk.new history.old.items history.new.items
+    ensures { Seeks D.medium camera times numbers.now desk.old desk.new history.old.items history.new.items
         pass.old pass.new runs.old.items runs.new.items result }
 {
     desk.opens();
     for number in numbers {
-        seek_one(desk, history, camera, pass, *number, times, tag, runs)?;
+        seek_one(desk, history, camera, pass, *number, times, runs)?;
     }
     Ok(())
 }
 
-/// Locks runs, from the first on, and tells each clip.
-fn lock_all_runs<D: Disk + Drop, A: Allocator + Copy>(
+/// Locks runs with a tag, from the first on, and tells each clip.
+fn lock_runs<D: Disk + Drop, A: Allocator + Copy>(
     desk: &mut Desk<D, A>,
     history: &mut Vec<Entry, A>,
     camera: u32,
     pass: &mut Pass<A>,
-    runs: &[Span],
+    tag: u64,
+    runs: &[Run],
     clips: &mut Vec<Clip, A>,
 ) -> Result<(), SessionFault>
-    requires { (clips.old.items ≡ []) × (length runs.now ≤ vec_capacity clips.old) }
-    ensures { Locks D.medium camera runs.now clips.new.items desk.old desk.new history.old.items history.new.items
+    requires empty { (clips.old.items ≡ []) × (vec_len clips.old ≡ 0) }
+    requires room { length runs.now ≤ vec_capacity clips.old }
+    ensures { Locks D.medium camera tag runs.now clips.new.items desk.old desk.new history.old.items history.new.items
         pass.old pass.new result }
 {
     desk.opens();
     for run in runs {
-        let id = lock(desk, history, camera, pass, *run)?;
-        clips.push_reserved(Clip {
-            id,
-            from: run.from,
-            to: run.to,
-            tag: run.tag,
-        });
+        let Run { from, to } = *run;
+        let id = lock(desk, history, camera, pass, Span { from, to, tag })?;
+        clips.push_reserved(Clip { id, from, to, tag });
     }
     Ok(())
 }
@@ -218,16 +213,22 @@ fn keep_runs<D: Disk + Drop, A: Allocator + Copy>(
     ensures { KeepsNumbers D.medium camera times tag numbers.now desk.old desk.new history.old.items history.new.items
         pass.old pass.new result }
 {
-    desk.opens();
-    let mut clips = Vec::new(alloc);
     let mut runs = Vec::new(alloc);
-    if let Err(fault) = seek_all(desk, history, camera, pass, numbers, times, tag, &mut runs) {
-        return refused(clips, fault);
+    if let Err(fault) = seek_all(desk, history, camera, pass, numbers, times, &mut runs) {
+        return refused(Vec::new(alloc), fault);
     }
-    if clips.reserve(runs.len()).is_err() {
-        return refused(clips, SessionFault::NoMemory);
-    }
-    match lock_all_runs(desk, history, camera, pass, &runs, &mut clips) {
+    let Ok(mut clips) = Vec::with_capacity(alloc, runs.len()) else {
+        return refused(Vec::new(alloc), SessionFault::NoMemory);
+    };
+    match lock_runs(
+        desk,
+        history,
+        camera,
+        pass,
+        tag,
+        runs.as_slice(),
+        &mut clips,
+    ) {
         Ok(()) => Kept { clips, fault: None },
         Err(fault) => refused(clips, fault),
     }
@@ -264,7 +265,7 @@ pub(crate) fn keep_at<D: Disk + Drop, A: Allocator + Copy>(
             history,
             camera,
             pass,
-            &outline.frames,
+            outline.frames.as_slice(),
             times,
             tag,
         ),
