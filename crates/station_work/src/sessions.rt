@@ -222,15 +222,15 @@ fn run_session<R: Threads + Wait + Clock + Sync>(
     }
     state.begin_session(rt);
     match record_led(rt, alloc, recorder, passes, devices, state) {
-        Ok(ended) => camera_of(ended),
-        Err(EndRefused::TieBroken(_, ended)) => camera_of(ended),
+        Ok(ended) => camera_of(state, ended),
+        Err(EndRefused::TieBroken(_, ended)) => camera_of(state, ended),
         Err(EndRefused::PassesMissing(_, _, _, _)) => None,
         Err(EndRefused::NoMemory(_, _)) => None,
     }
 }
 
-/// The camera of an end, where its desk can be written.
-fn camera_of(ended: Ended<FileDisk, MmapPlane>) -> Option<FileCamera>
+/// The camera of an end, where its desk can be written. Where it can't, what waits there is lost.
+fn camera_of(state: &CameraState, ended: Ended<FileDisk, MmapPlane>) -> Option<FileCamera>
     ensures { IfSome result (IsReady ⟦<MmapPlane as PlaneMemory>⟧.plane) }
 {
     let Ended {
@@ -240,7 +240,12 @@ fn camera_of(ended: Ended<FileDisk, MmapPlane>) -> Option<FileCamera>
         given_up: _,
     } = ended;
     let (camera, port) = (cameras.pop()?, ports.pop()?);
-    if camera.desk.status().must_reopen {
+    let status = camera.desk.status();
+    if status.must_reopen {
+        state
+            .counts
+            .given_up
+            .fetch_add(u64::from(status.pending), Ordering::SeqCst);
         return None;
     }
     Some(camera_again(camera, port))

@@ -5,42 +5,97 @@ use station_words::{CameraFault, ConfigFault, Room, read_config};
 use std::alloc::Global;
 use std::process::Abort;
 
-const fn first(fault: CameraFault) -> Option<ConfigFault> {
-    Some(ConfigFault::Camera(1, fault))
-}
-
-const fn second(fault: CameraFault) -> Option<ConfigFault> {
-    Some(ConfigFault::Camera(2, fault))
-}
-
 // A configuration, and why it is refused.
 const ROWS: [(&str, Option<ConfigFault>); 26] = [
-    ("[[camera]]\nname='a'\nsource='p'\nstore='s'\nminutes=5\n", None),
-    ("orders='o'\n[[camera]]\nname='a'\nsource='pattern'\nstore='s'\nbytes=9000\nkeep=1\ntag=2\npattern='4x2 GREY 1:1'\n", None),
+    (
+        "[[camera]]\nname='a'\nsource='p'\nstore='s'\nminutes=5\n",
+        None,
+    ),
+    (
+        "orders='o'\n[[camera]]\nname='a'\nsource='pattern'\nstore='s'\nbytes=9000\nkeep=1\ntag=2\npattern='4x2 GREY 1:1'\n",
+        None,
+    ),
     ("", Some(ConfigFault::NoCameras)),
     ("camera=[]\n", Some(ConfigFault::NoCameras)),
     ("speed=1\n", Some(ConfigFault::UnknownKey)),
     ("orders=3\n", Some(ConfigFault::BadOrders)),
     ("[camera]\nname='a'\n", Some(ConfigFault::BadCameras)),
-    ("camera=[1]\n", first(CameraFault::NoTable)),
-    ("[[camera]]\nname='a'\nsource= =\n", Some(ConfigFault::BadToml(3))),
-    ("[[camera]]\nname='a b'\nsource='p'\nstore='s'\nminutes=5\n", first(CameraFault::BadName)),
-    ("[[camera]]\nname='60'\nsource='p'\nstore='s'\nminutes=5\n", first(CameraFault::BadName)),
-    ("[[camera]]\nname='a'\nstore='s'\nminutes=5\n", first(CameraFault::BadSource)),
-    ("[[camera]]\nname='a'\nsource='p'\nminutes=5\n", first(CameraFault::BadStore)),
-    ("[[camera]]\nname='a'\nsource='p'\nstore='s'\n", first(CameraFault::NoRoom)),
-    ("[[camera]]\nname='a'\nsource='p'\nstore='s'\nminutes=1\nbytes=1\n", first(CameraFault::TwoRooms)),
-    ("[[camera]]\nname='a'\nsource='p'\nstore='s'\nminutes=0\n", first(CameraFault::BadMinutes)),
-    ("[[camera]]\nname='a'\nsource='p'\nstore='s'\nminutes=-0.5\n", first(CameraFault::BadMinutes)),
-    ("[[camera]]\nname='a'\nsource='p'\nstore='s'\nbytes=-1\n", first(CameraFault::BadBytes)),
-    ("[[camera]]\nname='a'\nsource='p'\nstore='s'\nminutes=1\nkeep=4294967296\n", first(CameraFault::BadKeep)),
-    ("[[camera]]\nname='a'\nsource='p'\nstore='s'\nminutes=1\ntag=-1\n", first(CameraFault::BadTag)),
-    ("[[camera]]\nname='a'\nsource='p'\nstore='s'\nminutes=1\nfps=25\n", first(CameraFault::UnknownKey)),
-    ("[[camera]]\nname='a'\nsource='p'\nstore='s'\nminutes=1\npattern='4x2 GREY 1:1'\n", first(CameraFault::NoPattern)),
-    ("[[camera]]\nname='a'\nsource='pattern'\nstore='s'\nminutes=1\npattern='320x240 GRAY 30:1'\n", first(CameraFault::BadPattern)),
-    ("[[camera]]\nname='a'\nsource='p'\nstore='s'\nminutes=1\n[[camera]]\nname='a'\nsource='p'\nstore='t'\nminutes=1\n", second(CameraFault::SameName)),
-    ("[[camera]]\nname='a'\nsource='p'\nstore='s'\nminutes=1\n[[camera]]\nname='b'\nsource='p'\nstore='s'\nminutes=1\n", second(CameraFault::SameStore)),
-    ("[[camera]]\nname='a'\nsource='p'\nstore='s'\nminutes=1\n[[camera]]\nname='b'\nsource='p'\nstore='t'\n", second(CameraFault::NoRoom)),
+    (
+        "camera=[1]\n",
+        Some(ConfigFault::Camera(1, CameraFault::NoTable)),
+    ),
+    (
+        "[[camera]]\nname='a'\nsource= =\n",
+        Some(ConfigFault::BadToml(3)),
+    ),
+    (
+        "[[camera]]\nname='a b'\nsource='p'\nstore='s'\nminutes=5\n",
+        Some(ConfigFault::Camera(1, CameraFault::BadName)),
+    ),
+    (
+        "[[camera]]\nname='60'\nsource='p'\nstore='s'\nminutes=5\n",
+        Some(ConfigFault::Camera(1, CameraFault::BadName)),
+    ),
+    (
+        "[[camera]]\nname='a'\nstore='s'\nminutes=5\n",
+        Some(ConfigFault::Camera(1, CameraFault::BadSource)),
+    ),
+    (
+        "[[camera]]\nname='a'\nsource='p'\nminutes=5\n",
+        Some(ConfigFault::Camera(1, CameraFault::BadStore)),
+    ),
+    (
+        "[[camera]]\nname='a'\nsource='p'\nstore='s'\n",
+        Some(ConfigFault::Camera(1, CameraFault::NoRoom)),
+    ),
+    (
+        "[[camera]]\nname='a'\nsource='p'\nstore='s'\nminutes=1\nbytes=1\n",
+        Some(ConfigFault::Camera(1, CameraFault::TwoRooms)),
+    ),
+    (
+        "[[camera]]\nname='a'\nsource='p'\nstore='s'\nminutes=0\n",
+        Some(ConfigFault::Camera(1, CameraFault::BadMinutes)),
+    ),
+    (
+        "[[camera]]\nname='a'\nsource='p'\nstore='s'\nminutes=-0.5\n",
+        Some(ConfigFault::Camera(1, CameraFault::BadMinutes)),
+    ),
+    (
+        "[[camera]]\nname='a'\nsource='p'\nstore='s'\nbytes=-1\n",
+        Some(ConfigFault::Camera(1, CameraFault::BadBytes)),
+    ),
+    (
+        "[[camera]]\nname='a'\nsource='p'\nstore='s'\nminutes=1\nkeep=4294967296\n",
+        Some(ConfigFault::Camera(1, CameraFault::BadKeep)),
+    ),
+    (
+        "[[camera]]\nname='a'\nsource='p'\nstore='s'\nminutes=1\ntag=-1\n",
+        Some(ConfigFault::Camera(1, CameraFault::BadTag)),
+    ),
+    (
+        "[[camera]]\nname='a'\nsource='p'\nstore='s'\nminutes=1\nfps=25\n",
+        Some(ConfigFault::Camera(1, CameraFault::UnknownKey)),
+    ),
+    (
+        "[[camera]]\nname='a'\nsource='p'\nstore='s'\nminutes=1\npattern='4x2 GREY 1:1'\n",
+        Some(ConfigFault::Camera(1, CameraFault::NoPattern)),
+    ),
+    (
+        "[[camera]]\nname='a'\nsource='pattern'\nstore='s'\nminutes=1\npattern='320x240 GRAY 30:1'\n",
+        Some(ConfigFault::Camera(1, CameraFault::BadPattern)),
+    ),
+    (
+        "[[camera]]\nname='a'\nsource='p'\nstore='s'\nminutes=1\n[[camera]]\nname='a'\nsource='p'\nstore='t'\nminutes=1\n",
+        Some(ConfigFault::Camera(2, CameraFault::SameName)),
+    ),
+    (
+        "[[camera]]\nname='a'\nsource='p'\nstore='s'\nminutes=1\n[[camera]]\nname='b'\nsource='p'\nstore='s'\nminutes=1\n",
+        Some(ConfigFault::Camera(2, CameraFault::SameStore)),
+    ),
+    (
+        "[[camera]]\nname='a'\nsource='p'\nstore='s'\nminutes=1\n[[camera]]\nname='b'\nsource='p'\nstore='t'\n",
+        Some(ConfigFault::Camera(2, CameraFault::NoRoom)),
+    ),
 ];
 
 // Minutes as they are written, and the seconds that they are.
@@ -84,7 +139,9 @@ fn seconds_of(alloc: Global, text: &str) -> Option<u64> {
 // Minutes are so many seconds.
 fn lasts(rt: &impl Abort, alloc: Global, row: &(&str, u64)) {
     let (minutes, seconds) = *row;
-    let text = format!(in alloc; "[[camera]]\nname='a'\nsource='p'\nstore='s'\nminutes={minutes}\n");
+    let text = format!(in alloc;
+        "[[camera]]\nname='a'\nsource='p'\nstore='s'\nminutes={minutes}\n"
+    );
     let text = text.expect(rt, "memory for a text");
     same!(*rt; seconds_of(alloc, text.as_str()), Some(seconds), minutes);
 }

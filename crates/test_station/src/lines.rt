@@ -3,8 +3,9 @@
 use crate::told::{holds, same};
 use loop_store::{Clip, StoreFault};
 use station_words::{
-    CameraStatus, RingSize, print_absent, print_bad_order, print_kept, print_no_camera, print_not_saved,
-    print_refused, print_released, print_saved, print_status, ring_for, ring_within,
+    CameraStatus, RingSize, print_absent, print_bad_order, print_kept, print_no_camera,
+    print_not_saved, print_refused, print_released, print_saved, print_status, ring_for,
+    ring_within,
 };
 use std::alloc::Global;
 use std::process::Abort;
@@ -68,46 +69,41 @@ fn lines_are_printed_so(rt: HostRuntime) {
     same!(rt; out.as_slice(), PRINTED);
 }
 
-const fn ring(segments: u32, slots: u32) -> Option<RingSize> {
-    Some(RingSize { segments, slots })
-}
-
-// So many frames, and the ring for them.
-const RINGS: [(u64, Option<RingSize>); 8] = [
-    (0, ring(2, 64)),
-    (65, ring(2, 64)),
-    (66, ring(3, 64)),
-    (1500, ring(25, 64)),
-    (4033, ring(64, 64)),
-    (4034, ring(64, 65)),
-    (16_129, ring(64, 256)),
-    (16_130, None),
+// So many frames, and the segments and slots for them; none where there are no such.
+const RINGS: [(u64, u32, u32); 8] = [
+    (0, 2, 64),
+    (65, 2, 64),
+    (66, 3, 64),
+    (1500, 25, 64),
+    (4033, 64, 64),
+    (4034, 64, 65),
+    (16_129, 64, 256),
+    (16_130, 0, 0),
 ];
 
 // The largest ring of frames of 12 bytes within so many bytes.
-const WITHIN: [(u64, Option<RingSize>); 5] = [
-    (3_671, None),
-    (3_672, ring(2, 1)),
-    (9_216, ring(2, 64)),
-    (12_544, ring(3, 64)),
-    (u64::MAX, ring(64, 256)),
+const WITHIN: [(u64, u32, u32); 5] = [
+    (3_671, 0, 0),
+    (3_672, 2, 1),
+    (9_216, 2, 64),
+    (12_544, 3, 64),
+    (u64::MAX, 64, 256),
 ];
 
-// A row of each table is so.
-fn is_chosen(rt: &impl Abort, row: &(u64, Option<RingSize>)) {
-    same!(*rt; ring_for(row.0), row.1, row.0);
-}
-
-fn is_within(rt: &impl Abort, row: &(u64, Option<RingSize>)) {
-    same!(*rt; ring_within(12, row.0), row.1, row.0);
+// The segments and slots of a ring; none where there is no ring.
+fn sizes(ring: Option<RingSize>) -> (u32, u32) {
+    match ring {
+        Some(RingSize { segments, slots }) => (segments, slots),
+        None => (0, 0),
+    }
 }
 
 #[test]
 fn stores_are_as_large_as_has_to_be(rt: HostRuntime) {
-    for row in &RINGS {
-        is_chosen(&rt, row);
+    for (frames, segments, slots) in &RINGS {
+        same!(rt; sizes(ring_for(*frames)), (*segments, *slots), *frames);
     }
-    for row in &WITHIN {
-        is_within(&rt, row);
+    for (bytes, segments, slots) in &WITHIN {
+        same!(rt; sizes(ring_within(12, *bytes)), (*segments, *slots), *bytes);
     }
 }

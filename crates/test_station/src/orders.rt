@@ -12,10 +12,16 @@ const ROWS: [(&str, &str); 30] = [
     ("keep 60 7", "keep all 60 7"),
     ("keep left", "keep left - -"),
     ("keep left 60", "keep left 60 -"),
-    ("keep left 0 18446744073709551615", "keep left 0 18446744073709551615"),
+    (
+        "keep left 0 18446744073709551615",
+        "keep left 0 18446744073709551615",
+    ),
     ("keep a-b_9 1", "keep a-b_9 1 -"),
     ("keep 007", "keep all 7 -"),
-    ("keep abcdefghijklmnopqrstuvwxyzabcdef 1", "keep abcdefghijklmnopqrstuvwxyzabcdef 1 -"),
+    (
+        "keep abcdefghijklmnopqrstuvwxyzabcdef 1",
+        "keep abcdefghijklmnopqrstuvwxyzabcdef 1 -",
+    ),
     ("keep abcdefghijklmnopqrstuvwxyzabcdefg 1", ""),
     ("keep left 4294967296", ""),
     ("keep 60 18446744073709551616", ""),
@@ -43,11 +49,13 @@ const ROWS: [(&str, &str); 30] = [
 fn written(alloc: Global, line: &str) -> Result<String, AllocError> {
     match read_order(line) {
         None => String::from_str(alloc, ""),
-        Some(Order::Keep {
-            camera,
-            seconds,
-            tag,
-        }) => keep_written(alloc, camera, seconds, tag),
+        Some(
+            Order::Keep {
+                camera,
+                seconds,
+                tag,
+            },
+        ) => keep_written(alloc, camera, seconds, tag),
         Some(Order::Release { camera, id }) => format!(in alloc; "release {} {id}", camera.text()),
         Some(Order::List) => String::from_str(alloc, "list"),
         Some(Order::Save { camera, id, out }) => {
