@@ -2,15 +2,19 @@
 //! docs/station.md has both languages.
 //!
 //! It reads the file that its one word names, and hands the configuration, its input and its output to station_work.
+//! Its stored run is a camera whose source is away, and one that never came.
 #![tactic(auto)]
 
-use station_words::{Config, ConfigFault, read_config};
-use station_work::{NotBegun, run_station};
-use std::env;
-use std::fs;
-use std::io;
-use std::io::{IsTerminal, Write};
+use station_words::read_config;
+use station_work::{NotBegun, Places, run_station};
+use std::alloc::AllocGlobal;
+use std::io::{IsTerminal, Read, Write};
 use std::process::ExitCode;
+use std::rt::Files;
+use std::sync::Wait;
+use std::thread::Threads;
+use std::time::Clock;
+use std::{env, fs, io};
 
 /// The status of a run whose configuration can't be had, or that can't begin.
 const FAILED: u8 = 1;
@@ -19,10 +23,18 @@ const FAILED: u8 = 1;
 const BAD_WORDS: u8 = 2;
 
 fn main(rt: HostRuntime) -> ExitCode {
+    let watched = rt.stdout().is_terminal();
     ExitCode::from(match path_of(&rt) {
-        Ok(Some(path)) => run_file(&rt, path.as_str()),
-        Ok(None) => say(&rt, "usage: loop_station CONFIG", BAD_WORDS),
-        Err(_) => say(&rt, "out of memory", FAILED),
+        Ok(Some(path)) => run_file(
+            &rt,
+            path.as_str(),
+            rt.reader(),
+            rt.stdout(),
+            watched,
+            &mut rt.stderr(),
+        ),
+        Ok(None) => say(&mut rt.stderr(), "usage: loop_station CONFIG", BAD_WORDS),
+        Err(_) => say(&mut rt.stderr(), "out of memory", FAILED),
     })
 }
 
@@ -38,28 +50,32 @@ fn path_of(rt: &HostRuntime) -> io::Result<Option<String>> {
 }
 
 // Runs the station of a file, and answers the program's status.
-fn run_file(rt: &HostRuntime, path: &str) -> u8 {
+fn run_file<
+    R: AllocGlobal + Files + Places + Threads + Wait + Clock + Clone + Drop + Send + Sync + 'static,
+    I: Read + Drop,
+    W: Write + Drop + Send + 'static,
+    E: Write,
+>(rt: &R, path: &str, input: I, out: W, watched: bool, err: &mut E) -> u8 {
     let Ok(text) = fs::read_to_string(rt, path) else {
-        let _ = writeln!(rt.stderr(), "cannot open {path}");
+        let _ = writeln!(err, "cannot open {path}");
         return FAILED;
     };
     let config = match read_config(rt.alloc(), text.as_str()) {
         Ok(config) => config,
         Err(fault) => {
-            let _ = writeln!(rt.stderr(), "{path}: {fault}");
+            let _ = writeln!(err, "{path}: {fault}");
             return FAILED;
         }
     };
-    let watched = rt.stdout().is_terminal();
-    match run_station(rt, config, rt.reader(), rt.stdout(), watched) {
+    match run_station(rt, config, input, out, watched) {
         Ok(()) => 0,
-        Err(NotBegun::NoMemory) => say(rt, "out of memory", FAILED),
-        Err(NotBegun::NoClock) => say(rt, "no clock", FAILED),
+        Err(NotBegun::NoMemory) => say(err, "out of memory", FAILED),
+        Err(NotBegun::NoClock) => say(err, "the clock can't be read", FAILED),
     }
 }
 
 // Says why there is no run, and answers the program's status.
-fn say(rt: &HostRuntime, why: &str, status: u8) -> u8 {
-    let _ = writeln!(rt.stderr(), "{why}");
+fn say<E: Write>(err: &mut E, why: &str, status: u8) -> u8 {
+    let _ = writeln!(err, "{why}");
     status
 }
