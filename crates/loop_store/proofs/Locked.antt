@@ -487,18 +487,18 @@ pub record IsSpanQuiet (fault : StoreFault) : Type 0 where
 quiet-as : (fault is : StoreFault) → fault ≡ is → IsSpanQuiet is → IsSpanQuiet fault
 quiet-as fault is e quiet = subst IsSpanQuiet (sym e) quiet
 
-span-quiet : (span : Span) (clips : List (Option Span)) (fault : StoreFault) → CanRefuseSpan span clips fault
-    → IsSpanQuiet fault
-span-quiet span clips fault (inl x) = quiet-as fault _ x.0 (record { unfailed = refl; none = refl })
-span-quiet span clips fault (inr (inl x)) = quiet-as fault _ x.0.1.0 (record { unfailed = refl; none = refl })
-span-quiet span clips fault (inr (inr (inl x))) = quiet-as fault _ x.0 (record { unfailed = refl; none = refl })
-span-quiet span clips fault (inr (inr (inr x))) = quiet-as fault _ x.0 (record { unfailed = refl; none = refl })
+span-quiet : (version : ℕ) (span : Span) (clips : List (Option Span)) (fault : StoreFault)
+    → CanRefuseSpan version span clips fault → IsSpanQuiet fault
+span-quiet version span clips fault (inl x) = quiet-as fault _ x.0 (record { unfailed = refl; none = refl })
+span-quiet version span clips fault (inr (inl x)) = quiet-as fault _ x.0.1.0 (record { unfailed = refl; none = refl })
+span-quiet version span clips fault (inr (inr (inl x))) = quiet-as fault _ x.0 (record { unfailed = refl; none = refl })
+span-quiet version span clips fault (inr (inr (inr x))) = quiet-as fault _ x.0 (record { unfailed = refl; none = refl })
 
 pub lock-refused : {D : Type 0} (medium : D → Medium) (s : Seen D) (span : Span) (fault : StoreFault) → TellsOne s
-    → ((medium s.disk).honest → IsSound (medium s.disk)) → s.must_reopen ≡ false → CanRefuseSpan span s.clips fault
+    → ((medium s.disk).honest → IsSound (medium s.disk)) → s.must_reopen ≡ false → CanRefuseSpan s.version span s.clips fault
     → ((r : Recording) → Tells s r → first_of (span_checks s.version r span) ≡ Some fault) → Goes medium s s (locked span (Err fault) ∷ [])
 lock-refused medium s span fault one sound fine can first =
-    let quiet = span-quiet span s.clips fault can in
+    let quiet = span-quiet s.version span s.clips fault can in
     goes-refused medium s (locked span (Err fault)) one sound (record {
       version = λ v. refl;
       unfailed = quiet.unfailed;

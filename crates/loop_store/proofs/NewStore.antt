@@ -1,10 +1,14 @@
 -- A store that was just formatted.
-use Rattle.std.proofs.Common.{◌≡◌, inr, ℕ, zero, suc, ◌+◌, ◌<◌, cond, false, IsTrue, Option, None, Some, List, [], ◌∷◌, length, map, replicate, refl, sym, ap, ◌∙◌, subst, arith}
+use Rattle.std.proofs.Common.{◌≡◌, ◌⊎◌, ⊎_elim, inl, inr, ℕ, eqb, Err, zero, suc, ◌+◌, ◌<◌, cond, false, IsTrue, Option, None, Some, List, [], ◌∷◌, length, map, replicate, refl, sym, ap, ◌∙◌, subst, arith}
 use Rattle.std.proofs.lemmas.List.{get_or-replicate, length-replicate, take_at}
 use Rattle.std.proofs.lemmas.List.Elements.{All-replicate}
 use Rattle.std.specs.List.{All, range_with_len}
+use Rattle.std.specs.Prelude.{◌&&◌, ◌↔◌}
 use Rattle.byteorder.specs.Endian.{little_from}
-use Rattle.loop_disk.specs.Medium.{Medium, IsSettled}
+use Rattle.loop_disk.specs.declared.fault.DiskFault.{DiskFault}
+use Rattle.loop_disk.specs.Calls.{Called}
+use Rattle.loop_disk.specs.Medium.{Medium, IsSound}
+use Rattle.loop_disk.proofs.Moments.{started}
 use Rattle.loop_record.specs.declared.geometry.Geometry.{Geometry}
 use Rattle.loop_record.specs.declared.superblock.SuperHead.{SuperHead}
 use Rattle.loop_record.specs.Geometry.{disk_size, is_good, segment_at}
@@ -22,7 +26,12 @@ use Rattle.loop_store.specs.Drawn.{drawn_image, drawn_super}
 use Rattle.loop_store.specs.Grow.{HasNoneStray}
 use Rattle.loop_store.specs.Numbers.{is_among, numbers_under}
 use Rattle.loop_store.specs.Found.{IsHeadIn}
+use Rattle.loop_store.specs.Fresh.{HoldsFresh}
 use Rattle.loop_store.specs.Index.{IsIndexOf}
+use Rattle.loop_store.specs.declared.fault.StoreFault.{StoreFault}
+use Rattle.loop_store.specs.declared.fault.StoreFault.TheVariants.{BadGeometry, NoMemory}
+use Rattle.loop_store.specs.Faults.{failed_by}
+use Rattle.loop_store.specs.Make.{Formats, WasOrEmpty}
 use Rattle.loop_store.specs.Store.{IsKept}
 use Rattle.loop_store.specs.Seen.{StandsFor, Tells, seen_with}
 use Rattle.loop_record.specs.declared.segment.SegmentHead.{SegmentHead}
@@ -87,10 +96,9 @@ drawn-new index s new good =
 -- the image of a disk that was formatted, with the memory of its store
 pub fresh-kept : {D A : Type 0} (medium : D → Medium) (s : SuperHead) (disk : D) (index : Index A)
     → IsNew index s → IsVersion s.version → IsTrue (is_good s.geometry)
-    → (medium disk).size ≡ disk_size s.geometry → ((medium disk).honest → IsSettled (medium disk))
-    → ((medium disk).honest → IsFreshImage s (medium disk).bytes)
+    → (medium disk).size ≡ disk_size s.geometry → ((medium disk).honest → HoldsFresh s (medium disk))
     → IsKept medium disk index false
-fresh-kept medium s disk index new version good size settled fresh = record {
+fresh-kept medium s disk index new version good size fresh = record {
   fits = record {
     size_is = size ∙ ap disk_size (sym new.geometry);
     whole = record {
@@ -103,11 +111,11 @@ fresh-kept medium s disk index new version good size settled fresh = record {
   };
   known = record { recording = empty; known = drawn-new index s new good };
   present = λ fine now. record {
-    recorded = record { recording = empty; known = fresh-known index s (medium disk).bytes new version good (fresh now) };
-    version = (reading-fresh s (medium disk).bytes version good (fresh now)).version_is ∙ sym new.version;
-    settled = settled now;
+    recorded = record { recording = empty; known = fresh-known index s (medium disk).bytes new version good (fresh now).0 };
+    version = (reading-fresh s (medium disk).bytes version good (fresh now).0).version_is ∙ sym new.version;
+    settled = (fresh now).1;
     unstray = subst (λ (h : Geometry). HasNoneStray h (medium disk).bytes) (sym new.geometry)
-        (λ j l there. absurd (there (closed_none s.geometry (medium disk).bytes j ((fresh now).segments j l))));
+        (λ j l there. absurd (there (closed_none s.geometry (medium disk).bytes j ((fresh now).0.segments j l))));
   };
 }
 
@@ -130,11 +138,28 @@ fresh-tells s disk index new = record {
 
 pub fresh-stands : {D A : Type 0} (medium : D → Medium) (s : SuperHead) (disk : D) (index : Index A)
     → IsNew index s → IsVersion s.version → IsTrue (is_good s.geometry)
-    → ((medium disk).honest → IsSettled (medium disk)) → ((medium disk).honest → IsFreshImage s (medium disk).bytes)
-    → StandsFor medium (seen_with disk index false) empty
-fresh-stands medium s disk index new version good settled fresh = record {
+    → ((medium disk).honest → HoldsFresh s (medium disk)) → StandsFor medium (seen_with disk index false) empty
+fresh-stands medium s disk index new version good fresh = record {
   told = fresh-tells s disk index new;
-  settled = λ fine now. settled now;
-  held = λ fine now. (fresh-known index s (medium disk).bytes new version good (fresh now)).held;
-  version_is = λ fine now. (reading-fresh s (medium disk).bytes version good (fresh now)).version_is ∙ sym new.version;
+  settled = λ fine now. (fresh now).1;
+  held = λ fine now. (fresh-known index s (medium disk).bytes new version good (fresh now).0).held;
+  version_is = λ fine now. (reading-fresh s (medium disk).bytes version good (fresh now).0).version_is ∙ sym new.version;
+}
+
+-- ---- a format that is refused
+
+-- before the disk was called
+pub refused-formats : {D : Type 0} (medium : D → Medium) (h : SuperHead) (disk : D) (fault : StoreFault)
+    → (fault ≡ BadGeometry) ↔ ((is_good h.geometry && eqb (medium disk).size (disk_size h.geometry)) ≡ false)
+    → (fault ≡ BadGeometry) ⊎ (fault ≡ NoMemory) → failed_by fault ≡ None
+    → ((medium disk).honest → IsSound (medium disk)) → Formats medium h disk (Err (record { fault = fault; disk = disk }))
+refused-formats medium h disk fault bad is none sound = record {
+  bad = bad;
+  refusals = ⊎_elim inl (λ memory. inr (inl memory)) is;
+  untouched = λ early. refl;
+  formatted = tt;
+  stands = tt;
+  moments = λ now. started (medium disk) (WasOrEmpty h (medium disk)) (sound now) (λ c left. inl left);
+  called = subst (λ (f : Option DiskFault). Called (medium disk) (medium disk) f) (sym none)
+      (record { size = refl; honest = (λ honest. honest, λ honest. honest); failures = refl });
 }

@@ -2,7 +2,7 @@
 use Rattle.std.specs.Prelude.{◌≡◌, ◌⊎◌, ℕ, ◌+◌, ◌*◌, ◌<◌, ◌≤◌, true, false, IsTrue, Option, None, Some, Result, Ok, Err, List}
 use Rattle.loop_record.specs.declared.clip.Span.{Span}
 use Rattle.loop_record.specs.declared.geometry.Geometry.{Geometry}
-use Rattle.loop_record.specs.Layout.{version_in}
+use Rattle.loop_record.specs.Layout.{has_tag_place, version_in}
 use Rattle.loop_record.specs.Recording.{Recording, Ring, block, first_free, free_id, holds, may_lock}
 use Rattle.loop_ring.specs.Heads.{heads_of}
 use Rattle.loop_store.specs.declared.fault.StoreFault.{StoreFault}
@@ -24,13 +24,13 @@ IsInSpan span None = Unit {0}
 IsInSpan span (Some n) = (span.from ≤ n) × (n ≤ span.to)
 
 -- why no clip of a span may be added, of every disk: it is empty, or a number of it isn't held, or each id has a clip,
--- or the layout has no place for its tag
-abbrev pub CanRefuseSpan : Span → List (Option Span) → StoreFault → Type 0
-CanRefuseSpan span clips fault =
+-- or this version of the layout has no place for its tag
+abbrev pub CanRefuseSpan : ℕ → Span → List (Option Span) → StoreFault → Type 0
+CanRefuseSpan version span clips fault =
     (fault ≡ ClipEmpty) × (span.to < span.from)
     ⊎ (((n : ℕ) × ((fault ≡ ClipNotHeld n) × IsInSpan span (Some n))) × (span.from ≤ span.to)
     ⊎ ((fault ≡ ClipTableFull) × ((span.from ≤ span.to) × (first_free clips ≡ 64))
-    ⊎ (fault ≡ OldLayout) × (span.from ≤ span.to)))
+    ⊎ (fault ≡ OldLayout) × ((span.from ≤ span.to) × (has_tag_place version span ≡ false))))
 
 -- the answer to whether a clip of a span may be added in this version of the layout, and under which id
 abbrev pub AnswersSpan : ℕ → Recording → Span → Result ℕ StoreFault → Type 0

@@ -73,7 +73,7 @@ fn id_for<A: Allocator>(index: &Index<A>, span: Span) -> Result<u32, StoreFault>
     requires { IsIndex index.now }
     ensures id { IfOk result (λ id. ((id < 64) × (id ≡ first_free index.now.clips)) × (span.from ≤ span.to)) }
     ensures tag { IfOk result (λ id. IsTrue (has_tag_place index.now.version span)) }
-    ensures refusals { IfErr result (CanRefuseSpan span index.now.clips) }
+    ensures refusals { IfErr result (CanRefuseSpan index.now.version span index.now.clips) }
     ensures answers { (r : Recording) (image : List ℕ) → IsIndexOf index.now r image
         → AnswersSpan index.now.version r span result }
 {

@@ -1,14 +1,9 @@
 //! Makes a store on a disk.
 
-ghost use Rattle.std.specs.Prelude.{◌≡◌, ◌&&◌, ◌==◌, ◌↔◌, IfErr, IfOk, false};
-ghost use Rattle.loop_disk.specs.Calls.{Called};
-ghost use Rattle.loop_disk.specs.Medium.{LeavesOnly};
+ghost use Rattle.std.specs.Prelude.{◌≡◌, ◌&&◌, ◌==◌};
 ghost use Rattle.loop_record.specs.Geometry.{disk_size, is_good};
 ghost use Rattle.loop_record.specs.Layout.{IsVersion};
-ghost use Rattle.loop_record.specs.Recording.{empty};
-ghost use Rattle.loop_store.specs.Faults.{is_disk};
-ghost use Rattle.loop_store.specs.Make.{Formats, IsBadGeometry, IsFormatted, IsRefusedFormat, WasOrEmpty, disk_after, failed_opening};
-ghost use Rattle.loop_store.specs.Seen.{StandsFor};
+ghost use Rattle.loop_store.specs.Make.{Formats};
 
 use crate::fresh::lay_out;
 use crate::index::Index;
@@ -36,15 +31,7 @@ fn format_as<D: Disk + Drop, A: Allocator + Copy>(
     head: SuperHead,
 ) -> Result<Store<D, A>, OpenRefused<D>>
     requires { IsVersion head.version }
-    ensures bad { (IsBadGeometry result) ↔ ((is_good head.geometry && ((D.medium disk).size
-        == disk_size head.geometry)) ≡ false) }
-    ensures refusals { IfErr result IsRefusedFormat }
-    ensures untouched { IfErr result (λ refused. is_disk refused.fault ≡ false → refused.disk ≡ disk) }
-    ensures formatted { IfOk result (λ store. IsFormatted head store) }
-    ensures stands { IfOk result (λ store. StandsFor D.medium store empty) }
-    ensures moments { (D.medium disk).honest
-        → LeavesOnly (D.medium disk) (D.medium (disk_after result)) (WasOrEmpty head (D.medium disk)) }
-    ensures called { Called (D.medium disk) (D.medium (disk_after result)) (failed_opening result) }
+    ensures { Formats D.medium head disk result }
 {
     let mut disk = disk;
     if !fits(&disk, &head.geometry) {

@@ -1,4 +1,4 @@
-//! A store that is looked at: heads that are read alone, and a store that is opened over a disk that is never written to.
+//! A store that is looked at: heads that are read alone, and an opening over a disk that is never written to.
 
 use crate::common::*;
 use crate::told::{holds as so, same};

@@ -21,7 +21,8 @@ returns-in_default-free_id-clause-answers g c = λ r image known.
     (c.in_default.ensures.missing r image known) (sym (ap first_free known.clips_are) ∙ c.in_default-free_id.ensures)
 
 pub returns-then-not-has_place-clause-refusals : goal.returns-then-not-has_place-clause-refusals
-returns-then-not-has_place-clause-refusals g c = inr (inr (inr (refl, omega (arith, c.if-span.false))))
+returns-then-not-has_place-clause-refusals g c =
+    inr (inr (inr (refl, (omega (arith, c.if-span.false), sym c.has_place.ensures ∙ c.if-not-has_place.true))))
 
 pub returns-then-not-has_place-clause-answers : goal.returns-then-not-has_place-clause-answers
 returns-then-not-has_place-clause-answers g c = λ r image known.

@@ -1,88 +1,94 @@
-use Rattle.std.proofs.Common.{eqb, min, refl, sym, ap, ◌∙◌}
+use Rattle.std.proofs.Common.{◌≡◌, ◌&&◌, true, inl, inr, eqb, min, refl, sym, ap, ◌∙◌}
 use Rattle.loop_record.specs.Geometry.{disk_size, frame_bytes, is_good}
 use Rattle.loop_record.specs.declared.geometry.Geometry.{Geometry}
 use Rattle.loop_ring.specs.Groups.{Grouped}
 use Rattle.loop_ring.specs.Heads.{Segments}
-use Rattle.loop_record.proofs.Decided.{both, equal}
+use Rattle.loop_record.proofs.Decided.{both, clash, equal}
+use Rattle.loop_store.specs.declared.fault.StoreFault.TheVariants.{BadGeometry, NoMemory}
 use Rattle.loop_store.specs.declared.index.Index.{Index}
-use Rattle.loop_store.proofs.NewStore.{IsNew, fresh-kept, fresh-stands, fresh-tells}
+use Rattle.loop_store.proofs.NewStore.{IsNew, fresh-kept, fresh-stands, fresh-tells, refused-formats}
+use Rattle.loop_store.proofs.make.format_as.Given.{Over}
 use Rattle.loop_store.proofs.make.format_as.Goals as goal
+
+-- the geometry is good, and the disk has its size
+fits : (g : Over) (c : goal.After-empty g) → let h = c.args.head.geometry in
+    (is_good h && eqb (g.D.Disk.medium c.args.disk).size (disk_size h)) ≡ true
+fits g c = sym c.fits.ensures ∙ c.if-not-fits.false
+
+-- what is known of the disk in memory
+abbrev index : (g : Over) → goal.After-empty g → Index g.row.A.Denot
+index g c = record {
+  ring = c.new-in-Ok-lay_out.result;
+  version = c.args.head.version;
+  table = c.in-Ok.table;
+  clips = c.empty.result;
+  next = 0;
+}
+
+new : (g : Over) (c : goal.After-empty g) → IsNew (index g c) c.args.head
+new g c = record {
+  geometry = c.new-in-Ok-lay_out.ensures;
+  version = refl;
+  next = refl;
+  closed = ap (λ (s : Segments). s.heads) c.in-Ok.ensures;
+  none = c.empty.ensures;
+  counts = ap (λ (s : Segments). s.clips) c.in-Ok.ensures;
+}
 
 pub invariant_of-result : goal.invariant_of-result
 invariant_of-result g c =
-    let h = c.args.head.geometry in
-    let fits = both (is_good h) (eqb (g.D.Disk.medium c.args.disk).size (disk_size h)) (sym c.fits.ensures ∙ c.if-not-fits.false) in
-    let index : Index g.row.A.Denot = record {
-      ring = c.new-in-Ok-lay_out.result;
-      version = c.args.head.version;
-      table = c.in-Ok.table;
-      clips = c.empty.result;
-      next = 0;
-    } in
-    let new : IsNew index c.args.head = record {
-      geometry = c.new-in-Ok-lay_out.ensures;
-      version = refl;
-      next = refl;
-      closed =
-          ap (λ (s : Segments). s.heads) c.in-Ok.ensures;
-      counts = ap (λ (s : Segments). s.clips) c.in-Ok.ensures;
-      none = c.empty.ensures;
-    } in (
-      fresh-kept g.D.Disk.medium c.args.head c.lay_out.new.disk index new c.requires fits.0 (c.lay_out.ensures.called.size ∙ equal _ _ fits.1)
-          (λ now. (c.in-Ok-lay_out.ensures.such (c.lay_out.ensures.called.honest.1 now)).1)
-          (λ now. (c.in-Ok-lay_out.ensures.such (c.lay_out.ensures.called.honest.1 now)).0),
+    let right = both _ _ (fits g c) in (
+      fresh-kept g.D.Disk.medium c.args.head c.lay_out.new.disk (index g c) (new g c) c.requires right.0
+          (c.lay_out.ensures.called.size ∙ equal _ _ right.1)
+          (λ now. c.in-Ok-lay_out.ensures.such (c.lay_out.ensures.called.honest.1 now)),
       record {
         size_is = ap (λ (x : Grouped). x.size) c.in-Ok-new.ensures ∙ ap frame_bytes (sym c.new-in-Ok-lay_out.ensures);
         limit_is = ap (λ (x : Grouped). x.limit) c.in-Ok-new.ensures ∙ ap (λ (x : Geometry). min 8 x.slots) (sym c.new-in-Ok-lay_out.ensures);
       },
     )
 
-pub returns-in-Ok-lay_out-clause-formatted : goal.returns-in-Ok-lay_out-clause-formatted
-returns-in-Ok-lay_out-clause-formatted g c =
-    let index : Index g.row.A.Denot = record {
-      ring = c.new-in-Ok-lay_out.result;
-      version = c.args.head.version;
-      table = c.in-Ok.table;
-      clips = c.empty.result;
-      next = 0;
-    } in
-    let new : IsNew index c.args.head = record {
-      geometry = c.new-in-Ok-lay_out.ensures;
-      version = refl;
-      next = refl;
-      closed = ap (λ (s : Segments). s.heads) c.in-Ok.ensures;
-      counts =
-          ap (λ (s : Segments). s.clips) c.in-Ok.ensures;
-      none = c.empty.ensures;
-    } in
-    record {
-      geometry = c.new-in-Ok-lay_out.ensures;
-      version = refl;
-      keep = ap (λ (s : Segments). s.keep) c.in-Ok.ensures;
-      tells = fresh-tells c.args.head c.lay_out.new.disk index new;
-      must_reopen = refl;
-    }
+pub returns-in-Ok-lay_out : goal.returns-in-Ok-lay_out
+returns-in-Ok-lay_out g c = record {
+  bad = (λ none. absurd none, λ bad. clash _ (fits g c) bad);
+  refusals = tt;
+  untouched = tt;
+  formatted = record {
+    geometry = c.new-in-Ok-lay_out.ensures;
+    version = refl;
+    keep = ap (λ (s : Segments). s.keep) c.in-Ok.ensures;
+    tells = fresh-tells c.args.head c.lay_out.new.disk (index g c) (new g c);
+    must_reopen = refl;
+  };
+  stands = fresh-stands g.D.Disk.medium c.args.head c.lay_out.new.disk (index g c) (new g c) c.requires
+      (both _ _ (fits g c)).0 (λ now. c.in-Ok-lay_out.ensures.such (c.lay_out.ensures.called.honest.1 now));
+  moments = c.lay_out.ensures.moments;
+  called = c.in-Ok-lay_out.ensures.called;
+}
 
-pub returns-in-Ok-lay_out-clause-stands : goal.returns-in-Ok-lay_out-clause-stands
-returns-in-Ok-lay_out-clause-stands g c =
-    let h = c.args.head.geometry in
-    let fits = both (is_good h) (eqb (g.D.Disk.medium c.args.disk).size (disk_size h)) (sym c.fits.ensures ∙ c.if-not-fits.false) in
-    let index : Index g.row.A.Denot = record {
-      ring = c.new-in-Ok-lay_out.result;
-      version = c.args.head.version;
-      table = c.in-Ok.table;
-      clips = c.empty.result;
-      next = 0;
-    } in
-    let new : IsNew index c.args.head = record {
-      geometry = c.new-in-Ok-lay_out.ensures;
-      version = refl;
-      next = refl;
-      closed =
-          ap (λ (s : Segments). s.heads) c.in-Ok.ensures;
-      counts = ap (λ (s : Segments). s.clips) c.in-Ok.ensures;
-      none = c.empty.ensures;
-    } in
-    fresh-stands g.D.Disk.medium c.args.head c.lay_out.new.disk index new c.requires fits.0
-    (λ now. (c.in-Ok-lay_out.ensures.such (c.lay_out.ensures.called.honest.1 now)).1)
-    (λ now. (c.in-Ok-lay_out.ensures.such (c.lay_out.ensures.called.honest.1 now)).0)
+pub returns-then-not-fits : goal.returns-then-not-fits
+returns-then-not-fits g c =
+    refused-formats g.D.Disk.medium c.args.head c.args.disk BadGeometry
+    (λ is. sym c.fits.ensures ∙ c.if-not-fits.true, λ bad. refl) (inl refl) refl (λ honest. g.met.D.Disk.sound c.args.disk honest)
+
+pub returns-in_default : goal.returns-in_default
+returns-in_default g c =
+    refused-formats g.D.Disk.medium c.args.head c.args.disk NoMemory
+    (λ is. absurd cc, λ bad. absurd (clash _ (sym c.fits.ensures ∙ c.if-not-fits.false) bad)) (inr refl) refl
+    (λ honest. g.met.D.Disk.sound c.args.disk honest)
+
+pub returns-in_default-new : goal.returns-in_default-new
+returns-in_default-new g c =
+    refused-formats g.D.Disk.medium c.args.head c.args.disk NoMemory
+    (λ is. absurd cc, λ bad. absurd (clash _ (sym c.fits.ensures ∙ c.if-not-fits.false) bad)) (inr refl) refl
+    (λ honest. g.met.D.Disk.sound c.args.disk honest)
+
+pub returns-in-Err : goal.returns-in-Err
+returns-in-Err g c = record {
+  bad = (λ is. absurd cc, λ bad. absurd (clash _ (sym c.fits.ensures ∙ c.if-not-fits.false) bad));
+  refusals = inr (inr refl);
+  untouched = λ late. absurd (clash true refl late);
+  formatted = tt;
+  stands = tt;
+  moments = c.lay_out.ensures.moments;
+  called = c.in-Err.ensures.called;
+}
