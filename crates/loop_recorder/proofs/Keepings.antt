@@ -1,9 +1,8 @@
 -- What a keep does, put together from its parts.
-use Rattle.std.proofs.Common.{◌≡◌, ℕ, ◌+◌, ◌-◌, ◌≤◌, ◌<◌, Bool, true, false, Option, Some, None, Result, Ok, Err, List, [], ◌∷◌, ◌++◌, length, map, take, drop, get_or, refl, sym, ap, ◌∙◌, subst, arith}
+use Rattle.std.proofs.Common.{◌≡◌, ℕ, ◌+◌, ◌-◌, ◌≤◌, ◌<◌, Bool, true, false, Some, None, Result, Ok, Err, List, [], ◌∷◌, ◌++◌, length, map, take, drop, get_or, refl, sym, ap, ◌∙◌, subst, arith}
 use Rattle.std.specs.Prelude.{All, OnOk}
-use Rattle.std.specs.List.{filter, flat_map, range_with_len}
+use Rattle.std.specs.List.{filter, range_with_len}
 use Rattle.std.specs.Option.{option_to_list}
-use Rattle.std.proofs.lemmas.Grind.{flat_map-append}
 use Rattle.std.proofs.lemmas.List.{append-nil, append_assoc, map-append, take-append-drop, take_more}
 use Rattle.std.proofs.Math.Seq.{take-length}
 use Rattle.std.proofs.lemmas.List.Concat.{flat_map-cons}
@@ -14,18 +13,16 @@ use Rattle.loop_record.specs.declared.clip.Span.{Span}
 use Rattle.loop_record.specs.declared.frame.FrameHead.{FrameHead}
 use Rattle.loop_record.proofs.Gates.{range_append}
 use Rattle.loop_store.specs.Reopen.{TellsOne}
-use Rattle.loop_desk.specs.Desk.{DeskState}
 use Rattle.loop_desk.specs.declared.limits.Outline.{Outline}
-use Rattle.loop_desk.specs.Seen.{SeenDesk, StandsAt, TellsOutline}
+use Rattle.loop_desk.specs.Seen.{SeenDesk, TellsOutline}
 use Rattle.loop_recorder.specs.declared.entry.Entry.{Entry}
 use Rattle.loop_recorder.specs.declared.entry.Noted.{Noted}
-use Rattle.loop_recorder.specs.declared.entry.Noted.TheVariants as noted
 use Rattle.loop_recorder.specs.declared.entry.Pass.{Pass}
 use Rattle.loop_recorder.specs.declared.fault.SessionFault.{SessionFault}
 use Rattle.loop_recorder.specs.declared.keep.Kept.{Kept}
 use Rattle.loop_recorder.specs.declared.keep.Run.{Run}
 use Rattle.loop_recorder.specs.declared.keep.Times.{Times}
-use Rattle.loop_recorder.specs.Keeps.{KeepsHeld, KeepsNumbers, Locks, Notes, Seeks, head_note, is_in, lock_noted, numbers_in_time, numbers_of_clips, numbers_of_run, numbers_of_runs, read_noted, run_in, runs_in}
+use Rattle.loop_recorder.specs.Keeps.{KeepsHeld, KeepsNumbers, Locks, Notes, Seeks, head_note, is_in, lock_noted, numbers_of_run, numbers_of_runs, read_noted, run_in, runs_in}
 use Rattle.loop_recorder.specs.Receipts.{lock_note}
 use Rattle.loop_recorder.proofs.Noting.{notes-joined, notes-none}
 use Rattle.loop_recorder.proofs.Sought.{sought}

@@ -1,8 +1,7 @@
 -- Calls of a desk that are noted in a history and received by a pass, some behind others.
-use Rattle.std.proofs.Common.{◌≡◌, ℕ, ◌+◌, Option, Some, None, List, [], ◌∷◌, ◌++◌, length, map, refl, sym, ap, ◌∙◌, subst, arith}
+use Rattle.std.proofs.Common.{◌≡◌, ℕ, ◌+◌, List, [], ◌∷◌, ◌++◌, length, map, refl, sym, ap, ◌∙◌, arith}
 use Rattle.std.proofs.lemmas.List.{append-nil, append_assoc, length-append, length-map, map-append}
 use Rattle.std.proofs.lemmas.Simd.{map-map}
-use Rattle.std.specs.Option.{option_to_list}
 use Rattle.loop_disk.specs.Medium.{Medium, IsSound}
 use Rattle.loop_store.specs.Reopen.{TellsOne}
 use Rattle.loop_desk.specs.declared.limits.Outline.{Outline}
@@ -13,7 +12,6 @@ use Rattle.loop_desk.proofs.Gone.{desk-joined, desk-none}
 use Rattle.loop_recorder.specs.declared.entry.Entry.{Entry}
 use Rattle.loop_recorder.specs.declared.entry.Noted.{Noted}
 use Rattle.loop_recorder.specs.declared.entry.Pass.{Pass}
-use Rattle.loop_recorder.specs.declared.entry.Receipt.{Receipt}
 use Rattle.loop_recorder.specs.Histories.{calls_of, noted_call}
 use Rattle.loop_recorder.specs.Keeps.{Notes, receipts_from}
 use Rattle.loop_recorder.specs.Receipts.{entry, pass_number, receipt, receipts_of}

@@ -1,18 +1,18 @@
 -- The held frames of a time: what their heads say, and which numbers are put into runs.
-use Rattle.std.proofs.Common.{◌≡◌, ℕ, ◌+◌, ◌≤◌, Bool, true, false, cond, Option, Some, None, Ok, List, [], ◌∷◌, ◌++◌, length, map, refl, sym, ap, ◌∙◌, subst, arith}
-use Rattle.std.specs.Prelude.{◌==◌, if◌then◌else◌}
+use Rattle.std.proofs.Common.{◌≡◌, ℕ, ◌+◌, ◌≤◌, Bool, true, false, cond, Option, Some, None, Ok, List, [], ◌∷◌, ◌++◌, map, refl, sym, ap, ◌∙◌, subst, arith}
+use Rattle.std.specs.Prelude.{if◌then◌else◌}
 use Rattle.std.specs.List.{filter}
 use Rattle.std.proofs.lemmas.Bool.{eq-eqb, ne_eqb}
 use Rattle.std.proofs.lemmas.List.{map-append}
 use Rattle.std.proofs.lemmas.Simd.{map-map}
 use Rattle.loop_disk.specs.Medium.{Medium}
 use Rattle.loop_record.specs.declared.frame.FrameHead.{FrameHead}
-use Rattle.loop_record.specs.Recording.{IsWellFormed, Picture, Recording, Ring, RiseBetween, frame_under, head}
+use Rattle.loop_record.specs.Recording.{IsWellFormed, Picture, RiseBetween, frame_under, head}
 use Rattle.loop_record.proofs.Form.{reading-well_formed}
 use Rattle.loop_store.specs.declared.fault.StoreFault.{StoreFault}
 use Rattle.loop_store.specs.Calls.{AnswersDue, IsHeldFrame, was_read}
-use Rattle.loop_desk.specs.Bare.{bare_call, bare_frame, bare_recording, bare_state}
-use Rattle.loop_desk.specs.Desk.{AreDeskAnswers, DeskCall, DeskState, IsDeskAnswer, Rules, desk_after, desk_after_calls, frame_read}
+use Rattle.loop_desk.specs.Bare.{bare_call, bare_frame, bare_state}
+use Rattle.loop_desk.specs.Desk.{AreDeskAnswers, DeskCall, DeskState, IsDeskAnswer, Rules, desk_after, frame_read}
 use Rattle.loop_desk.specs.Seen.{DeskGoes, SeenDesk, StandsAt, rules_of}
 use Rattle.loop_desk.proofs.Blind.{blind}
 use Rattle.loop_desk.proofs.Frames.{each-parts}

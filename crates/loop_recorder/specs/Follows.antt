@@ -1,5 +1,5 @@
 -- One session behind another, at the same desk.
-use Rattle.std.specs.Prelude.{◌≡◌, ℕ, List, length, map}
+use Rattle.std.specs.Prelude.{◌≡◌, List, length, map}
 use Rattle.loop_clips.specs.Table.{clip_list}
 use Rattle.loop_disk.specs.Medium.{Medium}
 use Rattle.loop_record.specs.Recording.{Recording}

@@ -5,7 +5,6 @@ ghost use Rattle.std.specs.Prelude.{◌<◌, length};
 use crate::calls::{SIZE, ends, last};
 use crate::common::{AtOnce, Rec, frame, limits, recorder};
 use crate::told::{holds, same};
-use loop_record::Span;
 use loop_recorder::{Noted, Pass, SessionFault, Stamp, Times};
 use loop_store::{Clip, StoreFault};
 use std::alloc::Global;
@@ -15,11 +14,12 @@ use std::sync::Wait;
 /// Frames that are stored one by one, by their times, some clips that are locked behind so many of them, and a keep.
 struct Case<'a> {
     times: &'a [u64],
-    /// Behind so many frames a span is locked, so many times.
-    lock: (u64, Span, u32),
-    keep: Times,
-    /// The clips that the keep tells, and why no further one.
-    clips: &'a [Clip],
+    /// Behind so many frames those from one number to another are locked, so many times.
+    lock: (u64, u64, u64, u32),
+    /// The first and the last moment.
+    keep: (u64, u64),
+    /// The ids and numbers of the clips that the keep tells, and why no further one.
+    clips: &'a [(u32, u64, u64)],
     fault: Option<SessionFault>,
     /// How many heads it reads.
     heads: u64,
@@ -29,24 +29,7 @@ struct Case<'a> {
 
 const TAG: u64 = 7;
 
-const NO_LOCK: (u64, Span, u32) = (0, span(0, 0), 0);
-
-const fn span(from: u64, to: u64) -> Span {
-    Span { from, to, tag: 3 }
-}
-
-const fn clip(id: u32, from: u64, to: u64) -> Clip {
-    Clip {
-        id,
-        from,
-        to,
-        tag: TAG,
-    }
-}
-
-const fn times(since: u64, until: u64) -> Times {
-    Times { since, until }
-}
+const NO_LOCK: (u64, u64, u64, u32) = (0, 0, 0, 0);
 
 // Three segments of two slots each.
 const CASES: [Case<'static>; 9] = [
@@ -54,8 +37,8 @@ const CASES: [Case<'static>; 9] = [
     Case {
         times: &[10, 20, 30, 40, 50, 60],
         lock: NO_LOCK,
-        keep: times(30, 50),
-        clips: &[clip(0, 2, 4)],
+        keep: (30, 50),
+        clips: &[(0, 2, 4)],
         fault: None,
         heads: 6,
         calls: 1000,
@@ -64,7 +47,7 @@ const CASES: [Case<'static>; 9] = [
     Case {
         times: &[10, 20, 30],
         lock: NO_LOCK,
-        keep: times(31, 39),
+        keep: (31, 39),
         clips: &[],
         fault: None,
         heads: 3,
@@ -73,7 +56,7 @@ const CASES: [Case<'static>; 9] = [
     Case {
         times: &[],
         lock: NO_LOCK,
-        keep: times(0, u64::MAX),
+        keep: (0, u64::MAX),
         clips: &[],
         fault: None,
         heads: 0,
@@ -83,8 +66,8 @@ const CASES: [Case<'static>; 9] = [
     Case {
         times: &[10, 50, 20, 60, 70, 30],
         lock: NO_LOCK,
-        keep: times(50, 100),
-        clips: &[clip(0, 1, 1), clip(1, 3, 4)],
+        keep: (50, 100),
+        clips: &[(0, 1, 1), (1, 3, 4)],
         fault: None,
         heads: 6,
         calls: 1000,
@@ -92,9 +75,9 @@ const CASES: [Case<'static>; 9] = [
     // The block of 2 and 3 has gone, since 0 is locked.
     Case {
         times: &[10, 20, 30, 40, 50, 60, 70],
-        lock: (2, span(0, 0), 1),
-        keep: times(0, 100),
-        clips: &[clip(1, 0, 1), clip(2, 4, 6)],
+        lock: (2, 0, 0, 1),
+        keep: (0, 100),
+        clips: &[(1, 0, 1), (2, 4, 6)],
         fault: None,
         heads: 5,
         calls: 1000,
@@ -103,8 +86,8 @@ const CASES: [Case<'static>; 9] = [
     Case {
         times: &[10, 20, 30, 40, 50, 60, 70, 80],
         lock: NO_LOCK,
-        keep: times(10, 35),
-        clips: &[clip(0, 2, 2)],
+        keep: (10, 35),
+        clips: &[(0, 2, 2)],
         fault: None,
         heads: 6,
         calls: 1000,
@@ -112,9 +95,9 @@ const CASES: [Case<'static>; 9] = [
     // One id is left, and there are two runs: the first stays locked.
     Case {
         times: &[10, 50, 20, 60],
-        lock: (1, span(0, 0), 63),
-        keep: times(50, 100),
-        clips: &[clip(63, 1, 1)],
+        lock: (1, 0, 0, 63),
+        keep: (50, 100),
+        clips: &[(63, 1, 1)],
         fault: Some(SessionFault::Desk(StoreFault::ClipTableFull)),
         heads: 4,
         calls: 1000,
@@ -123,7 +106,7 @@ const CASES: [Case<'static>; 9] = [
     Case {
         times: &[10, 20, 30],
         lock: NO_LOCK,
-        keep: times(0, 100),
+        keep: (0, 100),
         clips: &[],
         fault: Some(SessionFault::SessionFull),
         heads: 2,
@@ -133,7 +116,7 @@ const CASES: [Case<'static>; 9] = [
     Case {
         times: &[10, 20],
         lock: NO_LOCK,
-        keep: times(0, 100),
+        keep: (0, 100),
         clips: &[],
         fault: Some(SessionFault::SessionFull),
         heads: 2,
@@ -162,31 +145,24 @@ fn stores<R: Wait + Abort>(
     holds!(*rt; recorder.flush(rt, 0, pass, &AtOnce).is_ok(), sequence);
 }
 
-// Locks a span, so many times.
-fn locks<R: Wait + Abort>(rt: &R, recorder: &Rec, pass: &mut Pass, span: Span, count: u32)
+// Locks the frames from one number to another, so many times.
+fn locks<R: Wait + Abort>(rt: &R, recorder: &Rec, pass: &mut Pass, from: u64, to: u64, count: u32)
     requires { 0 < length recorder.now.outlines }
 {
     for at in 0..count {
-        let answer = recorder.lock_clip(rt, 0, pass, span.from, span.to, span.tag);
-        holds!(*rt; answer.is_ok(), at);
+        holds!(*rt; recorder.lock_clip(rt, 0, pass, from, to, 3).is_ok(), at);
     }
 }
 
 // Brings the frames of a case, and locks its clips behind so many of them.
-fn brings<R: Wait + Abort>(
-    rt: &R,
-    alloc: Global,
-    recorder: &Rec,
-    pass: &mut Pass,
-    case: &Case<'_>,
-)
+fn brings<R: Wait + Abort>(rt: &R, alloc: Global, recorder: &Rec, pass: &mut Pass, case: &Case<'_>)
     requires { 0 < length recorder.now.outlines }
 {
-    let (behind, span, count) = case.lock;
+    let (behind, from, to, count) = case.lock;
     for (place, time) in case.times.iter().enumerate() {
         stores(rt, alloc, recorder, pass, place as u32 & 0xFFFF, *time);
         if place as u64 + 1 == behind {
-            locks(rt, recorder, pass, span, count);
+            locks(rt, recorder, pass, from, to, count);
         }
     }
 }
@@ -211,6 +187,14 @@ fn are_noted(rt: &impl Abort, pass: &Pass, before: usize, case: &Case<'_>, at: u
     same!(*rt; (heads, clips), (case.heads, case.clips.len() as u64), at);
 }
 
+// The clips have these ids and numbers, and the tag.
+fn are_kept(rt: &impl Abort, clips: &[Clip], wanted: &[(u32, u64, u64)], at: usize) {
+    same!(*rt; clips.len(), wanted.len(), at);
+    for (clip, (id, from, to)) in clips.iter().zip(wanted) {
+        same!(*rt; (clip.id, clip.from, clip.to, clip.tag), (*id, *from, *to, TAG), at);
+    }
+}
+
 #[test]
 fn a_keep_locks_the_held_frames_of_its_time(rt: HostRuntime) {
     let alloc = rt.alloc();
@@ -225,8 +209,9 @@ fn keeps<R: Wait + Abort>(rt: &R, alloc: Global, case: &Case<'_>, at: usize) {
     let mut pass = last(rt, &mut passes);
     brings(rt, alloc, &recorder, &mut pass, case);
     let before = pass.receipts().len();
-    let kept = recorder.keep(rt, alloc, 0, &mut pass, case.keep, TAG);
-    same!(*rt; kept.clips.as_slice(), case.clips, at);
+    let (since, until) = case.keep;
+    let kept = recorder.keep(rt, alloc, 0, &mut pass, Times { since, until }, TAG);
+    are_kept(rt, &kept.clips, case.clips, at);
     same!(*rt; kept.fault, case.fault, at);
     are_noted(rt, &pass, before, case, at);
     passes.push(pass).expect(rt, "memory for a list");

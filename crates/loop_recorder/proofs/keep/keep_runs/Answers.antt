@@ -1,5 +1,5 @@
 use Rattle.std.proofs.Common.{refl}
-use Rattle.loop_recorder.proofs.Keepings.{keeps-all, keeps-none, keeps-part}
+use Rattle.loop_recorder.proofs.Keepings.{keeps-all, keeps-part}
 use Rattle.loop_recorder.proofs.keep.keep_runs.Goals as goal
 
 pub returns-in-Ok-lock_runs : goal.returns-in-Ok-lock_runs
