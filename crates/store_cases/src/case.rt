@@ -3,7 +3,7 @@
 use crate::acts::Act;
 use crate::counted::Counted;
 use crate::pile::{Call, Pile, Tape};
-use crate::words::word;
+use crate::words::{row_of, word};
 use crate::{fails, image, keeping, line, list, make, pile, stops};
 use anyhow::{Result, anyhow};
 use loop_disk::{MemDisk, OnceDisk};
@@ -94,33 +94,131 @@ pub(crate) fn close(case: &mut Case) -> Result<()> {
     }
 }
 
+/// What a line asks for, by its first word.
+#[derive(Clone, Copy)]
+pub(crate) enum Verb {
+    Image,
+    ImageV1,
+    Old,
+    Filled,
+    Cut,
+    Put,
+    Clip,
+    AllClips,
+    Slot,
+    Bytes,
+    Keep,
+    Same,
+    Opens,
+    Export,
+    Disk,
+    Open,
+    Close,
+    Frames,
+    Clips,
+    Version,
+    Victim,
+    Newest,
+    Victims,
+    Look,
+    List,
+    Format,
+    FormatV1,
+    FormatStops,
+    FormatV1Stops,
+    Stops,
+    Stop,
+    Torn,
+    Fails,
+    /// An act of the store.
+    Act,
+}
+
+const VERBS: [(&str, Verb); 33] = [
+    ("image", Verb::Image),
+    ("image1", Verb::ImageV1),
+    ("old", Verb::Old),
+    ("filled", Verb::Filled),
+    ("cut", Verb::Cut),
+    ("put", Verb::Put),
+    ("clip", Verb::Clip),
+    ("all-clips", Verb::AllClips),
+    ("slot", Verb::Slot),
+    ("bytes", Verb::Bytes),
+    ("keep", Verb::Keep),
+    ("same", Verb::Same),
+    ("opens", Verb::Opens),
+    ("export", Verb::Export),
+    ("disk", Verb::Disk),
+    ("open", Verb::Open),
+    ("close", Verb::Close),
+    ("frames", Verb::Frames),
+    ("clips", Verb::Clips),
+    ("version", Verb::Version),
+    ("victim", Verb::Victim),
+    ("newest", Verb::Newest),
+    ("victims", Verb::Victims),
+    ("look", Verb::Look),
+    ("list", Verb::List),
+    ("format", Verb::Format),
+    ("format1", Verb::FormatV1),
+    ("format-stops", Verb::FormatStops),
+    ("format1-stops", Verb::FormatV1Stops),
+    ("stops", Verb::Stops),
+    ("stop", Verb::Stop),
+    ("torn", Verb::Torn),
+    ("fails", Verb::Fails),
+];
+
 // Answers a line about a store.
 fn of_store(
     case: &mut Case,
-    word: &str,
+    (verb, first): (Verb, &str),
     words: &mut SplitWhitespace,
     told: &mut Vec<u8>,
 ) -> Result<()> {
-    match word {
-        "open" => line::open(case, words, told),
-        "close" => line::close(case, told),
-        "frames" => line::frames(case, told),
-        "clips" => line::clips(case, told),
-        "version" => line::version(case, told),
-        "victim" => line::victim(case, told),
-        "newest" => line::newest(case, told),
-        "victims" => keeping::victims(case, words, told),
-        "look" => line::look(case, words, told),
-        "list" => list::list(case, words, told),
-        "format" => make::format(case, 2, words, told),
-        "format1" => make::format(case, 1, words, told),
-        "format-stops" => make::stops(case, 2, words, told),
-        "format1-stops" => make::stops(case, 1, words, told),
-        "stops" => stops::stops(case, words, told),
-        "stop" => stops::stop(case, words, told),
-        "torn" => stops::torn(case, words, told),
-        "fails" => fails::fails(case, told),
-        _ => line::act(case, word, words, told),
+    match verb {
+        Verb::Open => line::open(case, words, told),
+        Verb::Close => line::close(case, told),
+        Verb::Frames | Verb::Clips | Verb::Version | Verb::Victim | Verb::Newest => {
+            line::tells(case, verb, told)
+        }
+        Verb::Victims => keeping::victims(case, words, told),
+        Verb::Look => line::look(case, words, told),
+        Verb::List => list::list(case, words, told),
+        Verb::Format => make::format(case, 2, words, told),
+        Verb::FormatV1 => make::format(case, 1, words, told),
+        Verb::FormatStops => make::stops(case, 2, words, told),
+        Verb::FormatV1Stops => make::stops(case, 1, words, told),
+        Verb::Stops => stops::stops(case, words, told),
+        Verb::Stop => stops::stop(case, words, told),
+        Verb::Torn => stops::torn(case, words, told),
+        Verb::Fails => fails::fails(case, told),
+        _ => line::act(case, first, words, told),
+    }
+}
+
+// Answers a line about an image, a disk or a store.
+fn does(
+    case: &mut Case,
+    (verb, first): (Verb, &str),
+    words: &mut SplitWhitespace,
+    told: &mut Vec<u8>,
+) -> Result<()> {
+    match verb {
+        Verb::Image | Verb::ImageV1 | Verb::Old | Verb::Filled | Verb::Cut => {
+            image::makes(case, verb, words, told)
+        }
+        Verb::Put | Verb::Clip | Verb::AllClips | Verb::Slot => {
+            image::puts(case, verb, words, told)
+        }
+        Verb::Bytes => image::bytes(case, words, told),
+        Verb::Keep => image::keep(case, told),
+        Verb::Same => image::same(case, told),
+        Verb::Opens => image::opens(case, words, told),
+        Verb::Export => image::exports(case, words, told),
+        Verb::Disk => pile::run(case, words, told),
+        _ => of_store(case, (verb, first), words, told),
     }
 }
 
@@ -128,22 +226,6 @@ fn of_store(
 pub(crate) fn run(case: &mut Case, asked: &str, told: &mut Vec<u8>) -> Result<()> {
     let mut words = asked.split_whitespace();
     let first = word(&mut words)?;
-    match first {
-        "image" => image::image(case, 2, &mut words, told),
-        "image1" => image::image(case, 1, &mut words, told),
-        "old" => image::old(case, told),
-        "filled" => image::filled(case, &mut words, told),
-        "cut" => image::cut(case, &mut words, told),
-        "put" => image::put_bytes(case, &mut words, told),
-        "clip" => image::put_clip(case, &mut words, told),
-        "all-clips" => image::put_clips(case, &mut words, told),
-        "slot" => image::put_slot(case, &mut words, told),
-        "bytes" => image::bytes(case, &mut words, told),
-        "keep" => image::keep(case, told),
-        "same" => image::same(case, told),
-        "opens" => image::opens(case, &mut words, told),
-        "export" => image::exports(case, &mut words, told),
-        "disk" => pile::run(case, &mut words, told),
-        _ => of_store(case, first, &mut words, told),
-    }
+    let verb = row_of(&VERBS, first, Verb::Act);
+    does(case, (verb, first), &mut words, told)
 }

@@ -6,11 +6,11 @@ use crate::frames::{
     append_again, append_next, held, is_beginning, opened_keeping, read, refused, unexpected,
 };
 use crate::keeping;
+use crate::text::say;
 use anyhow::{Result, anyhow};
 use loop_disk::{Disk, DiskFault, FuseDisk, MemDisk, OnceDisk};
 use loop_store::{Command, Store, StoreFault};
 use std::alloc::Global;
-use std::io::Write;
 
 /// The most calls of an opening and of what is done then.
 pub(crate) const MAX_CALLS: u64 = 1000;
@@ -79,14 +79,21 @@ fn does_some<D: Disk + Drop>(alloc: Global, store: &mut Store<D>, acts: &[Act]) 
     })
 }
 
-// Opens a disk and does what was done since the opening, until a call is refused. As many blocks are kept then.
+// Does what was done since the opening, until a call is refused. As many blocks are kept then.
+fn does_kept<D: Disk + Drop>(case: &Case, store: &mut Store<D>) -> Result<Done> {
+    let done = does_some(case.alloc, store, &case.acts)?;
+    if store.keep() == case.keep {
+        Ok(done)
+    } else {
+        Err(anyhow!("it keeps other blocks than before"))
+    }
+}
+
+// Opens a disk and does what was done since the opening, until a call is refused.
 fn tried<D: Disk + Drop>(case: &Case, disk: D) -> Result<(Done, D)> {
     match Store::open_keeping(case.alloc, disk, case.keep) {
         Ok(mut store) => {
-            let done = does_some(case.alloc, &mut store, &case.acts)?;
-            if store.keep() != case.keep {
-                return Err(anyhow!("it keeps other blocks than before"));
-            }
+            let done = does_kept(case, &mut store)?;
             Ok((done, store.into_disk()))
         }
         Err(refused) => {
@@ -140,14 +147,25 @@ fn ends_with(alloc: Global, store: &mut Store<MemDisk>, number: u64) -> Result<(
     }
 }
 
-// Opens what is left, stores a frame in a second attempt, and opens it again. What was given up doesn't come back.
-fn reopens(case: &Case, disk: MemDisk, done: &Done) -> Result<()> {
+// Opens what is left, and stores a frame in a second attempt. Answers its number, if it has a place, and the disk.
+fn goes_on_over(case: &Case, disk: MemDisk, done: &Done) -> Result<(Option<u64>, MemDisk)> {
     let mut store = opened_keeping(case.alloc, disk, case.keep)?;
-    let Some(number) = goes_on(case, &mut store, done)? else {
-        return Ok(());
-    };
-    let mut store = opened_keeping(case.alloc, store.into_disk(), case.keep)?;
+    let number = goes_on(case, &mut store, done)?;
+    Ok((number, store.into_disk()))
+}
+
+// Opens what the second attempt left. What was given up doesn't come back.
+fn is_last(case: &Case, disk: MemDisk, number: u64) -> Result<()> {
+    let mut store = opened_keeping(case.alloc, disk, case.keep)?;
     ends_with(case.alloc, &mut store, number)
+}
+
+// Opens what is left, stores a frame in a second attempt, and opens it again.
+fn reopens(case: &Case, disk: MemDisk, done: &Done) -> Result<()> {
+    match goes_on_over(case, disk, done)? {
+        (Some(number), disk) => is_last(case, disk, number),
+        (None, _) => Ok(()),
+    }
 }
 
 /// The image when it was opened.
@@ -177,14 +195,20 @@ fn fails_from(case: &Case, call: u64) -> Result<Done> {
     Ok(done)
 }
 
-// Fails a call in each way. All are refused alike.
-fn fails_at(case: &Case, call: u64) -> Result<Option<StoreFault>> {
-    let done = fails_from(case, call)?;
-    for keep in KEEPS {
-        if fails_once(case, call, keep)? != done {
+// Fails a call alone in each way. All are refused alike.
+fn fails_alike(case: &Case, call: u64, done: Done) -> Result<()> {
+    for keep in &KEEPS {
+        if fails_once(case, call, *keep)? != done {
             return Err(anyhow!("failing once isn't refused as failing from then on"));
         }
     }
+    Ok(())
+}
+
+// Fails a call in each way. All are refused alike.
+fn fails_at(case: &Case, call: u64) -> Result<Option<StoreFault>> {
+    let done = fails_from(case, call)?;
+    fails_alike(case, call, done)?;
     Ok(done.refused)
 }
 
@@ -198,13 +222,8 @@ pub(crate) fn letter(fault: StoreFault) -> u8 {
     }
 }
 
-/// `fails`: fails each call of the opening and of what was done since, up to one that isn't made any more. The
-/// letters of the calls that failed, and that each left a beginning.
-pub(crate) fn fails(case: &mut Case, told: &mut Vec<u8>) -> Result<()> {
-    close(case)?;
-    if case.is_refused {
-        return keeping::fails(case, told);
-    }
+// Fails each call up to one that isn't made any more, and prints the letters of those that failed.
+fn print_fails(case: &Case, told: &mut Vec<u8>) -> Result<()> {
     for call in 0..MAX_CALLS {
         match fails_at(case, call) {
             Err(error) => return Err(anyhow!(", and at call {call}: {error}")),
@@ -212,6 +231,16 @@ pub(crate) fn fails(case: &mut Case, told: &mut Vec<u8>) -> Result<()> {
             Ok(Some(fault)) => told.push(letter(fault))?,
         }
     }
-    told.write_all(b", and each leaves a beginning")?;
     Ok(())
+}
+
+/// `fails`: fails each call of the opening and of what was done since, up to one that isn't made any more. The
+/// letters of the calls that failed, and that each left a beginning.
+pub(crate) fn fails(case: &mut Case, told: &mut Vec<u8>) -> Result<()> {
+    close(case)?;
+    if case.is_refused {
+        return keeping::fails(case, told);
+    }
+    print_fails(case, told)?;
+    say(told, ", and each leaves a beginning")
 }

@@ -15,6 +15,11 @@ pub(crate) fn refused(fault: StoreFault) -> Error {
     anyhow!("refused {name}")
 }
 
+/// A disk that isn't opened.
+pub(crate) fn unopened(fault: StoreFault) -> Error {
+    anyhow!("{fault:?}")
+}
+
 /// Other frames are held than may be.
 pub(crate) fn unexpected(numbers: &[u64]) -> Error {
     anyhow!("{numbers:?} are held")
@@ -288,9 +293,6 @@ pub(crate) fn opened_keeping<D: Disk + Drop>(
 ) -> Result<Store<D>> {
     match Store::open_keeping(alloc, disk, keep) {
         Ok(store) => Ok(store),
-        Err(refused) => {
-            let fault = refused.fault;
-            Err(anyhow!("{fault:?}"))
-        }
+        Err(refused) => Err(unopened(refused.fault)),
     }
 }

@@ -3,18 +3,22 @@
 ghost use Rattle.std.specs.Prelude.{IsTrue};
 ghost use Rattle.loop_record.specs.Geometry.{is_good};
 
-use crate::case::{Case, close};
+use crate::case::{Case, Verb, close};
 use crate::frames::{append_next, frame, held, opened, refused};
-use crate::text;
-use crate::words::{any_geometry, good, number, number_of, word};
+use crate::text::{self, print_count, print_fault, say};
+use crate::words::{any_geometry, good, number, number_of, two_numbers};
 use anyhow::{Result, anyhow};
 use loop_disk::MemDisk;
-use loop_record::{Geometry, OPEN, SuperHead, encode_slot, encode_super};
+use loop_record::{Frame, Geometry, OPEN, SuperHead, encode_slot, encode_super};
 use loop_store::{OpenRefused, Store};
 use loop_y4m::{ExportFault, export};
 use std::alloc::{AllocError, Global};
-use std::io::Write;
 use std::str::SplitWhitespace;
+
+/// The bytes of a disk.
+pub(crate) fn bytes_of(alloc: Global, disk: &MemDisk) -> Result<Vec<u8>> {
+    Ok(disk.bytes().to_vec(alloc)?)
+}
 
 /// Puts bytes into an image from a place on.
 pub(crate) fn put(image: &mut [u8], at: usize, bytes: &[u8]) {
@@ -36,204 +40,210 @@ pub(crate) fn fresh(alloc: Global, geometry: Geometry, version: u32) -> Result<V
     Ok(image)
 }
 
-// How many bytes the image has.
-fn print_size(case: &Case, told: &mut Vec<u8>) -> Result<()> {
-    let count = case.image.len();
-    write!(told, "{count} bytes")?;
+// Stores groups of so many frames.
+fn store_groups(
+    alloc: Global,
+    store: &mut Store<MemDisk>,
+    words: &mut SplitWhitespace,
+) -> Result<()> {
+    for word in words {
+        append_next(alloc, store, number_of(word)?, 0)?.map_err(refused)?;
+    }
     Ok(())
 }
 
 // Stores groups of so many frames on a fresh image.
 fn with_groups(alloc: Global, image: Vec<u8>, words: &mut SplitWhitespace) -> Result<Vec<u8>> {
     let mut store = opened(alloc, MemDisk::of(image))?;
-    for word in words {
-        append_next(alloc, &mut store, number_of(word)?, 0)?.map_err(refused)?;
-    }
-    Ok(store.into_disk().bytes().to_vec(alloc)?)
+    store_groups(alloc, &mut store, words)?;
+    bytes_of(alloc, &store.into_disk())
 }
 
-/// `image GEOMETRY COUNT..`: a freshly formatted image, and groups of so many frames that are stored on it; `image1` is
-/// one in version 1 of the layout.
-pub(crate) fn image(
-    case: &mut Case,
-    version: u32,
-    words: &mut SplitWhitespace,
-    told: &mut Vec<u8>,
-) -> Result<()> {
-    close(case)?;
+// A freshly formatted image in a version of the layout, and groups of so many frames that are stored on it.
+fn formatted(alloc: Global, version: u32, words: &mut SplitWhitespace) -> Result<Vec<u8>> {
     let geometry = good(any_geometry(words)?)?;
-    let image = fresh(case.alloc, geometry, version)?;
-    case.image = with_groups(case.alloc, image, words)?;
-    print_size(case, told)
+    with_groups(alloc, fresh(alloc, geometry, version)?, words)
 }
 
-/// `old`: the store that the program before version 2 of the layout has left.
-pub(crate) fn old(case: &mut Case, told: &mut Vec<u8>) -> Result<()> {
-    close(case)?;
-    case.image = case.old.clone()?;
-    print_size(case, told)
-}
-
-/// `filled BYTE COUNT`: an image of so many times a byte.
-pub(crate) fn filled(
-    case: &mut Case,
-    words: &mut SplitWhitespace,
-    told: &mut Vec<u8>,
-) -> Result<()> {
-    close(case)?;
-    let byte = text::bytes(case.alloc, word(words)?)?
+// An image of so many times a byte.
+fn filled(alloc: Global, words: &mut SplitWhitespace) -> Result<Vec<u8>> {
+    let byte = text::next_bytes(alloc, words)?
         .first()
         .copied()
         .unwrap_or(0);
     let count = number(words)?;
-    case.image = vec![in case.alloc; byte; count as usize]?;
-    print_size(case, told)
+    Ok(vec![in alloc; byte; count as usize]?)
 }
 
-/// `cut COUNT`: the first bytes of the image.
-pub(crate) fn cut(case: &mut Case, words: &mut SplitWhitespace, told: &mut Vec<u8>) -> Result<()> {
-    close(case)?;
+// The first bytes of an image.
+fn cut(image: &Vec<u8>, words: &mut SplitWhitespace) -> Result<Vec<u8>> {
     let count = number(words)?;
-    case.image.truncate(count as usize);
-    print_size(case, told)
+    let mut image = image.clone()?;
+    image.truncate(count as usize);
+    Ok(image)
 }
 
-/// `put AT BYTES`
-pub(crate) fn put_bytes(
+// The image that a line asks for.
+fn made(case: &Case, verb: Verb, words: &mut SplitWhitespace) -> Result<Vec<u8>> {
+    match verb {
+        Verb::Image => formatted(case.alloc, 2, words),
+        Verb::ImageV1 => formatted(case.alloc, 1, words),
+        Verb::Old => Ok(case.old.clone()?),
+        Verb::Filled => filled(case.alloc, words),
+        _ => cut(&case.image, words),
+    }
+}
+
+/// Makes an image, and prints how many bytes it has.
+/// `image GEOMETRY COUNT..`: a freshly formatted image, and groups of so many frames that are stored on it; `image1` is
+/// one in version 1 of the layout.
+/// `old`: the store that the program before version 2 of the layout has left.
+/// `filled BYTE COUNT`: an image of so many times a byte.
+/// `cut COUNT`: the first bytes of the image.
+pub(crate) fn makes(
     case: &mut Case,
+    verb: Verb,
     words: &mut SplitWhitespace,
     told: &mut Vec<u8>,
 ) -> Result<()> {
     close(case)?;
+    case.image = made(case, verb, words)?;
+    print_count(told, case.image.len() as u64, " bytes")
+}
+
+// `put AT BYTES`
+fn put_bytes(alloc: Global, image: &mut [u8], words: &mut SplitWhitespace) -> Result<()> {
     let at = number(words)?;
-    let bytes = text::bytes(case.alloc, word(words)?)?;
-    put(case.image.as_mut_slice(), at as usize, &bytes);
-    told.write_all(b"put")?;
+    let bytes = text::next_bytes(alloc, words)?;
+    put(image, at as usize, &bytes);
     Ok(())
 }
 
 // Puts the open entry of a clip id into an image. The bytes of its tag stay as they are.
-fn put_entry(image: &mut [u8], id: u64, from: u64, to: u64) {
+fn put_entry(image: &mut [u8], id: u64, (from, to): (u64, u64)) {
     let at = (id as usize).wrapping_mul(32).wrapping_add(512);
     put(image, at, &[OPEN]);
     put(image, at.wrapping_add(8), &from.to_le_bytes());
     put(image, at.wrapping_add(16), &to.to_le_bytes());
 }
 
-/// `clip ID FROM TO`: the open entry of a clip id.
-pub(crate) fn put_clip(
-    case: &mut Case,
-    words: &mut SplitWhitespace,
-    told: &mut Vec<u8>,
-) -> Result<()> {
-    close(case)?;
-    let (id, from, to) = (number(words)?, number(words)?, number(words)?);
-    put_entry(case.image.as_mut_slice(), id, from, to);
-    told.write_all(b"put")?;
+// `clip ID FROM TO`: the open entry of a clip id.
+fn put_clip(image: &mut [u8], words: &mut SplitWhitespace) -> Result<()> {
+    let id = number(words)?;
+    put_entry(image, id, two_numbers(words)?);
     Ok(())
 }
 
-/// `all-clips FROM TO`: the open entry of each clip id.
-pub(crate) fn put_clips(
-    case: &mut Case,
-    words: &mut SplitWhitespace,
-    told: &mut Vec<u8>,
-) -> Result<()> {
-    close(case)?;
-    let (from, to) = (number(words)?, number(words)?);
+// `all-clips FROM TO`: the open entry of each clip id.
+fn put_clips(image: &mut [u8], words: &mut SplitWhitespace) -> Result<()> {
+    let span = two_numbers(words)?;
     for id in 0..64 {
-        put_entry(case.image.as_mut_slice(), id, from, to);
+        put_entry(image, id, span);
     }
-    told.write_all(b"put")?;
     Ok(())
 }
 
-/// `slot AT NUMBER`: the slot of the frame of a number, which has one byte.
-pub(crate) fn put_slot(
-    case: &mut Case,
-    words: &mut SplitWhitespace,
-    told: &mut Vec<u8>,
-) -> Result<()> {
-    close(case)?;
-    let (at, number) = (number(words)?, number(words)?);
-    let frame = frame(case.alloc, 1, number, 0)?;
+// Puts the slot of a frame that has one byte.
+fn put_frame(image: &mut [u8], at: u64, number: u64, frame: &Frame) -> Result<()> {
     if frame.bytes.len() != 1 {
         return Err(anyhow!("a frame of another size"));
     }
     let mut slot = [0; 33];
-    encode_slot(number, &frame, &mut slot);
-    put(case.image.as_mut_slice(), at as usize, &slot);
-    told.write_all(b"put")?;
+    encode_slot(number, frame, &mut slot);
+    put(image, at as usize, &slot);
     Ok(())
+}
+
+// `slot AT NUMBER`: the slot of the frame of a number, which has one byte.
+fn put_slot(alloc: Global, image: &mut [u8], words: &mut SplitWhitespace) -> Result<()> {
+    let (at, number) = two_numbers(words)?;
+    put_frame(image, at, number, &frame(alloc, 1, number, 0)?)
+}
+
+/// Puts bytes into the image: `put AT BYTES`; `clip ID FROM TO`, the open entry of a clip id; `all-clips FROM TO`, the
+/// open entry of each clip id; `slot AT NUMBER`, the slot of the frame of a number, which has one byte.
+pub(crate) fn puts(
+    case: &mut Case,
+    verb: Verb,
+    words: &mut SplitWhitespace,
+    told: &mut Vec<u8>,
+) -> Result<()> {
+    close(case)?;
+    let (alloc, image) = (case.alloc, case.image.as_mut_slice());
+    match verb {
+        Verb::Put => put_bytes(alloc, image, words)?,
+        Verb::Clip => put_clip(image, words)?,
+        Verb::AllClips => put_clips(image, words)?,
+        _ => put_slot(alloc, image, words)?,
+    }
+    say(told, "put")
 }
 
 /// `bytes AT COUNT`: what stands there. While a store is open, what stores that were opened anew for each line have
 /// left, and the disk of that store has the same.
-pub(crate) fn bytes(
-    case: &mut Case,
-    words: &mut SplitWhitespace,
-    told: &mut Vec<u8>,
-) -> Result<()> {
-    let (at, count) = (number(words)? as usize, number(words)? as usize);
-    let end = at.saturating_add(count);
-    match case.image.get(at..end) {
-        Some(bytes) => text::print_bytes(told, bytes)?,
-        None => told.write_all(b"no such bytes")?,
+pub(crate) fn bytes(case: &Case, words: &mut SplitWhitespace, told: &mut Vec<u8>) -> Result<()> {
+    let (at, count) = two_numbers(words)?;
+    let (at, count) = (at as usize, count as usize);
+    match case.image.get(at..at.saturating_add(count)) {
+        Some(bytes) => Ok(text::print_bytes(told, bytes)?),
+        None => say(told, "no such bytes"),
     }
-    Ok(())
 }
 
 /// `keep`: keeps the image, to compare another one with it.
 pub(crate) fn keep(case: &mut Case, told: &mut Vec<u8>) -> Result<()> {
     close(case)?;
     case.kept = case.image.clone()?;
-    told.write_all(b"kept")?;
-    Ok(())
+    say(told, "kept")
 }
 
 /// `same`: whether the image is the one that was kept.
 pub(crate) fn same(case: &mut Case, told: &mut Vec<u8>) -> Result<()> {
     close(case)?;
-    let answer: &[u8] = if *case.image.as_slice() == *case.kept.as_slice() {
-        b"the same"
-    } else {
-        b"another"
-    };
-    told.write_all(answer)?;
+    let is_same = *case.image.as_slice() == *case.kept.as_slice();
+    say(told, if is_same { "the same" } else { "another" })
+}
+
+// Puts the bytes of the next word into an image, at a place that is a word.
+fn put_at(alloc: Global, image: &mut [u8], place: &str, words: &mut SplitWhitespace) -> Result<()> {
+    let at = number_of(place)?;
+    let bytes = text::next_bytes(alloc, words)?;
+    put(image, at as usize, &bytes);
     Ok(())
 }
 
-// The image with changes, each a place and the bytes that are put there.
-fn changed(case: &Case, words: &mut SplitWhitespace) -> Result<Vec<u8>> {
-    let mut image = case.image.clone()?;
+// Makes changes of an image, each a place and the bytes that are put there.
+fn put_all(alloc: Global, image: &mut [u8], words: &mut SplitWhitespace) -> Result<()> {
     for _ in 0..100 {
         let Some(place) = words.next() else {
             break;
         };
-        let at = number_of(place)?;
-        let bytes = text::bytes(case.alloc, word(words)?)?;
-        put(image.as_mut_slice(), at as usize, &bytes);
+        put_at(alloc, image, place, words)?;
     }
-    Ok(image)
-}
-
-// Prints the frames that a store shows.
-fn print_held(alloc: Global, mut store: Store<MemDisk>, told: &mut Vec<u8>) -> Result<()> {
-    let numbers = held(alloc, &mut store, u64::MAX)?;
-    told.write_all(b"holds")?;
-    text::print_numbers(told, &numbers)?;
     Ok(())
 }
 
+// Prints the frames that a store shows.
+fn print_held(alloc: Global, store: &mut Store<MemDisk>, told: &mut Vec<u8>) -> Result<()> {
+    let numbers = held(alloc, store, u64::MAX)?;
+    Ok(text::print_holds(told, &numbers)?)
+}
+
 // Prints why an image is refused. It is handed back unchanged.
-fn print_refused(refused: OpenRefused<MemDisk>, image: &[u8], told: &mut Vec<u8>) -> Result<()> {
-    let fault = refused.fault;
-    write!(told, "{fault:?}")?;
+fn print_refused(refused: &OpenRefused<MemDisk>, image: &[u8], told: &mut Vec<u8>) -> Result<()> {
+    print_fault(told, refused.fault)?;
     if *refused.disk.bytes() == *image {
-        told.write_all(b", handed back")?;
-        Ok(())
+        say(told, ", handed back")
     } else {
         Err(anyhow!(", and handed back with other bytes"))
+    }
+}
+
+// Opens an image. It shows these frames, or it is refused, and then handed back unchanged.
+fn print_opened(alloc: Global, image: &Vec<u8>, told: &mut Vec<u8>) -> Result<()> {
+    match Store::open(alloc, MemDisk::of(image.clone()?)) {
+        Ok(mut store) => print_held(alloc, &mut store, told),
+        Err(refused) => print_refused(&refused, image, told),
     }
 }
 
@@ -245,10 +255,23 @@ pub(crate) fn opens(
     told: &mut Vec<u8>,
 ) -> Result<()> {
     close(case)?;
-    let image = changed(case, words)?;
-    match Store::open(case.alloc, MemDisk::of(image.clone()?)) {
-        Ok(store) => print_held(case.alloc, store, told),
-        Err(refused) => print_refused(refused, &image, told),
+    let mut image = case.image.clone()?;
+    put_all(case.alloc, image.as_mut_slice(), words)?;
+    print_opened(case.alloc, &image, told)
+}
+
+// Prints the text of a store's frames between these numbers.
+fn print_export(
+    alloc: Global,
+    store: &mut Store<MemDisk>,
+    (from, to): (u64, u64),
+    told: &mut Vec<u8>,
+) -> Result<()> {
+    let mut text = Vec::new(alloc);
+    match export(alloc, store, from, to, &mut text) {
+        Ok(_count) => Ok(text::print_bytes(told, &text)?),
+        Err(ExportFault::Store(fault)) => print_fault(told, fault),
+        Err(ExportFault::Write) => say(told, "Write"),
     }
 }
 
@@ -259,13 +282,7 @@ pub(crate) fn exports(
     told: &mut Vec<u8>,
 ) -> Result<()> {
     close(case)?;
-    let (from, to) = (number(words)?, number(words)?);
+    let span = two_numbers(words)?;
     let mut store = opened(case.alloc, MemDisk::of(case.image.clone()?))?;
-    let mut text = Vec::new(case.alloc);
-    match export(case.alloc, &mut store, from, to, &mut text) {
-        Ok(_count) => text::print_bytes(told, &text)?,
-        Err(ExportFault::Store(fault)) => write!(told, "{fault:?}")?,
-        Err(ExportFault::Write) => told.write_all(b"Write")?,
-    }
-    Ok(())
+    print_export(case.alloc, &mut store, span, told)
 }

@@ -5,7 +5,8 @@ use crate::counted::Counted;
 use crate::fails::{MAX_CALLS, base, letter};
 use crate::line;
 use crate::stops::{SPOILS, left_at};
-use crate::words::{bad_line, number_of};
+use crate::text::{print_calls, print_count, print_fault, say};
+use crate::words::small_of;
 use anyhow::{Result, anyhow};
 use loop_disk::{CrashDisk, Disk, FuseDisk, MemDisk, OnceDisk};
 use loop_store::{OpenRefused, Store, StoreFault};
@@ -18,51 +19,80 @@ fn other_bytes() -> anyhow::Error {
     anyhow!(", and other bytes are left")
 }
 
-// Prints why the opening is refused. Its disk is handed back with the image, which is remembered.
-fn print_refused(
-    case: &mut Case,
-    keep: u32,
-    refused: OpenRefused<Counted<MemDisk>>,
+/// The image on a disk whose calls are counted anew.
+pub(crate) fn counted<'a>(case: &Case<'a>) -> Result<Counted<'a, MemDisk>> {
+    case.calls.set(0);
+    Ok(Counted {
+        inner: MemDisk::of(case.image.clone()?),
+        calls: case.calls,
+    })
+}
+
+/// Prints why the image is refused, behind so many calls. Its disk is handed back with it.
+pub(crate) fn print_refused(
+    case: &Case,
+    refused: &OpenRefused<Counted<MemDisk>>,
     told: &mut Vec<u8>,
 ) -> Result<()> {
-    let (fault, count) = (refused.fault, case.calls.get());
+    print_fault(told, refused.fault)?;
     if *refused.disk.inner.bytes() != *case.image.as_slice() {
         return Err(other_bytes());
     }
+    say(told, " ")?;
+    print_calls(told, case.calls)?;
+    say(told, ", handed back")
+}
+
+// Remembers that the image is refused where so many are kept.
+fn remember(case: &mut Case, keep: u32) -> Result<()> {
     case.keep = keep;
     case.is_refused = true;
     case.base = case.image.clone()?;
-    write!(told, "{fault:?} in {count} calls, handed back")?;
     Ok(())
+}
+
+// Opens the image with so many kept, where as many are kept by a store of it.
+fn opens(case: &mut Case, keep: u32, kept: u32, told: &mut Vec<u8>) -> Result<()> {
+    line::opens(case, keep, u64::MAX, told)?;
+    say(told, ", keeps ")?;
+    print_count(told, u64::from(kept), "")
 }
 
 /// `open keeping COUNT`: opens the image with so many blocks kept, in so many calls of the disk, or is refused.
 pub(crate) fn open(case: &mut Case, keep: u32, told: &mut Vec<u8>) -> Result<()> {
-    case.calls.set(0);
-    let inner = MemDisk::of(case.image.clone()?);
-    let calls = case.calls;
-    match Store::open_keeping(case.alloc, Counted { inner, calls }, keep) {
-        Err(refused) => print_refused(case, keep, refused, told),
-        Ok(store) => {
-            let kept = store.keep();
-            line::opens(case, keep, u64::MAX, told)?;
-            write!(told, ", keeps {kept}")?;
-            Ok(())
+    let disk = counted(case)?;
+    match Store::open_keeping(case.alloc, disk, keep) {
+        Ok(store) => opens(case, keep, store.keep(), told),
+        Err(refused) => {
+            print_refused(case, &refused, told)?;
+            remember(case, keep)
         }
+    }
+}
+
+// Prints a block.
+fn print_block(told: &mut Vec<u8>, block: Option<u64>) -> Result<()> {
+    match block {
+        Some(block) => print_count(told, block, ""),
+        None => say(told, "none"),
     }
 }
 
 // Prints which block goes next where so many are kept.
 fn print_victim(case: &Case, keep: u32, told: &mut Vec<u8>) -> Result<()> {
     match Store::open_keeping(case.alloc, MemDisk::of(case.image.clone()?), keep) {
-        Err(refused) => {
-            let fault = refused.fault;
-            write!(told, "{fault:?}")?;
-        }
-        Ok(store) => match store.victim() {
-            Some(block) => write!(told, "{block}")?,
-            None => told.write_all(b"none")?,
-        },
+        Err(refused) => print_fault(told, refused.fault),
+        Ok(store) => print_block(told, store.victim()),
+    }
+}
+
+// Prints the blocks that go next where so many are kept, for each of these counts.
+fn print_victims(case: &Case, words: &mut SplitWhitespace, told: &mut Vec<u8>) -> Result<()> {
+    let mut gap: &[u8] = b"";
+    for word in words {
+        told.write_all(gap)?;
+        print_victim(case, small_of(word)?, told)?;
+        gap = b" ";
     }
     Ok(())
 }
@@ -74,14 +104,7 @@ pub(crate) fn victims(
     told: &mut Vec<u8>,
 ) -> Result<()> {
     close(case)?;
-    let mut gap: &[u8] = b"";
-    for word in words {
-        told.write_all(gap)?;
-        let keep = u32::try_from(number_of(word)?).map_err(|_| bad_line())?;
-        print_victim(case, keep, told)?;
-        gap = b" ";
-    }
-    Ok(())
+    print_victims(case, words, told)
 }
 
 // Why a disk isn't opened with so many kept, and the disk.
@@ -92,12 +115,18 @@ fn refused_by<D: Disk + Drop>(alloc: Global, disk: D, keep: u32) -> Result<(Stor
     }
 }
 
-// A disk of other bytes, over which the image was written and not synced, once an opening is refused.
-fn recorded(case: &Case) -> Result<CrashDisk> {
-    let mut disk = CrashDisk::of(case.alloc, vec![in case.alloc; 0x5A; case.base.len()]?)?;
-    if disk.size() != case.base.len() as u64 || disk.write_at(0, &case.base).is_err() {
+// A disk of other bytes, over which the image was written and not synced.
+fn written(alloc: Global, image: &[u8]) -> Result<CrashDisk> {
+    let mut disk = CrashDisk::of(alloc, vec![in alloc; 0x5A; image.len()]?)?;
+    if disk.size() != image.len() as u64 || disk.write_at(0, image).is_err() {
         return Err(other_bytes());
     }
+    Ok(disk)
+}
+
+// That disk, once an opening is refused.
+fn recorded(case: &Case) -> Result<CrashDisk> {
+    let disk = written(case.alloc, &case.base)?;
     let (_fault, disk) = refused_by(case.alloc, disk, case.keep)?;
     Ok(disk)
 }
@@ -113,10 +142,18 @@ fn is_there(case: &Case, disk: &MemDisk) -> Result<()> {
 
 // Stops behind so many calls, with each spoilt content.
 fn stops_behind(case: &Case, disk: &CrashDisk, calls: usize) -> Result<()> {
-    for spoil in SPOILS {
-        if is_there(case, &left_at(disk, calls, spoil)?).is_err() {
+    for spoil in &SPOILS {
+        if is_there(case, &left_at(disk, calls, *spoil)?).is_err() {
             return Err(anyhow!("after {calls} calls, {spoil:?}: other bytes"));
         }
+    }
+    Ok(())
+}
+
+// Stops behind each call from the first of the opening on.
+fn stops_all(case: &Case, disk: &CrashDisk) -> Result<()> {
+    for calls in 2..=disk.calls() {
+        stops_behind(case, disk, calls)?;
     }
     Ok(())
 }
@@ -125,25 +162,45 @@ fn stops_behind(case: &Case, disk: &CrashDisk, calls: usize) -> Result<()> {
 /// left before it.
 pub(crate) fn stops(case: &Case, told: &mut Vec<u8>) -> Result<()> {
     let disk = recorded(case)?;
-    for calls in 2..=disk.calls() {
-        stops_behind(case, &disk, calls)?;
-    }
+    stops_all(case, &disk)?;
     let calls = disk.calls().saturating_sub(1);
-    write!(told, "{calls} calls, and each stop leaves what was there")?;
-    Ok(())
+    print_count(
+        told,
+        calls as u64,
+        " calls, and each stop leaves what was there",
+    )
+}
+
+// Fails a call alone.
+fn fails_once(case: &Case, call: u64) -> Result<StoreFault> {
+    let disk = OnceDisk::new(base(case)?, call);
+    let (fault, disk) = refused_by(case.alloc, disk, case.keep)?;
+    is_there(case, &disk.into_inner())?;
+    Ok(fault)
+}
+
+// Fails the calls from one on.
+fn fails_from(case: &Case, call: u64) -> Result<StoreFault> {
+    let disk = FuseDisk::new(base(case)?, call);
+    let (fault, disk) = refused_by(case.alloc, disk, case.keep)?;
+    is_there(case, &disk.into_inner())?;
+    Ok(fault)
 }
 
 // Fails a call alone, and the calls from it on. Both are refused alike.
 fn fails_at(case: &Case, call: u64) -> Result<StoreFault> {
-    let (once, disk) = refused_by(case.alloc, OnceDisk::new(base(case)?, call), case.keep)?;
-    is_there(case, &disk.into_inner())?;
-    let (fault, disk) = refused_by(case.alloc, FuseDisk::new(base(case)?, call), case.keep)?;
-    is_there(case, &disk.into_inner())?;
-    if once == fault {
+    let fault = fails_from(case, call)?;
+    if fails_once(case, call)? == fault {
         Ok(fault)
     } else {
         Err(anyhow!("failing once isn't refused as failing from then on"))
     }
+}
+
+// Prints why the opening is refused where nothing fails.
+fn print_then(told: &mut Vec<u8>, fault: StoreFault) -> Result<()> {
+    say(told, ", then ")?;
+    print_fault(told, fault)
 }
 
 /// `fails` of an opening that is refused: the letters of its calls, each of which fails, and why it is refused then.
@@ -152,11 +209,10 @@ pub(crate) fn fails(case: &Case, told: &mut Vec<u8>) -> Result<()> {
         match fails_at(case, call)? {
             StoreFault::Disk(fault) => told.push(letter(StoreFault::Disk(fault)))?,
             fault => {
-                write!(told, ", then {fault:?}")?;
+                print_then(told, fault)?;
                 break;
             }
         }
     }
-    told.write_all(b", and each leaves what was there")?;
-    Ok(())
+    say(told, ", and each leaves what was there")
 }

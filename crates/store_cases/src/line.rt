@@ -2,14 +2,16 @@
 //! both answer the same and leave the same bytes.
 
 use crate::acts::{Act, does, print_answer};
-use crate::case::{self, Case, CaseStore, Moment};
+use crate::case::{self, Case, CaseStore, Moment, Verb};
 use crate::counted::Counted;
 use crate::frames::{held, opened_keeping, read, refused};
-use crate::text::{print_bytes, print_clips, print_numbers};
-use crate::words::{number, small};
-use crate::{acts, keeping, words};
-use anyhow::{Result, anyhow};
+use crate::image::bytes_of;
+use crate::text::{print_calls, print_clips, print_count, print_holds, print_part, say};
+use crate::words::{number, small, two_numbers};
+use crate::{acts, keeping};
+use anyhow::{Error, Result, anyhow};
 use loop_disk::{MemDisk, OnceDisk};
+use loop_record::FrameHead;
 use std::alloc::Global;
 use std::cell::Cell;
 use std::io::Write;
@@ -56,9 +58,7 @@ fn print_shown(
     told: &mut Vec<u8>,
 ) -> Result<()> {
     let numbers = shown(alloc, calls, store)?;
-    told.write_all(b"holds")?;
-    print_numbers(told, &numbers)?;
-    Ok(())
+    Ok(print_holds(told, &numbers)?)
 }
 
 // Does an act. Answers how many calls of the disk it took, and whether it was done.
@@ -82,6 +82,41 @@ fn tell_act(
     Ok((count, is_done))
 }
 
+// Prints the clips of a store.
+fn tell_clips(alloc: Global, store: &CaseStore, told: &mut Vec<u8>) -> Result<()> {
+    let clips = store.clips(alloc).map_err(refused)?;
+    say(told, "has")?;
+    Ok(print_clips(told, &clips)?)
+}
+
+// Prints the block that would go next, and how many calls it takes to say so.
+fn tell_victim(calls: &Cell<u64>, store: &CaseStore, told: &mut Vec<u8>) -> Result<()> {
+    calls.set(0);
+    match store.victim() {
+        Some(block) => write!(told, "block {block}")?,
+        None => say(told, "none")?,
+    }
+    say(told, " ")?;
+    print_calls(told, calls)
+}
+
+// Answers what a line asks that is no act.
+fn tell_other(
+    alloc: Global,
+    calls: &Cell<u64>,
+    store: &mut CaseStore,
+    ask: Ask,
+    told: &mut Vec<u8>,
+) -> Result<()> {
+    match ask {
+        Ask::Frames => print_shown(alloc, calls, store, told),
+        Ask::Clips => tell_clips(alloc, store, told),
+        Ask::Version => print_count(told, u64::from(store.version()), ""),
+        Ask::Newest => print_count(told, u64::from(store.keep()), ""),
+        _ => tell_victim(calls, store, told),
+    }
+}
+
 // Answers what a line asks. Tells of an act how many calls it took, and whether it was done.
 fn tell(
     alloc: Global,
@@ -90,38 +125,16 @@ fn tell(
     ask: Ask,
     told: &mut Vec<u8>,
 ) -> Result<(u64, bool)> {
-    match ask {
-        Ask::Act(act) => return tell_act(alloc, calls, store, act, told),
-        Ask::Frames => print_shown(alloc, calls, store, told)?,
-        Ask::Clips => {
-            told.write_all(b"has")?;
-            print_clips(told, &store.clips(alloc).map_err(refused)?)?;
-        }
-        Ask::Version => {
-            let version = store.version();
-            write!(told, "{version}")?;
-        }
-        Ask::Newest => {
-            let keep = store.keep();
-            write!(told, "{keep}")?;
-        }
-        Ask::Victim => {
-            calls.set(0);
-            match store.victim() {
-                Some(block) => write!(told, "block {block}")?,
-                None => told.write_all(b"none")?,
-            }
-            let count = calls.get();
-            write!(told, " in {count} calls")?;
-        }
+    if let Ask::Act(act) = ask {
+        return tell_act(alloc, calls, store, act, told);
     }
+    tell_other(alloc, calls, store, ask, told)?;
     Ok((0, false))
 }
 
 // The bytes that a store leaves.
 fn left_by(alloc: Global, store: CaseStore) -> Result<Vec<u8>> {
-    let disk = store.into_disk().inner.into_inner();
-    Ok(disk.bytes().to_vec(alloc)?)
+    bytes_of(alloc, &store.into_disk().inner.into_inner())
 }
 
 // The store of the image, opened anew.
@@ -130,22 +143,33 @@ fn open_anew<'a>(case: &Case<'a>) -> Result<CaseStore<'a>> {
     open_image(case.alloc, case.calls, image, (case.keep, u64::MAX))
 }
 
+// Asks a store that is opened anew. Answers the bytes that it leaves.
+fn asked_anew(case: &Case, ask: Ask, told: &mut Vec<u8>) -> Result<Vec<u8>> {
+    let mut store = open_anew(case)?;
+    tell(case.alloc, case.calls, &mut store, ask, told)?;
+    left_by(case.alloc, store)
+}
+
 // Asks a store that is opened anew, which has to answer the same.
 fn ask_anew(case: &mut Case, ask: Ask, told: &[u8]) -> Result<()> {
     let mut again = Vec::new(case.alloc);
-    let mut store = open_anew(case)?;
-    tell(case.alloc, case.calls, &mut store, ask, &mut again)?;
-    case.image = left_by(case.alloc, store)?;
+    case.image = asked_anew(case, ask, &mut again)?;
     if *again.as_slice() == *told {
-        return Ok(());
+        Ok(())
+    } else {
+        Err(anyhow!(", and another answer where it is opened before"))
     }
-    Err(anyhow!(", and another answer where it is opened before"))
+}
+
+// No store is open.
+fn not_open() -> Error {
+    anyhow!("no store is open")
 }
 
 // Asks the store, and another one that is opened anew.
 fn asks(case: &mut Case, ask: Ask, told: &mut Vec<u8>) -> Result<(u64, bool)> {
     let Some(store) = &mut case.store else {
-        return Err(anyhow!("no store is open"));
+        return Err(not_open());
     };
     let done = tell(case.alloc, case.calls, store, ask, told)?;
     if !case.is_failing {
@@ -154,20 +178,26 @@ fn asks(case: &mut Case, ask: Ask, told: &mut Vec<u8>) -> Result<(u64, bool)> {
     Ok(done)
 }
 
+// What a store shows at a moment.
+fn moment(alloc: Global, store: &mut CaseStore, at: usize) -> Result<Moment> {
+    let version = store.version();
+    let clips = store.clips(alloc).map_err(refused)?;
+    Ok(Moment {
+        at,
+        frames: held(alloc, store, u64::MAX)?,
+        clips,
+        version,
+    })
+}
+
 // Remembers what is shown after so many more calls.
 fn remember(case: &mut Case, calls: u64) -> Result<()> {
     let Some(store) = &mut case.store else {
-        return Err(anyhow!("no store is open"));
+        return Err(not_open());
     };
     let last = case.moments.last().map_or(0, |moment| moment.at);
-    let frames = held(case.alloc, store, u64::MAX)?;
-    let clips = store.clips(case.alloc).map_err(refused)?;
-    case.moments.push(Moment {
-        at: last.wrapping_add(calls as usize),
-        frames,
-        clips,
-        version: store.version(),
-    })?;
+    let moment = moment(case.alloc, store, last.wrapping_add(calls as usize))?;
+    case.moments.push(moment)?;
     Ok(())
 }
 
@@ -202,63 +232,56 @@ pub(crate) fn opens(case: &mut Case, keep: u32, fails: u64, told: &mut Vec<u8>) 
     if !case.is_failing {
         remember(case, count)?;
     }
-    write!(told, "in {count} calls")?;
-    Ok(())
+    say(told, "in ")?;
+    print_count(told, count, " calls")
 }
 
 /// `close`: takes the disk out of the store, and compares it with the one of stores opened anew.
 pub(crate) fn close(case: &mut Case, told: &mut Vec<u8>) -> Result<()> {
     case::close(case)?;
-    let answer: &[u8] = if case.is_failing {
-        b"closed"
-    } else {
-        b"the same bytes either way"
-    };
-    told.write_all(answer)?;
+    say(
+        told,
+        if case.is_failing {
+            "closed"
+        } else {
+            "the same bytes either way"
+        },
+    )
+}
+
+// What a line asks for.
+fn ask_of(verb: Verb) -> Ask {
+    match verb {
+        Verb::Frames => Ask::Frames,
+        Verb::Clips => Ask::Clips,
+        Verb::Version => Ask::Version,
+        Verb::Newest => Ask::Newest,
+        _ => Ask::Victim,
+    }
+}
+
+/// `frames`: those that are held, of which each is read; `clips`: each with its id; `version`: that of the layout;
+/// `victim`: the block that would go next; `newest`: how many of the newest blocks are kept.
+pub(crate) fn tells(case: &mut Case, verb: Verb, told: &mut Vec<u8>) -> Result<()> {
+    asks(case, ask_of(verb), told)?;
     Ok(())
 }
 
-/// `frames`: those that are held. Each is read.
-pub(crate) fn frames(case: &mut Case, told: &mut Vec<u8>) -> Result<()> {
-    asks(case, Ask::Frames, told)?;
-    Ok(())
-}
-
-/// `clips`: each with its id.
-pub(crate) fn clips(case: &mut Case, told: &mut Vec<u8>) -> Result<()> {
-    asks(case, Ask::Clips, told)?;
-    Ok(())
-}
-
-/// `version`: that of the layout.
-pub(crate) fn version(case: &mut Case, told: &mut Vec<u8>) -> Result<()> {
-    asks(case, Ask::Version, told)?;
-    Ok(())
-}
-
-/// `victim`: the block that would go next.
-pub(crate) fn victim(case: &mut Case, told: &mut Vec<u8>) -> Result<()> {
-    asks(case, Ask::Victim, told)?;
-    Ok(())
-}
-
-/// `newest`: how many of the newest blocks are kept.
-pub(crate) fn newest(case: &mut Case, told: &mut Vec<u8>) -> Result<()> {
-    asks(case, Ask::Newest, told)?;
-    Ok(())
+// Prints the number and the sequence of a frame, and so many of its bytes.
+fn print_frame(told: &mut Vec<u8>, head: &FrameHead, bytes: &[u8], count: u64) -> Result<()> {
+    let (number, sequence) = (head.number, head.sequence);
+    write!(told, "frame {number} of sequence {sequence}: ")?;
+    print_part(told, bytes, (0, count))
 }
 
 /// `look NUMBER COUNT`: the number and the sequence of a frame, and its first bytes.
 pub(crate) fn look(case: &mut Case, words: &mut SplitWhitespace, told: &mut Vec<u8>) -> Result<()> {
     let Some(store) = &mut case.store else {
-        return Err(anyhow!("no store is open"));
+        return Err(not_open());
     };
-    let (number, count) = (words::number(words)?, words::number(words)?);
+    let (number, count) = two_numbers(words)?;
     let (head, bytes) = read(case.alloc, store, number)?.map_err(refused)?;
-    let (number, sequence) = (head.number, head.sequence);
-    write!(told, "frame {number} of sequence {sequence}: ")?;
-    print_bytes(told, bytes.get(..count as usize).unwrap_or(&[]))?;
-    Ok(())
+    print_frame(told, &head, &bytes, count)
 }
 
 /// An act, as `append COUNT`, `lock FROM TO`, `tagged FROM TO TAG`, `unlock ID`, `upgrade` or `read NUMBER`, and how

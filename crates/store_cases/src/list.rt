@@ -7,13 +7,14 @@ ghost use Rattle.loop_store.specs.Runs.{IsOfSize};
 use crate::acts::{Act, does, print_answer, read_act};
 use crate::case::{Case, close};
 use crate::frames::{frame, is_frame, opened, refused, size_of_frames};
+use crate::image::bytes_of;
+use crate::text::say;
 use crate::words::{bad_line, number_of, word};
 use anyhow::{Result, anyhow};
 use loop_disk::{Disk, MemDisk, OnceDisk};
 use loop_record::Geometry;
-use loop_store::{Command, Reply, Store, StoreFault};
+use loop_store::{Command, ReadFrame, Reply, Store, StoreFault};
 use std::alloc::Global;
-use std::io::Write;
 use std::str::SplitWhitespace;
 
 // The most acts of a list.
@@ -62,20 +63,26 @@ pub(crate) fn run<D: Disk + Drop>(
     store.run(alloc, commands).map_err(refused)
 }
 
+// What a read was answered, whose frame has to be the one of a number.
+fn read_outcome(
+    alloc: Global,
+    number: u64,
+    answer: &Result<ReadFrame, StoreFault>,
+) -> Result<Result<u64, StoreFault>> {
+    match answer {
+        Err(fault) => Ok(Err(*fault)),
+        Ok(read) if is_frame(alloc, &read.head, &read.bytes, number, 0)? => Ok(Ok(0)),
+        Ok(_) => Err(anyhow!("frame {number} isn't what was stored")),
+    }
+}
+
 // What a command was answered, as `does` answers its act.
 fn outcome(alloc: Global, act: Act, reply: &Reply) -> Result<Result<u64, StoreFault>> {
     match (act, reply) {
         (Act::Append(_), Reply::Store(answer)) => Ok(*answer),
         (Act::Lock(_), Reply::Lock(answer)) => Ok(answer.map(|id| u64::from(id))),
         (Act::Unlock(_), Reply::Unlock(answer)) => Ok(answer.map(|_| 0)),
-        (Act::Read(_), Reply::Read(Err(fault))) => Ok(Err(*fault)),
-        (Act::Read(number), Reply::Read(Ok(read))) => {
-            if is_frame(alloc, &read.head, &read.bytes, number, 0)? {
-                Ok(Ok(0))
-            } else {
-                Err(anyhow!("frame {number} isn't what was stored"))
-            }
-        }
+        (Act::Read(number), Reply::Read(answer)) => read_outcome(alloc, number, answer),
         _ => Err(anyhow!("a command has the answer of another")),
     }
 }
@@ -83,10 +90,9 @@ fn outcome(alloc: Global, act: Act, reply: &Reply) -> Result<Result<u64, StoreFa
 // Prints an answer behind those before it.
 fn print_next(told: &mut Vec<u8>, act: Act, answer: Result<u64, StoreFault>) -> Result<()> {
     if !told.is_empty() {
-        told.write_all(b", ")?;
+        say(told, ", ")?;
     }
-    print_answer(told, act, answer)?;
-    Ok(())
+    Ok(print_answer(told, act, answer)?)
 }
 
 // Does the acts one by one, and prints the answers. Answers the commands of a list that does the same.
@@ -176,18 +182,36 @@ fn failing_call(word: &str) -> Result<u64> {
     }
 }
 
+// Does a list of commands of the image, which has to answer and leave the same as the acts one by one.
+fn is_same(
+    case: &Case,
+    fails: u64,
+    (acts, commands): (&[Act], &[Command]),
+    told: &[u8],
+    left: &MemDisk,
+) -> Result<()> {
+    let mut again = Vec::new(case.alloc);
+    let disk = together(case, fails, acts, commands, &mut again)?;
+    if *told == *again.as_slice() && *disk.bytes() == *left.bytes() {
+        Ok(())
+    } else {
+        Err(anyhow!(", and not the same one by one and as a list"))
+    }
+}
+
+// Does acts one by one and as one list. Answers the bytes that are left.
+fn both(case: &Case, fails: u64, acts: &[Act], told: &mut Vec<u8>) -> Result<Vec<u8>> {
+    let (commands, left) = singly(case, fails, acts, told)?;
+    is_same(case, fails, (acts, &commands), told, &left)?;
+    bytes_of(case.alloc, &left)
+}
+
 /// `list CALL ACT, ACT ..`, or with `never` for the call: the acts one by one and as one list, on a disk of which
 /// this call fails. Both answer the same and leave the same bytes.
 pub(crate) fn list(case: &mut Case, words: &mut SplitWhitespace, told: &mut Vec<u8>) -> Result<()> {
     close(case)?;
     let fails = failing_call(word(words)?)?;
     let acts = acts(case.alloc, words)?;
-    let (commands, left) = singly(case, fails, &acts, told)?;
-    let mut again = Vec::new(case.alloc);
-    let disk = together(case, fails, &acts, &commands, &mut again)?;
-    if *told.as_slice() != *again.as_slice() || *disk.bytes() != *left.bytes() {
-        return Err(anyhow!(", and not the same one by one and as a list"));
-    }
-    case.image = disk.bytes().to_vec(case.alloc)?;
+    case.image = both(case, fails, &acts, told)?;
     Ok(())
 }

@@ -39,31 +39,51 @@ use std::fs;
 use std::io::{BufRead, BufWriter, Write};
 use std::rt::Files;
 
-// Answers a line, which is printed up to its arrow.
-fn answer<W: Write>(case: &mut Case, line: &str, out: &mut W) -> Result<()> {
-    let Some((asked, _)) = line.split_once("=> ") else {
-        writeln!(out, "{line}")?;
-        return Ok(());
-    };
+// What a line asks, up to its arrow; nothing where it is printed as it stands.
+fn asked(line: &str) -> Option<&str> {
+    if line.is_empty() || line.starts_with("#") {
+        return None;
+    }
+    match line.split_once("=> ") {
+        Some((asked, _)) => Some(asked),
+        None => None,
+    }
+}
+
+// What is told of what a line asks.
+fn tells(case: &mut Case, asked: &str) -> Result<Vec<u8>> {
     let mut told = Vec::new(case.alloc);
     if let Err(error) = case::run(case, asked, &mut told) {
         write!(told, "{error}")?;
     }
-    write!(out, "{asked}=> ")?;
-    out.write_all(&told)?;
-    writeln!(out)?;
-    Ok(())
+    Ok(told)
+}
+
+// Prints what a line asks, and what is told of it.
+fn print_told<W: Write>(out: &mut W, asked: &str, told: &[u8]) -> Result<()> {
+    out.write_all(asked.as_bytes())?;
+    out.write_all(b"=> ")?;
+    out.write_all(told)?;
+    Ok(out.write_all(b"\n")?)
+}
+
+// Prints a line.
+fn print_line<W: Write>(out: &mut W, line: &str) -> Result<()> {
+    Ok(writeln!(out, "{line}")?)
+}
+
+// Answers a line.
+fn answer<W: Write>(case: &mut Case, line: &str, out: &mut W) -> Result<()> {
+    match asked(line) {
+        Some(asked) => print_told(out, asked, &tells(case, asked)?),
+        None => print_line(out, line),
+    }
 }
 
 // Answers each line. It has the returns of an error, since `main` would drop its case and its output at each.
 fn answers<R: BufRead + Drop, W: Write>(case: &mut Case, input: R, out: &mut W) -> Result<()> {
     for line in input.lines(case.alloc) {
-        let line = line?;
-        if line.is_empty() || line.starts_with("#") {
-            writeln!(out, "{line}")?;
-        } else {
-            answer(case, &line, out)?;
-        }
+        answer(case, &line?, out)?;
     }
     out.flush()?;
     Ok(())

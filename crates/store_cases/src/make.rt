@@ -5,16 +5,17 @@ ghost use Rattle.loop_record.specs.Geometry.{is_good};
 
 use crate::case::{Case, close};
 use crate::counted::Counted;
-use crate::frames::held;
-use crate::image::{fresh, put};
-use crate::stops::{SPOILS, left_at};
+use crate::frames::{held, unopened};
+use crate::image::{bytes_of, fresh, put};
+use crate::keeping;
+use crate::stops::{SPOILS, left_at, remembering};
+use crate::text::{print_calls, print_count};
 use crate::words::any_geometry;
-use anyhow::{Result, anyhow};
+use anyhow::{Error, Result, anyhow};
 use loop_disk::{CrashDisk, Disk, MemDisk, Spoil};
 use loop_record::Geometry;
 use loop_store::{OpenRefused, Store, StoreFault};
 use std::alloc::Global;
-use std::cell::Cell;
 use std::io::Write;
 use std::str::SplitWhitespace;
 
@@ -42,7 +43,47 @@ fn is_fresh(case: &Case, disk: &MemDisk, geometry: Geometry, version: u32) -> Re
     Ok(*disk.bytes() == *expected.as_slice())
 }
 
-// What a format of the image has left.
+// Other bytes are left than those of a fresh recording.
+fn other_bytes() -> Error {
+    anyhow!(", and other bytes than those of a fresh recording")
+}
+
+// Takes the bytes of a disk that a format of the image has left.
+fn take_fresh(case: &mut Case, disk: &MemDisk, geometry: Geometry, version: u32) -> Result<()>
+    requires { IsTrue (is_good geometry) }
+{
+    if is_fresh(case, disk, geometry, version)? {
+        case.image = bytes_of(case.alloc, disk)?;
+        Ok(())
+    } else {
+        Err(other_bytes())
+    }
+}
+
+// Prints the next number and how many frames the rest of its block has room for.
+fn print_next(told: &mut Vec<u8>, next: u64, room: u32) -> Result<()> {
+    Ok(write!(told, ", next {next}, room {room}")?)
+}
+
+// Takes what a format of the image has left, whose store is of a geometry and a version.
+fn take_store(
+    case: &mut Case,
+    store: Store<Counted<MemDisk>>,
+    geometry: Geometry,
+    version: u32,
+    told: &mut Vec<u8>,
+) -> Result<()> {
+    let (found, is_of) = (store.geometry(), store.version() == version);
+    let disk = store.into_disk().inner;
+    print_calls(told, case.calls)?;
+    if found == geometry && is_of {
+        take_fresh(case, &disk, found, version)
+    } else {
+        Err(other_bytes())
+    }
+}
+
+// Takes what a format of the image has left, and prints what its store tells.
 fn formatted(
     case: &mut Case,
     store: Store<Counted<MemDisk>>,
@@ -50,15 +91,9 @@ fn formatted(
     version: u32,
     told: &mut Vec<u8>,
 ) -> Result<()> {
-    let (found, next, room) = (store.geometry(), store.next(), store.room());
-    let is_of = store.version() == version;
-    let disk = store.into_disk().inner;
-    if found != geometry || !is_of || !is_fresh(case, &disk, found, version)? {
-        return Err(anyhow!(", and other bytes than those of a fresh recording"));
-    }
-    case.image = disk.bytes().to_vec(case.alloc)?;
-    write!(told, ", next {next}, room {room}")?;
-    Ok(())
+    let (next, room) = (store.next(), store.room());
+    take_store(case, store, geometry, version, told)?;
+    print_next(told, next, room)
 }
 
 // Formats a disk in a version of the layout.
@@ -83,59 +118,46 @@ pub(crate) fn format(
 ) -> Result<()> {
     close(case)?;
     let geometry = any_geometry(words)?;
-    let calls: &Cell<u64> = case.calls;
-    calls.set(0);
-    let inner = MemDisk::of(case.image.clone()?);
-    match format_in(case.alloc, Counted { inner, calls }, geometry, version) {
-        Ok(store) => {
-            let count = calls.get();
-            write!(told, "in {count} calls")?;
-            formatted(case, store, geometry, version, told)
-        }
-        Err(refused) => {
-            let (fault, count) = (refused.fault, calls.get());
-            if *refused.disk.inner.bytes() != *case.image.as_slice() {
-                return Err(anyhow!("{fault:?}, and it isn't handed back unchanged"));
-            }
-            write!(told, "{fault:?} in {count} calls, handed back")?;
-            Ok(())
-        }
+    let disk = keeping::counted(case)?;
+    match format_in(case.alloc, disk, geometry, version) {
+        Ok(store) => formatted(case, store, geometry, version, told),
+        Err(refused) => keeping::print_refused(case, &refused, told),
     }
 }
 
 // What a disk shows, and in which version of the layout, or nothing where it isn't formatted.
-fn shown(alloc: Global, disk: MemDisk) -> Result<Option<(Vec<u64>, u32)>> {
+type Shown = Option<(Vec<u64>, u32)>;
+
+// What a store shows.
+fn shown_by(alloc: Global, store: &mut Store<MemDisk>) -> Result<Shown> {
+    let version = store.version();
+    Ok(Some((held(alloc, store, u64::MAX)?, version)))
+}
+
+// What a disk shows.
+fn shown(alloc: Global, disk: MemDisk) -> Result<Shown> {
     match Store::open(alloc, disk) {
-        Ok(mut store) => Ok(Some((held(alloc, &mut store, u64::MAX)?, store.version()))),
+        Ok(mut store) => shown_by(alloc, &mut store),
         Err(refused) => match refused.fault {
             StoreFault::NotFormatted => Ok(None),
-            fault => Err(anyhow!("{fault:?}")),
+            fault => Err(unopened(fault)),
         },
     }
 }
 
 // Formats the image on a disk that remembers its calls.
 fn recorded(case: &Case, geometry: Geometry, version: u32) -> Result<CrashDisk> {
-    let disk = CrashDisk::of(case.alloc, case.image.clone()?)?;
+    let disk = remembering(case.alloc, &case.image)?;
     match format_in(case.alloc, disk, geometry, version) {
         Ok(store) => Ok(store.into_disk()),
-        Err(refused) => {
-            let fault = refused.fault;
-            Err(anyhow!("{fault:?}"))
-        }
+        Err(refused) => Err(unopened(refused.fault)),
     }
 }
 
 // Whether a stop behind so many of all calls may leave this: what isn't formatted, or what reads as before, or the
 // empty recording in this version. This one only once the gate of the superblock is written, and always after the last
 // call.
-fn is_left(
-    found: &Option<(Vec<u64>, u32)>,
-    before: &Option<(Vec<u64>, u32)>,
-    version: u32,
-    passed: usize,
-    calls: usize,
-) -> bool {
+fn is_left(found: &Shown, before: &Shown, version: u32, passed: usize, calls: usize) -> bool {
     match found {
         Some((numbers, of)) if numbers.is_empty() && *of == version => {
             calls <= passed.wrapping_add(1)
@@ -145,19 +167,33 @@ fn is_left(
     }
 }
 
+// Another thing is shown than may be.
+fn other_shown(passed: usize, spoil: Spoil, found: &Shown) -> Error {
+    anyhow!("after {passed} calls, {spoil:?}: {found:?}")
+}
+
 // Stops behind so many calls, with each spoilt content.
 fn stops_at(
     alloc: Global,
     disk: &CrashDisk,
-    before: &Option<(Vec<u64>, u32)>,
+    before: &Shown,
     version: u32,
     passed: usize,
 ) -> Result<()> {
-    for spoil in SPOILS {
-        let found = shown(alloc, left_at(disk, passed, spoil)?)?;
+    for spoil in &SPOILS {
+        let found = shown(alloc, left_at(disk, passed, *spoil)?)?;
         if !is_left(&found, before, version, passed, disk.calls()) {
-            return Err(anyhow!("after {passed} calls, {spoil:?}: {found:?}"));
+            return Err(other_shown(passed, *spoil, &found));
         }
+    }
+    Ok(())
+}
+
+// Stops behind each of the calls.
+fn stops_all(alloc: Global, disk: &CrashDisk, version: u32) -> Result<()> {
+    let before = shown(alloc, left_at(disk, 0, Spoil::Keep)?)?;
+    for passed in 0..=disk.calls() {
+        stops_at(alloc, disk, &before, version, passed)?;
     }
     Ok(())
 }
@@ -171,15 +207,12 @@ pub(crate) fn stops(
     told: &mut Vec<u8>,
 ) -> Result<()> {
     close(case)?;
-    let disk = recorded(case, any_geometry(words)?, version)?;
-    let before = shown(case.alloc, left_at(&disk, 0, Spoil::Keep)?)?;
-    for passed in 0..=disk.calls() {
-        stops_at(case.alloc, &disk, &before, version, passed)?;
-    }
-    let calls = disk.calls();
-    write!(
+    let geometry = any_geometry(words)?;
+    let disk = recorded(case, geometry, version)?;
+    stops_all(case.alloc, &disk, version)?;
+    print_count(
         told,
-        "{calls} calls, and each stop leaves none, the old or the empty one"
-    )?;
-    Ok(())
+        disk.calls() as u64,
+        " calls, and each stop leaves none, the old or the empty one",
+    )
 }

@@ -1,16 +1,18 @@
 //! Disks on one another, without a store: one that reads ahead, one that counts, one that fails from a call on, one
 //! that fails a call, and one that remembers its calls.
 
+ghost use Rattle.std.specs.Prelude.{◌+◌, ◌≤◌, IsTrue};
+
 use crate::case::Case;
 use crate::counted::Counted;
-use crate::text::{self, print_bytes};
-use crate::words::{bad_line, number, number_of, spoil, word};
+use crate::text::{next_bytes, print_bytes, print_count, print_part, say};
+use crate::words::{bad_line, number, number_of, row_of, spoil, two_numbers, word};
 use anyhow::{Result, anyhow};
 use loop_ahead::AheadDisk;
 use loop_disk::{CrashDisk, Disk, DiskFault, Failures, FuseDisk, OnceDisk, Spoil};
 use std::alloc::Global;
 use std::cell::Cell;
-use std::io::{self, Write};
+use std::io::Write;
 use std::str::SplitWhitespace;
 
 /// The disk that remembers its calls, below the others.
@@ -29,6 +31,29 @@ struct Making {
     keep: Option<usize>,
 }
 
+// The making with what a word names.
+fn with(making: Making, word: &str, number: u64) -> Result<Making> {
+    match word {
+        "window" => Ok(Making {
+            window: number,
+            ..making
+        }),
+        "fuse" => Ok(Making {
+            fuse: number,
+            ..making
+        }),
+        "once" => Ok(Making {
+            once: number,
+            ..making
+        }),
+        "keep" => Ok(Making {
+            keep: Some(number as usize),
+            ..making
+        }),
+        _ => Err(bad_line()),
+    }
+}
+
 // Reads how the disks are made.
 fn read_making(words: &mut SplitWhitespace) -> Result<Making> {
     let mut making = Making {
@@ -41,14 +66,7 @@ fn read_making(words: &mut SplitWhitespace) -> Result<Making> {
         let Some(word) = words.next() else {
             break;
         };
-        let number = number(words)?;
-        match word {
-            "window" => making.window = number,
-            "fuse" => making.fuse = number,
-            "once" => making.once = number,
-            "keep" => making.keep = Some(number as usize),
-            _ => return Err(bad_line()),
-        }
+        making = with(making, word, number(words)?)?;
     }
     Ok(making)
 }
@@ -93,27 +111,62 @@ pub(crate) enum Call {
     Sync,
 }
 
+// A write, of the next words.
+fn read_write(alloc: Global, words: &mut SplitWhitespace) -> Result<Call> {
+    let at = number(words)?;
+    Ok(Call::Write(at, next_bytes(alloc, words)?))
+}
+
+// A read, of the next words.
+fn read_read(words: &mut SplitWhitespace) -> Result<Call> {
+    let (at, count) = two_numbers(words)?;
+    Ok(Call::Read(at, count as usize))
+}
+
 // The call of a word, with the next words.
 fn read_call(alloc: Global, word_of: &str, words: &mut SplitWhitespace) -> Result<Call> {
     match word_of {
-        "write" => Ok(Call::Write(number(words)?, text::bytes(alloc, word(words)?)?)),
-        "read" => Ok(Call::Read(number(words)?, number(words)? as usize)),
+        "write" => read_write(alloc, words),
+        "read" => read_read(words),
         "sync" => Ok(Call::Sync),
         _ => Err(bad_line()),
     }
 }
 
-// Writes, where the disk has the places.
-fn write<D: Disk>(disk: &mut D, at: u64, bytes: &[u8]) -> Result<Result<(), DiskFault>> {
-    let size = disk.size();
-    let count = bytes.len() as u64;
-    if count > size || at > size - count {
-        return Err(bad_line());
-    }
-    Ok(disk.write_at(at, bytes))
+// Whether a disk of a size has so many places from one on.
+fn has(size: u64, at: u64, count: u64) -> bool
+    ensures { IsTrue result → at + count ≤ size }
+{
+    count <= size && at <= size - count
 }
 
-// Reads, where the disk has the places, and prints the bytes.
+// Writes, where the disk has the places.
+fn write<D: Disk>(disk: &mut D, at: u64, bytes: &[u8]) -> Result<Result<(), DiskFault>> {
+    if has(disk.size(), at, bytes.len() as u64) {
+        Ok(disk.write_at(at, bytes))
+    } else {
+        Err(bad_line())
+    }
+}
+
+// Reads into this place, where the disk has the places, and prints the bytes.
+fn read_into<D: Disk>(
+    disk: &mut D,
+    at: u64,
+    seen: &mut [u8],
+    told: &mut Vec<u8>,
+) -> Result<Result<(), DiskFault>> {
+    if !has(disk.size(), at, seen.len() as u64) {
+        return Err(bad_line());
+    }
+    let answer = disk.read(at, seen);
+    if answer.is_ok() {
+        print_bytes(told, seen)?;
+    }
+    Ok(answer)
+}
+
+// Reads so many bytes.
 fn read<D: Disk>(
     alloc: Global,
     disk: &mut D,
@@ -121,16 +174,7 @@ fn read<D: Disk>(
     told: &mut Vec<u8>,
 ) -> Result<Result<(), DiskFault>> {
     let mut seen = vec![in alloc; 255u8; count]?;
-    let size = disk.size();
-    let count = seen.len() as u64;
-    if count > size || at > size - count {
-        return Err(bad_line());
-    }
-    let answer = disk.read(at, &mut seen);
-    if answer.is_ok() {
-        print_bytes(told, &seen)?;
-    }
-    Ok(answer)
+    read_into(disk, at, seen.as_mut_slice(), told)
 }
 
 // Makes a call. What is read is printed.
@@ -148,25 +192,42 @@ fn does<D: Disk>(
 }
 
 // Prints how many calls failed, by their kinds.
-fn print_failures(told: &mut Vec<u8>, failures: &Failures) -> io::Result<()> {
-    let (reads, writes, syncs) = (failures.reads, failures.writes, failures.syncs);
-    write!(told, "failed {reads} {writes} {syncs}")
+fn print_failures(told: &mut Vec<u8>, failures: &Failures) -> Result<()> {
+    print_count(told, failures.reads, " ")?;
+    print_count(told, failures.writes, " ")?;
+    print_count(told, failures.syncs, "")
 }
 
-// Takes the disks from one another, and prints how many calls would pass yet, how many failed in which kinds above,
-// and how many beneath.
+// Prints how many calls would pass yet.
+fn print_left(told: &mut Vec<u8>, left: u64) -> Result<()> {
+    if left < 1000 {
+        print_count(told, left, " pass, ")
+    } else {
+        Ok(())
+    }
+}
+
+// Prints how many calls would pass yet, how many failed in which kinds above, and how many beneath.
+fn print_fuse(told: &mut Vec<u8>, fuse: &FuseDisk<OnceDisk<CrashDisk>>) -> Result<()> {
+    print_left(told, fuse.left)?;
+    say(told, "failed ")?;
+    print_failures(told, &fuse.failures)?;
+    say(told, ", beneath failed ")?;
+    print_failures(told, &fuse.inner.failures)
+}
+
+// Takes the disks from one another, and prints what they tell.
 fn apart(case: &mut Case, pile: Pile, told: &mut Vec<u8>) -> Result<()> {
     let fuse = pile.into_inner().inner;
-    if fuse.left < 1000 {
-        let left = fuse.left;
-        write!(told, "{left} pass, ")?;
-    }
-    print_failures(told, &fuse.failures)?;
-    let once = fuse.into_inner();
-    told.write_all(b", beneath ")?;
-    print_failures(told, &once.failures)?;
-    case.tape = Some(once.into_inner());
+    print_fuse(told, &fuse)?;
+    case.tape = Some(fuse.into_inner().into_inner());
     Ok(())
+}
+
+// The disks over these bytes, made as the next words say.
+fn read_pile<'a>(case: &Case<'a>, bytes: Vec<u8>, words: &mut SplitWhitespace) -> Result<Pile<'a>> {
+    let making = read_making(words)?;
+    make_pile(case.alloc, case.calls, bytes, making)
 }
 
 // `disk of BYTES MAKING` or `disk counting COUNT MAKING`: disks over these bytes.
@@ -176,13 +237,11 @@ fn of(
     words: &mut SplitWhitespace,
     told: &mut Vec<u8>,
 ) -> Result<()> {
-    let making = read_making(words)?;
     case.calls.set(0);
-    let pile = make_pile(case.alloc, case.calls, bytes, making)?;
+    let pile = read_pile(case, bytes, words)?;
     let size = pile.size();
     case.pile = Some(pile);
-    write!(told, "{size} bytes")?;
-    Ok(())
+    print_count(told, size, " bytes")
 }
 
 // `disk end`: takes the disks from one another.
@@ -203,24 +262,19 @@ fn tape<'c>(case: &'c Case) -> Result<&'c Tape> {
 
 // `disk passed`: how many calls the disk that reads ahead has made of those beneath.
 fn passed(case: &Case, told: &mut Vec<u8>) -> Result<()> {
-    let count = case.calls.get();
-    write!(told, "{count}")?;
-    Ok(())
+    print_count(told, case.calls.get(), "")
 }
 
 // `disk made`: how many calls have reached the bottom.
 fn made(case: &Case, told: &mut Vec<u8>) -> Result<()> {
     let count = tape(case)?.calls();
-    write!(told, "{count}")?;
-    Ok(())
+    print_count(told, count as u64, "")
 }
 
 // `disk bytes AT COUNT`: what stands at the bottom.
 fn bytes(case: &Case, words: &mut SplitWhitespace, told: &mut Vec<u8>) -> Result<()> {
-    let (at, count) = (number(words)? as usize, number(words)? as usize);
-    let bytes = tape(case)?.bytes();
-    print_bytes(told, bytes.get(at..at.saturating_add(count)).unwrap_or(&[]))?;
-    Ok(())
+    let (at, count) = two_numbers(words)?;
+    print_part(told, tape(case)?.bytes(), (at, count))
 }
 
 // What a crash leaves.
@@ -228,7 +282,22 @@ fn print_crash(tape: &Tape, calls: usize, spoil: Spoil, told: &mut Vec<u8>) -> R
     if calls > tape.calls() {
         return Err(bad_line());
     }
-    print_bytes(told, tape.crash(calls, spoil)?.bytes())?;
+    Ok(print_bytes(told, tape.crash(calls, spoil)?.bytes())?)
+}
+
+// What crashes leave, each of these words a spoilt content.
+fn print_crashes(
+    tape: &Tape,
+    calls: usize,
+    words: &mut SplitWhitespace,
+    told: &mut Vec<u8>,
+) -> Result<()> {
+    let mut gap: &[u8] = b"";
+    for word in words {
+        told.write_all(gap)?;
+        print_crash(tape, calls, spoil(word)?, told)?;
+        gap = b" ";
+    }
     Ok(())
 }
 
@@ -239,13 +308,16 @@ fn crash(case: &Case, words: &mut SplitWhitespace, told: &mut Vec<u8>) -> Result
         "last" => tape.calls(),
         word => number_of(word)? as usize,
     };
-    let mut gap: &[u8] = b"";
-    for word in words {
-        told.write_all(gap)?;
-        print_crash(tape, calls, spoil(word)?, told)?;
-        gap = b" ";
+    print_crashes(tape, calls, words, told)
+}
+
+// Prints the answer of a call that prints nothing else.
+fn print_done(answer: Result<(), DiskFault>, is_read: bool, told: &mut Vec<u8>) -> Result<()> {
+    match answer {
+        Err(fault) => Ok(write!(told, "{fault:?}")?),
+        Ok(()) if is_read => Ok(()),
+        Ok(()) => say(told, "done"),
     }
-    Ok(())
 }
 
 // A call of the uppermost disk.
@@ -253,12 +325,8 @@ fn one(case: &mut Case, call: &Call, told: &mut Vec<u8>) -> Result<()> {
     let Some(pile) = &mut case.pile else {
         return Err(bad_line());
     };
-    match (call, does(case.alloc, pile, call, told)?) {
-        (_, Err(fault)) => write!(told, "{fault:?}")?,
-        (Call::Read(_, _), Ok(())) => (),
-        (_, Ok(())) => told.write_all(b"done")?,
-    }
-    Ok(())
+    let answer = does(case.alloc, pile, call, told)?;
+    print_done(answer, matches!(call, Call::Read(_, _)), told)
 }
 
 // The letter of an answer: a point where the call was made.
@@ -271,68 +339,126 @@ fn letter(answer: Result<(), DiskFault>) -> u8 {
     }
 }
 
-// `disk calls CALL ..`: remembers calls.
-fn calls(case: &mut Case, words: &mut SplitWhitespace, told: &mut Vec<u8>) -> Result<()> {
-    let mut list = Vec::new(case.alloc);
+// The calls of the next words.
+fn read_calls(alloc: Global, words: &mut SplitWhitespace) -> Result<Vec<Call>> {
+    let mut list = Vec::new(alloc);
     for _ in 0..100 {
         let Some(word) = words.next() else {
             break;
         };
-        list.push(read_call(case.alloc, word, words)?)?;
+        list.push(read_call(alloc, word, words)?)?;
     }
-    case.list = list;
-    told.write_all(b"remembered")?;
-    Ok(())
+    Ok(list)
 }
 
-// The disks over the bytes of the next word, made as the words behind it say.
-fn read_pile<'a>(case: &Case<'a>, words: &mut SplitWhitespace) -> Result<Pile<'a>> {
-    let bytes = text::bytes(case.alloc, word(words)?)?;
-    make_pile(case.alloc, case.calls, bytes, read_making(words)?)
+// `disk calls CALL ..`: remembers calls.
+fn calls(case: &mut Case, words: &mut SplitWhitespace, told: &mut Vec<u8>) -> Result<()> {
+    case.list = read_calls(case.alloc, words)?;
+    say(told, "remembered")
 }
 
-// Makes the remembered calls, and prints a letter for each, with a comma behind them.
-fn play_all(case: &Case, pile: &mut Pile, told: &mut Vec<u8>) -> Result<()> {
-    let mut unsaid = Vec::new(case.alloc);
-    for call in &case.list {
-        let answer = does(case.alloc, pile, call, &mut unsaid)?;
-        told.push(letter(answer))?;
+// Makes calls, and prints a letter for each, with a comma behind them. What is read isn't printed.
+fn play_all(
+    alloc: Global,
+    list: &[Call],
+    pile: &mut Pile,
+    (told, unsaid): (&mut Vec<u8>, &mut Vec<u8>),
+) -> Result<()> {
+    for call in list {
+        told.push(letter(does(alloc, pile, call, unsaid)?))?;
     }
-    told.write_all(b", ")?;
-    Ok(())
+    say(told, ", ")
+}
+
+// Makes the remembered calls of the disks over these bytes, and takes them from one another.
+fn play_over(
+    case: &mut Case,
+    bytes: Vec<u8>,
+    words: &mut SplitWhitespace,
+    told: &mut Vec<u8>,
+) -> Result<()> {
+    let mut pile = read_pile(case, bytes, words)?;
+    play_all(
+        case.alloc,
+        &case.list,
+        &mut pile,
+        (told, &mut Vec::new(case.alloc)),
+    )?;
+    apart(case, pile, told)
 }
 
 // `disk play BYTES MAKING`: the remembered calls over these bytes, a letter each, and what is left.
 fn play(case: &mut Case, words: &mut SplitWhitespace, told: &mut Vec<u8>) -> Result<()> {
-    let mut pile = read_pile(case, words)?;
-    play_all(case, &mut pile, told)?;
-    apart(case, pile, told)?;
-    told.write_all(b": ")?;
-    print_bytes(told, tape(case)?.bytes())?;
-    Ok(())
+    let bytes = next_bytes(case.alloc, words)?;
+    play_over(case, bytes, words, told)?;
+    say(told, ": ")?;
+    Ok(print_bytes(told, tape(case)?.bytes())?)
 }
+
+// `disk of BYTES MAKING`
+fn of_bytes(case: &mut Case, words: &mut SplitWhitespace, told: &mut Vec<u8>) -> Result<()> {
+    let bytes = next_bytes(case.alloc, words)?;
+    of(case, bytes, words, told)
+}
+
+// `disk counting COUNT MAKING`
+fn of_counting(case: &mut Case, words: &mut SplitWhitespace, told: &mut Vec<u8>) -> Result<()> {
+    let bytes = counting(case.alloc, number(words)?)?;
+    of(case, bytes, words, told)
+}
+
+// A call of the uppermost disk, of its words.
+fn make_call(
+    case: &mut Case,
+    word_of: &str,
+    words: &mut SplitWhitespace,
+    told: &mut Vec<u8>,
+) -> Result<()> {
+    let call = read_call(case.alloc, word_of, words)?;
+    one(case, &call, told)
+}
+
+// What a line about a disk asks for.
+#[derive(Clone, Copy)]
+enum Asked {
+    Of,
+    Counting,
+    Calls,
+    Play,
+    Crash,
+    End,
+    Made,
+    Passed,
+    Bytes,
+    /// A call of the uppermost disk.
+    Makes,
+}
+
+const ASKED: [(&str, Asked); 9] = [
+    ("of", Asked::Of),
+    ("counting", Asked::Counting),
+    ("calls", Asked::Calls),
+    ("play", Asked::Play),
+    ("crash", Asked::Crash),
+    ("end", Asked::End),
+    ("made", Asked::Made),
+    ("passed", Asked::Passed),
+    ("bytes", Asked::Bytes),
+];
 
 /// Answers a line about a disk.
 pub(crate) fn run(case: &mut Case, words: &mut SplitWhitespace, told: &mut Vec<u8>) -> Result<()> {
-    match word(words)? {
-        "of" => {
-            let bytes = text::bytes(case.alloc, word(words)?)?;
-            of(case, bytes, words, told)
-        }
-        "counting" => {
-            let bytes = counting(case.alloc, number(words)?)?;
-            of(case, bytes, words, told)
-        }
-        "calls" => calls(case, words, told),
-        "play" => play(case, words, told),
-        "crash" => crash(case, words, told),
-        "end" => end(case, told),
-        "made" => made(case, told),
-        "passed" => passed(case, told),
-        "bytes" => bytes(case, words, told),
-        first => {
-            let call = read_call(case.alloc, first, words)?;
-            one(case, &call, told)
-        }
+    let first = word(words)?;
+    match row_of(&ASKED, first, Asked::Makes) {
+        Asked::Of => of_bytes(case, words, told),
+        Asked::Counting => of_counting(case, words, told),
+        Asked::Calls => calls(case, words, told),
+        Asked::Play => play(case, words, told),
+        Asked::Crash => crash(case, words, told),
+        Asked::End => end(case, told),
+        Asked::Made => made(case, told),
+        Asked::Passed => passed(case, told),
+        Asked::Bytes => bytes(case, words, told),
+        Asked::Makes => make_call(case, first, words, told),
     }
 }

@@ -9,8 +9,8 @@ use crate::frames::{
 };
 use crate::keeping;
 use crate::list::run;
-use crate::text::print_numbers;
-use crate::words::{number, spoil};
+use crate::text::{print_count, print_numbers, say};
+use crate::words::{number, spoil, two_numbers};
 use anyhow::{Result, anyhow};
 use loop_disk::{CrashDisk, MemDisk, Spoil};
 use loop_store::{Clip, Command, Store};
@@ -52,18 +52,24 @@ fn does_all(alloc: Global, store: &mut Store<CrashDisk>, acts: &[Act]) -> Result
     Ok(())
 }
 
-// Stores as many frames by one list of commands. Behind each, one is read that isn't there yet, without a call.
-fn stores_by_list(alloc: Global, store: &mut Store<CrashDisk>, count: usize) -> Result<()> {
-    let size = size_of_frames(store);
-    let mut number = store.next();
+// The commands that store so many frames from a number on. Behind each, one is read that isn't there yet.
+fn storing(alloc: Global, size: usize, first: u64, count: usize) -> Result<Vec<Command>> {
     let mut commands = Vec::new(alloc);
+    let mut number = first;
     for _ in 0..count {
         commands.push(Command::Store(frame(alloc, size, number, 0)?))?;
         number = number.wrapping_add(1);
         commands.push(Command::Read(number))?;
     }
+    Ok(commands)
+}
+
+// Stores as many frames by one list of commands. Behind each, one is read that isn't there yet, without a call.
+fn stores_by_list(alloc: Global, store: &mut Store<CrashDisk>, count: usize) -> Result<()> {
+    let first = store.next();
+    let commands = storing(alloc, size_of_frames(store), first, count)?;
     run(alloc, store, &commands)?;
-    if store.next() == number {
+    if store.next() == first.wrapping_add(count as u64) {
         Ok(())
     } else {
         Err(anyhow!("not all frames are stored"))
@@ -79,12 +85,22 @@ fn does_again(case: &Case, store: &mut Store<CrashDisk>, by_list: bool) -> Resul
     }
 }
 
-// A disk that has made the calls of the opening and of the acts since.
-fn recorded(case: &Case, by_list: bool) -> Result<CrashDisk> {
-    let disk = CrashDisk::of(case.alloc, case.base.clone()?)?;
+/// A disk that remembers its calls, of these bytes.
+pub(crate) fn remembering(alloc: Global, bytes: &[u8]) -> Result<CrashDisk> {
+    Ok(CrashDisk::of(alloc, bytes.to_vec(alloc)?)?)
+}
+
+// A disk that has made the calls of the opening and of the acts since, however many there are.
+fn done_again(case: &Case, by_list: bool) -> Result<CrashDisk> {
+    let disk = remembering(case.alloc, &case.base)?;
     let mut store = opened_keeping(case.alloc, disk, case.keep)?;
     does_again(case, &mut store, by_list)?;
-    let disk = store.into_disk();
+    Ok(store.into_disk())
+}
+
+// A disk that has made the calls of the opening and of the acts since.
+fn recorded(case: &Case, by_list: bool) -> Result<CrashDisk> {
+    let disk = done_again(case, by_list)?;
     let calls = case.moments.last().map_or(0, |moment| moment.at);
     if disk.calls() == calls {
         Ok(disk)
@@ -146,12 +162,23 @@ fn is_again(alloc: Global, left: MemDisk, found: &[u64], after: &[u64]) -> Resul
     }
 }
 
+// Opens what a stop in the second attempt left behind so many calls.
+fn stops_again_at(
+    alloc: Global,
+    disk: &CrashDisk,
+    calls: usize,
+    (found, after): (&[u64], &[u64]),
+) -> Result<()> {
+    for spoil in &AGAIN {
+        is_again(alloc, left_at(disk, calls, *spoil)?, found, after)?;
+    }
+    Ok(())
+}
+
 // Opens what a stop in the second attempt left, at its last calls.
 fn stops_again(alloc: Global, disk: &CrashDisk, found: &[u64], after: &[u64]) -> Result<()> {
     for calls in disk.calls().saturating_sub(8)..=disk.calls() {
-        for spoil in AGAIN {
-            is_again(alloc, left_at(disk, calls, spoil)?, found, after)?;
-        }
+        stops_again_at(alloc, disk, calls, (found, after))?;
     }
     Ok(())
 }
@@ -167,47 +194,86 @@ fn stores_again(
     held(alloc, store, again.unwrap_or(u64::MAX))
 }
 
-// Opens what a stop left on a disk that remembers its calls, and stores a frame in a second attempt, which is
-// stopped too. A stop within an unlock may leave the clip, and then the frame may have no place.
-fn tries_again(case: &Case, left: MemDisk, found: &[u64], clips: &[Clip]) -> Result<()> {
-    let disk = CrashDisk::of(case.alloc, left.bytes().to_vec(case.alloc)?)?;
+// Stores a frame in a second attempt on a disk that remembers its calls. Answers it, and which frames are held then.
+fn stored_again(
+    case: &Case,
+    left: &MemDisk,
+    found: &[u64],
+    clips: &[Clip],
+) -> Result<(CrashDisk, Vec<u64>)> {
+    let disk = remembering(case.alloc, left.bytes())?;
     let mut store = opened_keeping(case.alloc, disk, case.keep)?;
     let after = stores_again(case.alloc, &mut store, found, clips)?;
-    stops_again(case.alloc, &store.into_disk(), found, &after)
+    Ok((store.into_disk(), after))
+}
+
+// Opens what a stop left on a disk that remembers its calls, and stores a frame in a second attempt, which is
+// stopped too. A stop within an unlock may leave the clip, and then the frame may have no place.
+fn tries_again(case: &Case, left: &MemDisk, found: &[u64], clips: &[Clip]) -> Result<()> {
+    let (disk, after) = stored_again(case, left, found, clips)?;
+    stops_again(case.alloc, &disk, found, &after)
+}
+
+// A disk of the same bytes.
+fn copy_of(alloc: Global, disk: &MemDisk) -> Result<MemDisk> {
+    Ok(MemDisk::of(disk.bytes().to_vec(alloc)?))
 }
 
 // The frames of what a stop behind so many calls leaves.
-fn found_at(alloc: Global, left: MemDisk) -> Result<Vec<u64>> {
-    let mut store = opened(alloc, left)?;
+fn found_at(alloc: Global, left: &MemDisk) -> Result<Vec<u64>> {
+    let mut store = opened(alloc, copy_of(alloc, left)?)?;
     held(alloc, &mut store, u64::MAX)
 }
 
 // The clips of what a stop behind so many calls leaves, and the version of the layout.
-fn clips_at(alloc: Global, left: MemDisk) -> Result<(Vec<Clip>, u32)> {
-    let store = opened(alloc, left)?;
+fn clips_at(alloc: Global, left: &MemDisk) -> Result<(Vec<Clip>, u32)> {
+    let store = opened(alloc, copy_of(alloc, left)?)?;
+    let version = store.version();
     let clips = store.clips(alloc).map_err(refused)?;
-    Ok((clips, store.version()))
+    Ok((clips, version))
+}
+
+// Opens what a stop left, which shows these frames, and these clips in a version.
+fn goes_on(
+    case: &Case,
+    left: &MemDisk,
+    calls: usize,
+    found: &[u64],
+    (clips, version): (&[Clip], u32),
+    again: bool,
+) -> Result<()> {
+    if !may_show(case, calls, found, clips, version) {
+        return Err(unexpected(found));
+    }
+    if again {
+        tries_again(case, left, found, clips)
+    } else {
+        Ok(())
+    }
 }
 
 // Opens what a stop behind so many calls leaves.
-fn stops_at(case: &Case, disk: &CrashDisk, calls: usize, spoil: Spoil) -> Result<()> {
-    let found = found_at(case.alloc, left_at(disk, calls, spoil)?)?;
-    let (clips, version) = clips_at(case.alloc, left_at(disk, calls, spoil)?)?;
-    if !may_show(case, calls, &found, &clips, version) {
-        return Err(unexpected(&found));
-    }
-    if !AGAIN.contains(&spoil) {
-        return Ok(());
-    }
-    tries_again(case, left_at(disk, calls, spoil)?, &found, &clips)
+fn stops_at(case: &Case, left: &MemDisk, calls: usize, again: bool) -> Result<()> {
+    let found = found_at(case.alloc, left)?;
+    let (clips, version) = clips_at(case.alloc, left)?;
+    goes_on(case, left, calls, &found, (&clips, version), again)
 }
 
 // Opens what stops behind so many calls leave.
 fn stops_behind(case: &Case, disk: &CrashDisk, calls: usize) -> Result<()> {
-    for spoil in SPOILS {
-        if let Err(error) = stops_at(case, disk, calls, spoil) {
+    for spoil in &SPOILS {
+        let left = left_at(disk, calls, *spoil)?;
+        if let Err(error) = stops_at(case, &left, calls, AGAIN.contains(spoil)) {
             return Err(anyhow!("after {calls} calls, {spoil:?}: {error}"));
         }
+    }
+    Ok(())
+}
+
+// Opens what each stop leaves.
+fn stops_all(case: &Case, disk: &CrashDisk) -> Result<()> {
+    for calls in 0..=disk.calls() {
+        stops_behind(case, disk, calls)?;
     }
     Ok(())
 }
@@ -224,11 +290,27 @@ pub(crate) fn stops(
         return keeping::stops(case, told);
     }
     let disk = recorded(case, words.next().is_some())?;
-    for calls in 0..=disk.calls() {
-        stops_behind(case, &disk, calls)?;
+    stops_all(case, &disk)?;
+    print_count(
+        told,
+        disk.calls() as u64,
+        " calls, and each stop leaves a beginning",
+    )
+}
+
+// Prints the frames that are held after stops behind so many calls, with each of these spoilt contents.
+fn print_stops(
+    alloc: Global,
+    disk: &CrashDisk,
+    words: &mut SplitWhitespace,
+    told: &mut Vec<u8>,
+) -> Result<()> {
+    let calls = number(words)?;
+    say(told, "holds")?;
+    for word in words {
+        let left = left_at(disk, calls as usize, spoil(word)?)?;
+        print_numbers(told, &found_at(alloc, &left)?)?;
     }
-    let calls = disk.calls();
-    write!(told, "{calls} calls, and each stop leaves a beginning")?;
     Ok(())
 }
 
@@ -236,36 +318,40 @@ pub(crate) fn stops(
 /// contents.
 pub(crate) fn stop(case: &mut Case, words: &mut SplitWhitespace, told: &mut Vec<u8>) -> Result<()> {
     let disk = recorded(case, false)?;
-    let calls = number(words)?;
-    told.write_all(b"holds")?;
-    for word in words {
-        let left = left_at(&disk, calls as usize, spoil(word)?)?;
-        print_numbers(told, &found_at(case.alloc, left)?)?;
-    }
-    Ok(())
+    print_stops(case.alloc, &disk, words, told)
 }
 
 // How many clips stand where a crash leaves this byte in a place.
-fn clips_with(alloc: Global, disk: &CrashDisk, calls: usize, at: usize, byte: u8) -> Result<usize> {
+fn clips_with(alloc: Global, disk: &CrashDisk, (calls, at): (u64, u64), byte: u8) -> Result<usize> {
     // The mix has 167 * at more, which is a multiple of 256.
-    let left = left_at(disk, calls, Spoil::Mix(byte))?;
-    if left.bytes().get(at).copied() != Some(byte) {
+    let left = left_at(disk, calls as usize, Spoil::Mix(byte))?;
+    if left.bytes().get(at as usize).copied() != Some(byte) {
         return Err(anyhow!("it isn't {byte} that is left"));
     }
-    let (clips, _version) = clips_at(alloc, left)?;
+    let (clips, _version) = clips_at(alloc, &left)?;
     Ok(clips.len())
+}
+
+// Prints with which bytes in a place a clip stands after a stop behind so many calls.
+fn print_torn(
+    alloc: Global,
+    disk: &CrashDisk,
+    place: (u64, u64),
+    told: &mut Vec<u8>,
+) -> Result<()> {
+    for byte in 0..=255u8 {
+        if clips_with(alloc, disk, place, byte)? > 0 {
+            write!(told, " {byte:02x}")?;
+        }
+    }
+    Ok(())
 }
 
 /// `torn CALLS AT`: a stop behind so many calls leaves any byte in this place, a multiple of 256. With which of them
 /// a clip stands.
 pub(crate) fn torn(case: &mut Case, words: &mut SplitWhitespace, told: &mut Vec<u8>) -> Result<()> {
     let disk = recorded(case, false)?;
-    let (calls, at) = (number(words)? as usize, number(words)? as usize);
-    told.write_all(b"of 256 bytes a clip stands with")?;
-    for byte in 0..=255u8 {
-        if clips_with(case.alloc, &disk, calls, at, byte)? > 0 {
-            write!(told, " {byte:02x}")?;
-        }
-    }
-    Ok(())
+    let place = two_numbers(words)?;
+    say(told, "of 256 bytes a clip stands with")?;
+    print_torn(case.alloc, &disk, place, told)
 }

@@ -1,11 +1,34 @@
 //! Bytes that are written as text: a printable character stands for itself, `\a5` for the byte 0xA5, and
 //! `\00*240;` for 240 bytes of 0. And spans of numbers.
 
-use crate::words::bad_line;
+use crate::words::{bad_line, word};
 use anyhow::Result;
-use loop_store::Clip;
+use loop_store::{Clip, StoreFault};
 use std::alloc::Global;
+use std::cell::Cell;
 use std::io::{self, Write};
+use std::str::SplitWhitespace;
+
+/// Prints words.
+pub(crate) fn say(out: &mut Vec<u8>, words: &str) -> Result<()> {
+    Ok(out.write_all(words.as_bytes())?)
+}
+
+/// Prints a number and what it counts.
+pub(crate) fn print_count(out: &mut Vec<u8>, count: u64, what: &str) -> Result<()> {
+    Ok(write!(out, "{count}{what}")?)
+}
+
+/// Prints how many calls were counted.
+pub(crate) fn print_calls(out: &mut Vec<u8>, calls: &Cell<u64>) -> Result<()> {
+    say(out, "in ")?;
+    print_count(out, calls.get(), " calls")
+}
+
+/// Prints a refusal.
+pub(crate) fn print_fault(out: &mut Vec<u8>, fault: StoreFault) -> Result<()> {
+    Ok(write!(out, "{fault:?}")?)
+}
 
 // The value of a digit.
 fn digit(byte: u8) -> Option<u8> {
@@ -74,6 +97,11 @@ pub(crate) fn bytes(alloc: Global, word: &str) -> Result<Vec<u8>> {
     Ok(bytes)
 }
 
+/// The bytes of the next word.
+pub(crate) fn next_bytes(alloc: Global, words: &mut SplitWhitespace) -> Result<Vec<u8>> {
+    bytes(alloc, word(words)?)
+}
+
 // Prints a byte.
 fn print_byte(out: &mut Vec<u8>, byte: u8) -> io::Result<()> {
     if byte.is_ascii_graphic() && byte != b'\\' && byte != b'*' {
@@ -121,6 +149,15 @@ pub(crate) fn print_bytes(out: &mut Vec<u8>, bytes: &[u8]) -> io::Result<()> {
     Ok(())
 }
 
+/// Prints so many bytes from a place on, or nothing where there are no such bytes.
+pub(crate) fn print_part(out: &mut Vec<u8>, bytes: &[u8], (at, count): (u64, u64)) -> Result<()> {
+    let at = at as usize;
+    match bytes.get(at..at.saturating_add(count as usize)) {
+        Some(part) => Ok(print_bytes(out, part)?),
+        None => Ok(()),
+    }
+}
+
 // Prints the numbers from one to another.
 fn print_span(out: &mut Vec<u8>, from: u64, to: u64) -> io::Result<()> {
     write!(out, " {from}..{to}")
@@ -141,6 +178,12 @@ pub(crate) fn print_numbers(out: &mut Vec<u8>, numbers: &[u64]) -> io::Result<()
         to = *number;
     }
     print_span(out, from, to)
+}
+
+/// Prints the frames that are held.
+pub(crate) fn print_holds(out: &mut Vec<u8>, numbers: &[u64]) -> io::Result<()> {
+    out.write_all(b"holds")?;
+    print_numbers(out, numbers)
 }
 
 // Prints a clip.

@@ -21,6 +21,16 @@ pub(crate) fn word<'a>(words: &mut SplitWhitespace<'a>) -> Result<&'a str> {
     }
 }
 
+/// What the row of a word in a table has, or else another.
+pub(crate) fn row_of<T: Copy>(table: &[(&'static str, T)], word: &str, other: T) -> T {
+    for row in table {
+        if row.0 == word {
+            return row.1;
+        }
+    }
+    other
+}
+
 /// The number that a word is, with or without a comma behind it.
 pub(crate) fn number_of(word: &str) -> Result<u64> {
     match word.strip_suffix(",").unwrap_or(word).parse::<u64>() {
@@ -34,12 +44,22 @@ pub(crate) fn number(words: &mut SplitWhitespace) -> Result<u64> {
     number_of(word(words)?)
 }
 
-/// The next word, which is a number below 2^32.
-pub(crate) fn small(words: &mut SplitWhitespace) -> Result<u32> {
-    match u32::try_from(number(words)?) {
+/// The next two words, which are numbers.
+pub(crate) fn two_numbers(words: &mut SplitWhitespace) -> Result<(u64, u64)> {
+    Ok((number(words)?, number(words)?))
+}
+
+/// The number below 2^32 that a word is.
+pub(crate) fn small_of(word: &str) -> Result<u32> {
+    match u32::try_from(number_of(word)?) {
         Ok(number) => Ok(number),
         Err(_) => Err(bad_line()),
     }
+}
+
+/// The next word, which is a number below 2^32.
+pub(crate) fn small(words: &mut SplitWhitespace) -> Result<u32> {
+    small_of(word(words)?)
 }
 
 // Frames of 12 bytes, at 25 frames a second.

@@ -2,7 +2,7 @@
 
 ghost use Rattle.std.specs.Prelude.{◌<◌, length};
 
-use crate::common::{are_of, frame};
+use crate::common::{AtOnce, are_of, frame};
 use crate::told::{holds, same};
 use loop_desk::{Flushed, Status};
 use loop_disk::Disk;
@@ -202,6 +202,24 @@ pub(crate) fn plays<R: Wait + Abort, D: Disk + Drop, P: PlaneMemory, A: Allocato
     for (place, call) in table.iter().enumerate() {
         let answer = makes(rt, alloc, recorder, pace, camera, pass, *call);
         same!(rt; answer, Ok(*call), (camera, place));
+    }
+}
+
+/// Makes the calls of a table by the pass at a place of a list.
+pub(crate) fn plays_by<R: Wait + Abort, D: Disk + Drop, P: PlaneMemory, A: Allocator + Copy>(
+    rt: &R,
+    alloc: A,
+    recorder: &Recorder<D, P, A>,
+    camera: u32,
+    passes: &mut [Pass<A>],
+    place: usize,
+    table: &[Noted],
+)
+    requires { camera < length recorder.now.outlines }
+{
+    match passes.get_mut(place) {
+        Some(pass) => plays(rt, alloc, recorder, &AtOnce, camera, pass, table),
+        None => panic!(rt; "no pass {place}"),
     }
 }
 

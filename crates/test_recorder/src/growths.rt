@@ -11,7 +11,7 @@ use loop_desk::{Flushed, Status};
 use loop_disk::MemDisk;
 use loop_plane::{MmapPlane, PlaneMemory};
 use loop_record::{FrameHead, Span};
-use loop_recorder::{Camera, NewRefused, Noted, Pass, Recorder, SessionFault};
+use loop_recorder::{Camera, Ended, NewRefused, Noted, Pass, Recorder, SessionFault};
 use loop_store::StoreFault;
 use std::alloc::Global;
 use std::process::Abort;
@@ -167,16 +167,31 @@ fn grows<'a, R: Wait + Abort, P: PlaneMemory>(
     }
 }
 
+// Makes the calls by the first pass.
+fn grows_by_first<'a, R: Wait + Abort, P: PlaneMemory>(
+    rt: &R,
+    memory: &'a Budget,
+    recorder: &Thrifty<'a, P>,
+    passes: &mut [Pass<&'a Budget>],
+)
+    requires { 0 < length recorder.now.outlines }
+{
+    match passes.get_mut(0) {
+        Some(pass) => grows(rt, memory, recorder, pass, &ROWS, &NOTED),
+        None => panic!(rt; "a pass"),
+    }
+}
+
+// The calls of the first pass are noted, and no others.
+fn have_noted<'a, P: PlaneMemory>(rt: &impl Abort, ended: &Ended<MemDisk, P, &'a Budget>) {
+    are_noted(rt, ended, (0, 0), &NOTED);
+    are_noted(rt, ended, (1, 1), &[]);
+}
+
 #[test]
 fn each_growth_of_a_recorder_is_refused_in_turn(rt: HostRuntime) {
     let memory = Budget::new(rt.alloc());
     let (recorder, mut passes) = made::<MmapPlane<&Budget>>(&rt, rt.alloc(), &memory);
-    let second = passes.pop().expect(&rt, "a pass");
-    let mut first = passes.pop().expect(&rt, "a pass");
-    grows(&rt, &memory, &recorder, &mut first, &ROWS, &NOTED);
-    passes.push(first).expect(&rt, "room for a pass");
-    passes.push(second).expect(&rt, "room for a pass");
-    let ended = ends(&rt, recorder, passes);
-    are_noted(&rt, &ended, (0, 0), &NOTED);
-    are_noted(&rt, &ended, (1, 1), &[]);
+    grows_by_first(&rt, &memory, &recorder, &mut passes);
+    have_noted(&rt, &ends(&rt, recorder, passes));
 }
