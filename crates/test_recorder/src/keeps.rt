@@ -160,7 +160,14 @@ fn brings<R: Wait + Abort>(rt: &R, alloc: Global, recorder: &Rec, pass: &mut Pas
 {
     let (behind, from, to, count) = case.lock;
     for (place, time) in case.times.iter().enumerate() {
-        stores(rt, alloc, recorder, pass, place as u32 & 0xFFFF, *time);
+        stores(
+            rt,
+            alloc,
+            recorder,
+            pass,
+            u32::try_from(place).unwrap_or(0),
+            *time,
+        );
         if place as u64 + 1 == behind {
             locks(rt, recorder, pass, from, to, count);
         }
