@@ -1,8 +1,5 @@
 //! The program: threads for each camera, and orders meanwhile.
 
-ghost use Rattle.std.specs.Prelude.{◌≤◌, ◌+◌, vec_len};
-ghost use Rattle.std.specs.Vec.{vec_capacity};
-
 use crate::clock::Timeline;
 use crate::orders::{Station, status, take_orders};
 use crate::outlet::Outlet;
@@ -54,9 +51,12 @@ pub fn run_station<
     let Ok(timeline) = Timeline::new(rt) else {
         return Err(NotBegun::NoClock);
     };
-    let mut states = Vec::with_capacity(alloc, cameras.len())?;
+    let mut states = Vec::new(alloc);
     for camera in cameras {
-        states.push_reserved(shared(alloc, CameraState::new(alloc, camera, timeline)?)?);
+        let state = shared(alloc, CameraState::new(alloc, camera, timeline)?)?;
+        if states.push(state).is_err() {
+            return Err(NotBegun::NoMemory);
+        }
     }
     let station = Station {
         cameras: states,
@@ -68,7 +68,7 @@ pub fn run_station<
     let Ok(input) = BufReader::new(alloc, input) else {
         return Err(NotBegun::NoMemory);
     };
-    let handles = Vec::with_capacity(alloc, station.cameras.len().saturating_add(1))?;
+    let handles = Vec::new(alloc);
     if !run_behind(rt, &station, orders, input, line, handles, watched) {
         return Err(NotBegun::NoMemory);
     }
@@ -165,20 +165,20 @@ fn start_cameras<
     station: &'s Station<W>,
     handles: &mut Vec<JoinHandle<()>>,
     watched: bool,
-) -> bool
-    requires { vec_len handles.old + vec_len station.now.cameras + 1 ≤ vec_capacity handles.old }
-{
+) -> bool {
     for state in station.cameras.as_slice() {
         let Ok(handle) = scope.spawn(move || run_camera(rt, state)) else {
             return false;
         };
-        handles.push_reserved(handle);
+        if handles.push(handle).is_err() {
+            return false;
+        }
     }
     if watched {
         let Ok(handle) = scope.spawn(move || show(rt, station)) else {
             return false;
         };
-        handles.push_reserved(handle);
+        return handles.push(handle).is_ok();
     }
     true
 }

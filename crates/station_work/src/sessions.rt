@@ -1,6 +1,6 @@
 //! A camera's thread: its store is opened or made, and recorded into, a session behind the other.
 
-ghost use Rattle.std.specs.Prelude.{◌≡◌, IfOk, IfSome, length, vec_len};
+ghost use Rattle.std.specs.Prelude.{◌≡◌, ◌∷◌, [], IfOk, IfSome, length, vec_len};
 ghost use Rattle.loop_recorder.specs.Opened.{IsReady};
 
 use crate::absent::Absent;
@@ -10,10 +10,13 @@ use crate::size::size_of;
 use crate::state::CameraState;
 use loop_capture::{Device, FrameSource};
 use loop_commands::{Start, Unrecorded, camera_before, start_of, start_queue};
+use loop_disk::Disk;
 use loop_file::{FileDisk, FileFault};
 use loop_plane::{MmapPlane, PlaneMemory};
 use loop_record::Geometry;
-use loop_recorder::{Camera, EndRefused, Ended, NewRefused, Recorder, camera_again, record_led};
+use loop_recorder::{
+    Camera, EndRefused, Ended, NewRefused, Pass, Recorder, camera_again, record_led,
+};
 use loop_store::{OpenRefused, Store, StoreFault};
 use station_words::{RingSize, Room, frames_in, ring_for, ring_within};
 use std::alloc::{AllocGlobal, Global};
@@ -182,9 +185,7 @@ fn run_sessions<R: AllocGlobal + Threads + Wait + Clock + Sync>(
 }
 
 /// The device that takes a camera's frames where its source gives them.
-fn devices_for(alloc: Global, state: &CameraState, geometry: &Geometry) -> Option<Vec<Device>>
-    ensures { IfSome result (λ devices. vec_len devices ≡ 1) }
-{
+fn devices_for(alloc: Global, state: &CameraState, geometry: &Geometry) -> Option<Vec<Device>> {
     let size = size_of(geometry)?;
     let feed = Arc::try_clone(&state.feed).ok()?;
     let source = Box::new(alloc, FeedSource { feed }).ok()?;
@@ -207,16 +208,13 @@ fn run_session<R: Threads + Wait + Clock + Sync>(
     start: Option<Start>,
     devices: &mut [Device],
 ) -> Option<FileCamera>
-    requires ready { IsReady ⟦<MmapPlane as PlaneMemory>⟧.plane camera }
-    requires one { length devices.old ≡ 1 }
+    requires { IsReady ⟦<MmapPlane as PlaneMemory>⟧.plane camera }
     ensures { IfSome result (IsReady ⟦<MmapPlane as PlaneMemory>⟧.plane) }
 {
-    let mut cameras = Vec::with_capacity(alloc, 1).ok()?;
-    cameras.push_reserved(camera);
-    let (recorder, passes) = match Recorder::new(alloc, cameras, PASSES) {
-        Ok(made) => made,
-        Err(NewRefused::NoMemory(_)) => return None,
-    };
+    if devices.len() != 1 {
+        return None;
+    }
+    let (recorder, passes) = recorder_of(alloc, camera)?;
     if let Some(start) = start {
         start_queue(rt, &recorder, 0, start).ok()?;
     }
@@ -226,6 +224,33 @@ fn run_session<R: Threads + Wait + Clock + Sync>(
         Err(EndRefused::TieBroken(_, ended)) => camera_of(state, ended),
         Err(EndRefused::PassesMissing(_, _, _, _)) => None,
         Err(EndRefused::NoMemory(_, _)) => None,
+    }
+}
+
+/// The list of one value; None where memory was refused.
+fn list_of<T: Drop>(alloc: Global, value: T) -> Option<Vec<T>>
+    ensures { IfSome result (λ list. list.items ≡ value ∷ []) }
+{
+    let Ok(mut list) = Vec::with_capacity(alloc, 1) else {
+        return None;
+    };
+    list.push_reserved(value);
+    Some(list)
+}
+
+/// A recorder of one camera, and its passes; None where memory was refused.
+fn recorder_of<D: Disk + Drop>(
+    alloc: Global,
+    camera: Camera<D, MmapPlane>,
+) -> Option<(Recorder<D, MmapPlane>, Vec<Pass>)>
+    requires { IsReady ⟦<MmapPlane as PlaneMemory>⟧.plane camera }
+    ensures one { IfSome result (λ made. length made.0.outlines ≡ 1) }
+    ensures passes { IfSome result (λ made. vec_len made.1 ≡ 5) }
+{
+    let cameras = list_of(alloc, camera)?;
+    match Recorder::new(alloc, cameras, PASSES) {
+        Ok(made) => Some(made),
+        Err(NewRefused::NoMemory(_)) => None,
     }
 }
 
