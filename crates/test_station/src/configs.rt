@@ -18,7 +18,10 @@ const ROWS: [(&str, Option<ConfigFault>); 26] = [
     ("", Some(ConfigFault::NoCameras)),
     ("camera=[]\n", Some(ConfigFault::NoCameras)),
     ("speed=1\n", Some(ConfigFault::UnknownKey)),
-    ("orders=3\n", Some(ConfigFault::BadOrders)),
+    (
+        "orders=3\n[[camera]]\nname='a'\nsource='p'\nstore='s'\nminutes=5\n",
+        Some(ConfigFault::BadOrders),
+    ),
     ("[camera]\nname='a'\n", Some(ConfigFault::BadCameras)),
     (
         "camera=[1]\n",
