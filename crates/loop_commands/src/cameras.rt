@@ -167,8 +167,8 @@ pub struct Start {
     supply: Supply,
 }
 
-/// What the queue of the camera of this number is started with. `TooLarge` where its buffers need more than 1,024 pages;
-/// `NoMemory`.
+/// What the queue of the camera of this number is started with. `TooLarge` where its buffers need more than 1,024
+/// pages; `NoMemory`.
 pub fn start_of<D: Disk + Drop>(
     alloc: Global,
     camera: &Camera<D, MmapPlane>,

@@ -54,8 +54,8 @@ abbrev pub numbers_of_clips : List Clip → List ℕ
 numbers_of_clips clips = numbers_of_runs (runs_in clips)
 
 -- what a clip locks
-abbrev pub span_of : Clip → Span
-span_of c = record { from = c.from; to = c.to; tag = c.tag }
+abbrev pub clip_span : Clip → Span
+clip_span c = record { from = c.from; to = c.to; tag = c.tag }
 
 -- ---- what is noted
 
@@ -65,7 +65,7 @@ read_noted x = noted.Read x.0 (Ok x.1)
 
 -- a clip was locked
 abbrev pub lock_noted : Clip → Noted
-lock_noted c = noted.Lock (span_of c) (Ok c.id)
+lock_noted c = noted.Lock (clip_span c) (Ok c.id)
 
 -- the receipts of notes, at places one behind the other
 abbrev pub receipts_from : ℕ → ℕ → List Noted → List Receipt
@@ -153,8 +153,8 @@ pub record KeepsNumbers {D A : Type 0} (medium : D → Medium) (camera : ℕ) (t
     (old new : SeenDesk D) (before after : List Entry) (given back : Pass A) (kept : Kept A) : Type 0 where
   pub heads : List (ℕ × FrameHead)
   pub rest : List Noted
-  pub notes : Notes medium camera ((map read_noted heads ++ map lock_noted kept.clips.items) ++ rest) old new before after
-      given back
+  pub notes : Notes medium camera ((map read_noted heads ++ map lock_noted kept.clips.items) ++ rest) old new before
+      after given back
   pub tags : All (λ (c : Clip). c.tag ≡ tag) kept.clips.items
   pub whole : kept.fault ≡ None → (rest ≡ []) × (map (λ x. x.0) heads ≡ numbers)
   pub covered : kept.fault ≡ None → numbers_of_clips kept.clips.items
@@ -165,8 +165,8 @@ pub record KeepsHeld {D A : Type 0} (medium : D → Medium) (camera : ℕ) (time
     (old new : SeenDesk D) (before after : List Entry) (given back : Pass A) (kept : Kept A) : Type 0 where
   pub heads : List (ℕ × FrameHead)
   pub rest : List Noted
-  pub notes : Notes medium camera ((map read_noted heads ++ map lock_noted kept.clips.items) ++ rest) old new before after
-      given back
+  pub notes : Notes medium camera ((map read_noted heads ++ map lock_noted kept.clips.items) ++ rest) old new before
+      after given back
   pub tags : All (λ (c : Clip). c.tag ≡ tag) kept.clips.items
   pub whole : kept.fault ≡ None → (medium old.store.disk).honest → (s : DeskState) → StandsAt medium old s
       → numbers_of_clips kept.clips.items ≡ numbers_in_time times s.store.recording

@@ -7,7 +7,7 @@ use Rattle.std.proofs.lemmas.Bool.{false≢true}
 use Rattle.std.proofs.lemmas.Grind.{common_steps}
 use Rattle.loop_script.specs.Script.{number, small_number}
 use Rattle.station_words.specs.Names.{named}
-use Rattle.station_words.specs.Orders.{alone_said, asked, behind_said, is_space, keep_by, keep_of, keep_said, more, order_said, parts, release_of, release_said, save_said, seconds_of, times_of, times_said}
+use Rattle.station_words.specs.Orders.{alone_said, asked, order_behind, is_space, keep_by, keep_of, keep_said, more, order_said, parts, release_of, release_said, save_said, seconds_of, times_of, times_said}
 
 -- ---- where the first space stands
 
@@ -140,7 +140,7 @@ parts-some (suc n) line =
       | false ↦ (line, [], refl)
     ]
 
-asked-behind : (word rest : List ℕ) → asked (word ∷ parts 2 rest) ≡ behind_said word (parts 2 rest)
+asked-behind : (word rest : List ℕ) → asked (word ∷ parts 2 rest) ≡ order_behind word (parts 2 rest)
 asked-behind word rest = let some = parts-some 2 rest in rw some.2 refl
 
 pub order-alone : (line word : List ℕ) (o : Option (Bor (List ℕ))) → parts 3 line ≡ word ∷ more 2 o → o ≡ None
@@ -148,6 +148,6 @@ pub order-alone : (line word : List ℕ) (o : Option (Bor (List ℕ))) → parts
 order-alone line word o are is = ap asked (are ∙ ap (λ r. word ∷ more 2 r) is)
 
 pub order-parted : (line word : List ℕ) (o : Option (Bor (List ℕ))) (rest : Bor (List ℕ))
-    → parts 3 line ≡ word ∷ more 2 o → o ≡ Some rest → order_said line ≡ behind_said word (parts 2 rest.now)
+    → parts 3 line ≡ word ∷ more 2 o → o ≡ Some rest → order_said line ≡ order_behind word (parts 2 rest.now)
 order-parted line word o rest are is =
     ap asked (are ∙ ap (λ r. word ∷ more 2 r) is) ∙ asked-behind word rest.now

@@ -84,8 +84,8 @@ alone_said word =
     else if bytes_eq word (codes "stop") then Some Stop else None
 
 -- what a word and those behind it ask for
-abbrev pub behind_said : List ℕ → List (List ℕ) → Option Order
-behind_said word words =
+abbrev pub order_behind : List ℕ → List (List ℕ) → Option Order
+order_behind word words =
     if bytes_eq word (codes "keep") then keep_said words
     else if bytes_eq word (codes "release") then release_said words
     else if bytes_eq word (codes "save") then save_said words else None
@@ -94,7 +94,7 @@ behind_said word words =
 abbrev pub asked : List (List ℕ) → Option Order
 asked [] = None
 asked (word ∷ []) = alone_said word
-asked (word ∷ first ∷ words) = behind_said word (first ∷ words)
+asked (word ∷ first ∷ words) = order_behind word (first ∷ words)
 
 -- what a line asks for, if it can be read: its first three words, and what is left
 abbrev pub order_said : List ℕ → Option Order

@@ -7,8 +7,8 @@ use Rattle.station_words.specs.declared.shape.Shape.{Shape}
 use Rattle.station_words.specs.Rings.{IsRing}
 
 -- the geometry of a store for such frames
-abbrev pub geometry_of : Shape → RingSize → Geometry
-geometry_of shape ring = record {
+abbrev pub shape_geometry : Shape → RingSize → Geometry
+shape_geometry shape ring = record {
   width = shape.width;
   height = shape.height;
   format = shape.format;
@@ -20,4 +20,4 @@ geometry_of shape ring = record {
 
 -- each ring is good for such frames
 abbrev pub IsShape : Shape → Type 0
-IsShape shape = (ring : RingSize) → IsRing ring → IsTrue (is_good (geometry_of shape ring))
+IsShape shape = (ring : RingSize) → IsRing ring → IsTrue (is_good (shape_geometry shape ring))

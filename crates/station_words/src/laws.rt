@@ -5,7 +5,7 @@ ghost use Rattle.std.specs.Prelude.{◌≡◌, [], codes};
 ghost use Rattle.loop_record.specs.Geometry.{disk_size, frame_bytes};
 ghost use Rattle.station_words.specs.Orders.{order_said};
 ghost use Rattle.station_words.specs.Rings.{file_size};
-ghost use Rattle.station_words.specs.Shapes.{geometry_of};
+ghost use Rattle.station_words.specs.Shapes.{shape_geometry};
 ghost use Rattle.station_words.specs.declared.order.Order.{Order};
 
 use crate::ring::RingSize;
@@ -39,6 +39,6 @@ pub fn other_lines_have_no_order()
 
 /// The bytes by which a ring is chosen are those of the store's disk.
 pub fn file_size_is_disk_size(shape: &Shape, ring: RingSize)
-    ensures { file_size (frame_bytes (geometry_of shape.now ring)) ring
-        ≡ disk_size (geometry_of shape.now ring) }
+    ensures { file_size (frame_bytes (shape_geometry shape.now ring)) ring
+        ≡ disk_size (shape_geometry shape.now ring) }
 {}

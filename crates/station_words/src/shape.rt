@@ -1,6 +1,6 @@
 // The frames of the pattern.
 ghost use Rattle.std.specs.Prelude.{◌≡◌, IfSome};
-ghost use Rattle.station_words.specs.Shapes.{IsShape, geometry_of};
+ghost use Rattle.station_words.specs.Shapes.{IsShape, shape_geometry};
 
 use crate::ring::RingSize;
 use loop_record::{Geometry, PixelFormat};
@@ -24,7 +24,7 @@ pub struct Shape {
 impl Shape {
     /// The geometry of a store for such frames.
     pub fn geometry(&self, ring: RingSize) -> Geometry
-        ensures { result ≡ geometry_of self.now ring }
+        ensures { result ≡ shape_geometry self.now ring }
     {
         Geometry {
             width: self.width,
