@@ -168,9 +168,17 @@ fn run_sessions<R: AllocGlobal + Threads + Wait + Clock + Sync>(
     requires { IsReady ⟦<MmapPlane as PlaneMemory>⟧.plane camera }
 {
     let alloc = rt.alloc();
-    let Some(mut devices) = devices_for(alloc, state, &camera.0.geometry()) else {
+    let (Some(size), Some(source)) = (size_of(&camera.0.geometry()), source_of(alloc, state)) else {
         return Absent::NoBuffers;
     };
+    let source: Box<dyn FrameSource + Send> = source;
+    let (Ok(device), Ok(mut devices)) = (
+        Device::new(alloc, source, size),
+        Vec::with_capacity(alloc, 1),
+    ) else {
+        return Absent::NoBuffers;
+    };
+    devices.push_reserved(device);
     let mut next = run_session(rt, alloc, state, camera, Some(start), &mut devices);
     'sessions: for _ in rt.forever() {
         let Some(camera) = next else {
@@ -184,18 +192,10 @@ fn run_sessions<R: AllocGlobal + Threads + Wait + Clock + Sync>(
     Absent::Store(StoreFault::MustReopen)
 }
 
-/// The device that takes a camera's frames where its source gives them.
-fn devices_for(alloc: Global, state: &CameraState, geometry: &Geometry) -> Option<Vec<Device>> {
-    let size = size_of(geometry)?;
+/// What gives a camera's frames to its device; None where memory was refused.
+fn source_of(alloc: Global, state: &CameraState) -> Option<Box<FeedSource>> {
     let feed = Arc::try_clone(&state.feed).ok()?;
-    let source = Box::new(alloc, FeedSource { feed }).ok()?;
-    let source: Box<dyn FrameSource + Send> = source;
-    let mut devices = Vec::with_capacity(alloc, 1).ok()?;
-    match Device::new(alloc, source, size) {
-        Ok(device) => devices.push_reserved(device),
-        Err(_) => return None,
-    }
-    Some(devices)
+    Box::new(alloc, FeedSource { feed }).ok()
 }
 
 /// A session: a recorder of the camera is recorded until it is over, and ended. The camera for the next one; None where
