@@ -1,11 +1,12 @@
 // The lines that are printed.
 
+use loop_record::Geometry;
 use loop_script::{Listing, print_line, print_parts};
 use loop_store::{Clip, StoreFault};
 use std::alloc::Allocator;
 use std::fmt::Display;
-use std::io;
 use std::io::Write;
+use std::{io, str};
 
 /// How a camera stands.
 #[derive(Clone, Copy, Debug, PartialEq, Eq)]
@@ -119,6 +120,29 @@ pub fn print_status<W: Write>(
 /// `absent NAME WHY`: the camera's store isn't there.
 pub fn print_absent<W: Write>(out: &mut W, camera: &str, why: &str) -> io::Result<()> {
     writeln!(out, "absent {camera} {why}")
+}
+
+/// `other geometry NAME WxH FORMAT N:D`: what the frames of a camera's source are, where they aren't as its store has them.
+pub fn print_other_geometry<W: Write>(
+    out: &mut W,
+    camera: &str,
+    geometry: &Geometry,
+) -> io::Result<()> {
+    let Geometry {
+        width,
+        height,
+        format,
+        rate_num,
+        rate_den,
+        segments: _,
+        slots: _,
+    } = geometry;
+    let name = format.name();
+    let format = str::from_utf8(&name).unwrap_or("");
+    writeln!(
+        out,
+        "other geometry {camera} {width}x{height} {format} {rate_num}:{rate_den}"
+    )
 }
 
 /// `no camera NAME`.

@@ -4,7 +4,7 @@ use loop_file::FileFault;
 use loop_store::StoreFault;
 
 /// Why a camera's store isn't there, so that it can't be asked.
-#[derive(Clone, Copy, Debug, PartialEq, Eq)]
+#[derive(Clone, Copy)]
 pub enum Absent {
     /// There is none yet, and the source that it is to be made for hasn't come.
     NoStore,

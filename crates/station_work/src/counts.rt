@@ -12,8 +12,6 @@ pub struct Counts {
     pub given_up: AtomicU64,
     /// How often the disk or the store failed, and the store was opened again.
     pub faults: AtomicU64,
-    /// How often the source was opened.
-    pub opened: AtomicU64,
     /// Entries in the history of this session, or more than there are.
     pub entries: AtomicU64,
 }
@@ -25,7 +23,6 @@ impl Counts {
             submitted: AtomicU64::new(0),
             given_up: AtomicU64::new(0),
             faults: AtomicU64::new(0),
-            opened: AtomicU64::new(0),
             entries: AtomicU64::new(0),
         }
     }

@@ -5,7 +5,7 @@ use std::sync::{Condvar, Mutex, Wait};
 use std::time::{Clock, Duration};
 
 /// How a source stands.
-#[derive(Clone, Copy, Debug, PartialEq, Eq)]
+#[derive(Clone, Copy)]
 pub enum SourceState {
     /// It can't be opened, has ended, or what it begins with is no header.
     Missing,
@@ -13,6 +13,17 @@ pub enum SourceState {
     OtherGeometry,
     /// It gives frames.
     On,
+}
+
+/// What came of an offer.
+#[derive(Clone, Copy)]
+pub enum Offered {
+    /// The frames are the store's.
+    Fits,
+    /// They are of another size, format or rate.
+    Refused,
+    /// They are so again: the last offer was refused too.
+    StillRefused,
 }
 
 #[derive(Clone, Copy)]
@@ -76,25 +87,35 @@ impl Link {
         known.offered
     }
 
-    /// Tells what the source's header says, with a ring of any size, and waits until there is a store. Whether its frames
-    /// are the store's.
-    pub fn offer<R: Wait>(&self, rt: &R, geometry: Geometry) -> bool {
+    /// Tells what the source's header says, with a ring of any size, and waits until there is a store: whether the frames
+    /// are as it has them.
+    pub fn offer<R: Wait>(&self, rt: &R, geometry: Geometry) -> Offered {
         let mut known = self.known.lock(rt);
         known.offered = Some(geometry);
         self.changed.notify_all();
         let mut known = self
             .changed
             .wait_while(rt, known, |known| known.wanted.is_none());
-        let fits = match known.wanted {
-            Some(wanted) => is_alike(&wanted, &geometry),
-            None => false,
+        let offered = match known.wanted {
+            Some(wanted) => offered(known.source, &wanted, &geometry),
+            None => Offered::Refused,
         };
-        known.source = if fits {
-            SourceState::On
-        } else {
-            SourceState::OtherGeometry
+        known.source = match offered {
+            Offered::Fits => SourceState::On,
+            Offered::Refused | Offered::StillRefused => SourceState::OtherGeometry,
         };
-        fits
+        offered
+    }
+}
+
+// What comes of an offer, where the source stood so before.
+fn offered(before: SourceState, wanted: &Geometry, geometry: &Geometry) -> Offered {
+    if is_alike(wanted, geometry) {
+        return Offered::Fits;
+    }
+    match before {
+        SourceState::OtherGeometry => Offered::StillRefused,
+        SourceState::On | SourceState::Missing => Offered::Refused,
     }
 }
 

@@ -92,10 +92,11 @@ fn start_sources<
 >(rt: &R, station: &Station<W>) -> Result<(), NotBegun> {
     for state in station.cameras.as_slice() {
         let state = Arc::try_clone(state)?;
+        let outlet = Arc::try_clone(&station.outlet)?;
         let Ok(theirs) = rt.clone() else {
             return Err(NotBegun::NoMemory);
         };
-        if thread::spawn(rt, move || run_source(&theirs, &state)).is_err() {
+        if thread::spawn(rt, move || run_source(&theirs, &state, &outlet)).is_err() {
             return Err(NotBegun::NoMemory);
         }
     }

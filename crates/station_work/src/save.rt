@@ -18,7 +18,7 @@ use std::sync::Wait;
 const AT_ONCE: usize = 262_144;
 
 /// Why a clip wasn't written, or not to its end.
-#[derive(Clone, Copy, Debug, PartialEq, Eq)]
+#[derive(Clone, Copy)]
 pub enum NotSaved {
     /// There is no clip of that id.
     NoSuchClip,

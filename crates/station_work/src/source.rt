@@ -1,7 +1,9 @@
-//! A source's thread: it opens the source again and again, and gives its frames to the camera's feed.
+//! A source's thread: it opens the source again and again, and gives its frames to the camera's feed. A source whose frames
+//! aren't as the store has them is refused, and that is printed once.
 
 use crate::feed::Fed;
-use crate::link::SourceState;
+use crate::link::{Offered, SourceState};
+use crate::outlet::Outlet;
 use crate::places::Places;
 use crate::size::size_of;
 use crate::state::CameraState;
@@ -9,12 +11,11 @@ use loop_capture::{FrameSource, Pattern};
 use loop_desk::frame_memory;
 use loop_record::Geometry;
 use loop_y4m::Y4mReader;
-use station_words::{RingSize, Source};
+use station_words::{RingSize, Source, print_other_geometry};
 use std::alloc::AllocGlobal;
 use std::fs::OpenFile;
-use std::io::{BufReader, Read};
+use std::io::{BufReader, Read, Write};
 use std::sync::Wait;
-use std::sync::atomic::Ordering;
 use std::thread;
 use std::time::{Clock, Duration};
 
@@ -34,14 +35,18 @@ const ANY_RING: RingSize = RingSize {
 const LATE: u64 = 1_000_000;
 
 /// Gives a source's frames to a camera's feed, and opens it again where it ends or breaks, until the camera is stopped.
-pub(crate) fn run_source<R: AllocGlobal + Places + Wait + Clock>(rt: &R, state: &CameraState) {
+pub(crate) fn run_source<R: AllocGlobal + Places + Wait + Clock, W: Write + Drop>(
+    rt: &R,
+    state: &CameraState,
+    outlet: &Outlet<W>,
+) {
     for _ in rt.forever() {
         if state.is_stopped() {
             break;
         }
         match &state.config.source {
-            Source::Pattern(shape) => play_pattern(rt, state, &shape.geometry(ANY_RING)),
-            Source::Path(path) => play_file(rt, state, path.as_str()),
+            Source::Pattern(shape) => play_pattern(rt, state, outlet, &shape.geometry(ANY_RING)),
+            Source::Path(path) => play_file(rt, state, outlet, path.as_str()),
         }
         thread::sleep(rt, Duration::from_millis(OPEN_AGAIN));
     }
@@ -86,11 +91,16 @@ fn beat_of<R: Clock>(rt: &R, state: &CameraState, geometry: &Geometry) -> Beat {
 }
 
 /// Gives the frames of the pattern, each when it is due.
-fn play_pattern<R: AllocGlobal + Wait + Clock>(rt: &R, state: &CameraState, geometry: &Geometry) {
+fn play_pattern<R: AllocGlobal + Wait + Clock, W: Write + Drop>(
+    rt: &R,
+    state: &CameraState,
+    outlet: &Outlet<W>,
+    geometry: &Geometry,
+) {
     let Some(size) = size_of(geometry) else {
         return;
     };
-    if !offer(rt, state, geometry) {
+    if !offer(rt, state, outlet, geometry) {
         return;
     }
     let mut pattern = Pattern::new();
@@ -110,14 +120,44 @@ fn play_pattern<R: AllocGlobal + Wait + Clock>(rt: &R, state: &CameraState, geom
     }
 }
 
-/// Tells what a source's header says; whether the store takes its frames.
-fn offer<R: Wait>(rt: &R, state: &CameraState, geometry: &Geometry) -> bool {
-    state.counts.opened.fetch_add(1, Ordering::SeqCst);
-    state.link.offer(rt, *geometry)
+/// Tells what a source's header says; whether the store takes its frames. That it doesn't is printed, but not again
+/// while nothing else comes of it.
+fn offer<R: AllocGlobal + Wait, W: Write + Drop>(
+    rt: &R,
+    state: &CameraState,
+    outlet: &Outlet<W>,
+    geometry: &Geometry,
+) -> bool {
+    match state.link.offer(rt, *geometry) {
+        Offered::Fits => true,
+        Offered::Refused => {
+            tell_other(rt, state, outlet, geometry);
+            false
+        }
+        Offered::StillRefused => false,
+    }
+}
+
+/// Prints what frames a camera's source has, which aren't as its store has them.
+fn tell_other<R: AllocGlobal + Wait, W: Write + Drop>(
+    rt: &R,
+    state: &CameraState,
+    outlet: &Outlet<W>,
+    geometry: &Geometry,
+) {
+    let mut line = Vec::new(rt.alloc());
+    if print_other_geometry(&mut line, state.config.name.as_str(), geometry).is_ok() {
+        outlet.put(rt, &line);
+    }
 }
 
 /// Gives the frames of a file or pipe: those of a file each when it is due, those of a pipe as they come.
-fn play_file<R: AllocGlobal + Places + Wait + Clock>(rt: &R, state: &CameraState, path: &str) {
+fn play_file<R: AllocGlobal + Places + Wait + Clock, W: Write + Drop>(
+    rt: &R,
+    state: &CameraState,
+    outlet: &Outlet<W>,
+    path: &str,
+) {
     let Ok(file) = rt.open_input(path) else {
         state.link.set_source(rt, SourceState::Missing);
         return;
@@ -127,17 +167,18 @@ fn play_file<R: AllocGlobal + Places + Wait + Clock>(rt: &R, state: &CameraState
         Err(_) => false,
     };
     if let Ok(input) = BufReader::with_capacity(rt.alloc(), AT_ONCE, file) {
-        play_input(rt, state, input, paced);
+        play_input(rt, state, outlet, input, paced);
     }
-    if state.link.source(rt) == SourceState::On {
+    if matches!(state.link.source(rt), SourceState::On) {
         state.link.set_source(rt, SourceState::Missing);
     }
 }
 
 /// Gives the frames of an input that begins with a header.
-fn play_input<R: AllocGlobal + Wait + Clock, I: Read + Drop>(
+fn play_input<R: AllocGlobal + Wait + Clock, I: Read + Drop, W: Write + Drop>(
     rt: &R,
     state: &CameraState,
+    outlet: &Outlet<W>,
     input: I,
     paced: bool,
 ) {
@@ -149,7 +190,7 @@ fn play_input<R: AllocGlobal + Wait + Clock, I: Read + Drop>(
         state.link.set_source(rt, SourceState::Missing);
         return;
     };
-    if !offer(rt, state, &geometry) {
+    if !offer(rt, state, outlet, &geometry) {
         return;
     }
     let mut beat = beat_of(rt, state, &geometry);

@@ -1,11 +1,12 @@
 //! What is printed, and how large a store is.
 
 use crate::told::{holds, same};
+use loop_record::{Geometry, PixelFormat};
 use loop_store::{Clip, StoreFault};
 use station_words::{
     CameraStatus, RingSize, print_absent, print_bad_order, print_kept, print_no_camera,
-    print_not_saved, print_refused, print_released, print_saved, print_status, ring_for,
-    ring_within,
+    print_not_saved, print_other_geometry, print_refused, print_released, print_saved,
+    print_status, ring_for, ring_within,
 };
 use std::alloc::Global;
 use std::process::Abort;
@@ -20,6 +21,7 @@ released left 3\n\
 saved left 3 a clip.y4m 7\n\
 not saved left 3 a clip.y4m CannotOpen\n\
 status left stored 1 given up 2 waiting 3 room 4 faults 5 source on\n\
+other geometry left 320x240 GREY 30000:1001\n\
 no camera left\n\
 absent left NoStore\n\
 bad order\n";
@@ -32,6 +34,17 @@ const fn clip(id: u32, to: u64, tag: u64) -> Clip {
         tag,
     }
 }
+
+// What a source may have.
+const OTHER: Geometry = Geometry {
+    width: 320,
+    height: 240,
+    format: PixelFormat::Grey,
+    rate_num: 30_000,
+    rate_den: 1001,
+    segments: 2,
+    slots: 1,
+};
 
 // Prints each kind of line.
 fn prints(out: &mut Vec<u8>) -> bool {
@@ -51,6 +64,7 @@ fn prints(out: &mut Vec<u8>) -> bool {
         && print_released(out, "left", 3).is_ok()
         && prints_saves(out)
         && print_status(out, "left", &status).is_ok()
+        && print_other_geometry(out, "left", &OTHER).is_ok()
         && print_no_camera(out, "left").is_ok()
         && print_absent(out, "left", "NoStore").is_ok()
         && print_bad_order(out).is_ok()
