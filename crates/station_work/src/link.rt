@@ -96,20 +96,20 @@ impl Link {
         let mut known = self
             .changed
             .wait_while(rt, known, |known| known.wanted.is_none());
-        let offered = match known.wanted {
-            Some(wanted) => offered(known.source, &wanted, &geometry),
+        let came = match known.wanted {
+            Some(wanted) => judged(known.source, &wanted, &geometry),
             None => Offered::Refused,
         };
-        known.source = match offered {
+        known.source = match came {
             Offered::Fits => SourceState::On,
             Offered::Refused | Offered::StillRefused => SourceState::OtherGeometry,
         };
-        offered
+        came
     }
 }
 
 // What comes of an offer, where the source stood so before.
-fn offered(before: SourceState, wanted: &Geometry, geometry: &Geometry) -> Offered {
+fn judged(before: SourceState, wanted: &Geometry, geometry: &Geometry) -> Offered {
     if is_alike(wanted, geometry) {
         return Offered::Fits;
     }
