@@ -1,6 +1,6 @@
 //! What a refused request hands back, and which pages are free again.
 
-use crate::common::{facts, supplied, supplied_many};
+use crate::common::{facts, supplied_many};
 use crate::told::{holds, same};
 use loop_budget::Budget;
 use loop_pages::PageLedger;
@@ -88,31 +88,43 @@ const NO_MEMORY: Errno = Errno {
     number: 12,
 };
 
+// Four buffers, all of which are queued, while it streams; a request for two is refused, and their sets come back.
+fn is_busy<P: PlaneMemory, A: Allocator + Copy>(
+    rt: &impl Abort,
+    queue: &mut Queue<P, A>,
+    four: Vec<PlaneSet<P>, A>,
+    two: Vec<PlaneSet<P>, A>,
+) {
+    holds!(rt; granted(queue, 4, Memory::Mmap, four));
+    stream(rt, queue, 4);
+    let two = supply_back(rt, queue, (2, Memory::Mmap), two, BUSY);
+    same!(rt; (two.len(), facts(queue)), (2, (4, Memory::Mmap, true)));
+}
+
+// A request for none is refused while a buffer is mapped, and then granted.
+fn frees<P: PlaneMemory, A: Allocator + Copy>(
+    rt: &impl Abort,
+    queue: &mut Queue<P, A>,
+    none: Vec<PlaneSet<P>, A>,
+) {
+    holds!(rt; is_mapped(queue, 1, true));
+    let none = supply_back(rt, queue, (0, Memory::Mmap), none, MAPPED);
+    holds!(rt; is_mapped(queue, 1, false));
+    holds!(rt; granted(queue, 0, Memory::Mmap, none));
+}
+
 #[test]
 fn a_request_is_refused_while_streaming_and_frees_all_pages_at_count_0(
     rt: HostRuntime,
 ) -> Result<(), Fail> {
     let alloc = rt.alloc();
     let (ledger, seat) = PageLedger::new(alloc, 6)?;
-    let mut four = Vec::new(alloc);
-    let seat = supplied(&rt, alloc, &ledger, seat, &mut four);
-    let seat = supplied(&rt, alloc, &ledger, seat, &mut four);
-    let seat = supplied(&rt, alloc, &ledger, seat, &mut four);
-    let seat = supplied(&rt, alloc, &ledger, seat, &mut four);
-    let mut two = Vec::new(alloc);
-    let seat = supplied(&rt, alloc, &ledger, seat, &mut two);
-    let whole = supplied(&rt, alloc, &ledger, seat, &mut two);
+    let (mut four, mut two) = (Vec::new(alloc), Vec::new(alloc));
+    let seat = supplied_many(&rt, alloc, &ledger, seat, 4, &mut four);
+    let whole = supplied_many(&rt, alloc, &ledger, seat, 2, &mut two);
     let mut queue = big(alloc);
-    holds!(rt; granted(&mut queue, 4, Memory::Mmap, four));
-    stream(&rt, &mut queue, 4);
-    let two = supply_back(&rt, &mut queue, (2, Memory::Mmap), two, BUSY);
-    same!(rt; two.len(), 2);
-    same!(rt; facts(&queue), (4, Memory::Mmap, true));
-    drop(two);
-    holds!(rt; is_mapped(&mut queue, 1, true));
-    let none = supply_back(&rt, &mut queue, (0, Memory::Mmap), Vec::new(alloc), MAPPED);
-    holds!(rt; is_mapped(&mut queue, 1, false));
-    holds!(rt; granted(&mut queue, 0, Memory::Mmap, none));
+    is_busy(&rt, &mut queue, four, two);
+    frees(&rt, &mut queue, Vec::new(alloc));
     holds!(rt; PageLedger::claim(alloc, &ledger, whole, 6).is_ok());
     Ok(())
 }
@@ -122,22 +134,30 @@ type Thrifty<'a> = Queue<MmapPlane<&'a Budget>, &'a Budget>;
 
 type Sets<'a> = Vec<PlaneSet<MmapPlane<&'a Budget>>, &'a Budget>;
 
-// REQBUFS where each of so many growths is refused in turn: the queue is as it was, and the sets come back. With none
-// refused there are so many buffers.
-fn grows<'a>(
+// REQBUFS where so many growths are granted and one more is needed: the queue is as it was, and the sets come back.
+fn is_refused<'a>(
     rt: &impl Abort,
     memory: &'a Budget,
     queue: &mut Thrifty<'a>,
-    mut supply: Sets<'a>,
+    supply: Sets<'a>,
+    (count, kind, blocks): (u32, Memory, u64),
+) -> Sets<'a> {
+    let (before, sets) = (facts(queue), supply.len());
+    memory.allow(blocks);
+    let supply = supply_back(rt, queue, (count, kind), supply, NO_MEMORY);
+    same!(rt; (supply.len(), memory.left()), (sets, 0), (count, blocks));
+    same!(rt; facts(queue), before, (count, blocks));
+    supply
+}
+
+// REQBUFS that needs so many growths and is granted: there are so many buffers.
+fn is_granted<'a>(
+    rt: &impl Abort,
+    memory: &'a Budget,
+    queue: &mut Thrifty<'a>,
+    supply: Sets<'a>,
     (count, kind, growths): (u32, Memory, u64),
 ) {
-    let (before, sets) = (facts(queue), supply.len());
-    for blocks in 0..growths {
-        memory.allow(blocks);
-        supply = supply_back(rt, queue, (count, kind), supply, NO_MEMORY);
-        same!(rt; (supply.len(), memory.left()), (sets, 0), (count, blocks));
-        same!(rt; facts(queue), before, (count, blocks));
-    }
     memory.allow(growths);
     holds!(rt; granted(queue, count, kind, supply), count);
     same!(rt; memory.left(), 0, count);
@@ -145,8 +165,49 @@ fn grows<'a>(
     memory.allow(u64::MAX);
 }
 
-// The first growth is that of the list of the planes that are left, if there are buffers, and the other that of the
-// buffers.
+// REQBUFS where each of so many growths is refused in turn, and then none.
+fn grows<'a>(
+    rt: &impl Abort,
+    memory: &'a Budget,
+    queue: &mut Thrifty<'a>,
+    mut supply: Sets<'a>,
+    (count, kind, growths): (u32, Memory, u64),
+) {
+    for blocks in 0..growths {
+        supply = is_refused(rt, memory, queue, supply, (count, kind, blocks));
+    }
+    is_granted(rt, memory, queue, supply, (count, kind, growths));
+}
+
+// Requests one behind the other. The first growth is that of the list of the planes that are left, if there are
+// buffers, and the other that of the buffers.
+fn grow_all<'a>(rt: &impl Abort, memory: &'a Budget, few: Sets<'a>, many: Sets<'a>) {
+    let mut queue = big(memory);
+    grows(
+        rt,
+        memory,
+        &mut queue,
+        Vec::new(memory),
+        (32, Memory::UserPtr, 1),
+    );
+    grows(rt, memory, &mut queue, few, (3, Memory::Mmap, 2));
+    grows(rt, memory, &mut queue, many, (32, Memory::Mmap, 2));
+    grows(
+        rt,
+        memory,
+        &mut queue,
+        Vec::new(memory),
+        (32, Memory::DmaBuf, 2),
+    );
+    grows(
+        rt,
+        memory,
+        &mut queue,
+        Vec::new(memory),
+        (0, Memory::UserPtr, 1),
+    );
+}
+
 #[test]
 fn a_refused_growth_leaves_queue_and_supply(rt: HostRuntime) -> Result<(), Fail> {
     let budget = Budget::new(rt.alloc());
@@ -154,18 +215,6 @@ fn a_refused_growth_leaves_queue_and_supply(rt: HostRuntime) -> Result<(), Fail>
     let (mut few, mut many) = (Vec::new(&budget), Vec::new(&budget));
     let seat = supplied_many(&rt, &budget, &ledger, seat, 3, &mut few);
     supplied_many(&rt, &budget, &ledger, seat, 32, &mut many);
-    let mut queue = big(&budget);
-    let (user, none) = (Memory::UserPtr, Vec::new(&budget));
-    grows(&rt, &budget, &mut queue, none, (32, user, 1));
-    grows(&rt, &budget, &mut queue, few, (3, Memory::Mmap, 2));
-    grows(&rt, &budget, &mut queue, many, (32, Memory::Mmap, 2));
-    grows(
-        &rt,
-        &budget,
-        &mut queue,
-        Vec::new(&budget),
-        (32, Memory::DmaBuf, 2),
-    );
-    grows(&rt, &budget, &mut queue, Vec::new(&budget), (0, user, 1));
+    grow_all(&rt, &budget, few, many);
     Ok(())
 }

@@ -2,7 +2,7 @@
 
 use crate::common::Call::*;
 use crate::common::Said::{Buffer, Byte, Count, Done, Flags, Frame, Is, Refused};
-use crate::common::{Call, Said, Small, runs, supplied};
+use crate::common::{Call, Said, Small, runs, supplied_many};
 use loop_budget::Budget;
 use loop_pages::PageLedger;
 use loop_plane::MmapPlane;
@@ -80,19 +80,15 @@ const FAILURES: [(Call, Said); 27] = [
     (Dequeue, Refused(Reason::NothingDone, 11)),
 ];
 
-// A queue of mapped memory with two buffers or three.
+// A queue of mapped memory with three buffers, one of which is enough to start, or with two, both of which it needs.
 fn small<A: Allocator + Copy>(rt: &impl Abort, alloc: A, third: bool) -> Small<MmapPlane<A>, A> {
     let Ok((ledger, seat)) = PageLedger::new(alloc, 3) else {
         panic!(rt; "a ledger")
     };
+    let (needed, count) = if third { (1, 3) } else { (2, 2) };
     let mut supply = Vec::new(alloc);
-    let seat = supplied(rt, alloc, &ledger, seat, &mut supply);
-    let seat = supplied(rt, alloc, &ledger, seat, &mut supply);
-    if !third {
-        return Small::new(rt, alloc, 2, 2, supply);
-    }
-    supplied(rt, alloc, &ledger, seat, &mut supply);
-    Small::new(rt, alloc, 1, 3, supply)
+    supplied_many(rt, alloc, &ledger, seat, count, &mut supply);
+    Small::new(rt, alloc, needed, count, supply)
 }
 
 // Both tables, over planes of one allocator. The queue's calls take memory from nobody.

@@ -1,6 +1,6 @@
 //! The pages of a queue's buffers, by ioctls.
 
-use crate::common::supplied;
+use crate::common::supplied_many;
 use crate::told::{holds, same};
 use loop_ioctl::{BufferMemory, BufferType, Ioctl, IoctlReply, apply};
 use loop_pages::PageLedger;
@@ -57,14 +57,9 @@ fn stream(rt: &impl Abort, mapped: &mut Mapped, count: u32) {
 fn a_supply_comes_back_and_old_pages_are_free_again(rt: HostRuntime) -> Result<(), Fail> {
     let alloc: Global = rt.alloc();
     let (ledger, seat) = PageLedger::new(alloc, 6)?;
-    let mut four = Vec::new(alloc);
-    let seat = supplied(&rt, alloc, &ledger, seat, &mut four);
-    let seat = supplied(&rt, alloc, &ledger, seat, &mut four);
-    let seat = supplied(&rt, alloc, &ledger, seat, &mut four);
-    let seat = supplied(&rt, alloc, &ledger, seat, &mut four);
-    let mut two = Vec::new(alloc);
-    let seat = supplied(&rt, alloc, &ledger, seat, &mut two);
-    let whole = supplied(&rt, alloc, &ledger, seat, &mut two);
+    let (mut four, mut two) = (Vec::new(alloc), Vec::new(alloc));
+    let seat = supplied_many(&rt, alloc, &ledger, seat, 4, &mut four);
+    let whole = supplied_many(&rt, alloc, &ledger, seat, 2, &mut two);
     let queue = Queue::new(alloc, PixelFormat::Grey, 1, 1, 1);
     let mut mapped: Mapped = (queue, FdTable::new(alloc));
     same!(rt; request(&mut mapped, 4, four), Ok(4));

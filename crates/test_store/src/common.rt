@@ -8,7 +8,6 @@ use loop_record::{Frame, FrameHead, Geometry, PixelFormat, SuperHead, TAGGED, en
 use loop_store::{Store, StoreFault};
 use std::alloc::{AllocError, Allocator, Global};
 use std::process::Abort;
-use std::test::Fail;
 
 /// Three segments with two slots each, of frames of 12 bytes. The segments begin at 2,560, 3,160 and 3,760, and
 /// the disk has 4,360 bytes.
@@ -125,11 +124,20 @@ pub(crate) fn held<D: Disk + Drop, A: Allocator>(
     let next = numbers.last().map_or(0, |last| last.wrapping_add(1));
     same!(rt; store.next(), next);
     let before = numbers.first().map_or(next, |first| first.wrapping_sub(1));
-    for number in [next, before] {
-        so!(rt; !store.holds(number));
-        same!(rt; read(rt, alloc, store, number).err(), Some(StoreFault::NotHeld));
-    }
+    is_not_held(rt, alloc, store, next);
+    is_not_held(rt, alloc, store, before);
     Ok(numbers)
+}
+
+// No frame of this number is held.
+fn is_not_held<D: Disk + Drop, A: Allocator>(
+    rt: &impl Abort,
+    alloc: Global,
+    store: &mut Store<D, A>,
+    number: u64,
+) {
+    so!(rt; !store.holds(number));
+    same!(rt; read(rt, alloc, store, number).err(), Some(StoreFault::NotHeld));
 }
 
 /// These frames are held.
@@ -145,10 +153,11 @@ pub(crate) fn holds<D: Disk + Drop, A: Allocator>(
     Ok(())
 }
 
-/// The image after appends of so many frames, one by one.
-pub(crate) fn image_of(rt: &impl Abort, alloc: Global, count: u64) -> Result<Vec<u8>, Fail> {
+// The bytes of a freshly formatted disk.
+fn fresh(rt: &impl Abort, alloc: Global) -> Vec<u8> {
     assert!(rt; SMALL.check().is_ok());
-    let mut image = vec![in alloc; 0u8; SMALL.disk_size() as usize]?;
+    let image = vec![in alloc; 0u8; SMALL.disk_size() as usize];
+    let mut image = image.expect(rt, "memory for an image");
     let mut superblock = [0; 512];
     let head = SuperHead {
         geometry: SMALL,
@@ -158,13 +167,25 @@ pub(crate) fn image_of(rt: &impl Abort, alloc: Global, count: u64) -> Result<Vec
     for (place, byte) in image.iter_mut().zip(superblock.iter()) {
         *place = *byte;
     }
-    let Ok(mut store) = Store::open(alloc, MemDisk::of(image)) else {
-        return Err("the disk is opened".into());
+    image
+}
+
+/// Stores the next frame, which has 12 bytes, in a group of its own.
+pub(crate) fn append_next<D: Disk + Drop>(rt: &impl Abort, alloc: Global, store: &mut Store<D>) {
+    let number = store.next();
+    let next = frame(alloc, 12, number, 0).expect(rt, "memory for a frame");
+    let frames = vec![in alloc; next].expect(rt, "memory for a group");
+    same!(rt; append(rt, store, &frames), Ok(number));
+}
+
+/// The image after appends of so many frames, one by one.
+pub(crate) fn image_of(rt: &impl Abort, alloc: Global, count: u64) -> Vec<u8> {
+    let Ok(mut store) = Store::open(alloc, MemDisk::of(fresh(rt, alloc))) else {
+        panic!(rt; "the disk isn't opened")
     };
-    for number in 0..count {
-        let mut frames = Vec::new(alloc);
-        frames.push(frame(alloc, 12, number, 0)?)?;
-        same!(rt; append(rt, &mut store, &frames), Ok(number));
+    for _ in 0..count {
+        append_next(rt, alloc, &mut store);
     }
-    Ok(store.into_disk().bytes().to_vec(alloc)?)
+    let image = store.into_disk().bytes().to_vec(alloc);
+    image.expect(rt, "memory for an image")
 }

@@ -46,25 +46,54 @@ fn run<D: Disk + Drop, A: Allocator + Copy>(
     store.run(alloc, commands)
 }
 
-// Formats a disk of zeros where each growth is refused in turn.
-fn grows_in_format(
+// A disk of zeros.
+fn zeros(rt: &impl Abort, alloc: Global) -> MemDisk {
+    MemDisk::new(alloc, 4360).expect(rt, "memory for a disk")
+}
+
+// A disk of these bytes.
+fn disk_of(rt: &impl Abort, alloc: Global, image: &[u8]) -> MemDisk {
+    MemDisk::of(image.to_vec(alloc).expect(rt, "memory for an image"))
+}
+
+// Formats a disk of zeros where so many growths are granted: the next number, or the refusal and how many calls the disk
+// that comes back passes yet.
+fn formats(
     rt: &impl Abort,
     alloc: Global,
     memory: &Budget,
-    growths: u64,
-) -> Result<(), Fail> {
-    for allowed in 0..=growths {
-        memory.allow(allowed);
-        match format(memory, FuseDisk::new(MemDisk::new(alloc, 4360)?, 9), SMALL) {
-            Ok(store) => same!(rt; (allowed, store.next()), (growths, 0)),
-            Err(refused) => {
-                so!(rt; allowed < growths);
-                same!(rt; (refused.fault, refused.disk.left), (StoreFault::NoMemory, 9));
-            }
-        }
-        same!(rt; memory.left(), 0);
+    allowed: u64,
+) -> Result<u64, (StoreFault, u64)> {
+    memory.allow(allowed);
+    match format(memory, FuseDisk::new(zeros(rt, alloc), 9), SMALL) {
+        Ok(store) => Ok(store.next()),
+        Err(refused) => Err((refused.fault, refused.disk.left)),
     }
-    Ok(())
+}
+
+// Formats a disk of zeros where each growth is refused in turn.
+fn grows_in_format(rt: &impl Abort, alloc: Global, memory: &Budget, growths: u64) {
+    for allowed in 0..growths {
+        same!(rt; formats(rt, alloc, memory, allowed), Err((StoreFault::NoMemory, 9)), allowed);
+        same!(rt; memory.left(), 0, allowed);
+    }
+    same!(rt; (formats(rt, alloc, memory, growths), memory.left()), (Ok(0), 0));
+}
+
+// The opening of an image with so many of the newest blocks kept is refused, and hands the image back.
+fn is_refused(
+    rt: &impl Abort,
+    alloc: Global,
+    memory: &Budget,
+    image: &[u8],
+    keep: u32,
+    fault: StoreFault,
+) {
+    let Err(refused) = Store::open_keeping(memory, disk_of(rt, alloc, image), keep) else {
+        panic!(rt; "it is opened, and {keep} blocks are kept")
+    };
+    same!(rt; (refused.fault, memory.left()), (fault, 0), keep);
+    so!(rt; refused.disk.bytes() == image, keep);
 }
 
 // Opens an image with so many of the newest blocks kept, where each growth is refused in turn.
@@ -74,58 +103,37 @@ fn grows_in_open<'a>(
     memory: &'a Budget,
     image: &[u8],
     (keep, growths): (u32, u64),
-) -> Result<Store<MemDisk, &'a Budget>, Fail> {
+) -> Store<MemDisk, &'a Budget> {
     for allowed in 0..growths {
         memory.allow(allowed);
-        let disk = MemDisk::of(image.to_vec(alloc)?);
-        let Err(refused) = Store::open_keeping(memory, disk, keep) else {
-            return Err("more growths are needed".into());
-        };
-        same!(rt; (refused.fault, memory.left()), (StoreFault::NoMemory, 0));
-        so!(rt; refused.disk.bytes().iter().eq(image.iter()));
+        is_refused(rt, alloc, memory, image, keep, StoreFault::NoMemory);
     }
     memory.allow(growths);
-    match Store::open_keeping(memory, MemDisk::of(image.to_vec(alloc)?), keep) {
-        Ok(store) => Ok(store),
-        Err(_) => Err("these growths are enough".into()),
+    match Store::open_keeping(memory, disk_of(rt, alloc, image), keep) {
+        Ok(store) => store,
+        Err(_) => panic!(rt; "these growths are enough"),
     }
 }
 
 // Opens an image with as many of the newest blocks kept as there are segments. The memory of a group isn't asked for.
-fn refuses_to_keep(
-    rt: &impl Abort,
-    alloc: Global,
-    memory: &Budget,
-    image: &[u8],
-    growths: u64,
-) -> Result<(), Fail> {
-    for allowed in 0..=growths {
+fn refuses_to_keep(rt: &impl Abort, alloc: Global, memory: &Budget, image: &[u8], growths: u64) {
+    for allowed in 0..growths {
         memory.allow(allowed);
-        let disk = MemDisk::of(image.to_vec(alloc)?);
-        let Err(refused) = Store::open_keeping(memory, disk, 3) else {
-            return Err("three blocks of three can't be kept".into());
-        };
-        let fault = if allowed < growths {
-            StoreFault::NoMemory
-        } else {
-            StoreFault::BadKeep
-        };
-        same!(rt; (refused.fault, memory.left()), (fault, 0), allowed);
-        so!(rt; refused.disk.bytes().iter().eq(image.iter()));
+        is_refused(rt, alloc, memory, image, 3, StoreFault::NoMemory);
     }
-    Ok(())
+    memory.allow(growths);
+    is_refused(rt, alloc, memory, image, 3, StoreFault::BadKeep);
 }
 
 // Upgrades a store of version 1 where no memory is granted, and then again.
-fn upgrades_without_growth(rt: &impl Abort, alloc: Global, memory: &Budget) -> Result<(), Fail> {
+fn upgrades_without_growth(rt: &impl Abort, alloc: Global, memory: &Budget) {
     memory.allow(4);
-    let Ok(mut store) = format_v1(memory, MemDisk::new(alloc, 4360)?, SMALL) else {
-        return Err("these growths are enough".into());
+    let Ok(mut store) = format_v1(memory, zeros(rt, alloc), SMALL) else {
+        panic!(rt; "these growths are enough")
     };
     same!(rt; (store.version(), store.lock(0, 0, 9)), (1, Err(StoreFault::ClipNotHeld(0))));
     same!(rt; (store.upgrade(), store.version()), (Ok(true), 2));
     same!(rt; (store.upgrade(), memory.left()), (Ok(false), 0));
-    Ok(())
 }
 
 // Stores a frame where memory for nothing but the frame is granted.
@@ -134,49 +142,72 @@ fn stores_without_growth<'a>(
     alloc: Global,
     memory: &'a Budget,
     store: &mut Store<MemDisk, &'a Budget>,
-) -> Result<(), Fail> {
+) {
     let number = store.next();
-    let mut frames = Vec::with_capacity(alloc, 1)?;
     memory.allow(1);
-    frames.push_reserved(frame(memory, 12, number, 0)?);
+    let next = frame(memory, 12, number, 0).expect(rt, "memory for a frame");
+    let frames = vec![in alloc; next].expect(rt, "memory for a group");
     same!(rt; append(rt, store, &frames), Ok(number));
-    Ok(())
 }
 
-// The list of the numbers, a lock and an unlock, the list of the clips, a frame that is read, and a list of one command
-// that reads it, where each growth is refused in turn.
-fn grows_in_looks<'a>(
+// The list of the numbers, where each growth is refused in turn.
+fn grows_in_frames<'a>(
+    rt: &impl Abort,
+    memory: &'a Budget,
+    store: &mut Store<MemDisk, &'a Budget>,
+) {
+    for (allowed, count) in &[(0, None), (1, None), (2, Some(5usize))] {
+        memory.allow(*allowed);
+        same!(rt; store.frames(memory).ok().map(|numbers| numbers.len()), *count);
+        same!(rt; memory.left(), 0);
+    }
+}
+
+// A lock and an unlock, without a growth, and the list of the clips, which is refused its one.
+fn grows_in_clips<'a>(
     rt: &impl Abort,
     memory: &'a Budget,
     store: &mut Store<MemDisk, &'a Budget>,
     number: u64,
-) -> Result<(), Fail> {
-    for (allowed, count) in [(0, None), (1, None), (2, Some(5))] {
-        memory.allow(allowed);
-        same!(rt; store.frames(memory).ok().map(|numbers| numbers.len()), count);
-        same!(rt; memory.left(), 0);
-    }
+) {
     memory.allow(0);
     same!(rt; store.lock(number, number, 9), Ok(0));
     same!(rt; store.clips(memory).err(), Some(StoreFault::NoMemory));
     same!(rt; store.unlock(0), Ok(()));
     memory.allow(1);
-    so!(rt; store.clips(memory)?.is_empty());
-    for (allowed, answer) in [(0, Err(StoreFault::NoMemory)), (1, Ok(12))] {
-        memory.allow(allowed);
+    same!(rt; store.clips(memory).ok().map(|clips| clips.len()), Some(0));
+}
+
+// A frame that is read, where its one growth is refused, and then granted; one that isn't held needs none.
+fn grows_in_reads<'a>(
+    rt: &impl Abort,
+    memory: &'a Budget,
+    store: &mut Store<MemDisk, &'a Budget>,
+    number: u64,
+) {
+    for (allowed, answer) in &[(0, Err(StoreFault::NoMemory)), (1, Ok(12usize))] {
+        memory.allow(*allowed);
         let frame = store.read_frame(memory, number);
-        same!(rt; frame.map(|frame| frame.bytes.len()), answer);
+        same!(rt; frame.map(|frame| frame.bytes.len()), *answer);
         same!(rt; memory.left(), 0);
     }
     memory.allow(0);
     same!(rt; store.read_frame(memory, u64::MAX).err(), Some(StoreFault::NotHeld));
-    for (allowed, answer) in [(0, None), (1, Some(false)), (2, Some(true))] {
-        memory.allow(allowed);
+}
+
+// A list of one command that reads a frame, where each growth is refused in turn.
+fn grows_in_commands<'a>(
+    rt: &impl Abort,
+    memory: &'a Budget,
+    store: &mut Store<MemDisk, &'a Budget>,
+    number: u64,
+) {
+    for (allowed, answer) in &[(0, None), (1, Some(false)), (2, Some(true))] {
+        memory.allow(*allowed);
         let replies = run(rt, memory, store, &[Command::Read(number)]).ok();
-        same!(rt; replies.as_ref().map(|replies| has_read(replies)), answer);
+        same!(rt; replies.as_ref().map(|replies| has_read(replies)), *answer);
         same!(rt; memory.left(), 0);
     }
-    Ok(())
 }
 
 // Whether the first reply has a frame.
@@ -187,18 +218,32 @@ fn has_read<A: Allocator>(replies: &[Reply<A>]) -> bool {
     }
 }
 
+// Two frames are stored, and what is held is looked at in each way.
+fn grows_on<'a>(
+    rt: &impl Abort,
+    alloc: Global,
+    memory: &'a Budget,
+    store: &mut Store<MemDisk, &'a Budget>,
+) -> Result<(), StoreFault> {
+    stores_without_growth(rt, alloc, memory, store);
+    stores_without_growth(rt, alloc, memory, store);
+    holds(rt, alloc, store, &[(4, 8)])?;
+    grows_in_frames(rt, memory, store);
+    grows_in_clips(rt, memory, store, 5);
+    grows_in_reads(rt, memory, store, 5);
+    grows_in_commands(rt, memory, store, 5);
+    Ok(())
+}
+
 #[test]
 fn each_growth_is_refused_in_turn(rt: HostRuntime) -> Result<(), Fail> {
     let alloc = rt.alloc();
     let memory = Budget::new(alloc);
-    grows_in_format(&rt, alloc, &memory, 4)?;
-    upgrades_without_growth(&rt, alloc, &memory)?;
-    let seven = image_of(&rt, alloc, 7)?;
-    refuses_to_keep(&rt, alloc, &memory, &seven, 4)?;
-    let mut store = grows_in_open(&rt, alloc, &memory, &seven, (2, 5))?;
+    grows_in_format(&rt, alloc, &memory, 4);
+    upgrades_without_growth(&rt, alloc, &memory);
+    let seven = image_of(&rt, alloc, 7);
+    refuses_to_keep(&rt, alloc, &memory, &seven, 4);
+    let mut store = grows_in_open(&rt, alloc, &memory, &seven, (2, 5));
     same!(rt; store.keep(), 2);
-    stores_without_growth(&rt, alloc, &memory, &mut store)?;
-    stores_without_growth(&rt, alloc, &memory, &mut store)?;
-    holds(&rt, alloc, &mut store, &[(4, 8)])?;
-    grows_in_looks(&rt, &memory, &mut store, 5)
+    Ok(grows_on(&rt, alloc, &memory, &mut store)?)
 }

@@ -25,8 +25,8 @@ fn a_refusal_has_its_number_and_its_name(rt: HostRuntime) {
         (StoreFault::OldLayout, 21, "OldLayout"),
         (StoreFault::BadKeep, 22, "BadKeep"),
     ];
-    for (fault, number, name) in faults {
-        same!(rt; (fault.number(), fault.name()), (number, name));
+    for (fault, number, name) in faults.as_slice() {
+        same!(rt; (fault.number(), fault.name()), (*number, *name));
     }
 }
 
@@ -48,10 +48,13 @@ fn a_refused_opening_is_printed_as_its_fault_with_the_cause(rt: HostRuntime) -> 
         (StoreFault::NotFormatted, "the disk isn't formatted"),
         (StoreFault::BadKeep, "so many blocks can't be kept"),
     ];
-    for (fault, sentence) in sentences {
-        let refused = OpenRefused { fault, disk: () };
+    for (fault, sentence) in sentences.as_slice() {
+        let refused = OpenRefused {
+            fault: *fault,
+            disk: (),
+        };
         let printed = format!(in rt.alloc(); "{refused}")?;
-        same!(rt; printed.as_str(), sentence);
+        same!(rt; printed.as_str(), *sentence);
     }
     Ok(())
 }

@@ -2,27 +2,17 @@
 
 ghost use Rattle.std.specs.Prelude.{◌≡◌, ◌<◌, All, IfOk, length};
 
+use crate::common::SMALL;
 use crate::told::{holds, same};
 use loop_budget::Budget;
 use loop_clips::{CLIPS, Clip, ClipTable};
-use loop_record::{Geometry, PixelFormat, SegmentHead, Span};
+use loop_record::{SegmentHead, Span};
 use loop_ring::{SegmentIndex, clips_on};
 use std::alloc::{AllocError, Allocator, Global};
 use std::process::Abort;
 use std::test::Fail;
 
-/// Blocks of two frames.
-const SMALL: Geometry = Geometry {
-    width: 4,
-    height: 2,
-    format: PixelFormat::Ym12,
-    rate_num: 25,
-    rate_den: 1,
-    segments: 3,
-    slots: 2,
-};
-
-// An index of three segments that no clip meets.
+// An index of three segments, for blocks of two frames, that no clip meets.
 fn index<A: Allocator + Copy>(
     alloc: A,
     heads: [Option<SegmentHead>; 3],

@@ -2,7 +2,7 @@
 
 ghost use Rattle.std.specs.Prelude.{◌≤◌};
 
-use crate::disk::Bare;
+use crate::ring::Bare;
 use crate::told::{holds, same};
 use loop_clips::{CLIPS, ClipTable};
 use loop_disk::{Disk, DiskFault, FuseDisk, MemDisk, OnceDisk};

@@ -1,11 +1,11 @@
-//! What the tests share: a source that answers by a list, sets of planes, and the frame that is dequeued.
+//! A source that answers by a list, and the frame that is dequeued.
 
 ghost use Rattle.std.specs.Prelude.{⊤};
 
 use bitflags::Flags;
 use loop_capture::{FrameSource, Next};
 use loop_plane::{Memory, PlaneMemory};
-use loop_vb2::{PlaneSet, Planes, Queue};
+use loop_vb2::Queue;
 use std::alloc::Allocator;
 
 /// Answers what stands in its list, then End; byte i of each `out` is the number of the call.
@@ -26,19 +26,6 @@ impl FrameSource for Listed {
             .get(call as usize)
             .copied()
             .unwrap_or(Next::End)
-    }
-}
-
-/// The set of one plane.
-pub(crate) fn one<P>(plane: P) -> PlaneSet<P> {
-    PlaneSet {
-        count: 1,
-        planes: Planes {
-            y: Some(plane),
-            cb: None,
-            cr: None,
-        },
-        fds: [0; 3],
     }
 }
 

@@ -5,7 +5,8 @@ ghost use Rattle.std.specs.Arc.{arc_value};
 ghost use Rattle.loop_pages.specs.Place.{IsIdle};
 
 use self::Step::{Starts, Stops, Takes, Ticks};
-use crate::common::{Frame, Listed, one, round};
+use crate::common::one;
+use crate::listed::{Frame, Listed, round};
 use crate::told::{holds, same};
 use loop_capture::{Device, FrameSource, Next, Pattern, Tick, Y4mSource};
 use loop_pages::{PageLedger, PageSeat};
