@@ -15,13 +15,18 @@ pub(crate) struct Image {
     pub(crate) length: usize,
 }
 
+// Copies as many bytes as both have.
+fn copy(to: &mut [u8], from: &[u8]) {
+    for (place, byte) in to.iter_mut().zip(from) {
+        *place = *byte;
+    }
+}
+
 impl Image {
     /// A file of these bytes.
     pub(crate) fn of(text: &[u8]) -> Image {
         let mut bytes = [0; MOST];
-        for (place, byte) in bytes.iter_mut().zip(text) {
-            *place = *byte;
-        }
+        copy(&mut bytes, text);
         Image {
             bytes,
             length: text.len(),
@@ -120,8 +125,8 @@ impl OpenFile for Faulty<'_> {
             return Err(io::Error::from(ErrorKind::InvalidInput));
         };
         let mut image = self.medium.now.get();
-        for place in image.bytes.iter_mut().skip(length) {
-            *place = 0;
+        if let Some(behind) = image.bytes.get_mut(length..) {
+            behind.fill(0);
         }
         image.length = length;
         self.medium.note(image);
@@ -146,8 +151,8 @@ impl FileExt for Faulty<'_> {
             .len()
             .min(self.medium.at_once.get())
             .min(image.length.saturating_sub(at));
-        for (byte, place) in buf[..count].iter_mut().zip(image.bytes.iter().skip(at)) {
-            *byte = *place;
+        if let (Some(to), Some(from)) = (buf.get_mut(..count), image.bytes.get(at..)) {
+            copy(to, from);
         }
         Ok(count)
     }
@@ -157,8 +162,8 @@ impl FileExt for Faulty<'_> {
         let mut image = self.medium.now.get();
         let at = usize::try_from(offset).unwrap_or(MOST);
         let count = buf.len().min(self.medium.at_once.get());
-        for (place, byte) in image.bytes.iter_mut().skip(at).zip(&buf[..count]) {
-            *place = *byte;
+        if let (Some(to), Some(from)) = (image.bytes.get_mut(at..), buf.get(..count)) {
+            copy(to, from);
         }
         image.length = image.length.max(at.saturating_add(count));
         self.medium.note(image);

@@ -1,6 +1,6 @@
 // Where a file is made, and what a refusal leaves there, over a system whose calls fail or come late.
+use crate::calls::{Call, creates, does};
 use crate::told::{holds, same};
-use loop_disk::Disk;
 use loop_file::{FileDisk, FileFault, FilePlace};
 use std::alloc::{AllocGlobal, Allocator};
 use std::cell::Cell;
@@ -201,7 +201,7 @@ fn bytes_of(
 }
 
 // Fails the test unless a path has a file of these bytes, or none.
-fn has(
+pub(crate) fn has(
     rt: &(impl Abort + AllocGlobal + Files<File = File> + Drop),
     path: &str,
     wanted: Option<&[u8]>,
@@ -253,33 +253,100 @@ fn is_link(
     Ok(fs::symlink_metadata(rt, path)?.is_symlink())
 }
 
+// What happens at a path.
+enum Event {
+    // A disk of so many bytes is made, or refused.
+    Creates(u64, Result<u64, FileFault>),
+    // The system fails at one of its calls, and so nothing is made.
+    Fails(u32),
+    // A file is written.
+    Writes(&'static [u8]),
+}
+
+// What happens at the first of two links, and the bytes of the file that the second names.
+static LINKED: [(Event, Option<&[u8]>); 7] = [
+    // No file has that size: the file is gone, and the links stand.
+    (Event::Creates(u64::MAX, Err(FileFault::Failed)), None),
+    (Event::Creates(3, Ok(3)), Some(b"\0\0\0")),
+    (Event::Writes(b"old"), Some(b"old")),
+    (
+        Event::Creates(u64::MAX, Err(FileFault::Failed)),
+        Some(b"old"),
+    ),
+    // The first link can't be read, or what it names can't be looked at.
+    (Event::Fails(1), Some(b"old")),
+    (Event::Fails(2), Some(b"old")),
+    (Event::Creates(5, Ok(5)), Some(b"\0\0\0\0\0")),
+];
+
+// One event at the first link.
+fn happens(
+    rt: &(impl Abort + AllocGlobal + Files<File = File> + Drop),
+    path: &str,
+    event: &Event,
+    note: u32,
+) -> Result<(), Fail> {
+    match event {
+        Event::Creates(size, made) => same!(*rt; creates(rt, path, *size), *made, note),
+        Event::Fails(call) => {
+            same!(*rt; makes(rt, path, (Trouble::Fails, *call)), Some(FileFault::Failed), note)
+        }
+        Event::Writes(bytes) => fs::write(rt, path, *bytes)?,
+    }
+    Ok(())
+}
+
+// These events at the first link. Both links stand after each.
+fn is_linked(
+    rt: &(impl Abort + AllocGlobal + Files<File = File> + Drop),
+    events: &[(Event, Option<&[u8]>)],
+) -> Result<(), Fail> {
+    let mut note = 0u32;
+    for (event, left) in events {
+        happens(rt, "first.img", event, note)?;
+        has(rt, "linked/named.img", *left, note)?;
+        holds!(*rt; is_link(rt, "first.img")? && is_link(rt, "linked/second.img")?, note);
+        note = note.saturating_add(1);
+    }
+    Ok(())
+}
+
+// Two links, of which the second lies in a folder and names a file there.
+fn links(rt: &(impl Files<File = File>)) -> io::Result<()> {
+    fs::create_dir(rt, "linked")?;
+    symlink(rt, "linked/second.img", "first.img")?;
+    symlink(rt, "named.img", "linked/second.img")
+}
+
+// Makes the second link name the first.
+fn links_in_a_circle(rt: &(impl Files<File = File>)) -> io::Result<()> {
+    fs::remove_file(rt, "linked/second.img")?;
+    symlink(rt, "../first.img", "linked/second.img")
+}
+
 #[test]
 fn what_a_link_names_is_made_and_removed(rt: HostRuntime) -> Result<(), Fail> {
-    fs::create_dir(&rt, "linked")?;
-    symlink(&rt, "linked/second.img", "first.img")?;
-    symlink(&rt, "named.img", "linked/second.img")?;
-    // No file has that size: the file is gone, and the links stand.
-    same!(rt; FileDisk::create(&rt, "first.img", u64::MAX).err(), Some(FileFault::Failed));
-    has(&rt, "linked/named.img", None, 0)?;
-    holds!(rt; is_link(&rt, "first.img")? && is_link(&rt, "linked/second.img")?);
-    same!(rt; FileDisk::create(&rt, "first.img", 3)?.size(), 3);
-    has(&rt, "linked/named.img", Some(b"\0\0\0"), 1)?;
-    fs::write(&rt, "linked/named.img", b"old")?;
-    same!(rt; FileDisk::create(&rt, "first.img", u64::MAX).err(), Some(FileFault::Failed));
-    has(&rt, "linked/named.img", Some(b"old"), 2)?;
-    // The first link can't be read, or what it names can't be looked at.
-    same!(rt; makes(&rt, "first.img", (Trouble::Fails, 1)), Some(FileFault::Failed));
-    same!(rt; makes(&rt, "first.img", (Trouble::Fails, 2)), Some(FileFault::Failed));
-    has(&rt, "linked/named.img", Some(b"old"), 3)?;
-    same!(rt; FileDisk::create(&rt, "first.img", 5)?.size(), 5);
-    holds!(rt; is_link(&rt, "first.img")? && is_link(&rt, "linked/second.img")?);
+    links(&rt)?;
+    is_linked(&rt, &LINKED)?;
     // Links in a circle lead nowhere.
-    fs::remove_file(&rt, "linked/second.img")?;
-    symlink(&rt, "../first.img", "linked/second.img")?;
-    same!(rt; FileDisk::create(&rt, "first.img", 3).err(), Some(FileFault::Failed));
+    links_in_a_circle(&rt)?;
+    same!(rt; creates(&rt, "first.img", 3), Err(FileFault::Failed));
     fs::remove_file(&rt, "first.img")?;
     fs::remove_dir_all(&rt, "linked")?;
     Ok(())
+}
+
+// A disk is made and written, and given up.
+fn is_given_up(
+    rt: &(impl Abort + AllocGlobal + Files<File = File> + Drop),
+    path: &str,
+    left: Option<&[u8]>,
+) -> Result<(), Fail> {
+    let mut place = FilePlace::of(rt, path)?;
+    let mut disk = place.create(rt, 4)?;
+    does(rt, &mut disk, &Call::Write(0, b"\xA5abc", Ok(())));
+    place.give_up(rt, disk);
+    has(rt, path, left, 0)
 }
 
 #[test]
@@ -287,17 +354,9 @@ fn a_disk_that_is_given_up_leaves_no_new_file_and_no_old_store(
     rt: HostRuntime,
 ) -> Result<(), Fail> {
     let path = "given.img";
-    for old in [None, Some(b"old".as_slice())] {
-        match old {
-            Some(bytes) => fs::write(&rt, path, bytes)?,
-            None => (),
-        }
-        let mut place = FilePlace::of(&rt, path)?;
-        let mut disk = place.create(&rt, 4)?;
-        same!(rt; crate::calls::write_at(&mut disk, 0, b"\xA5abc"), Ok(()));
-        place.give_up(&rt, disk);
-        has(&rt, path, old.map(|_| b"\0abc".as_slice()), 0)?;
-    }
+    is_given_up(&rt, path, None)?;
+    fs::write(&rt, path, b"old")?;
+    is_given_up(&rt, path, Some(b"\0abc"))?;
     fs::remove_file(&rt, path)?;
     Ok(())
 }
