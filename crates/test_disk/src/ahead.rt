@@ -5,6 +5,7 @@ use crate::told::{holds, same};
 use loop_ahead::AheadDisk;
 use loop_budget::Budget;
 use loop_disk::{Disk, MemDisk};
+use std::alloc::Allocator;
 use std::process::Abort;
 use std::test::Fail;
 
@@ -27,7 +28,7 @@ fn shows_numbers<D: Disk>(rt: &impl Abort, disk: &mut D) {
 }
 
 // Without memory for a window the disk comes back.
-fn comes_back(rt: &impl Abort, memory: &Budget, disk: MemDisk) {
+fn comes_back<A: Allocator + Copy>(rt: &impl Abort, memory: A, disk: MemDisk) {
     match AheadDisk::new(memory, disk, 16) {
         Ok(_) => holds!(*rt; false, "a window without memory"),
         Err(disk) => same!(*rt; disk.bytes().len(), usize::from(SIZE)),
@@ -35,7 +36,7 @@ fn comes_back(rt: &impl Abort, memory: &Budget, disk: MemDisk) {
 }
 
 // With memory for a window the disk is read through it.
-fn is_read_ahead(rt: &impl Abort, memory: &Budget, disk: MemDisk) {
+fn is_read_ahead<A: Allocator + Copy>(rt: &impl Abort, memory: A, disk: MemDisk) {
     match AheadDisk::new(memory, disk, 16) {
         Ok(mut ahead) => shows_numbers(rt, &mut ahead),
         Err(_) => holds!(*rt; false, "memory for a window"),

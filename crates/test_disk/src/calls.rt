@@ -103,22 +103,29 @@ pub(crate) fn plays_within<D: Disk>(
     }
 }
 
-/// Opens a file as a disk, and answers its size or the refusal.
-pub(crate) fn opens(rt: &impl Files<File = File>, path: &str) -> Result<u64, FileFault> {
-    match FileDisk::open(rt, path) {
+/// Opens a file as a disk, and fails the test unless that has this size, or is refused so.
+pub(crate) fn opens(
+    rt: &(impl Abort + Files<File = File>),
+    path: &str,
+    want: Result<u64, FileFault>,
+) {
+    let size = match FileDisk::open(rt, path) {
         Ok(disk) => Ok(disk.size()),
         Err(fault) => Err(fault),
-    }
+    };
+    same!(*rt; size, want, path);
 }
 
-/// Makes a file that is a disk of so many bytes, and answers its size or the refusal.
+/// Makes a file that is a disk of so many bytes, and fails the test unless that has this size, or is refused so.
 pub(crate) fn creates(
-    rt: &(impl AllocGlobal + Files<File = File>),
+    rt: &(impl Abort + AllocGlobal + Files<File = File>),
     path: &str,
     size: u64,
-) -> Result<u64, FileFault> {
-    match FileDisk::create(rt, path, size) {
+    want: Result<u64, FileFault>,
+) {
+    let size = match FileDisk::create(rt, path, size) {
         Ok(disk) => Ok(disk.size()),
         Err(fault) => Err(fault),
-    }
+    };
+    same!(*rt; size, want, path);
 }

@@ -1,9 +1,9 @@
 // The disk that remembers its calls, where memory is refused.
-use crate::calls::{Call, plays_within};
+use crate::calls::{Call, does, plays_within};
 use crate::told::{holds, same};
 use loop_budget::Budget;
 use loop_disk::{CrashDisk, DiskFault, Spoil};
-use std::alloc::Allocator;
+use std::alloc::{AllocError, Allocator};
 use std::process::Abort;
 use std::test::Fail;
 
@@ -35,20 +35,26 @@ fn is_as_it_was<A: Allocator + Copy>(rt: &impl Abort, memory: &Budget, disk: &Cr
     }
 }
 
+// Makes these calls, and then one that has its room. A disk takes two blocks.
+fn is_filled<A: Allocator + Copy>(
+    rt: &impl Abort,
+    memory: &Budget,
+    alloc: A,
+    calls: &[(u64, Call)],
+) -> Result<(), AllocError> {
+    let mut disk = CrashDisk::new(alloc, 16)?;
+    plays_within(rt, memory, &mut disk, calls);
+    is_as_it_was(rt, memory, &disk);
+    memory.allow(2);
+    does(rt, &mut disk, &Call::Write(8, &[7], Ok(())));
+    same!(*rt; memory.left(), 0);
+    memory.allow(1);
+    holds!(*rt; CrashDisk::new(alloc, 1).is_err());
+    Ok(())
+}
+
 #[test]
 fn a_call_that_finds_no_room_fails_and_changes_nothing(rt: HostRuntime) -> Result<(), Fail> {
     let memory = Budget::new(rt.alloc());
-    let mut disk = CrashDisk::new(&memory, 16)?;
-    plays_within(&rt, &memory, &mut disk, &FULL);
-    is_as_it_was(&rt, &memory, &disk);
-    plays_within(
-        &rt,
-        &memory,
-        &mut disk,
-        &[(2, Call::Write(8, &[7], Ok(())))],
-    );
-    same!(rt; memory.left(), 0);
-    memory.allow(1);
-    holds!(rt; CrashDisk::new(&memory, 1).is_err());
-    Ok(())
+    Ok(is_filled(&rt, &memory, &memory, &FULL)?)
 }

@@ -1,6 +1,6 @@
 // A file each of whose calls fails, is short or is interrupted, and what a stop leaves of one that is made anew.
 use crate::calls::{Call, does};
-use crate::faulty::{Faulty, Image, Medium};
+use crate::faulty::{Faulty, Medium};
 use crate::told::{holds, same};
 use loop_disk::DiskFault;
 use loop_file::{FileDisk, FileFault};
@@ -28,33 +28,39 @@ static MADE: [(&[u8], u64, u32, u32); 7] = [
 
 // No call fails: at each moment a stop leaves the old bytes or a file that begins with a zero, and at the end it leaves
 // the new one.
-fn is_made(rt: &impl Abort, (old, size, _, calls): &(&[u8], u64, u32, u32)) {
-    let (file, folder) = (Medium::of(old), Medium::of(b""));
-    same!(*rt; makes(&file, &folder, *size), None, (old, size));
-    holds!(*rt; file.is_safe.get(), (old, size));
-    same!(*rt; file.calls.get(), *calls, (old, size));
-    same!(*rt; folder.calls.get(), 1, (old, size));
-    let made = file.now.get();
-    same!(*rt; (made.bytes, made.length as u64), ([0; 16], *size), (old, size));
-    same!(*rt; file.synced.get(), made, (old, size));
+fn is_made(rt: &impl Abort, (file, folder): (&Medium, &Medium), size: u64, calls: u32) {
+    same!(*rt; makes(file, folder, size), None, size);
+    holds!(*rt; file.is_safe.get(), size);
+    same!(*rt; file.calls.get(), calls, size);
+    same!(*rt; folder.calls.get(), 1, size);
+    holds!(*rt; file.is_cleared(size), size);
 }
 
 // A call of the file fails, and as many behind it as are to: the refusal is told, and a stop at each moment leaves
 // the old bytes or a zero in front. Where one fails before the old bytes are written over, they and the length stand.
-fn fails_at(
+fn fails(
     rt: &impl Abort,
+    (file, folder): (&Medium, &Medium),
     (old, size, kept, _): &(&[u8], u64, u32, u32),
-    (call, count, kind): (u32, u32, ErrorKind),
     fault: FileFault,
 ) {
-    let (file, folder) = (Medium::of(old), Medium::of(b""));
-    file.fails.set((call, count, kind));
-    same!(*rt; makes(&file, &folder, *size), Some(fault), (old, size, call));
-    holds!(*rt; file.is_safe.get(), (old, size, call, count));
-    let left = file.now.get();
-    let is_kept = left == Image::of(old);
+    let (call, count, _) = file.fails.get();
+    same!(*rt; makes(file, folder, *size), Some(fault), (size, call));
+    holds!(*rt; file.is_safe.get(), (size, call));
     let may_be_closed = count > 1 || call >= *kept;
-    holds!(*rt; is_kept || may_be_closed && left.is_closed(), (old, size, call, count));
+    holds!(*rt; file.has(old) || (may_be_closed && file.now.get().is_closed()), (size, call));
+}
+
+// The same, of a file of its own.
+fn fails_at(
+    rt: &impl Abort,
+    row: &(&[u8], u64, u32, u32),
+    at: (u32, u32, ErrorKind),
+    fault: FileFault,
+) {
+    let file = Medium::of(row.0);
+    file.fails.set(at);
+    fails(rt, (&file, &Medium::of(b"")), row, fault);
 }
 
 // Each call of the file fails, once and for ever.
@@ -72,7 +78,8 @@ fn is_refused(
 #[test]
 fn a_stop_leaves_the_old_file_or_one_that_begins_with_a_zero(rt: HostRuntime) {
     for row in &MADE {
-        is_made(&rt, row);
+        let (old, size, _, calls) = row;
+        is_made(&rt, (&Medium::of(old), &Medium::of(b"")), *size, *calls);
         is_refused(&rt, row, (ErrorKind::Other, FileFault::Failed));
         is_refused(&rt, row, (ErrorKind::StorageFull, FileFault::NoRoom));
     }
@@ -83,7 +90,7 @@ fn a_folder_that_cannot_be_synced_changes_nothing(rt: HostRuntime) {
     let (file, folder) = (Medium::of(b"old"), Medium::of(b""));
     folder.fails.set((0, 1, ErrorKind::Other));
     same!(rt; makes(&file, &folder, 8), Some(FileFault::Failed));
-    same!(rt; file.now.get(), Image::of(b"old"));
+    holds!(rt; file.has(b"old"));
 }
 
 // Which calls of the file fail and how, of which the first, the second or none comes through; the call of a disk of six
@@ -150,7 +157,7 @@ fn answers(rt: &impl Abort, (first, count, kind): (u32, u32, ErrorKind), call: &
     file.fails.set((first.saturating_add(1), count, kind));
     does(rt, &mut disk, call);
     if let Call::Write(_, _, Ok(())) = call {
-        same!(*rt; file.now.get(), Image::of(b"frames"), (first, count));
+        holds!(*rt; file.has(b"frames"), (first, count));
     }
 }
 

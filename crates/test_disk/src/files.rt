@@ -31,8 +31,8 @@ fn is_written(
             Call::Sync(Ok(())),
         ],
     );
-    same!(*rt; opens(rt, path), Err(FileFault::Busy));
-    same!(*rt; creates(rt, path, 1), Err(FileFault::Busy));
+    opens(rt, path, Err(FileFault::Busy));
+    creates(rt, path, 1, Err(FileFault::Busy));
     Ok(())
 }
 
@@ -60,7 +60,7 @@ fn is_read_back(rt: &(impl Abort + Files<File = File>), path: &str) -> Result<()
         &mut disk,
         &Call::Read(4094, b"\0z", Err(DiskFault::Read)),
     );
-    same!(*rt; opens(rt, path), Err(FileFault::Busy));
+    opens(rt, path, Err(FileFault::Busy));
     Ok(())
 }
 
@@ -77,8 +77,8 @@ fn a_file_is_written_and_read_back(rt: HostRuntime) -> Result<(), Fail> {
     is_written(&rt, path)?;
     is_read_back(&rt, path)?;
     // No file has that size: the file is as it was.
-    same!(rt; creates(&rt, path, u64::MAX), Err(FileFault::Failed));
-    same!(rt; opens(&rt, path), Ok(50));
+    creates(&rt, path, u64::MAX, Err(FileFault::Failed));
+    opens(&rt, path, Ok(50));
     is_zeros(&rt, path)?;
     fs::remove_file(&rt, path)?;
     Ok(())
@@ -87,20 +87,20 @@ fn a_file_is_written_and_read_back(rt: HostRuntime) -> Result<(), Fail> {
 // The gate runs tests as nobody, who may not open it. A superuser may, as under `rt try`: then nothing is shown here,
 // since a test can't lay its rights down.
 fn is_denied(rt: &(impl Abort + Files<File = File>), path: &str) {
-    if let Err(fault) = opens(rt, path) {
+    if let Err(fault) = FileDisk::open(rt, path) {
         same!(*rt; fault, FileFault::Denied);
     }
 }
 
 #[test]
 fn what_is_no_file_of_ours_is_refused_by_name(rt: HostRuntime) -> Result<(), Fail> {
-    same!(rt; opens(&rt, "missing.img"), Err(FileFault::Missing));
-    same!(rt; creates(&rt, "missing/new.img", 1), Err(FileFault::Missing));
-    same!(rt; opens(&rt, "."), Err(FileFault::Folder));
-    same!(rt; creates(&rt, ".", 1), Err(FileFault::Folder));
-    same!(rt; opens(&rt, "/dev/null"), Err(FileFault::NotRegular));
+    opens(&rt, "missing.img", Err(FileFault::Missing));
+    creates(&rt, "missing/new.img", 1, Err(FileFault::Missing));
+    opens(&rt, ".", Err(FileFault::Folder));
+    creates(&rt, ".", 1, Err(FileFault::Folder));
+    opens(&rt, "/dev/null", Err(FileFault::NotRegular));
     let path = "denied.img";
-    same!(rt; creates(&rt, path, 1), Ok(1));
+    creates(&rt, path, 1, Ok(1));
     fs::set_permissions(&rt, path, Permissions::from_mode(0o400))?;
     is_denied(&rt, path);
     fs::remove_file(&rt, path)?;
@@ -166,7 +166,7 @@ impl FileExt for Halting {
 #[test]
 fn short_counts_and_interruptions_are_gone_on_from(rt: HostRuntime) -> Result<(), Fail> {
     let path = "halting.img";
-    same!(rt; creates(&rt, path, 20), Ok(20));
+    creates(&rt, path, 20, Ok(20));
     let mut disk = FileDisk::over(Halting {
         file: opened(&rt, path)?,
         turn: Cell::new(0),
@@ -251,11 +251,17 @@ static SYNCED: [(bool, Call, u32); 5] = [
     (true, Call::Write(1, b"cd", Err(DiskFault::Write)), 2),
 ];
 
+// Opens a file and takes its lock.
+fn locked(rt: &impl Files<File = File>, path: &str) -> Result<File, Fail> {
+    let file = opened(rt, path)?;
+    file.try_lock()?;
+    Ok(file)
+}
+
 // Makes these calls of a disk over a file, which stays in use.
 fn is_synced(
     rt: &(impl Abort + Files<File = File>),
     path: &str,
-    file: File,
     calls: &[(bool, Call, u32)],
 ) -> Result<(), Fail> {
     let syncs = Syncs {
@@ -263,14 +269,14 @@ fn is_synced(
         fails: Cell::new(false),
     };
     let mut disk = FileDisk::over(Counting {
-        file,
+        file: locked(rt, path)?,
         syncs: &syncs,
     })?;
     for (fails, call, data) in calls {
         syncs.fails.set(*fails);
         does(rt, &mut disk, call);
         same!(*rt; syncs.data.get(), *data);
-        same!(*rt; opens(rt, path), Err(FileFault::Busy));
+        opens(rt, path, Err(FileFault::Busy));
     }
     Ok(())
 }
@@ -278,11 +284,9 @@ fn is_synced(
 #[test]
 fn a_sync_is_one_of_the_file_and_a_failed_one_leaves_its_lock(rt: HostRuntime) -> Result<(), Fail> {
     let path = "counting.img";
-    same!(rt; creates(&rt, path, 8), Ok(8));
-    let file = opened(&rt, path)?;
-    holds!(rt; file.try_lock().is_ok());
-    is_synced(&rt, path, file, &SYNCED)?;
-    same!(rt; opens(&rt, path), Ok(8));
+    creates(&rt, path, 8, Ok(8));
+    is_synced(&rt, path, &SYNCED)?;
+    opens(&rt, path, Ok(8));
     fs::remove_file(&rt, path)?;
     Ok(())
 }
@@ -335,68 +339,65 @@ impl FileExt for Filling<'_> {
 }
 
 // The bytes of an old file, the size that it is to have, below which place no room is taken, and the room that there
-// is; then its size or the refusal, the writes that were tried, and the bytes that it has afterwards.
+// is; then its size or the refusal with the writes that were tried, and the bytes that it has afterwards.
 type Filled = (
     &'static [u8],
     u64,
     u64,
     usize,
-    Result<u64, FileFault>,
-    u32,
+    (Result<u64, FileFault>, u32),
     &'static [u8],
 );
 
 static FILLED: [Filled; 6] = [
-    (b"", 4, 0, 4, Ok(4), 1, b"\0\0\0\0"),
-    (b"", 4, 0, 3, Err(FileFault::NoRoom), 2, b""),
-    (b"old", 8, 3, 5, Ok(8), 3, b"\0\0\0\0\0\0\0\0"),
-    (b"footage", 3, 7, 0, Ok(3), 2, b"\0\0\0"),
+    (b"", 4, 0, 4, (Ok(4), 1), b"\0\0\0\0"),
+    (b"", 4, 0, 3, (Err(FileFault::NoRoom), 2), b""),
+    (b"old", 8, 3, 5, (Ok(8), 3), b"\0\0\0\0\0\0\0\0"),
+    (b"footage", 3, 7, 0, (Ok(3), 2), b"\0\0\0"),
     // What is new has no room, so the old bytes are given back.
-    (b"old", 8, 3, 4, Err(FileFault::NoRoom), 4, b"old"),
+    (b"old", 8, 3, 4, (Err(FileFault::NoRoom), 4), b"old"),
     // The old bytes can't be written over: the first one is zero.
     (
         b"old",
         8,
         0,
         6,
-        Err(FileFault::NoRoom),
-        3,
+        (Err(FileFault::NoRoom), 3),
         b"\0ld\0\0\0\0\0",
     ),
 ];
 
-// Makes a file anew, below which place no room is taken, with so much room. Answers its size or the refusal, and the
-// writes that were tried.
+// Makes a file anew in the folder of the tests, below which place no room is taken, with so much room. Answers its size
+// or the refusal, and the writes that were tried.
 fn fills(
-    file: File,
-    folder: &File,
+    rt: &impl Files<File = File>,
+    path: &str,
     (below, allowed, size): (u64, usize, u64),
-) -> (Result<u64, FileFault>, u32) {
+) -> io::Result<(Result<u64, FileFault>, u32)> {
+    let folder = File::open(rt, ".")?;
     let (room, writes) = (Cell::new(allowed), Cell::new(0));
     let filling = Filling {
-        file,
+        file: opened(rt, path)?,
         below,
         room: &room,
         writes: &writes,
     };
-    let made = match FileDisk::fresh_over(filling, folder, size) {
+    let made = match FileDisk::fresh_over(filling, &folder, size) {
         Ok(disk) => Ok(disk.size()),
         Err(fault) => Err(fault),
     };
-    (made, writes.get())
+    Ok((made, writes.get()))
 }
 
-// Makes an old file anew, in the folder of the tests.
+// Makes an old file anew.
 fn is_filled(
     rt: &(impl Abort + AllocGlobal + Files<File = File> + Drop),
     path: &str,
-    (old, size, below, allowed, made, tried, left): &Filled,
+    (old, size, below, allowed, want, left): &Filled,
 ) -> Result<(), Fail> {
     fs::write(rt, path, *old)?;
-    let folder = File::open(rt, ".")?;
-    let answer = fills(opened(rt, path)?, &folder, (*below, *allowed, *size));
-    same!(*rt; answer, (*made, *tried), (old, size, allowed));
-    has(rt, path, Some(*left), *tried)
+    same!(*rt; fills(rt, path, (*below, *allowed, *size))?, *want, size);
+    has(rt, path, Some(*left), 0)
 }
 
 #[test]
@@ -412,9 +413,7 @@ fn a_fresh_file_has_its_room_or_is_refused(rt: HostRuntime) -> Result<(), Fail> 
 fn a_fresh_file_is_written_a_megabyte_at_a_time(rt: HostRuntime) -> Result<(), Fail> {
     let path = "large.img";
     fs::write(&rt, path, b"")?;
-    let folder = File::open(&rt, ".")?;
-    let answer = fills(opened(&rt, path)?, &folder, (0, 3 << 20, 2_500_000));
-    same!(rt; answer, (Ok(2_500_000), 3));
+    same!(rt; fills(&rt, path, (0, 3 << 20, 2_500_000))?, (Ok(2_500_000), 3));
     Ok(fs::remove_file(&rt, path)?)
 }
 

@@ -8,6 +8,7 @@ use crate::calls::{Call, plays, write_at};
 use crate::told::{holds, same};
 use loop_budget::Budget;
 use loop_disk::{Disk, DiskFault, FuseDisk, MemDisk, store, store_in_turn};
+use std::alloc::{AllocError, Allocator};
 use std::process::Abort;
 use std::test::Fail;
 
@@ -49,10 +50,14 @@ fn is_written_often<D: Disk>(rt: &impl Abort, disk: &mut D) {
     }
 }
 
-// A disk takes one block, and no more as it is written.
-fn is_kept(rt: &impl Abort, memory: &Budget) -> Result<(), Fail> {
+// A disk takes one block, and no more as it is written. There is none for a second.
+fn is_kept<A: Allocator + Copy>(
+    rt: &impl Abort,
+    memory: &Budget,
+    alloc: A,
+) -> Result<(), AllocError> {
     memory.allow(1);
-    let mut disk = MemDisk::new(memory, 6)?;
+    let mut disk = MemDisk::new(alloc, 6)?;
     same!(*rt; memory.left(), 0);
     is_written_often(rt, &mut disk);
     plays(
@@ -65,16 +70,16 @@ fn is_kept(rt: &impl Abort, memory: &Budget) -> Result<(), Fail> {
         ],
     );
     same!(*rt; disk.bytes(), b"\0cbc\0z".as_slice());
+    holds!(*rt; MemDisk::new(alloc, 1).is_err());
     Ok(())
 }
 
 #[test]
 fn a_memory_disk_keeps_what_is_written_and_takes_no_memory(rt: HostRuntime) -> Result<(), Fail> {
     let memory = Budget::new(rt.alloc());
-    is_kept(&rt, &memory)?;
+    is_kept(&rt, &memory, &memory)?;
     let mut image = MemDisk::of(b"image".to_vec(rt.alloc())?);
     plays(&rt, &mut image, &[Call::Read(1, b"mag", Ok(()))]);
-    holds!(rt; MemDisk::new(&memory, 1).is_err());
     holds!(rt; MemDisk::new(rt.alloc(), u64::MAX).is_err());
     Ok(())
 }

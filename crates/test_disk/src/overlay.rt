@@ -1,6 +1,6 @@
 // The disk over another that is never written to.
 
-use crate::calls::{Call, creates, does, plays, plays_within};
+use crate::calls::{Call, creates, does, plays};
 use crate::told::same;
 use loop_budget::Budget;
 use loop_disk::{Disk, DiskFault, MemDisk};
@@ -57,25 +57,28 @@ fn writes_that_overlap_are_read_and_the_disk_beneath_stays(rt: HostRuntime) -> R
     Ok(())
 }
 
+// Where this memory is granted a write finds no room, and the disk shows this.
+fn has_no_room<A: Allocator + Copy>(
+    rt: &impl Abort,
+    disk: &mut OverlayDisk<MemDisk, A>,
+    (written, shown): (usize, &[u8]),
+) {
+    does(rt, disk, &Call::Write(4, b"EFG", Err(DiskFault::Write)));
+    same!(*rt; disk.written(), written);
+    does(rt, disk, &Call::Read(2, shown, Ok(())));
+}
+
 // Two writes find no room, and then there is room for four. The first write needs a block for its bytes and one for the
 // list, and so does the fifth.
 fn fills<A: Allocator + Copy>(
     rt: &impl Abort,
     memory: &Budget,
     disk: &mut OverlayDisk<MemDisk, A>,
-    (written, shown): (usize, &[u8]),
+    before: (usize, &[u8]),
 ) {
     for allowed in 0..2u64 {
-        plays_within(
-            rt,
-            memory,
-            disk,
-            &[
-                (allowed, Call::Write(4, b"EFG", Err(DiskFault::Write))),
-                (allowed, Call::Read(2, shown, Ok(()))),
-            ],
-        );
-        same!(*rt; disk.written(), written, allowed);
+        memory.allow(allowed);
+        has_no_room(rt, disk, before);
     }
     memory.allow(5);
     for _ in 0..4u64 {
@@ -85,14 +88,24 @@ fn fills<A: Allocator + Copy>(
     does(rt, disk, &Call::Read(2, b"cdEFGh", Ok(())));
 }
 
+// The disk beneath stays.
+fn is_filled<A: Allocator + Copy>(rt: &impl Abort, memory: &Budget, alloc: A, image: MemDisk) {
+    memory.allow(0);
+    let mut disk = OverlayDisk::new(alloc, image);
+    fills(rt, memory, &mut disk, (0, b"cdefgh"));
+    fills(rt, memory, &mut disk, (4, b"cdEFGh"));
+    same!(*rt; disk.into_inner().bytes(), BENEATH);
+}
+
 #[test]
 fn a_write_that_finds_no_room_fails_and_changes_nothing(rt: HostRuntime) -> Result<(), Fail> {
     let memory = Budget::new(rt.alloc());
-    memory.allow(0);
-    let mut disk = OverlayDisk::new(&memory, MemDisk::of(BENEATH.to_vec(rt.alloc())?));
-    fills(&rt, &memory, &mut disk, (0, b"cdefgh"));
-    fills(&rt, &memory, &mut disk, (4, b"cdEFGh"));
-    same!(rt; disk.into_inner().bytes(), BENEATH);
+    is_filled(
+        &rt,
+        &memory,
+        &memory,
+        MemDisk::of(BENEATH.to_vec(rt.alloc())?),
+    );
     Ok(())
 }
 
@@ -121,7 +134,7 @@ fn is_written_over<D: Disk + Drop>(rt: &(impl Abort + AllocGlobal), beneath: D) 
 #[test]
 fn a_file_that_is_open_for_reading_alone_is_written_over(rt: HostRuntime) -> Result<(), Fail> {
     let path = "looked_at.img";
-    same!(rt; creates(&rt, path, 12), Ok(12));
+    creates(&rt, path, 12, Ok(12));
     let file = OpenOptions::new().read(true).open(&rt, path)?;
     is_written_over(&rt, FileDisk::over(file)?);
     fs::remove_file(&rt, path)?;

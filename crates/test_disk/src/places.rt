@@ -287,7 +287,7 @@ fn happens(
     note: u32,
 ) -> Result<(), Fail> {
     match event {
-        Event::Creates(size, made) => same!(*rt; creates(rt, path, *size), *made, note),
+        Event::Creates(size, made) => creates(rt, path, *size, *made),
         Event::Fails(call) => {
             same!(*rt; makes(rt, path, (Trouble::Fails, *call)), Some(FileFault::Failed), note)
         }
@@ -330,7 +330,7 @@ fn what_a_link_names_is_made_and_removed(rt: HostRuntime) -> Result<(), Fail> {
     is_linked(&rt, &LINKED)?;
     // Links in a circle lead nowhere.
     links_in_a_circle(&rt)?;
-    same!(rt; creates(&rt, "first.img", 3), Err(FileFault::Failed));
+    creates(&rt, "first.img", 3, Err(FileFault::Failed));
     fs::remove_file(&rt, "first.img")?;
     fs::remove_dir_all(&rt, "linked")?;
     Ok(())
