@@ -28,10 +28,13 @@ fn shows_numbers<D: Disk>(rt: &impl Abort, disk: &mut D) {
 }
 
 // Without memory for a window the disk comes back.
-fn comes_back<A: Allocator + Copy>(rt: &impl Abort, memory: A, disk: MemDisk) {
+fn comes_back<A: Allocator + Copy>(rt: &impl Abort, memory: A, disk: MemDisk) -> MemDisk {
     match AheadDisk::new(memory, disk, 16) {
-        Ok(_) => holds!(*rt; false, "a window without memory"),
-        Err(disk) => same!(*rt; disk.bytes().len(), usize::from(SIZE)),
+        Ok(ahead) => {
+            holds!(*rt; false, "a window without memory");
+            ahead.into_inner()
+        }
+        Err(disk) => disk,
     }
 }
 
@@ -48,11 +51,12 @@ fn a_window_takes_one_block_and_without_it_the_disk_comes_back(
     rt: HostRuntime,
 ) -> Result<(), Fail> {
     let memory = Budget::new(rt.alloc());
-    memory.allow(0);
-    comes_back(&rt, &memory, MemDisk::new(rt.alloc(), u64::from(SIZE))?);
-    memory.allow(1);
     let mut disk = MemDisk::new(rt.alloc(), u64::from(SIZE))?;
     numbers(&rt, &mut disk);
+    memory.allow(0);
+    let disk = comes_back(&rt, &memory, disk);
+    same!(rt; disk.bytes().len(), usize::from(SIZE));
+    memory.allow(1);
     is_read_ahead(&rt, &memory, disk);
     Ok(())
 }

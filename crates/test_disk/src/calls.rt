@@ -1,14 +1,9 @@
-// Calls of a disk with their answers, as rows of tables, and the calls that make a disk of a file. Those of a disk see to
-// its size first, so that a test need not say it. Out of the disk is answered as a failed sync, which no read and no
-// write answers.
+// Calls of a disk with their answers, as rows of tables. They see to its size first, so that a test need not say it. Out
+// of the disk is answered as a failed sync, which no read and no write answers.
 use crate::told::{holds, same};
 use loop_budget::Budget;
 use loop_disk::{Disk, DiskFault};
-use loop_file::{FileDisk, FileFault};
-use std::alloc::AllocGlobal;
-use std::fs::File;
 use std::process::Abort;
-use std::rt::Files;
 
 /// A call of a disk with what it answers.
 #[derive(Drop)]
@@ -101,31 +96,4 @@ pub(crate) fn plays_within<D: Disk>(
         memory.allow(*allowed);
         does(rt, disk, call);
     }
-}
-
-/// Opens a file as a disk, and fails the test unless that has this size, or is refused so.
-pub(crate) fn opens(
-    rt: &(impl Abort + Files<File = File>),
-    path: &str,
-    want: Result<u64, FileFault>,
-) {
-    let size = match FileDisk::open(rt, path) {
-        Ok(disk) => Ok(disk.size()),
-        Err(fault) => Err(fault),
-    };
-    same!(*rt; size, want, path);
-}
-
-/// Makes a file that is a disk of so many bytes, and fails the test unless that has this size, or is refused so.
-pub(crate) fn creates(
-    rt: &(impl Abort + AllocGlobal + Files<File = File>),
-    path: &str,
-    size: u64,
-    want: Result<u64, FileFault>,
-) {
-    let size = match FileDisk::create(rt, path, size) {
-        Ok(disk) => Ok(disk.size()),
-        Err(fault) => Err(fault),
-    };
-    same!(*rt; size, want, path);
 }

@@ -1,7 +1,7 @@
 // The disk over a file.
-use crate::calls::{Call, creates, does, opens, plays};
-use crate::places::has;
-use crate::told::{holds, same};
+use crate::calls::{Call, does, plays};
+use crate::paths::{creates, has, is_done, opens, removes, writes};
+use crate::told::same;
 use loop_disk::{Disk, DiskFault};
 use loop_file::{FileDisk, FileFault};
 use std::alloc::AllocGlobal;
@@ -14,26 +14,21 @@ use std::rt::Files;
 use std::test::Fail;
 use std::{fs, io};
 
-// A new file is written. It is in use, also for one who would make it anew, and keeps its bytes.
-fn is_written(
+// Makes a disk at a path, and these calls of it. It is in use, also for one who would make it anew, and keeps its bytes.
+fn plays_at(
     rt: &(impl Abort + AllocGlobal + Files<File = File>),
     path: &str,
-) -> Result<(), Fail> {
-    let mut disk = FileDisk::create(rt, path, 4096)?;
-    plays(
-        rt,
-        &mut disk,
-        &[
-            Call::Size(4096),
-            Call::Read(4094, &[0, 0], Ok(())),
-            Call::Write(100, b"footage", Ok(())),
-            Call::Write(4095, b"z", Ok(())),
-            Call::Sync(Ok(())),
-        ],
-    );
-    opens(rt, path, Err(FileFault::Busy));
-    creates(rt, path, 1, Err(FileFault::Busy));
-    Ok(())
+    size: u64,
+    calls: &[Call],
+) {
+    match FileDisk::create(rt, path, size) {
+        Ok(mut disk) => {
+            plays(rt, &mut disk, calls);
+            opens(rt, path, Err(FileFault::Busy));
+            creates(rt, path, 1, Err(FileFault::Busy));
+        }
+        Err(fault) => same!(*rt; Some(fault), None, path),
+    }
 }
 
 // Gives a file another size.
@@ -43,45 +38,48 @@ fn resizes(rt: &impl Files<File = File>, path: &str, size: u64) -> io::Result<()
 
 // The file is read back. Then it is cut short under the disk: a read fails, and is counted as a read's failure. The
 // lock is had as before.
-fn is_read_back(rt: &(impl Abort + Files<File = File>), path: &str) -> Result<(), Fail> {
-    let mut disk = FileDisk::open(rt, path)?;
+fn is_cut<D: Disk>(rt: &(impl Abort + Files<File = File>), path: &str, disk: &mut D) {
     plays(
         rt,
-        &mut disk,
+        disk,
         &[
             Call::Size(4096),
             Call::Read(100, b"footage", Ok(())),
             Call::Read(4094, b"\0z", Ok(())),
         ],
     );
-    holds!(*rt; resizes(rt, path, 50).is_ok());
-    does(
-        rt,
-        &mut disk,
-        &Call::Read(4094, b"\0z", Err(DiskFault::Read)),
-    );
+    is_done(rt, resizes(rt, path, 50), path);
+    does(rt, disk, &Call::Read(4094, b"\0z", Err(DiskFault::Read)));
     opens(rt, path, Err(FileFault::Busy));
-    Ok(())
 }
 
-// A file that is made anew has zeros alone.
-fn is_zeros(rt: &(impl Abort + AllocGlobal + Files<File = File>), path: &str) -> Result<(), Fail> {
-    let mut disk = FileDisk::create(rt, path, 200)?;
-    does(rt, &mut disk, &Call::Read(0, &[0; 200], Ok(())));
-    Ok(())
+// The file that was written is had again.
+fn is_read_back(rt: &(impl Abort + Files<File = File>), path: &str) {
+    match FileDisk::open(rt, path) {
+        Ok(mut disk) => is_cut(rt, path, &mut disk),
+        Err(fault) => same!(*rt; Some(fault), None, path),
+    }
 }
+
+// What is done to a new file.
+static WRITTEN: [Call; 5] = [
+    Call::Size(4096),
+    Call::Read(4094, &[0, 0], Ok(())),
+    Call::Write(100, b"footage", Ok(())),
+    Call::Write(4095, b"z", Ok(())),
+    Call::Sync(Ok(())),
+];
 
 #[test]
-fn a_file_is_written_and_read_back(rt: HostRuntime) -> Result<(), Fail> {
+fn a_file_is_written_and_read_back(rt: HostRuntime) {
     let path = "written.img";
-    is_written(&rt, path)?;
-    is_read_back(&rt, path)?;
+    plays_at(&rt, path, 4096, &WRITTEN);
+    is_read_back(&rt, path);
     // No file has that size: the file is as it was.
     creates(&rt, path, u64::MAX, Err(FileFault::Failed));
     opens(&rt, path, Ok(50));
-    is_zeros(&rt, path)?;
-    fs::remove_file(&rt, path)?;
-    Ok(())
+    plays_at(&rt, path, 200, &[Call::Read(0, &[0; 200], Ok(()))]);
+    removes(&rt, path);
 }
 
 // The gate runs tests as nobody, who may not open it. A superuser may, as under `rt try`: then nothing is shown here,
@@ -103,7 +101,7 @@ fn what_is_no_file_of_ours_is_refused_by_name(rt: HostRuntime) -> Result<(), Fai
     creates(&rt, path, 1, Ok(1));
     fs::set_permissions(&rt, path, Permissions::from_mode(0o400))?;
     is_denied(&rt, path);
-    fs::remove_file(&rt, path)?;
+    removes(&rt, path);
     Ok(())
 }
 
@@ -180,7 +178,7 @@ fn short_counts_and_interruptions_are_gone_on_from(rt: HostRuntime) -> Result<()
             Call::Read(2, b"one whole write\0\0", Ok(())),
         ],
     );
-    fs::remove_file(&rt, path)?;
+    removes(&rt, path);
     Ok(())
 }
 
@@ -259,25 +257,36 @@ fn locked(rt: &impl Files<File = File>, path: &str) -> Result<File, Fail> {
 }
 
 // Makes these calls of a disk over a file, which stays in use.
-fn is_synced(
+fn is_synced<D: Disk>(
+    rt: &(impl Abort + Files<File = File>),
+    path: &str,
+    (syncs, disk): (&Syncs, &mut D),
+    calls: &[(bool, Call, u32)],
+) {
+    for (fails, call, data) in calls {
+        syncs.fails.set(*fails);
+        does(rt, disk, call);
+        same!(*rt; syncs.data.get(), *data);
+        opens(rt, path, Err(FileFault::Busy));
+    }
+}
+
+// Makes a disk of a file that is locked, and these calls of it.
+fn plays_counted(
     rt: &(impl Abort + Files<File = File>),
     path: &str,
     calls: &[(bool, Call, u32)],
 ) -> Result<(), Fail> {
+    let file = locked(rt, path)?;
     let syncs = Syncs {
         data: Cell::new(0),
         fails: Cell::new(false),
     };
     let mut disk = FileDisk::over(Counting {
-        file: locked(rt, path)?,
+        file,
         syncs: &syncs,
     })?;
-    for (fails, call, data) in calls {
-        syncs.fails.set(*fails);
-        does(rt, &mut disk, call);
-        same!(*rt; syncs.data.get(), *data);
-        opens(rt, path, Err(FileFault::Busy));
-    }
+    is_synced(rt, path, (&syncs, &mut disk), calls);
     Ok(())
 }
 
@@ -285,9 +294,9 @@ fn is_synced(
 fn a_sync_is_one_of_the_file_and_a_failed_one_leaves_its_lock(rt: HostRuntime) -> Result<(), Fail> {
     let path = "counting.img";
     creates(&rt, path, 8, Ok(8));
-    is_synced(&rt, path, &SYNCED)?;
+    plays_counted(&rt, path, &SYNCED)?;
     opens(&rt, path, Ok(8));
-    fs::remove_file(&rt, path)?;
+    removes(&rt, path);
     Ok(())
 }
 
@@ -338,83 +347,93 @@ impl FileExt for Filling<'_> {
     }
 }
 
-// The bytes of an old file, the size that it is to have, below which place no room is taken, and the room that there
-// is; then its size or the refusal with the writes that were tried, and the bytes that it has afterwards.
+// The bytes of an old file; below which place no room is taken, the room that there is, and the size that it is to have;
+// then its size or the refusal with the writes that were tried, and the bytes that it has afterwards.
 type Filled = (
     &'static [u8],
-    u64,
-    u64,
-    usize,
+    (u64, usize, u64),
     (Result<u64, FileFault>, u32),
     &'static [u8],
 );
 
 static FILLED: [Filled; 6] = [
-    (b"", 4, 0, 4, (Ok(4), 1), b"\0\0\0\0"),
-    (b"", 4, 0, 3, (Err(FileFault::NoRoom), 2), b""),
-    (b"old", 8, 3, 5, (Ok(8), 3), b"\0\0\0\0\0\0\0\0"),
-    (b"footage", 3, 7, 0, (Ok(3), 2), b"\0\0\0"),
+    (b"", (0, 4, 4), (Ok(4), 1), b"\0\0\0\0"),
+    (b"", (0, 3, 4), (Err(FileFault::NoRoom), 2), b""),
+    (b"old", (3, 5, 8), (Ok(8), 3), b"\0\0\0\0\0\0\0\0"),
+    (b"footage", (7, 0, 3), (Ok(3), 2), b"\0\0\0"),
     // What is new has no room, so the old bytes are given back.
-    (b"old", 8, 3, 4, (Err(FileFault::NoRoom), 4), b"old"),
+    (b"old", (3, 4, 8), (Err(FileFault::NoRoom), 4), b"old"),
     // The old bytes can't be written over: the first one is zero.
     (
         b"old",
-        8,
-        0,
-        6,
+        (0, 6, 8),
         (Err(FileFault::NoRoom), 3),
         b"\0ld\0\0\0\0\0",
     ),
 ];
 
-// Makes a file anew in the folder of the tests, below which place no room is taken, with so much room. Answers its size
-// or the refusal, and the writes that were tried.
-fn fills(
-    rt: &impl Files<File = File>,
-    path: &str,
+// Makes a file anew, below which place no room is taken, with so much room. Answers its size or the refusal, and the
+// writes that were tried.
+fn fills_over(
+    file: File,
+    folder: &File,
     (below, allowed, size): (u64, usize, u64),
-) -> io::Result<(Result<u64, FileFault>, u32)> {
-    let folder = File::open(rt, ".")?;
+) -> (Result<u64, FileFault>, u32) {
     let (room, writes) = (Cell::new(allowed), Cell::new(0));
     let filling = Filling {
-        file: opened(rt, path)?,
+        file,
         below,
         room: &room,
         writes: &writes,
     };
-    let made = match FileDisk::fresh_over(filling, &folder, size) {
+    let made = match FileDisk::fresh_over(filling, folder, size) {
         Ok(disk) => Ok(disk.size()),
         Err(fault) => Err(fault),
     };
-    Ok((made, writes.get()))
+    (made, writes.get())
 }
 
-// Makes an old file anew.
-fn is_filled(
-    rt: &(impl Abort + AllocGlobal + Files<File = File> + Drop),
+// A file and the folder of the tests.
+fn with_folder(rt: &impl Files<File = File>, path: &str) -> io::Result<(File, File)> {
+    let file = opened(rt, path)?;
+    Ok((file, File::open(rt, ".")?))
+}
+
+// Makes a file anew, which has its room or is refused so, in so many writes.
+fn fills(
+    rt: &(impl Abort + Files<File = File>),
     path: &str,
-    (old, size, below, allowed, want, left): &Filled,
-) -> Result<(), Fail> {
-    fs::write(rt, path, *old)?;
-    same!(*rt; fills(rt, path, (*below, *allowed, *size))?, *want, size);
-    has(rt, path, Some(*left), 0)
-}
-
-#[test]
-fn a_fresh_file_has_its_room_or_is_refused(rt: HostRuntime) -> Result<(), Fail> {
-    let path = "filling.img";
-    for row in &FILLED {
-        is_filled(&rt, path, row)?;
+    how: (u64, usize, u64),
+    want: (Result<u64, FileFault>, u32),
+) {
+    match with_folder(rt, path) {
+        Ok((file, folder)) => same!(*rt; fills_over(file, &folder, how), want, how),
+        Err(error) => is_done(rt, Err(error), path),
     }
-    Ok(fs::remove_file(&rt, path)?)
+}
+
+// Makes these old files anew.
+fn are_filled(rt: &(impl Abort + AllocGlobal + Files<File = File>), path: &str, rows: &[Filled]) {
+    for (old, how, want, left) in rows {
+        writes(rt, path, old);
+        fills(rt, path, *how, *want);
+        has(rt, path, Some(*left), want.1);
+    }
 }
 
 #[test]
-fn a_fresh_file_is_written_a_megabyte_at_a_time(rt: HostRuntime) -> Result<(), Fail> {
+fn a_fresh_file_has_its_room_or_is_refused(rt: HostRuntime) {
+    let path = "filling.img";
+    are_filled(&rt, path, &FILLED);
+    removes(&rt, path);
+}
+
+#[test]
+fn a_fresh_file_is_written_a_megabyte_at_a_time(rt: HostRuntime) {
     let path = "large.img";
-    fs::write(&rt, path, b"")?;
-    same!(rt; fills(&rt, path, (0, 3 << 20, 2_500_000))?, (Ok(2_500_000), 3));
-    Ok(fs::remove_file(&rt, path)?)
+    writes(&rt, path, b"");
+    fills(&rt, path, (0, 3 << 20, 2_500_000), (Ok(2_500_000), 3));
+    removes(&rt, path);
 }
 
 // What the system says, and the fault that it is.

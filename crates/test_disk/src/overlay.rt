@@ -1,13 +1,13 @@
 // The disk over another that is never written to.
 
-use crate::calls::{Call, creates, does, plays};
+use crate::calls::{Call, does, plays};
+use crate::paths::{creates, removes};
 use crate::told::same;
 use loop_budget::Budget;
 use loop_disk::{Disk, DiskFault, MemDisk};
 use loop_file::FileDisk;
 use loop_overlay::OverlayDisk;
 use std::alloc::{AllocGlobal, Allocator};
-use std::fs;
 use std::fs::OpenOptions;
 use std::process::Abort;
 use std::test::Fail;
@@ -137,6 +137,6 @@ fn a_file_that_is_open_for_reading_alone_is_written_over(rt: HostRuntime) -> Res
     creates(&rt, path, 12, Ok(12));
     let file = OpenOptions::new().read(true).open(&rt, path)?;
     is_written_over(&rt, FileDisk::over(file)?);
-    fs::remove_file(&rt, path)?;
+    removes(&rt, path);
     Ok(())
 }
