@@ -1,4 +1,4 @@
-// Calls of a disk with their answers, as rows of tables. They see to its size first, so that a test need not say it. Out
+// Calls of a disk with their answers, as rows of tables. They see to its size first, so that no test has to. Out
 // of the disk is answered as a failed sync, which no read and no write answers.
 use crate::told::{holds, same};
 use loop_budget::Budget;

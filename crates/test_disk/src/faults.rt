@@ -94,7 +94,7 @@ fn a_folder_that_cannot_be_synced_changes_nothing(rt: HostRuntime) {
 }
 
 // Which calls of the file fail and how, of which the first, the second or none comes through; the call of a disk of six
-// bytes, with what it answers. A write or a read is two calls of a file that moves three bytes at once, and a sync is one.
+// bytes, with what it answers. A write or a read is two calls of a file that moves three bytes at once, a sync is one.
 static FAULTS: [((u32, u32, ErrorKind), Call); 16] = [
     ((0, 0, ErrorKind::Other), Call::Write(1, b"rames", Ok(()))),
     (

@@ -14,7 +14,7 @@ use std::rt::Files;
 use std::test::Fail;
 use std::{fs, io};
 
-// Makes a disk at a path, and these calls of it. It is in use, also for one who would make it anew, and keeps its bytes.
+// Makes a disk at a path, and these calls of it. It is in use, also for who would make it anew, and keeps its bytes.
 fn plays_at(
     rt: &(impl Abort + AllocGlobal + Files<File = File>),
     path: &str,
@@ -347,7 +347,7 @@ impl FileExt for Filling<'_> {
     }
 }
 
-// The bytes of an old file; below which place no room is taken, the room that there is, and the size that it is to have;
+// The bytes of an old file; below which place no room is taken, the room that there is, the size that it is to have;
 // then its size or the refusal with the writes that were tried, and the bytes that it has afterwards.
 type Filled = (
     &'static [u8],
