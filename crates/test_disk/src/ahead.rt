@@ -1,22 +1,49 @@
 // The disk that reads ahead, where memory is refused.
 
-use crate::calls::read_at;
-use crate::told::same;
+use crate::calls::{read_at, write_at};
+use crate::told::{holds, same};
 use loop_ahead::AheadDisk;
 use loop_budget::Budget;
-use loop_disk::MemDisk;
-use std::alloc::Global;
+use loop_disk::{Disk, MemDisk};
+use std::alloc::Allocator;
+use std::process::Abort;
 use std::test::Fail;
 
-const SIZE: usize = 100;
+const SIZE: u8 = 100;
 
-// A disk whose bytes are 0, 1, 2, ..
-fn numbered(alloc: Global) -> Result<MemDisk, Fail> {
-    let mut image = vec![in alloc; 0; SIZE]?;
-    for (number, byte) in (0u8..).zip(image.iter_mut()) {
-        *byte = number;
+// Makes the bytes of a disk 0, 1, 2, ..
+fn numbers<D: Disk>(rt: &impl Abort, disk: &mut D) {
+    for number in 0..SIZE {
+        same!(*rt; write_at(disk, u64::from(number), &[number]), Ok(()), number);
     }
-    Ok(MemDisk::of(image))
+}
+
+// Reads eight bytes at each place.
+fn shows_numbers<D: Disk>(rt: &impl Abort, disk: &mut D) {
+    let mut seen = [0; 8];
+    for at in 0..90u8 {
+        same!(*rt; read_at(disk, u64::from(at), &mut seen), Ok(()), at);
+        same!(*rt; seen[7], at.saturating_add(7));
+    }
+}
+
+// Without memory for a window the disk comes back.
+fn comes_back<A: Allocator + Copy>(rt: &impl Abort, memory: A, disk: MemDisk) -> MemDisk {
+    match AheadDisk::new(memory, disk, 16) {
+        Ok(ahead) => {
+            holds!(*rt; false, "a window without memory");
+            ahead.into_inner()
+        }
+        Err(disk) => disk,
+    }
+}
+
+// With memory for a window the disk is read through it.
+fn is_read_ahead<A: Allocator + Copy>(rt: &impl Abort, memory: A, disk: MemDisk) {
+    match AheadDisk::new(memory, disk, 16) {
+        Ok(mut ahead) => shows_numbers(rt, &mut ahead),
+        Err(_) => holds!(*rt; false, "memory for a window"),
+    }
 }
 
 #[test]
@@ -24,19 +51,12 @@ fn a_window_takes_one_block_and_without_it_the_disk_comes_back(
     rt: HostRuntime,
 ) -> Result<(), Fail> {
     let memory = Budget::new(rt.alloc());
+    let mut disk = MemDisk::new(rt.alloc(), u64::from(SIZE))?;
+    numbers(&rt, &mut disk);
     memory.allow(0);
-    match AheadDisk::new(&memory, numbered(rt.alloc())?, 16) {
-        Ok(_) => panic!(rt; "a window without memory"),
-        Err(disk) => same!(rt; disk.bytes().len(), SIZE),
-    }
+    let disk = comes_back(&rt, &memory, disk);
+    same!(rt; disk.bytes().len(), usize::from(SIZE));
     memory.allow(1);
-    let Ok(mut ahead) = AheadDisk::new(&memory, numbered(rt.alloc())?, 16) else {
-        panic!(rt; "memory for a window")
-    };
-    let mut seen = [0; 8];
-    for at in 0..90u8 {
-        same!(rt; read_at(&mut ahead, u64::from(at), &mut seen), Ok(()));
-        same!(rt; seen[7], at.saturating_add(7));
-    }
+    is_read_ahead(&rt, &memory, disk);
     Ok(())
 }

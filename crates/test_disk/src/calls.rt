@@ -1,6 +1,25 @@
-// Calls of a disk that see to its size first, so that a test need not say it. Out of the disk is answered as a failed
-// sync, which no read and no write answers.
+// Calls of a disk with their answers, as rows of tables. They see to its size first, so that no test has to. Out
+// of the disk is answered as a failed sync, which no read and no write answers.
+use crate::told::{holds, same};
+use loop_budget::Budget;
 use loop_disk::{Disk, DiskFault};
+use std::process::Abort;
+
+/// A call of a disk with what it answers.
+#[derive(Drop)]
+pub(crate) enum Call<'a> {
+    /// The size of the disk.
+    Size(u64),
+    /// A write of these bytes from a place on.
+    Write(u64, &'a [u8], Result<(), DiskFault>),
+    /// A read from a place on that gives these bytes, or fails at so many.
+    Read(u64, &'a [u8], Result<(), DiskFault>),
+    /// A sync.
+    Sync(Result<(), DiskFault>),
+}
+
+// The most bytes that are read at once.
+const MOST: usize = 200;
 
 /// A write, if it is within the disk.
 pub(crate) fn write_at<D: Disk>(disk: &mut D, at: u64, bytes: &[u8]) -> Result<(), DiskFault> {
@@ -17,5 +36,64 @@ pub(crate) fn read_at<D: Disk>(disk: &mut D, at: u64, buf: &mut [u8]) -> Result<
     match at.checked_add(buf.len() as u64) {
         Some(end) if end <= disk.size() => disk.read(at, buf),
         _ => Err(DiskFault::Sync),
+    }
+}
+
+// Fails the test unless a read into this buffer is answered like this, and gives these bytes if it doesn't fail.
+fn gives<D: Disk>(
+    rt: &impl Abort,
+    disk: &mut D,
+    at: u64,
+    buf: &mut [u8],
+    (want, answer): (&[u8], Result<(), DiskFault>),
+) {
+    same!(*rt; read_at(disk, at, buf), answer, at);
+    if answer.is_ok() {
+        same!(*rt; &*buf, want, at);
+    }
+}
+
+// Reads as many bytes as are wanted.
+fn reads<D: Disk>(
+    rt: &impl Abort,
+    disk: &mut D,
+    at: u64,
+    want: &[u8],
+    answer: Result<(), DiskFault>,
+) {
+    let mut seen = [0xEE; MOST];
+    match seen.get_mut(..want.len()) {
+        Some(buf) => gives(rt, disk, at, buf, (want, answer)),
+        None => holds!(*rt; false),
+    }
+}
+
+/// Makes one call, and fails the test unless it is answered so.
+pub(crate) fn does<D: Disk>(rt: &impl Abort, disk: &mut D, call: &Call) {
+    match call {
+        Call::Size(size) => same!(*rt; disk.size(), *size),
+        Call::Write(at, bytes, answer) => same!(*rt; write_at(disk, *at, bytes), *answer, at),
+        Call::Read(at, want, answer) => reads(rt, disk, *at, want, *answer),
+        Call::Sync(answer) => same!(*rt; disk.sync(), *answer),
+    }
+}
+
+/// Makes these calls in turn.
+pub(crate) fn plays<D: Disk>(rt: &impl Abort, disk: &mut D, calls: &[Call]) {
+    for call in calls {
+        does(rt, disk, call);
+    }
+}
+
+/// Makes these calls in turn, each where so many blocks of memory are granted.
+pub(crate) fn plays_within<D: Disk>(
+    rt: &impl Abort,
+    memory: &Budget,
+    disk: &mut D,
+    calls: &[(u64, Call)],
+) {
+    for (allowed, call) in calls {
+        memory.allow(*allowed);
+        does(rt, disk, call);
     }
 }

@@ -1,8 +1,8 @@
 // A file each of whose calls fails, is short or is interrupted, and what a stop leaves of one that is made anew.
-use crate::calls::{read_at, write_at};
-use crate::faulty::{Faulty, Image, Medium};
+use crate::calls::{Call, does};
+use crate::faulty::{Faulty, Medium};
 use crate::told::{holds, same};
-use loop_disk::{Disk, DiskFault};
+use loop_disk::DiskFault;
 use loop_file::{FileDisk, FileFault};
 use std::io::ErrorKind;
 use std::process::Abort;
@@ -28,44 +28,58 @@ static MADE: [(&[u8], u64, u32, u32); 7] = [
 
 // No call fails: at each moment a stop leaves the old bytes or a file that begins with a zero, and at the end it leaves
 // the new one.
-fn is_made(rt: &impl Abort, (old, size, _, calls): &(&[u8], u64, u32, u32)) {
-    let (file, folder) = (Medium::of(old), Medium::of(b""));
-    same!(*rt; makes(&file, &folder, *size), None, (old, size));
-    holds!(*rt; file.is_safe.get(), (old, size));
-    same!(*rt; file.calls.get(), *calls, (old, size));
-    same!(*rt; folder.calls.get(), 1, (old, size));
-    let made = file.now.get();
-    same!(*rt; (made.bytes, made.length as u64), ([0; 16], *size), (old, size));
-    same!(*rt; file.synced.get(), made, (old, size));
+fn is_made(rt: &impl Abort, (file, folder): (&Medium, &Medium), size: u64, calls: u32) {
+    same!(*rt; makes(file, folder, size), None, size);
+    holds!(*rt; file.is_safe.get(), size);
+    same!(*rt; file.calls.get(), calls, size);
+    same!(*rt; folder.calls.get(), 1, size);
+    holds!(*rt; file.is_cleared(size), size);
 }
 
 // A call of the file fails, and as many behind it as are to: the refusal is told, and a stop at each moment leaves
 // the old bytes or a zero in front. Where one fails before the old bytes are written over, they and the length stand.
+fn fails(
+    rt: &impl Abort,
+    (file, folder): (&Medium, &Medium),
+    (old, size, kept, _): &(&[u8], u64, u32, u32),
+    fault: FileFault,
+) {
+    let (call, count, _) = file.fails.get();
+    same!(*rt; makes(file, folder, *size), Some(fault), (size, call));
+    holds!(*rt; file.is_safe.get(), (size, call));
+    let may_be_closed = count > 1 || call >= *kept;
+    holds!(*rt; file.has(old) || (may_be_closed && file.now.get().is_closed()), (size, call));
+}
+
+// The same, of a file of its own.
+fn fails_at(
+    rt: &impl Abort,
+    row: &(&[u8], u64, u32, u32),
+    at: (u32, u32, ErrorKind),
+    fault: FileFault,
+) {
+    let file = Medium::of(row.0);
+    file.fails.set(at);
+    fails(rt, (&file, &Medium::of(b"")), row, fault);
+}
+
+// Each call of the file fails, once and for ever.
 fn is_refused(
     rt: &impl Abort,
-    (old, size, kept, calls): &(&[u8], u64, u32, u32),
+    row: &(&[u8], u64, u32, u32),
     (kind, fault): (ErrorKind, FileFault),
 ) {
-    for call in 0..*calls {
-        for count in [1, u32::MAX] {
-            let (file, folder) = (Medium::of(old), Medium::of(b""));
-            file.fails.set((call, count, kind));
-            same!(*rt; makes(&file, &folder, *size), Some(fault), (old, size, call));
-            holds!(*rt; file.is_safe.get(), (old, size, call, count));
-            let left = file.now.get();
-            if count == 1 && call < *kept {
-                same!(*rt; left, Image::of(old), (old, size, call));
-            } else {
-                holds!(*rt; left.is_closed() || left == Image::of(old), (old, size, call));
-            }
-        }
+    for call in 0..row.3 {
+        fails_at(rt, row, (call, 1, kind), fault);
+        fails_at(rt, row, (call, u32::MAX, kind), fault);
     }
 }
 
 #[test]
 fn a_stop_leaves_the_old_file_or_one_that_begins_with_a_zero(rt: HostRuntime) {
     for row in &MADE {
-        is_made(&rt, row);
+        let (old, size, _, calls) = row;
+        is_made(&rt, (&Medium::of(old), &Medium::of(b"")), *size, *calls);
         is_refused(&rt, row, (ErrorKind::Other, FileFault::Failed));
         is_refused(&rt, row, (ErrorKind::StorageFull, FileFault::NoRoom));
     }
@@ -76,79 +90,74 @@ fn a_folder_that_cannot_be_synced_changes_nothing(rt: HostRuntime) {
     let (file, folder) = (Medium::of(b"old"), Medium::of(b""));
     folder.fails.set((0, 1, ErrorKind::Other));
     same!(rt; makes(&file, &folder, 8), Some(FileFault::Failed));
-    same!(rt; file.now.get(), Image::of(b"old"));
+    holds!(rt; file.has(b"old"));
 }
 
-// The calls of a disk: a write, a read of it, a sync; each is two calls of a file that moves three bytes at once, and
-// the sync is one.
-#[derive(Clone, Copy)]
-enum Call {
-    Write,
-    Read,
-    Sync,
-}
-
-// What a call of the disk answers where the file's calls fail so, of which the first, the second or none comes through.
-static FAULTS: [(Call, (u32, u32, ErrorKind), Result<(), DiskFault>); 16] = [
-    (Call::Write, (0, 0, ErrorKind::Other), Ok(())),
-    (Call::Write, (0, 1, ErrorKind::Interrupted), Ok(())),
-    (Call::Write, (1, 3, ErrorKind::Interrupted), Ok(())),
-    (Call::Write, (0, 1, ErrorKind::Other), Err(DiskFault::Write)),
+// Which calls of the file fail and how, of which the first, the second or none comes through; the call of a disk of six
+// bytes, with what it answers. A write or a read is two calls of a file that moves three bytes at once, a sync is one.
+static FAULTS: [((u32, u32, ErrorKind), Call); 16] = [
+    ((0, 0, ErrorKind::Other), Call::Write(1, b"rames", Ok(()))),
     (
-        Call::Write,
+        (0, 1, ErrorKind::Interrupted),
+        Call::Write(1, b"rames", Ok(())),
+    ),
+    (
+        (1, 3, ErrorKind::Interrupted),
+        Call::Write(1, b"rames", Ok(())),
+    ),
+    (
+        (0, 1, ErrorKind::Other),
+        Call::Write(1, b"rames", Err(DiskFault::Write)),
+    ),
+    (
         (1, 1, ErrorKind::StorageFull),
-        Err(DiskFault::Write),
+        Call::Write(1, b"rames", Err(DiskFault::Write)),
     ),
     (
-        Call::Write,
         (1, 9, ErrorKind::WriteZero),
-        Err(DiskFault::Write),
+        Call::Write(1, b"rames", Err(DiskFault::Write)),
     ),
-    (Call::Read, (0, 0, ErrorKind::Other), Ok(())),
-    (Call::Read, (0, 1, ErrorKind::Interrupted), Ok(())),
-    (Call::Read, (1, 3, ErrorKind::Interrupted), Ok(())),
-    (Call::Read, (0, 1, ErrorKind::Other), Err(DiskFault::Read)),
-    (Call::Read, (1, 1, ErrorKind::Other), Err(DiskFault::Read)),
+    ((0, 0, ErrorKind::Other), Call::Read(1, b"ooter", Ok(()))),
     (
-        Call::Read,
+        (0, 1, ErrorKind::Interrupted),
+        Call::Read(1, b"ooter", Ok(())),
+    ),
+    (
+        (1, 3, ErrorKind::Interrupted),
+        Call::Read(1, b"ooter", Ok(())),
+    ),
+    (
+        (0, 1, ErrorKind::Other),
+        Call::Read(1, b"ooter", Err(DiskFault::Read)),
+    ),
+    (
+        (1, 1, ErrorKind::Other),
+        Call::Read(1, b"ooter", Err(DiskFault::Read)),
+    ),
+    (
         (0, 9, ErrorKind::UnexpectedEof),
-        Err(DiskFault::Read),
+        Call::Read(1, b"ooter", Err(DiskFault::Read)),
     ),
-    (Call::Sync, (0, 0, ErrorKind::Other), Ok(())),
-    (Call::Sync, (0, 3, ErrorKind::Interrupted), Ok(())),
-    (Call::Sync, (0, 1, ErrorKind::Other), Err(DiskFault::Sync)),
+    ((0, 0, ErrorKind::Other), Call::Sync(Ok(()))),
+    ((0, 3, ErrorKind::Interrupted), Call::Sync(Ok(()))),
+    ((0, 1, ErrorKind::Other), Call::Sync(Err(DiskFault::Sync))),
     (
-        Call::Sync,
         (0, 1, ErrorKind::StorageFull),
-        Err(DiskFault::Sync),
+        Call::Sync(Err(DiskFault::Sync)),
     ),
 ];
 
-// Makes a call of a disk of six bytes, of which it writes or reads five. What is answered Ok was done whole.
-fn answers(
-    rt: &impl Abort,
-    call: Call,
-    fails: (u32, u32, ErrorKind),
-    wanted: Result<(), DiskFault>,
-) {
+// Makes a call of a disk over a file. What is answered Ok was done whole.
+fn answers(rt: &impl Abort, (first, count, kind): (u32, u32, ErrorKind), call: &Call) {
     let file = Medium::of(b"footer");
     file.at_once.set(3);
     let Ok(mut disk) = FileDisk::over(Faulty { medium: &file }) else {
         return is_told(rt);
     };
-    let (first, count, kind) = fails;
     file.fails.set((first.saturating_add(1), count, kind));
-    let mut seen = [0; 5];
-    let answer = match call {
-        Call::Write => write_at(&mut disk, 1, b"rames"),
-        Call::Read => read_at(&mut disk, 1, &mut seen),
-        Call::Sync => disk.sync(),
-    };
-    same!(*rt; answer, wanted, fails);
-    match (call, answer) {
-        (Call::Write, Ok(())) => same!(*rt; file.now.get(), Image::of(b"frames"), fails),
-        (Call::Read, Ok(())) => same!(*rt; seen, *b"ooter", fails),
-        _ => (),
+    does(rt, &mut disk, call);
+    if let Call::Write(_, _, Ok(())) = call {
+        holds!(*rt; file.has(b"frames"), (first, count));
     }
 }
 
@@ -159,8 +168,8 @@ fn is_told(rt: &impl Abort) {
 
 #[test]
 fn a_file_that_fails_is_told_and_one_that_is_short_or_interrupted_is_gone_on_with(rt: HostRuntime) {
-    for (call, fails, wanted) in &FAULTS {
-        answers(&rt, *call, *fails, *wanted);
+    for (fails, call) in &FAULTS {
+        answers(&rt, *fails, call);
     }
 }
 

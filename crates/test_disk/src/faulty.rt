@@ -9,23 +9,55 @@ use std::os::unix::fs::FileExt;
 pub(crate) const MOST: usize = 16;
 
 /// The bytes of a file; behind its length stand zeros.
-#[derive(Clone, Copy, PartialEq, Eq, Debug)]
+#[derive(Clone, Copy, PartialEq, Eq)]
 pub(crate) struct Image {
-    pub(crate) bytes: [u8; MOST],
-    pub(crate) length: usize,
+    bytes: [u8; MOST],
+    length: usize,
+}
+
+// Copies as many bytes as both have.
+fn copy(to: &mut [u8], from: &[u8]) {
+    let count = to.len().min(from.len());
+    to[..count].copy_from_slice(&from[..count]);
 }
 
 impl Image {
     /// A file of these bytes.
     pub(crate) fn of(text: &[u8]) -> Image {
         let mut bytes = [0; MOST];
-        for (place, byte) in bytes.iter_mut().zip(text) {
-            *place = *byte;
-        }
+        copy(&mut bytes, text);
         Image {
             bytes,
             length: text.len(),
         }
+    }
+
+    // A read from a place on.
+    fn read_at(&self, at: usize, buf: &mut [u8]) {
+        if let Some(from) = self.bytes.get(at..) {
+            copy(buf, from);
+        }
+    }
+
+    // A write from a place on.
+    fn write_at(&mut self, at: usize, buf: &[u8]) {
+        if let Some(to) = self.bytes.get_mut(at..) {
+            copy(to, buf);
+        }
+        self.length = self.length.max(at.saturating_add(buf.len()));
+    }
+
+    // Another size.
+    fn resize(&mut self, length: usize) {
+        if let Some(behind) = self.bytes.get_mut(length..) {
+            behind.fill(0);
+        }
+        self.length = length;
+    }
+
+    /// Whether it has these bytes.
+    pub(crate) fn is(&self, text: &[u8]) -> bool {
+        *self == Image::of(text)
     }
 
     /// Whether it begins with a zero, or has nothing.
@@ -46,7 +78,7 @@ impl Image {
 pub(crate) struct Medium {
     old: Image,
     pub(crate) now: Cell<Image>,
-    pub(crate) synced: Cell<Image>,
+    synced: Cell<Image>,
     pub(crate) calls: Cell<u32>,
     /// The first call that fails, counted from 0, how many do from there on, and how.
     pub(crate) fails: Cell<(u32, u32, ErrorKind)>,
@@ -69,6 +101,17 @@ impl Medium {
             at_once: Cell::new(MOST),
             is_safe: Cell::new(true),
         }
+    }
+
+    /// Whether the file has these bytes.
+    pub(crate) fn has(&self, text: &[u8]) -> bool {
+        self.now.get().is(text)
+    }
+
+    /// Whether so many zeros are all that the file has, and all that is on its disk.
+    pub(crate) fn is_cleared(&self, size: u64) -> bool {
+        let now = self.now.get();
+        now.bytes == [0; MOST] && now.length as u64 == size && now == self.synced.get()
     }
 
     // Counts a call, which fails if it is to.
@@ -120,10 +163,7 @@ impl OpenFile for Faulty<'_> {
             return Err(io::Error::from(ErrorKind::InvalidInput));
         };
         let mut image = self.medium.now.get();
-        for place in image.bytes.iter_mut().skip(length) {
-            *place = 0;
-        }
-        image.length = length;
+        image.resize(length);
         self.medium.note(image);
         Ok(())
     }
@@ -146,9 +186,7 @@ impl FileExt for Faulty<'_> {
             .len()
             .min(self.medium.at_once.get())
             .min(image.length.saturating_sub(at));
-        for (byte, place) in buf[..count].iter_mut().zip(image.bytes.iter().skip(at)) {
-            *byte = *place;
-        }
+        image.read_at(at, &mut buf[..count]);
         Ok(count)
     }
 
@@ -157,10 +195,7 @@ impl FileExt for Faulty<'_> {
         let mut image = self.medium.now.get();
         let at = usize::try_from(offset).unwrap_or(MOST);
         let count = buf.len().min(self.medium.at_once.get());
-        for (place, byte) in image.bytes.iter_mut().skip(at).zip(&buf[..count]) {
-            *place = *byte;
-        }
-        image.length = image.length.max(at.saturating_add(count));
+        image.write_at(at, &buf[..count]);
         self.medium.note(image);
         Ok(count)
     }

@@ -1,73 +1,113 @@
 // The disk over a file.
-use crate::calls::{read_at, write_at};
-use crate::told::{holds, same};
+use crate::calls::{Call, does, plays};
+use crate::paths::{creates, has, is_done, opens, removes, writes};
+use crate::told::same;
 use loop_disk::{Disk, DiskFault};
 use loop_file::{FileDisk, FileFault};
+use std::alloc::AllocGlobal;
 use std::cell::Cell;
 use std::fs::{File, Metadata, OpenFile, OpenOptions, Permissions};
 use std::io::ErrorKind;
 use std::os::unix::fs::{FileExt, PermissionsExt};
+use std::process::Abort;
+use std::rt::Files;
 use std::test::Fail;
 use std::{fs, io};
 
+// Makes a disk at a path, and these calls of it. It is in use, also for who would make it anew, and keeps its bytes.
+fn plays_at(
+    rt: &(impl Abort + AllocGlobal + Files<File = File>),
+    path: &str,
+    size: u64,
+    calls: &[Call],
+) {
+    match FileDisk::create(rt, path, size) {
+        Ok(mut disk) => {
+            plays(rt, &mut disk, calls);
+            opens(rt, path, Err(FileFault::Busy));
+            creates(rt, path, 1, Err(FileFault::Busy));
+        }
+        Err(fault) => same!(*rt; Some(fault), None, path),
+    }
+}
+
+// Gives a file another size.
+fn resizes(rt: &impl Files<File = File>, path: &str, size: u64) -> io::Result<()> {
+    OpenOptions::new().write(true).open(rt, path)?.set_len(size)
+}
+
+// The file is read back. Then it is cut short under the disk: a read fails, and is counted as a read's failure. The
+// lock is had as before.
+fn is_cut<D: Disk>(rt: &(impl Abort + Files<File = File>), path: &str, disk: &mut D) {
+    plays(
+        rt,
+        disk,
+        &[
+            Call::Size(4096),
+            Call::Read(100, b"footage", Ok(())),
+            Call::Read(4094, b"\0z", Ok(())),
+        ],
+    );
+    is_done(rt, resizes(rt, path, 50), path);
+    does(rt, disk, &Call::Read(4094, b"\0z", Err(DiskFault::Read)));
+    opens(rt, path, Err(FileFault::Busy));
+}
+
+// The file that was written is had again.
+fn is_read_back(rt: &(impl Abort + Files<File = File>), path: &str) {
+    match FileDisk::open(rt, path) {
+        Ok(mut disk) => is_cut(rt, path, &mut disk),
+        Err(fault) => same!(*rt; Some(fault), None, path),
+    }
+}
+
+// What is done to a new file.
+static WRITTEN: [Call; 5] = [
+    Call::Size(4096),
+    Call::Read(4094, &[0, 0], Ok(())),
+    Call::Write(100, b"footage", Ok(())),
+    Call::Write(4095, b"z", Ok(())),
+    Call::Sync(Ok(())),
+];
+
 #[test]
-fn a_file_is_written_and_read_back(rt: HostRuntime) -> Result<(), Fail> {
+fn a_file_is_written_and_read_back(rt: HostRuntime) {
     let path = "written.img";
-    let mut disk = FileDisk::create(&rt, path, 4096)?;
-    same!(rt; disk.size(), 4096);
-    let mut last = [1; 2];
-    same!(rt; read_at(&mut disk, 4094, &mut last), Ok(()));
-    same!(rt; last, [0, 0]);
-    same!(rt; write_at(&mut disk, 100, b"footage"), Ok(()));
-    same!(rt; write_at(&mut disk, 4095, b"z"), Ok(()));
-    same!(rt; disk.sync(), Ok(()));
-    // It is in use, also for one who would make it anew, and keeps its bytes.
-    same!(rt; FileDisk::open(&rt, path).err(), Some(FileFault::Busy));
-    same!(rt; FileDisk::create(&rt, path, 1).err(), Some(FileFault::Busy));
-    drop(disk);
-
-    let mut disk = FileDisk::open(&rt, path)?;
-    same!(rt; disk.size(), 4096);
-    let mut seen = [0; 7];
-    same!(rt; read_at(&mut disk, 100, &mut seen), Ok(()));
-    same!(rt; seen, *b"footage");
-    same!(rt; read_at(&mut disk, 4094, &mut last), Ok(()));
-    same!(rt; last, *b"\0z");
-    // A file that was cut short under the disk: a read fails, and is counted as a read's failure.
-    OpenOptions::new().write(true).open(&rt, path)?.set_len(50)?;
-    same!(rt; read_at(&mut disk, 4094, &mut last), Err(DiskFault::Read));
-    // The lock is had as before.
-    same!(rt; FileDisk::open(&rt, path).err(), Some(FileFault::Busy));
-    drop(disk);
-
+    plays_at(&rt, path, 4096, &WRITTEN);
+    is_read_back(&rt, path);
     // No file has that size: the file is as it was.
-    same!(rt; FileDisk::create(&rt, path, u64::MAX).err(), Some(FileFault::Failed));
-    same!(rt; FileDisk::open(&rt, path)?.size(), 50);
-    let mut disk = FileDisk::create(&rt, path, 200)?;
-    let mut zeros = [1; 200];
-    same!(rt; read_at(&mut disk, 0, &mut zeros), Ok(()));
-    holds!(rt; zeros.iter().all(|byte| *byte == 0));
-    fs::remove_file(&rt, path)?;
-    Ok(())
+    creates(&rt, path, u64::MAX, Err(FileFault::Failed));
+    opens(&rt, path, Ok(50));
+    plays_at(&rt, path, 200, &[Call::Read(0, &[0; 200], Ok(()))]);
+    removes(&rt, path);
+}
+
+// The gate runs tests as nobody, who may not open it. A superuser may, as under `rt try`: then nothing is shown here,
+// since a test can't lay its rights down.
+fn is_denied(rt: &(impl Abort + Files<File = File>), path: &str) {
+    if let Err(fault) = FileDisk::open(rt, path) {
+        same!(*rt; fault, FileFault::Denied);
+    }
 }
 
 #[test]
 fn what_is_no_file_of_ours_is_refused_by_name(rt: HostRuntime) -> Result<(), Fail> {
-    same!(rt; FileDisk::open(&rt, "missing.img").err(), Some(FileFault::Missing));
-    same!(rt; FileDisk::create(&rt, "missing/new.img", 1).err(), Some(FileFault::Missing));
-    same!(rt; FileDisk::open(&rt, ".").err(), Some(FileFault::Folder));
-    same!(rt; FileDisk::create(&rt, ".", 1).err(), Some(FileFault::Folder));
-    same!(rt; FileDisk::open(&rt, "/dev/null").err(), Some(FileFault::NotRegular));
+    opens(&rt, "missing.img", Err(FileFault::Missing));
+    creates(&rt, "missing/new.img", 1, Err(FileFault::Missing));
+    opens(&rt, ".", Err(FileFault::Folder));
+    creates(&rt, ".", 1, Err(FileFault::Folder));
+    opens(&rt, "/dev/null", Err(FileFault::NotRegular));
     let path = "denied.img";
-    drop(FileDisk::create(&rt, path, 1)?);
+    creates(&rt, path, 1, Ok(1));
     fs::set_permissions(&rt, path, Permissions::from_mode(0o400))?;
-    // The gate runs tests as nobody, who may not open it. A superuser may, as under `rt try`: then nothing is shown
-    // here, since a test can't lay its rights down.
-    if let Err(fault) = FileDisk::open(&rt, path) {
-        same!(rt; fault, FileFault::Denied);
-    }
-    fs::remove_file(&rt, path)?;
+    is_denied(&rt, path);
+    removes(&rt, path);
     Ok(())
+}
+
+// Opens a file for reading and writing.
+fn opened(rt: &impl Files<File = File>, path: &str) -> io::Result<File> {
+    OpenOptions::new().read(true).write(true).open(rt, path)
 }
 
 // A file that moves three bytes at a time, and is interrupted before each.
@@ -124,16 +164,21 @@ impl FileExt for Halting {
 #[test]
 fn short_counts_and_interruptions_are_gone_on_from(rt: HostRuntime) -> Result<(), Fail> {
     let path = "halting.img";
-    drop(FileDisk::create(&rt, path, 20)?);
-    let file = OpenOptions::new().read(true).write(true).open(&rt, path)?;
-    let turn = Cell::new(0);
-    let mut disk = FileDisk::over(Halting { file, turn })?;
-    same!(rt; disk.size(), 20);
-    same!(rt; write_at(&mut disk, 2, b"one whole write"), Ok(()));
-    let mut seen = [0; 17];
-    same!(rt; read_at(&mut disk, 2, &mut seen), Ok(()));
-    same!(rt; seen, *b"one whole write\0\0");
-    fs::remove_file(&rt, path)?;
+    creates(&rt, path, 20, Ok(20));
+    let mut disk = FileDisk::over(Halting {
+        file: opened(&rt, path)?,
+        turn: Cell::new(0),
+    })?;
+    plays(
+        &rt,
+        &mut disk,
+        &[
+            Call::Size(20),
+            Call::Write(2, b"one whole write", Ok(())),
+            Call::Read(2, b"one whole write\0\0", Ok(())),
+        ],
+    );
+    removes(&rt, path);
     Ok(())
 }
 
@@ -195,12 +240,44 @@ impl<'a> FileExt for Counting<'a> {
     }
 }
 
-#[test]
-fn a_sync_is_one_of_the_file_and_a_failed_one_leaves_its_lock(rt: HostRuntime) -> Result<(), Fail> {
-    let path = "counting.img";
-    drop(FileDisk::create(&rt, path, 8)?);
-    let file = OpenOptions::new().read(true).write(true).open(&rt, path)?;
-    holds!(rt; file.try_lock().is_ok());
+// Whether the syncs and the writes of the file fail, a call of the disk, and the syncs of the file by then.
+static SYNCED: [(bool, Call, u32); 5] = [
+    (false, Call::Size(8), 0),
+    (false, Call::Write(1, b"ab", Ok(())), 0),
+    (false, Call::Sync(Ok(())), 1),
+    (true, Call::Sync(Err(DiskFault::Sync)), 2),
+    (true, Call::Write(1, b"cd", Err(DiskFault::Write)), 2),
+];
+
+// Opens a file and takes its lock.
+fn locked(rt: &impl Files<File = File>, path: &str) -> Result<File, Fail> {
+    let file = opened(rt, path)?;
+    file.try_lock()?;
+    Ok(file)
+}
+
+// Makes these calls of a disk over a file, which stays in use.
+fn is_synced<D: Disk>(
+    rt: &(impl Abort + Files<File = File>),
+    path: &str,
+    (syncs, disk): (&Syncs, &mut D),
+    calls: &[(bool, Call, u32)],
+) {
+    for (fails, call, data) in calls {
+        syncs.fails.set(*fails);
+        does(rt, disk, call);
+        same!(*rt; syncs.data.get(), *data);
+        opens(rt, path, Err(FileFault::Busy));
+    }
+}
+
+// Makes a disk of a file that is locked, and these calls of it.
+fn plays_counted(
+    rt: &(impl Abort + Files<File = File>),
+    path: &str,
+    calls: &[(bool, Call, u32)],
+) -> Result<(), Fail> {
+    let file = locked(rt, path)?;
     let syncs = Syncs {
         data: Cell::new(0),
         fails: Cell::new(false),
@@ -209,20 +286,17 @@ fn a_sync_is_one_of_the_file_and_a_failed_one_leaves_its_lock(rt: HostRuntime) -
         file,
         syncs: &syncs,
     })?;
-    same!(rt; disk.size(), 8);
-    same!(rt; write_at(&mut disk, 1, b"ab"), Ok(()));
-    same!(rt; syncs.data.get(), 0);
-    same!(rt; disk.sync(), Ok(()));
-    same!(rt; syncs.data.get(), 1);
-    syncs.fails.set(true);
-    same!(rt; disk.sync(), Err(DiskFault::Sync));
-    same!(rt; syncs.data.get(), 2);
-    same!(rt; FileDisk::open(&rt, path).err(), Some(FileFault::Busy));
-    same!(rt; write_at(&mut disk, 1, b"cd"), Err(DiskFault::Write));
-    same!(rt; FileDisk::open(&rt, path).err(), Some(FileFault::Busy));
-    drop(disk);
-    same!(rt; FileDisk::open(&rt, path)?.size(), 8);
-    fs::remove_file(&rt, path)?;
+    is_synced(rt, path, (&syncs, &mut disk), calls);
+    Ok(())
+}
+
+#[test]
+fn a_sync_is_one_of_the_file_and_a_failed_one_leaves_its_lock(rt: HostRuntime) -> Result<(), Fail> {
+    let path = "counting.img";
+    creates(&rt, path, 8, Ok(8));
+    plays_counted(&rt, path, &SYNCED)?;
+    opens(&rt, path, Ok(8));
+    removes(&rt, path);
     Ok(())
 }
 
@@ -273,78 +347,93 @@ impl FileExt for Filling<'_> {
     }
 }
 
-// The bytes of an old file, the size that it is to have, below which place no room is taken, and the room that there
-// is; then the refusal, the writes that were tried, and the bytes that it has afterwards.
+// The bytes of an old file; below which place no room is taken, the room that there is, the size that it is to have;
+// then its size or the refusal with the writes that were tried, and the bytes that it has afterwards.
 type Filled = (
     &'static [u8],
-    u64,
-    u64,
-    usize,
-    Option<FileFault>,
-    u32,
+    (u64, usize, u64),
+    (Result<u64, FileFault>, u32),
     &'static [u8],
 );
 
 static FILLED: [Filled; 6] = [
-    (b"", 4, 0, 4, None, 1, b"\0\0\0\0"),
-    (b"", 4, 0, 3, Some(FileFault::NoRoom), 2, b""),
-    (b"old", 8, 3, 5, None, 3, b"\0\0\0\0\0\0\0\0"),
-    (b"footage", 3, 7, 0, None, 2, b"\0\0\0"),
+    (b"", (0, 4, 4), (Ok(4), 1), b"\0\0\0\0"),
+    (b"", (0, 3, 4), (Err(FileFault::NoRoom), 2), b""),
+    (b"old", (3, 5, 8), (Ok(8), 3), b"\0\0\0\0\0\0\0\0"),
+    (b"footage", (7, 0, 3), (Ok(3), 2), b"\0\0\0"),
     // What is new has no room, so the old bytes are given back.
-    (b"old", 8, 3, 4, Some(FileFault::NoRoom), 4, b"old"),
+    (b"old", (3, 4, 8), (Err(FileFault::NoRoom), 4), b"old"),
     // The old bytes can't be written over: the first one is zero.
     (
         b"old",
-        8,
-        0,
-        6,
-        Some(FileFault::NoRoom),
-        3,
+        (0, 6, 8),
+        (Err(FileFault::NoRoom), 3),
         b"\0ld\0\0\0\0\0",
     ),
 ];
 
-#[test]
-fn a_fresh_file_has_its_room_or_is_refused(rt: HostRuntime) -> Result<(), Fail> {
-    let path = "filling.img";
-    let folder = File::open(&rt, ".")?;
-    let (room, writes) = (Cell::new(0), Cell::new(0));
-    for (old, size, below, allowed, refusal, tried, left) in &FILLED {
-        fs::write(&rt, path, *old)?;
-        room.set(*allowed);
-        writes.set(0);
-        let file = OpenOptions::new().read(true).write(true).open(&rt, path)?;
-        let filling = Filling {
-            file,
-            below: *below,
-            room: &room,
-            writes: &writes,
-        };
-        let made = FileDisk::fresh_over(filling, &folder, *size);
-        same!(rt; made.err(), *refusal, (old, size, allowed));
-        same!(rt; writes.get(), *tried, (old, size, allowed));
-        same!(rt; fs::read(&rt, path)?.as_slice(), *left, (old, size, allowed));
-    }
-    Ok(fs::remove_file(&rt, path)?)
-}
-
-#[test]
-fn a_fresh_file_is_written_a_megabyte_at_a_time(rt: HostRuntime) -> Result<(), Fail> {
-    let path = "large.img";
-    let folder = File::open(&rt, ".")?;
-    let (room, writes) = (Cell::new(3 << 20), Cell::new(0));
-    fs::write(&rt, path, b"")?;
-    let file = OpenOptions::new().read(true).write(true).open(&rt, path)?;
+// Makes a file anew, below which place no room is taken, with so much room. Answers its size or the refusal, and the
+// writes that were tried.
+fn fills_over(
+    file: File,
+    folder: &File,
+    (below, allowed, size): (u64, usize, u64),
+) -> (Result<u64, FileFault>, u32) {
+    let (room, writes) = (Cell::new(allowed), Cell::new(0));
     let filling = Filling {
         file,
-        below: 0,
+        below,
         room: &room,
         writes: &writes,
     };
-    let disk = FileDisk::fresh_over(filling, &folder, 2_500_000)?;
-    same!(rt; disk.size(), 2_500_000);
-    same!(rt; writes.get(), 3);
-    Ok(fs::remove_file(&rt, path)?)
+    let made = match FileDisk::fresh_over(filling, folder, size) {
+        Ok(disk) => Ok(disk.size()),
+        Err(fault) => Err(fault),
+    };
+    (made, writes.get())
+}
+
+// A file and the folder of the tests.
+fn with_folder(rt: &impl Files<File = File>, path: &str) -> io::Result<(File, File)> {
+    let file = opened(rt, path)?;
+    Ok((file, File::open(rt, ".")?))
+}
+
+// Makes a file anew, which has its room or is refused so, in so many writes.
+fn fills(
+    rt: &(impl Abort + Files<File = File>),
+    path: &str,
+    how: (u64, usize, u64),
+    want: (Result<u64, FileFault>, u32),
+) {
+    match with_folder(rt, path) {
+        Ok((file, folder)) => same!(*rt; fills_over(file, &folder, how), want, how),
+        Err(error) => is_done(rt, Err(error), path),
+    }
+}
+
+// Makes these old files anew.
+fn are_filled(rt: &(impl Abort + AllocGlobal + Files<File = File>), path: &str, rows: &[Filled]) {
+    for (old, how, want, left) in rows {
+        writes(rt, path, old);
+        fills(rt, path, *how, *want);
+        has(rt, path, Some(*left), want.1);
+    }
+}
+
+#[test]
+fn a_fresh_file_has_its_room_or_is_refused(rt: HostRuntime) {
+    let path = "filling.img";
+    are_filled(&rt, path, &FILLED);
+    removes(&rt, path);
+}
+
+#[test]
+fn a_fresh_file_is_written_a_megabyte_at_a_time(rt: HostRuntime) {
+    let path = "large.img";
+    writes(&rt, path, b"");
+    fills(&rt, path, (0, 3 << 20, 2_500_000), (Ok(2_500_000), 3));
+    removes(&rt, path);
 }
 
 // What the system says, and the fault that it is.

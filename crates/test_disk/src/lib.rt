@@ -6,7 +6,8 @@
 //!   it is refused, over a system whose calls fail;
 //! - `crashing` and `ahead` refuse memory to the disk that remembers its calls and to the one that reads ahead;
 //! - `overlay` has the disk over another that is never written to;
-//! - `calls` has reads and writes that see to the size of a disk first, `told` assertions that are cheap to prove.
+//! - `calls` has the calls of a disk with their answers, `paths` what is done at a path, `told` assertions that are
+//!   cheap to prove.
 #![tactic(auto)]
 
 #[cfg(test)]
@@ -25,6 +26,8 @@ mod files;
 mod memory;
 #[cfg(test)]
 mod overlay;
+#[cfg(test)]
+mod paths;
 #[cfg(test)]
 mod places;
 #[cfg(test)]

@@ -4,10 +4,12 @@ ghost use Rattle.loop_disk.specs.Medium.{IsSettled, LeavesOnly, with_bytes_at};
 ghost use Rattle.loop_disk.specs.Calls.{Called, failed_call};
 ghost use Rattle.test_disk.specs.InTurn.{TornOfThree};
 
-use crate::calls::{read_at, write_at};
+use crate::calls::{Call, plays, write_at};
 use crate::told::{holds, same};
 use loop_budget::Budget;
 use loop_disk::{Disk, DiskFault, FuseDisk, MemDisk, store, store_in_turn};
+use std::alloc::{AllocError, Allocator};
+use std::process::Abort;
 use std::test::Fail;
 
 // A caller as the layers above have them: it knows nothing of the disk but the trait.
@@ -39,30 +41,45 @@ fn three_bytes_are_stored_in_turn(rt: HostRuntime) -> Result<(), Fail> {
     Ok(())
 }
 
+// Writes a hundred times at one place.
+fn is_written_often<D: Disk>(rt: &impl Abort, disk: &mut D) {
+    for attempt in 0..100u8 {
+        same!(*rt; disk.size(), 6);
+        same!(*rt; write_at(disk, 1, &[attempt, 98, 99]), Ok(()));
+        same!(*rt; disk.sync(), Ok(()));
+    }
+}
+
+// A disk takes one block, and no more as it is written. There is none for a second.
+fn is_kept<A: Allocator + Copy>(
+    rt: &impl Abort,
+    memory: &Budget,
+    alloc: A,
+) -> Result<(), AllocError> {
+    memory.allow(1);
+    let mut disk = MemDisk::new(alloc, 6)?;
+    same!(*rt; memory.left(), 0);
+    is_written_often(rt, &mut disk);
+    plays(
+        rt,
+        &mut disk,
+        &[
+            Call::Size(6),
+            Call::Write(5, b"z", Ok(())),
+            Call::Read(5, b"z", Ok(())),
+        ],
+    );
+    same!(*rt; disk.bytes(), b"\0cbc\0z".as_slice());
+    holds!(*rt; MemDisk::new(alloc, 1).is_err());
+    Ok(())
+}
+
 #[test]
 fn a_memory_disk_keeps_what_is_written_and_takes_no_memory(rt: HostRuntime) -> Result<(), Fail> {
     let memory = Budget::new(rt.alloc());
-    memory.allow(1);
-    let mut disk = MemDisk::new(&memory, 6)?;
-    same!(rt; memory.left(), 0);
-    same!(rt; disk.size(), 6);
-    for attempt in 0..100u8 {
-        same!(rt; disk.size(), 6);
-        same!(rt; write_at(&mut disk, 1, &[attempt, 98, 99]), Ok(()));
-        same!(rt; disk.sync(), Ok(()));
-    }
-    same!(rt; disk.size(), 6);
-    same!(rt; write_at(&mut disk, 5, b"z"), Ok(()));
-    same!(rt; disk.bytes(), b"\0cbc\0z".as_slice());
-    let mut last = [0];
-    same!(rt; read_at(&mut disk, 5, &mut last), Ok(()));
-    same!(rt; last, *b"z");
-
+    is_kept(&rt, &memory, &memory)?;
     let mut image = MemDisk::of(b"image".to_vec(rt.alloc())?);
-    let mut seen = [0; 3];
-    same!(rt; read_at(&mut image, 1, &mut seen), Ok(()));
-    same!(rt; seen, *b"mag");
-    holds!(rt; MemDisk::new(&memory, 1).is_err());
+    plays(&rt, &mut image, &[Call::Read(1, b"mag", Ok(()))]);
     holds!(rt; MemDisk::new(rt.alloc(), u64::MAX).is_err());
     Ok(())
 }

@@ -1,16 +1,15 @@
 // Where a file is made, and what a refusal leaves there, over a system whose calls fail or come late.
+use crate::calls::{Call, does};
+use crate::paths::{creates, has, is_done, links, removes, writes};
 use crate::told::{holds, same};
-use loop_disk::Disk;
 use loop_file::{FileDisk, FileFault, FilePlace};
 use std::alloc::{AllocGlobal, Allocator};
 use std::cell::Cell;
 use std::fs::{File, Metadata, OpenOptions};
 use std::io::ErrorKind;
-use std::os::unix::fs::symlink;
 use std::path::PathBuf;
 use std::process::Abort;
 use std::rt::Files;
-use std::test::Fail;
 use std::{fs, io};
 
 // What happens at a call of the system.
@@ -109,20 +108,21 @@ impl<R: Files<File = File>> Files for Troubled<'_, R> {
     }
 }
 
-// Makes a disk of 64 bytes where the system has trouble at one of its calls, and answers the refusal.
+// Makes a disk of 64 bytes where the system has trouble at one of its calls, and is refused so, or not.
 fn makes(
     rt: &(impl Abort + AllocGlobal + Files<File = File> + Drop),
     path: &str,
     (trouble, call): (Trouble, u32),
-) -> Option<FileFault> {
-    let left = Cell::new(Some(call));
+    want: Option<FileFault>,
+    note: u32,
+) {
     let troubled = Troubled {
         rt,
         path,
         trouble,
-        left,
+        left: Cell::new(Some(call)),
     };
-    FileDisk::create(&(troubled, rt.alloc()), path, 64).err()
+    same!(*rt; FileDisk::create(&(troubled, rt.alloc()), path, 64).err(), want, note);
 }
 
 // Whether there was a file, the trouble and the call of the system at which it comes; the refusal, and the file that
@@ -188,116 +188,148 @@ static REFUSED: [Row; 14] = [
     ),
 ];
 
-// The bytes of a file, if there is one.
-fn bytes_of(
-    rt: &(impl Abort + AllocGlobal + Files<File = File> + Drop),
-    path: &str,
-) -> Result<Option<Vec<u8>>, Fail> {
-    match fs::read(rt, path) {
-        Ok(bytes) => Ok(Some(bytes)),
-        Err(error) if error.kind() == ErrorKind::NotFound => Ok(None),
-        Err(error) => Err(error.into()),
-    }
-}
-
-// Fails the test unless a path has a file of these bytes, or none.
-fn has(
-    rt: &(impl Abort + AllocGlobal + Files<File = File> + Drop),
-    path: &str,
-    wanted: Option<&[u8]>,
-    note: u32,
-) -> Result<(), Fail> {
-    let found = bytes_of(rt, path)?;
-    same!(*rt; found.as_ref().map(|bytes| bytes.as_slice()), wanted, note);
-    Ok(())
-}
-
 // Makes a disk of a file, or where there is none, and has trouble with it.
 fn is_refused(
     rt: &(impl Abort + AllocGlobal + Files<File = File> + Drop),
     path: &str,
-    row: &Row,
+    (old, trouble, fault, left): &Row,
     note: u32,
-) -> Result<(), Fail> {
-    let (old, trouble, fault, left) = row;
-    match old {
-        Some(bytes) => fs::write(rt, path, *bytes)?,
-        None => (),
+) {
+    if let Some(bytes) = old {
+        writes(rt, path, bytes);
     }
-    same!(*rt; makes(rt, path, *trouble), Some(*fault), note);
-    has(rt, path, *left, note)?;
+    makes(rt, path, *trouble, Some(*fault), note);
+    has(rt, path, *left, note);
     if left.is_some() {
-        fs::remove_file(rt, path)?;
+        removes(rt, path);
     }
-    Ok(())
+}
+
+// Each of these is refused so.
+fn are_refused(
+    rt: &(impl Abort + AllocGlobal + Files<File = File> + Drop),
+    path: &str,
+    rows: &[Row],
+) {
+    let mut note = 0u32;
+    for row in rows {
+        is_refused(rt, path, row, note);
+        note = note.saturating_add(1);
+    }
 }
 
 #[test]
-fn a_refused_file_leaves_what_there_was(rt: HostRuntime) -> Result<(), Fail> {
-    let mut note = 0u32;
-    for row in &REFUSED {
-        is_refused(&rt, "troubled.img", row, note)?;
-        note = note.saturating_add(1);
-    }
+fn a_refused_file_leaves_what_there_was(rt: HostRuntime) {
+    let path = "troubled.img";
+    are_refused(&rt, path, &REFUSED);
     // The next call behind the last one never comes.
-    same!(rt; makes(&rt, "troubled.img", (Trouble::Fails, 5)), None);
-    fs::remove_file(&rt, "troubled.img")?;
-    Ok(())
+    makes(&rt, path, (Trouble::Fails, 5), None, 14);
+    removes(&rt, path);
+}
+
+// What happens at a path.
+enum Event {
+    // A disk of so many bytes is made, or refused.
+    Creates(u64, Result<u64, FileFault>),
+    // The system fails at one of its calls, and so nothing is made.
+    Fails(u32),
+    // A file is written.
+    Writes(&'static [u8]),
+}
+
+// What happens at the first of two links, and the bytes of the file that the second names.
+static LINKED: [(Event, Option<&[u8]>); 7] = [
+    // No file has that size: the file is gone, and the links stand.
+    (Event::Creates(u64::MAX, Err(FileFault::Failed)), None),
+    (Event::Creates(3, Ok(3)), Some(b"\0\0\0")),
+    (Event::Writes(b"old"), Some(b"old")),
+    (
+        Event::Creates(u64::MAX, Err(FileFault::Failed)),
+        Some(b"old"),
+    ),
+    // The first link can't be read, or what it names can't be looked at.
+    (Event::Fails(1), Some(b"old")),
+    (Event::Fails(2), Some(b"old")),
+    (Event::Creates(5, Ok(5)), Some(b"\0\0\0\0\0")),
+];
+
+// One event at a path.
+fn happens(
+    rt: &(impl Abort + AllocGlobal + Files<File = File> + Drop),
+    path: &str,
+    event: &Event,
+    note: u32,
+) {
+    match event {
+        Event::Creates(size, want) => creates(rt, path, *size, *want),
+        Event::Fails(call) => {
+            makes(
+                rt,
+                path,
+                (Trouble::Fails, *call),
+                Some(FileFault::Failed),
+                note,
+            )
+        }
+        Event::Writes(bytes) => writes(rt, path, bytes),
+    }
 }
 
 // Whether a path names a link.
-fn is_link(
+fn is_link(rt: &impl Files<File = File>, path: &str) -> bool {
+    match fs::symlink_metadata(rt, path) {
+        Ok(found) => found.is_symlink(),
+        Err(_) => false,
+    }
+}
+
+// These events at the first link. Both links stand after each.
+fn are_linked(
+    rt: &(impl Abort + AllocGlobal + Files<File = File> + Drop),
+    events: &[(Event, Option<&[u8]>)],
+) {
+    let mut note = 0u32;
+    for (event, left) in events {
+        happens(rt, "first.img", event, note);
+        has(rt, "linked/named.img", *left, note);
+        holds!(*rt; is_link(rt, "first.img") && is_link(rt, "linked/second.img"), note);
+        note = note.saturating_add(1);
+    }
+}
+
+#[test]
+fn what_a_link_names_is_made_and_removed(rt: HostRuntime) {
+    is_done(&rt, fs::create_dir(&rt, "linked"), "linked");
+    links(&rt, "linked/second.img", "first.img");
+    links(&rt, "named.img", "linked/second.img");
+    are_linked(&rt, &LINKED);
+    // Links in a circle lead nowhere.
+    removes(&rt, "linked/second.img");
+    links(&rt, "../first.img", "linked/second.img");
+    creates(&rt, "first.img", 3, Err(FileFault::Failed));
+    removes(&rt, "first.img");
+    is_done(&rt, fs::remove_dir_all(&rt, "linked"), "linked");
+}
+
+// A disk is made and written, and given up.
+fn is_given_up(
     rt: &(impl Abort + AllocGlobal + Files<File = File> + Drop),
     path: &str,
-) -> Result<bool, Fail> {
-    Ok(fs::symlink_metadata(rt, path)?.is_symlink())
-}
-
-#[test]
-fn what_a_link_names_is_made_and_removed(rt: HostRuntime) -> Result<(), Fail> {
-    fs::create_dir(&rt, "linked")?;
-    symlink(&rt, "linked/second.img", "first.img")?;
-    symlink(&rt, "named.img", "linked/second.img")?;
-    // No file has that size: the file is gone, and the links stand.
-    same!(rt; FileDisk::create(&rt, "first.img", u64::MAX).err(), Some(FileFault::Failed));
-    has(&rt, "linked/named.img", None, 0)?;
-    holds!(rt; is_link(&rt, "first.img")? && is_link(&rt, "linked/second.img")?);
-    same!(rt; FileDisk::create(&rt, "first.img", 3)?.size(), 3);
-    has(&rt, "linked/named.img", Some(b"\0\0\0"), 1)?;
-    fs::write(&rt, "linked/named.img", b"old")?;
-    same!(rt; FileDisk::create(&rt, "first.img", u64::MAX).err(), Some(FileFault::Failed));
-    has(&rt, "linked/named.img", Some(b"old"), 2)?;
-    // The first link can't be read, or what it names can't be looked at.
-    same!(rt; makes(&rt, "first.img", (Trouble::Fails, 1)), Some(FileFault::Failed));
-    same!(rt; makes(&rt, "first.img", (Trouble::Fails, 2)), Some(FileFault::Failed));
-    has(&rt, "linked/named.img", Some(b"old"), 3)?;
-    same!(rt; FileDisk::create(&rt, "first.img", 5)?.size(), 5);
-    holds!(rt; is_link(&rt, "first.img")? && is_link(&rt, "linked/second.img")?);
-    // Links in a circle lead nowhere.
-    fs::remove_file(&rt, "linked/second.img")?;
-    symlink(&rt, "../first.img", "linked/second.img")?;
-    same!(rt; FileDisk::create(&rt, "first.img", 3).err(), Some(FileFault::Failed));
-    fs::remove_file(&rt, "first.img")?;
-    fs::remove_dir_all(&rt, "linked")?;
+) -> Result<(), FileFault> {
+    let mut place = FilePlace::of(rt, path)?;
+    let mut disk = place.create(rt, 4)?;
+    does(rt, &mut disk, &Call::Write(0, b"\xA5abc", Ok(())));
+    place.give_up(rt, disk);
     Ok(())
 }
 
 #[test]
-fn a_disk_that_is_given_up_leaves_no_new_file_and_no_old_store(
-    rt: HostRuntime,
-) -> Result<(), Fail> {
+fn a_disk_that_is_given_up_leaves_no_new_file_and_no_old_store(rt: HostRuntime) {
     let path = "given.img";
-    for old in [None, Some(b"old".as_slice())] {
-        match old {
-            Some(bytes) => fs::write(&rt, path, bytes)?,
-            None => (),
-        }
-        let mut place = FilePlace::of(&rt, path)?;
-        let mut disk = place.create(&rt, 4)?;
-        same!(rt; crate::calls::write_at(&mut disk, 0, b"\xA5abc"), Ok(()));
-        place.give_up(&rt, disk);
-        has(&rt, path, old.map(|_| b"\0abc".as_slice()), 0)?;
-    }
-    fs::remove_file(&rt, path)?;
-    Ok(())
+    same!(rt; is_given_up(&rt, path), Ok(()));
+    has(&rt, path, None, 0);
+    writes(&rt, path, b"old");
+    same!(rt; is_given_up(&rt, path), Ok(()));
+    has(&rt, path, Some(b"\0abc"), 1);
+    removes(&rt, path);
 }
