@@ -8,7 +8,7 @@ use loop_desk::LaneEvent;
 use loop_disk::{Disk, MemDisk};
 use loop_record::Geometry;
 use loop_store::{OpenRefused, Store, format};
-use std::alloc::{AllocError, Global};
+use std::alloc::Global;
 use std::env::Args;
 use std::rt::Clock;
 use std::time::Instant;
@@ -39,19 +39,13 @@ fn fresh_lane(alloc: Global, geometry: Geometry, group: u32) -> Result<Mapped<Me
 }
 
 // A frame is taken out and submitted, and its buffer queued again.
-fn taken(alloc: Global) -> Result<Vec<Event>, AllocError> {
-    let mut events = Vec::new(alloc);
-    events.push(LaneEvent::Dequeue)?;
-    events.push(LaneEvent::Submit)?;
-    events.push(LaneEvent::Requeue)?;
-    Ok(events)
+fn taken(alloc: Global) -> Result<Vec<Event>> {
+    Ok(vec![in alloc; LaneEvent::Dequeue, LaneEvent::Submit, LaneEvent::Requeue]?)
 }
 
 // What waits is stored.
-fn flushed(alloc: Global) -> Result<Vec<Event>, AllocError> {
-    let mut events = Vec::new(alloc);
-    events.push(LaneEvent::Flush)?;
-    Ok(events)
+fn flushed(alloc: Global) -> Result<Vec<Event>> {
+    Ok(vec![in alloc; LaneEvent::Flush]?)
 }
 
 // A tick fills a buffer, and its frame goes to the desk.
@@ -89,28 +83,50 @@ fn rate(work: Work, nanos: u128) -> u64 {
     u64::try_from(frames.saturating_mul(1_000_000_000) / nanos.max(1)).unwrap_or(u64::MAX)
 }
 
-// Frames a second that events bring.
-fn lane_rate(rt: &impl Clock, alloc: Global, geometry: Geometry, work: Work) -> Result<u64> {
-    let mut lane = fresh_lane(alloc, geometry, work.group)?;
+// The nanoseconds in which events bring their frames.
+fn lane_nanos(
+    rt: &impl Clock,
+    alloc: Global,
+    lane: &mut Mapped<MemDisk>,
+    work: Work,
+) -> Result<u128> {
     let start = Instant::now(rt)?;
-    record_groups(alloc, &mut lane, work.group, work.groups)?;
-    Ok(rate(work, start.elapsed(rt)?.as_nanos()))
+    record_groups(alloc, lane, work.group, work.groups)?;
+    Ok(start.elapsed(rt)?.as_nanos())
 }
 
-// Frames a second that a device's ticks bring.
-fn device_rate(rt: &impl Clock, alloc: Global, geometry: Geometry, work: Work) -> Result<u64> {
-    let mut device = match Device::new(
-        alloc,
-        Pattern::new(),
-        geometry.width.saturating_mul(geometry.height),
-    ) {
-        Ok(device) => device,
-        Err(_) => return Err(anyhow!("no memory for a device")),
-    };
+// The same, in a lane to a fresh store.
+fn events_nanos(rt: &impl Clock, alloc: Global, geometry: Geometry, work: Work) -> Result<u128> {
     let mut lane = fresh_lane(alloc, geometry, work.group)?;
+    lane_nanos(rt, alloc, &mut lane, work)
+}
+
+// The nanoseconds in which a device's ticks bring their frames.
+fn device_nanos(
+    rt: &impl Clock,
+    alloc: Global,
+    lane: &mut Mapped<MemDisk>,
+    device: &mut Device<Pattern>,
+    work: Work,
+) -> Result<u128> {
     let start = Instant::now(rt)?;
-    tick_groups(alloc, &mut lane, &mut device, work)?;
-    Ok(rate(work, start.elapsed(rt)?.as_nanos()))
+    tick_groups(alloc, lane, device, work)?;
+    Ok(start.elapsed(rt)?.as_nanos())
+}
+
+// A device of the pattern, whose frames have so many bytes.
+fn device_of(alloc: Global, size: u32) -> Result<Device<Pattern>> {
+    match Device::new(alloc, Pattern::new(), size) {
+        Ok(device) => Ok(device),
+        Err(_) => Err(anyhow!("no memory for a device")),
+    }
+}
+
+// The same, in a lane to a fresh store.
+fn ticks_nanos(rt: &impl Clock, alloc: Global, geometry: Geometry, work: Work) -> Result<u128> {
+    let mut device = device_of(alloc, geometry.width.saturating_mul(geometry.height))?;
+    let mut lane = fresh_lane(alloc, geometry, work.group)?;
+    device_nanos(rt, alloc, &mut lane, &mut device, work)
 }
 
 /// Measures stores in memory as the next words say.
@@ -120,8 +136,8 @@ pub(crate) fn measure(rt: &(impl Clock + Print), alloc: Global, words: &mut Args
         group: number(words)?,
         groups: number(words)?,
     };
-    let lane = lane_rate(rt, alloc, geometry, work)?;
-    let device = device_rate(rt, alloc, geometry, work)?;
+    let lane = rate(work, events_nanos(rt, alloc, geometry, work)?);
+    let device = rate(work, ticks_nanos(rt, alloc, geometry, work)?);
     let percent = u128::from(device) * 100 / u128::from(lane.max(1));
     println!(rt; "device {device} frames/s, lane {lane} frames/s, {percent} %")?;
     Ok(())

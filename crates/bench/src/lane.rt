@@ -1,4 +1,7 @@
 // Frames of a camera that go through a queue of two buffers of mapped memory to a store.
+ghost use Rattle.std.specs.Prelude.{◌≤◌};
+
+use crate::desk::desk_of;
 use crate::memory::set_of;
 use crate::words::{number, open_file, path, refused};
 use anyhow::{Error, Result, anyhow};
@@ -21,9 +24,6 @@ const GREY: BufferType = BufferType::VideoCapture;
 /// The pages of the ledger that both buffers are claimed from.
 const PAGES: u32 = 1024;
 
-/// The most frames of a group.
-const MAX_GROUP: u32 = 8;
-
 /// A lane to a store, from mapped memory.
 pub(crate) type Mapped<D> = Lane<D, MmapPlane>;
 
@@ -35,10 +35,11 @@ fn supply(alloc: Global, size: u32) -> Result<Vec<PlaneSet<MmapPlane>>> {
     let pages = size.div_ceil(PAGE_BYTES);
     let (ledger, seat) = PageLedger::new(alloc, PAGES)?;
     let (first, second) = ledger.split(seat);
-    let mut supply = Vec::new(alloc);
-    supply.push(set_of(alloc, &ledger, first, pages)?)?;
-    supply.push(set_of(alloc, &ledger, second, pages)?)?;
-    Ok(supply)
+    let (one, two) = (
+        set_of(alloc, &ledger, first, pages)?,
+        set_of(alloc, &ledger, second, pages)?,
+    );
+    Ok(vec![in alloc; one, two]?)
 }
 
 // The ioctl QBUF of a buffer.
@@ -50,19 +51,25 @@ fn queued(index: u32) -> Event {
     }))
 }
 
-/// What starts a lane for frames of so many bytes: REQBUFS of two buffers, QBUF of each, STREAMON.
-pub(crate) fn start_events(alloc: Global, size: u32) -> Result<Vec<Event>> {
-    let mut events = Vec::new(alloc);
-    events.push(LaneEvent::Queue(QueueEvent::Ioctl(Ioctl::ReqBufs {
+// The ioctl REQBUFS of two buffers.
+fn requested(supply: Vec<PlaneSet<MmapPlane>>) -> Event {
+    LaneEvent::Queue(QueueEvent::Ioctl(Ioctl::ReqBufs {
         buf_type: GREY,
         count: 2,
         memory: Memory::Mmap,
-        supply: supply(alloc, size)?,
-    })))?;
-    events.push(queued(0))?;
-    events.push(queued(1))?;
-    events.push(LaneEvent::Queue(QueueEvent::Ioctl(Ioctl::StreamOn { buf_type: GREY })))?;
-    Ok(events)
+        supply,
+    }))
+}
+
+// The ioctl STREAMON.
+fn streaming() -> Event {
+    LaneEvent::Queue(QueueEvent::Ioctl(Ioctl::StreamOn { buf_type: GREY }))
+}
+
+/// What starts a lane for frames of so many bytes: REQBUFS of two buffers, QBUF of each, STREAMON.
+pub(crate) fn start_events(alloc: Global, size: u32) -> Result<Vec<Event>> {
+    let request = requested(supply(alloc, size)?);
+    Ok(vec![in alloc; request, queued(0), queued(1), streaming()]?)
 }
 
 // What a camera fills its buffers with, in turn: the frame of a number, whose bytes are all the same.
@@ -78,6 +85,16 @@ fn completed(alloc: Global, size: u32, number: u32) -> Result<Event, AllocError>
     }))
 }
 
+// Puts a frame behind other events: it is taken out and submitted, and its buffer queued again.
+fn push_frame(events: &mut Vec<Event>, frame: Event) -> Result<(), AllocError> {
+    events.reserve(4)?;
+    events.push_reserved(frame);
+    events.push_reserved(LaneEvent::Dequeue);
+    events.push_reserved(LaneEvent::Submit);
+    events.push_reserved(LaneEvent::Requeue);
+    Ok(())
+}
+
 // So many frames from a number on, each taken out, submitted and its buffer queued again, and a flush.
 fn group_events(
     alloc: Global,
@@ -87,12 +104,13 @@ fn group_events(
 ) -> Result<Vec<Event>, AllocError> {
     let mut events = Vec::new(alloc);
     for place in 0..group {
-        events.push(completed(alloc, size, first.wrapping_add(place))?)?;
-        events.push(LaneEvent::Dequeue)?;
-        events.push(LaneEvent::Submit)?;
-        events.push(LaneEvent::Requeue)?;
+        push_frame(
+            &mut events,
+            completed(alloc, size, first.wrapping_add(place))?,
+        )?;
     }
-    events.push(LaneEvent::Flush)?;
+    events.reserve(1)?;
+    events.push_reserved(LaneEvent::Flush);
     Ok(events)
 }
 
@@ -152,30 +170,31 @@ pub(crate) fn run<D: Disk + Drop>(
     Ok(())
 }
 
+// A lane to a desk, whose queue has no buffers yet.
+fn lane_of<D: Disk + Drop>(alloc: Global, desk: Desk<D>, geometry: &Geometry) -> Mapped<D>
+    requires { (geometry.now.width ≤ 16384) × (geometry.now.height ≤ 16384) }
+{
+    Lane {
+        queue: Queue::new(alloc, PixelFormat::Grey, geometry.width, geometry.height, 1),
+        table: FdTable::new(alloc),
+        hand: Hand::Empty,
+        desk,
+    }
+}
+
 /// A lane to a store, whose queue has no buffers yet.
 pub(crate) fn lane_to<D: Disk + Drop>(
     alloc: Global,
     store: Store<D>,
     group: u32,
 ) -> Result<Mapped<D>> {
-    if group == 0 || group > MAX_GROUP {
-        return Err(anyhow!("1 to 8 frames a group"));
-    }
     let geometry = store.geometry();
     let limits = DeskLimits {
         pending: 64,
         group,
         calls: 1,
     };
-    let Ok(desk) = Desk::new(alloc, store, limits) else {
-        return Err(anyhow!("no memory for a desk"));
-    };
-    Ok(Lane {
-        queue: Queue::new(alloc, PixelFormat::Grey, geometry.width, geometry.height, 1),
-        table: FdTable::new(alloc),
-        hand: Hand::Empty,
-        desk,
-    })
+    Ok(lane_of(alloc, desk_of(alloc, store, limits)?, &geometry))
 }
 
 // The bytes of a frame of a store that has GREY frames.
@@ -208,11 +227,21 @@ pub(crate) fn record_groups<D: Disk + Drop>(
     Ok(lane.desk.status().next)
 }
 
+// Records so many groups of frames through a lane to the store in a file, and answers the number of the next frame.
+fn record_into(
+    rt: &impl Files<File = File>,
+    alloc: Global,
+    path: &str,
+    group: u32,
+    groups: u32,
+) -> Result<u64> {
+    let mut lane = lane_to(alloc, open_file(rt, alloc, path)?, group)?;
+    record_groups(alloc, &mut lane, group, groups)
+}
+
 /// Records as the next words say, and answers the number of the next frame.
 pub(crate) fn record(rt: &impl Files<File = File>, alloc: Global, words: &mut Args) -> Result<u64> {
     let path = path(words)?;
     let group = number(words)?;
-    let groups = number(words)?;
-    let mut lane = lane_to(alloc, open_file(rt, alloc, &path)?, group)?;
-    record_groups(alloc, &mut lane, group, groups)
+    record_into(rt, alloc, &path, group, number(words)?)
 }

@@ -64,6 +64,7 @@
 //! Without a word it does nothing, since what it measures is never the same twice.
 #![tactic(auto)]
 
+mod desk;
 mod device;
 mod lane;
 mod memory;

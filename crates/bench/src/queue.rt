@@ -48,9 +48,8 @@ fn supply(alloc: Global, size: u32) -> Result<Vec<PlaneSet<MmapPlane>>>
     requires { size ≤ 4194304 }
 {
     let (ledger, seat) = PageLedger::new(alloc, 1024)?;
-    let mut supply = Vec::new(alloc);
-    supply.push(set_of(alloc, &ledger, seat, size.div_ceil(PAGE_BYTES))?)?;
-    Ok(supply)
+    let set = set_of(alloc, &ledger, seat, size.div_ceil(PAGE_BYTES))?;
+    Ok(vec![in alloc; set]?)
 }
 
 // A stream of grey frames that has begun.
@@ -92,6 +91,37 @@ fn queue_nanos(rt: &impl Clock, stream: &mut Stream, rounds: u32) -> Result<u128
     Ok(start.elapsed(rt)?.as_nanos())
 }
 
+// The nanoseconds of as many plain copies, and of as many rounds of a queue.
+fn nanos(
+    rt: &impl Clock,
+    stream: &mut Stream,
+    source: &[u8],
+    row: &mut [u8],
+    rounds: u32,
+) -> Result<(u128, u128)>
+    requires { length row.old ≡ length source.now }
+{
+    let plain = plain_nanos(rt, source, row, rounds)?;
+    Ok((plain, queue_nanos(rt, stream, rounds)?))
+}
+
+// Makes as many plain copies and rounds of a queue of such frames: the nanoseconds of both.
+fn measured(
+    rt: &impl Clock,
+    alloc: Global,
+    width: u32,
+    height: u32,
+    rounds: u32,
+) -> Result<(u128, u128)>
+    requires width { width ≤ 2048 }
+    requires height { height ≤ 2048 }
+{
+    let source = vec![in alloc; 7u8; (width * height) as usize]?;
+    let mut row = vec![in alloc; 0u8; (width * height) as usize]?;
+    let mut stream = started(alloc, width, height)?;
+    nanos(rt, &mut stream, &source, &mut row, rounds)
+}
+
 // The rounds of a queue of such frames, beside plain copies.
 fn measure_frames(
     rt: &(impl Clock + Print),
@@ -103,11 +133,7 @@ fn measure_frames(
     requires width { width ≤ 2048 }
     requires height { height ≤ 2048 }
 {
-    let mut stream = started(alloc, width, height)?;
-    let source = vec![in alloc; 7u8; (width * height) as usize]?;
-    let mut row = vec![in alloc; 0u8; (width * height) as usize]?;
-    let plain = plain_nanos(rt, &source, &mut row, rounds)?;
-    let queue = queue_nanos(rt, &mut stream, rounds)?;
+    let (plain, queue) = measured(rt, alloc, width, height, rounds)?;
     let percent = plain.saturating_mul(100) / queue.max(1);
     let many = u128::from(rounds.max(1));
     let a_copy = plain / many;

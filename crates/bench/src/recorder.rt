@@ -2,6 +2,7 @@
 ghost use Rattle.std.specs.Prelude.{◌≡◌, ◌≤◌, ◌<◌, All, IfOk, false, length, vec_len};
 ghost use Rattle.loop_recorder.specs.Opened.{IsReady};
 
+use crate::desk::desk_of;
 use crate::store::geometry;
 use crate::words::{number, open_file, path, refused};
 use anyhow::{Result, anyhow};
@@ -125,24 +126,6 @@ fn feed_all<R: Threads + Wait + Sync, D: Disk + Drop + Send + Sync, P: PlaneMemo
     )
 }
 
-// A desk of a store that can be written, for groups of so many frames.
-fn desk_of<D: Disk + Drop>(alloc: Global, store: Store<D>, group: u32) -> Result<Desk<D>>
-    ensures { IfOk result (λ desk. desk.store.must_reopen ≡ false) }
-{
-    if store.must_reopen() || group == 0 || group > 8 {
-        return Err(anyhow!("1 to 8 frames a group"));
-    }
-    let limits = DeskLimits {
-        pending: group,
-        group,
-        calls: 1_000_000,
-    };
-    match Desk::new(alloc, store, limits) {
-        Ok(desk) => Ok(desk),
-        Err(_) => Err(anyhow!("no memory for a desk")),
-    }
-}
-
 // A camera with this desk, and a queue of small frames without buffers.
 fn camera_of<D: Disk + Drop, P: PlaneMemory>(alloc: Global, desk: Desk<D>) -> Camera<D, P>
     requires { desk.store.must_reopen ≡ false }
@@ -163,7 +146,12 @@ fn cameras_of<D: Disk + Drop, P: PlaneMemory>(
 {
     let mut cameras = Vec::with_capacity(alloc, stores.len())?;
     for store in stores {
-        let desk = desk_of(alloc, store, group)?;
+        let limits = DeskLimits {
+            pending: group,
+            group,
+            calls: 1_000_000,
+        };
+        let desk = desk_of(alloc, store, limits)?;
         let camera = camera_of(alloc, desk);
         cameras.push_reserved(camera);
     }
@@ -186,6 +174,34 @@ fn recorder_of<D: Disk + Drop, P: PlaneMemory>(
     }
 }
 
+// The nanoseconds in which all cameras are fed.
+fn fed_nanos<R: Threads + Wait + Sync + Clock, D: Disk + Drop + Send + Sync>(
+    rt: &R,
+    alloc: Global,
+    recorder: &Recorder<D, MmapPlane>,
+    count: u32,
+    passes: Vec<Pass>,
+    work: Work,
+) -> Result<u128>
+    requires { count ≤ length recorder.now.outlines }
+{
+    let start = Instant::now(rt)?;
+    let fed = feed_all(rt, alloc, recorder, count, passes, work)?;
+    let nanos = start.elapsed(rt)?.as_nanos();
+    if fed.contains(&false) {
+        return Err(anyhow!("a call was refused, or a flush left frames waiting"));
+    }
+    Ok(nanos)
+}
+
+// How many frames so many cameras store, per second of so many nanoseconds.
+fn per_second(count: u32, work: Work, nanos: u128) -> u64 {
+    let frames = u128::from(count)
+        .saturating_mul(u128::from(work.group))
+        .saturating_mul(u128::from(work.groups));
+    u64::try_from(frames.saturating_mul(1_000_000_000) / nanos.max(1)).unwrap_or(u64::MAX)
+}
+
 // Frames a second that are stored in all of these stores at once.
 fn rate<R: Threads + Wait + Sync + Clock, D: Disk + Drop + Send + Sync>(
     rt: &R,
@@ -196,17 +212,8 @@ fn rate<R: Threads + Wait + Sync + Clock, D: Disk + Drop + Send + Sync>(
     let cameras: Vec<Camera<D, MmapPlane>> = cameras_of(alloc, stores, work.group)?;
     let count = u32::try_from(cameras.len())?;
     let (recorder, passes) = recorder_of(alloc, cameras, count)?;
-    let start = Instant::now(rt)?;
-    let fed = feed_all(rt, alloc, &recorder, count, passes, work)?;
-    let nanos = start.elapsed(rt)?.as_nanos();
-    if fed.contains(&false) {
-        return Err(anyhow!("a call was refused, or a flush left frames waiting"));
-    }
-    let group = u128::from(work.group);
-    let frames = u128::from(count)
-        .saturating_mul(group)
-        .saturating_mul(u128::from(work.groups));
-    Ok(u64::try_from(frames.saturating_mul(1_000_000_000) / nanos.max(1)).unwrap_or(u64::MAX))
+    let nanos = fed_nanos(rt, alloc, &recorder, count, passes, work)?;
+    Ok(per_second(count, work, nanos))
 }
 
 // Fresh stores in memory.
@@ -265,6 +272,36 @@ fn in_files(
     Ok(stores)
 }
 
+// The bytes of a frame of the first of some stores.
+fn size_of<D: Disk + Drop>(stores: &[Store<D>]) -> Result<u32> {
+    match stores.first() {
+        Some(store) => Ok(store.geometry().frame_bytes()),
+        None => Err(anyhow!("no store")),
+    }
+}
+
+// Frames a second that are stored in the files of the next words, so many groups of so many frames in each.
+fn rate_of_files<R: Threads + Wait + Sync + Clock + Files<File = File>>(
+    rt: &R,
+    alloc: Global,
+    words: &mut Args,
+    count: u32,
+    (group, groups): (u32, u32),
+) -> Result<u64> {
+    let stores = in_files(rt, alloc, words, count)?;
+    let size = size_of(&stores)?;
+    rate(
+        rt,
+        alloc,
+        stores,
+        Work {
+            size,
+            group,
+            groups,
+        },
+    )
+}
+
 /// Measures stores in files as the next words say.
 pub(crate) fn measure_files<R: Threads + Wait + Sync + Clock + Print + Files<File = File>>(
     rt: &R,
@@ -274,17 +311,7 @@ pub(crate) fn measure_files<R: Threads + Wait + Sync + Clock + Print + Files<Fil
     let group = number(words)?;
     let groups = number(words)?;
     let count = number(words)?;
-    let alone = in_files(rt, alloc, words, 1)?;
-    let together = in_files(rt, alloc, words, count)?;
-    let Some(store) = alone.first() else {
-        return Err(anyhow!("no store"));
-    };
-    let work = Work {
-        size: store.geometry().frame_bytes(),
-        group,
-        groups,
-    };
-    let one = rate(rt, alloc, alone, work)?;
-    let all = rate(rt, alloc, together, work)?;
+    let one = rate_of_files(rt, alloc, words, 1, (group, groups))?;
+    let all = rate_of_files(rt, alloc, words, count, (group, groups))?;
     told(rt, count, all, one)
 }
