@@ -11,10 +11,9 @@ use loop_plane::{FdTable, Memory, MmapPlane, PlaneMemory};
 use loop_record::{Frame, Geometry, PixelFormat};
 use loop_store::{ReadFrame, Store, StoreFault, format};
 use loop_vb2::{PlaneSet, Planes, Queue, Reason, Stamp};
-use std::alloc::{AllocError, Allocator, Global};
+use std::alloc::{Allocator, Global};
 use std::mem;
 use std::process::Abort;
-use std::test::Fail;
 
 /// Three segments with two slots each, of frames of 12 bytes.
 pub(crate) const SMALL: Geometry = Geometry {
@@ -74,23 +73,24 @@ pub(crate) enum Told {
 
 /// The frame of a number, of so many bytes: byte i is the number + i.
 pub(crate) fn frame<A: Allocator + Copy>(
+    rt: &impl Abort,
     alloc: A,
     size: usize,
     number: u64,
-) -> Result<Frame<A>, AllocError> {
+) -> Frame<A> {
     let n = number % 256;
-    let mut bytes = vec![in alloc; 0; size]?;
+    let mut bytes = vec![in alloc; 0; size].expect(rt, "memory for a frame");
     let mut next = n as u8;
     for byte in bytes.iter_mut() {
         *byte = next;
         next = next.wrapping_add(1);
     }
-    Ok(Frame {
+    Frame {
         sequence: n as u32,
         flags: 0x2000,
         timestamp: n * 40_000,
         bytes,
-    })
+    }
 }
 
 /// Whether these bytes are those of the frame of a number.
@@ -140,66 +140,71 @@ fn ioctl<P: Drop, A: Allocator + Copy>(
 
 // A buffer was filled with the frame of a number.
 fn complete<P: Drop, A: Allocator + Copy>(
+    rt: &impl Abort,
     alloc: A,
     index: u32,
     number: u64,
-) -> Result<QueueEvent<P, A>, AllocError> {
-    let frame = frame(alloc, 12, number)?;
-    Ok(QueueEvent::Complete {
+) -> QueueEvent<P, A> {
+    let frame = frame(rt, alloc, 12, number);
+    QueueEvent::Complete {
         index,
         stamp: Stamp {
             sequence: frame.sequence,
             timestamp: frame.timestamp,
         },
         bytes: frame.bytes,
-    })
+    }
 }
 
 // What happens to the queue.
 fn queue_event<P: Drop, A: Allocator + Copy>(
+    rt: &impl Abort,
     alloc: A,
     call: Call,
     sets: &mut Vec<PlaneSet<P>, A>,
-) -> Result<QueueEvent<P, A>, AllocError> {
+) -> QueueEvent<P, A> {
     let stamp = Stamp {
         sequence: 7,
         timestamp: 40,
     };
     match call {
-        Call::Complete(index, number) => complete(alloc, index, number),
-        Call::Fail(index) => Ok(QueueEvent::Fail { index, stamp }),
-        _ => Ok(QueueEvent::Ioctl(ioctl(alloc, call, sets))),
+        Call::Complete(index, number) => complete(rt, alloc, index, number),
+        Call::Fail(index) => QueueEvent::Fail { index, stamp },
+        _ => QueueEvent::Ioctl(ioctl(alloc, call, sets)),
     }
 }
 
 // The event of a call.
 fn event<P: Drop, A: Allocator + Copy>(
+    rt: &impl Abort,
     alloc: A,
     call: Call,
     sets: &mut Vec<PlaneSet<P>, A>,
-) -> Result<LaneEvent<P, A>, AllocError> {
-    Ok(match call {
+) -> LaneEvent<P, A> {
+    match call {
         Call::Dequeue => LaneEvent::Dequeue,
         Call::Submit => LaneEvent::Submit,
         Call::Requeue => LaneEvent::Requeue,
         Call::Flush => LaneEvent::Flush,
         Call::Read(number) => LaneEvent::Read(number),
-        _ => LaneEvent::Queue(queue_event(alloc, call, sets)?),
-    })
+        _ => LaneEvent::Queue(queue_event(rt, alloc, call, sets)),
+    }
 }
 
 /// The events of a table. They use up the sets at hand.
 pub(crate) fn events_of<P: Drop, A: Allocator + Copy>(
+    rt: &impl Abort,
     alloc: A,
     sets: Vec<PlaneSet<P>, A>,
     lines: &[(Call, Told)],
-) -> Result<Vec<LaneEvent<P, A>, A>, AllocError> {
+) -> Vec<LaneEvent<P, A>, A> {
     let mut sets = sets;
     let mut events = Vec::new(alloc);
     for (call, _) in lines {
-        events.push(event(alloc, *call, &mut sets)?)?;
+        let event = event(rt, alloc, *call, &mut sets);
+        events.push(event).expect(rt, "memory for events");
     }
-    Ok(events)
+    events
 }
 
 // What the queue's reply tells. Planes that come back aren't told.
@@ -246,6 +251,14 @@ pub(crate) fn tell<P, A: Allocator>(reply: &LaneReply<P, A>) -> Told {
     }
 }
 
+// What the reply at a place tells, or None where there are no more.
+fn tell_at<P, A: Allocator>(replies: &[LaneReply<P, A>], at: usize) -> Option<Told> {
+    match replies.get(at) {
+        Some(reply) => Some(tell(reply)),
+        None => None,
+    }
+}
+
 /// Each reply tells what is expected of it.
 pub(crate) fn all_tell<P, A: Allocator>(
     rt: &impl Abort,
@@ -253,14 +266,28 @@ pub(crate) fn all_tell<P, A: Allocator>(
     lines: &[(Call, Told)],
 ) {
     same!(rt; replies.len(), lines.len());
-    let mut line = 0u32;
-    for ((_, want), reply) in lines.iter().zip(replies) {
-        same!(rt; tell(reply), *want, line);
+    let mut line = 0usize;
+    for (_, want) in lines {
+        same!(rt; tell_at(replies, line), Some(*want), line);
         line = line.saturating_add(1);
     }
 }
 
-/// Does the events of a table in one list. The first that answers something else fails the test.
+/// The events of a table are answered as it says, in one list. The first that answers something else fails the test.
+pub(crate) fn are_answered<D: Disk + Drop, P: PlaneMemory, A: Allocator + Copy>(
+    rt: &impl Abort,
+    alloc: A,
+    lane: &mut Lane<D, P, A>,
+    events: Vec<LaneEvent<P, A>, A>,
+    lines: &[(Call, Told)],
+) {
+    let Ok(replies) = lane_run(alloc, lane, events) else {
+        panic!(rt; "memory for replies")
+    };
+    all_tell(rt, &replies, lines);
+}
+
+/// Does the events of a table.
 pub(crate) fn runs<D: Disk + Drop, P: PlaneMemory, A: Allocator + Copy>(
     rt: &impl Abort,
     alloc: A,
@@ -268,13 +295,8 @@ pub(crate) fn runs<D: Disk + Drop, P: PlaneMemory, A: Allocator + Copy>(
     sets: Vec<PlaneSet<P>, A>,
     lines: &[(Call, Told)],
 ) {
-    let Ok(events) = events_of(alloc, sets, lines) else {
-        panic!(rt; "memory for events")
-    };
-    match lane_run(alloc, lane, events) {
-        Ok(replies) => all_tell(rt, &replies, lines),
-        Err(_) => panic!(rt; "memory for replies"),
-    }
+    let events = events_of(rt, alloc, sets, lines);
+    are_answered(rt, alloc, lane, events, lines);
 }
 
 /// A page of a ledger of its own.
@@ -311,24 +333,31 @@ fn mapped<A: Allocator + Copy>(rt: &impl Abort, alloc: A) -> MmapPlane<A> {
     }
 }
 
+// A set of mapped memory.
+fn mapped_set<A: Allocator + Copy>(rt: &impl Abort, alloc: A) -> PlaneSet<MmapPlane<A>> {
+    three(mapped(rt, alloc), mapped(rt, alloc), mapped(rt, alloc))
+}
+
 /// Two sets of mapped memory.
 pub(crate) fn two_sets<A: Allocator + Copy>(
     rt: &impl Abort,
     alloc: A,
-) -> Result<Vec<PlaneSet<MmapPlane<A>>, A>, AllocError> {
+) -> Vec<PlaneSet<MmapPlane<A>>, A> {
     let mut sets = Vec::new(alloc);
     for _ in 0..2 {
-        sets.push(three(mapped(rt, alloc), mapped(rt, alloc), mapped(rt, alloc)))?;
+        sets.push(mapped_set(rt, alloc))
+            .expect(rt, "memory for sets");
     }
-    Ok(sets)
+    sets
 }
 
-/// A freshly formatted image.
-pub(crate) fn fresh(alloc: Global) -> Result<Vec<u8>, Fail> {
-    match format(alloc, MemDisk::new(alloc, 4360)?, SMALL) {
-        Ok(store) => Ok(store.into_disk().bytes().to_vec(alloc)?),
-        Err(_) => Err("the disk is formatted".into()),
-    }
+/// A freshly formatted disk.
+pub(crate) fn fresh(rt: &impl Abort, alloc: Global) -> MemDisk {
+    let disk = MemDisk::new(alloc, 4360).expect(rt, "memory for a disk");
+    let Ok(store) = format(alloc, disk, SMALL) else {
+        panic!(rt; "the disk is formatted")
+    };
+    store.into_disk()
 }
 
 /// The store of a disk that has a recording.
@@ -355,20 +384,19 @@ pub(crate) fn desk_of<D: Disk + Drop, A: Allocator + Copy>(
     Desk::new(alloc, store, limits)
 }
 
-/// A desk over a disk that has a recording.
-pub(crate) fn desk_over<D: Disk + Drop, A: Allocator + Copy>(
+/// A desk of a store, for which there is memory.
+pub(crate) fn desk_for<D: Disk + Drop, A: Allocator + Copy>(
     rt: &impl Abort,
     alloc: A,
-    disk: D,
-    limits: DeskLimits,
+    store: Store<D, A>,
 ) -> Desk<D, A> {
-    match desk_of(rt, alloc, opened(rt, alloc, disk), limits) {
+    match desk_of(rt, alloc, store, AMPLE) {
         Ok(desk) => desk,
         Err(_) => panic!(rt; "memory for a desk"),
     }
 }
 
-/// A lane to such a desk, whose queue starts with one buffer.
+/// A lane to the desk of a disk that has a recording. Its queue starts with one buffer.
 pub(crate) fn lane_over<D: Disk + Drop, P: PlaneMemory, A: Allocator + Copy>(
     rt: &impl Abort,
     alloc: A,
@@ -378,6 +406,14 @@ pub(crate) fn lane_over<D: Disk + Drop, P: PlaneMemory, A: Allocator + Copy>(
         queue: Queue::new(alloc, PixelFormat::Ym12, 4, 2, 1),
         table: FdTable::new(alloc),
         hand: Hand::Empty,
-        desk: desk_over(rt, alloc, disk, AMPLE),
+        desk: desk_for(rt, alloc, opened(rt, alloc, disk)),
     }
+}
+
+/// The disk of a lane.
+pub(crate) fn disk_of<D: Disk + Drop, P: PlaneMemory, A: Allocator + Copy>(
+    lane: Lane<D, P, A>,
+) -> D {
+    let Lane { desk, .. } = lane;
+    desk.into_disk()
 }

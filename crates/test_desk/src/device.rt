@@ -15,7 +15,6 @@ use loop_store::{Store, StoreFault};
 use loop_y4m::export;
 use std::alloc::Global;
 use std::process::Abort;
-use std::test::Fail;
 
 /// The lane of these tests.
 type Mapped = Lane<MemDisk, MmapPlane>;
@@ -52,8 +51,9 @@ const START: [(Call, Told); 4] = [
 /// Frame periods, each with its end, and the events behind them.
 type Part = (&'static [(u64, Tick)], &'static [(Call, Told)]);
 
-/// Eight frame periods up to a stop: two find no active buffer, one has no frame, and the last one's is thrown away.
-const UNTIL_A_STOP: [Part; 4] = [
+/// What a device and a lane do.
+const PARTS: [Part; 8] = [
+    // Eight frame periods up to a stop: two find no active buffer, one has no frame, and the last one's is thrown away.
     (
         &[(0, Completed(0)), (40_000, Completed(1)), (80_000, Missed)],
         &[
@@ -96,11 +96,8 @@ const UNTIL_A_STOP: [Part; 4] = [
         ],
     ),
     (&[(320_000, Completed(0))], &[(StreamOff, Done)]),
-];
-
-/// Frame periods behind the stop. The first that streams has no frame, so that the buffers change places; the last
-/// flush recycles the oldest block.
-const BEHIND_THE_STOP: [Part; 4] = [
+    // Frame periods behind the stop. The first that streams has no frame, so that the buffers change places; the last
+    // flush recycles the oldest block.
     (
         &[(340_000, Idle)],
         &[(QBuf(0), Done), (QBuf(1), Done), (StreamOn, Done)],
@@ -184,22 +181,19 @@ fn device_of(rt: &impl Abort, alloc: Global) -> Device<Faulty> {
 }
 
 // A device gives its frames to a lane.
-fn records(rt: &impl Abort, alloc: Global, lane: &mut Mapped) {
+fn records(rt: &impl Abort, alloc: Global, lane: &mut Mapped, parts: &[Part]) {
     let mut device = device_of(rt, alloc);
-    for (periods, lines) in UNTIL_A_STOP.iter().chain(&BEHIND_THE_STOP) {
+    for (periods, lines) in parts {
         plays(rt, alloc, &mut device, lane, periods, lines);
     }
 }
 
 // The disk of a lane that a device has given its frames to.
-fn recorded(rt: &impl Abort, alloc: Global) -> Result<MemDisk, Fail> {
-    let image = fresh(alloc)?;
-    let sets = two_sets(rt, alloc)?;
-    let mut lane: Mapped = lane_over(rt, alloc, MemDisk::of(image));
-    runs(rt, alloc, &mut lane, sets, &START);
-    records(rt, alloc, &mut lane);
-    let Lane { desk, .. } = lane;
-    Ok(desk.into_disk())
+fn recorded(rt: &impl Abort, alloc: Global, start: &[(Call, Told)], parts: &[Part]) -> MemDisk {
+    let mut lane: Mapped = lane_over(rt, alloc, fresh(rt, alloc));
+    runs(rt, alloc, &mut lane, two_sets(rt, alloc), start);
+    records(rt, alloc, &mut lane, parts);
+    disk_of(lane)
 }
 
 // Sequence and time of the frame of a number.
@@ -230,10 +224,9 @@ fn becomes(rt: &impl Abort, alloc: Global, store: &mut Store<MemDisk>, text: &[u
 }
 
 #[test]
-fn what_a_device_gives_is_recorded_and_exported(rt: HostRuntime) -> Result<(), Fail> {
+fn what_a_device_gives_is_recorded_and_exported(rt: HostRuntime) {
     let alloc = rt.alloc();
-    let mut store = opened(&rt, alloc, recorded(&rt, alloc)?);
+    let mut store = opened(&rt, alloc, recorded(&rt, alloc, &START, &PARTS));
     have_heads(&rt, alloc, &mut store, &HELD);
     becomes(&rt, alloc, &mut store, TEXT);
-    Ok(())
 }

@@ -6,19 +6,12 @@ use crate::common::*;
 use crate::told::{holds, same};
 use loop_budget::Budget;
 use loop_desk::{Desk, Lane, LaneEvent, lane_run};
-use loop_disk::MemDisk;
-use loop_plane::MmapPlane;
+use loop_disk::{Disk, MemDisk};
+use loop_plane::{MmapPlane, PlaneMemory};
 use loop_store::{Store, StoreFault};
 use loop_vb2::{PlaneSet, Reason};
-use std::alloc::{AllocError, Allocator, Global};
+use std::alloc::Allocator;
 use std::process::Abort;
-use std::test::Fail;
-
-/// A lane all of whose memory is granted by a budget.
-type Thrifty<'a> = Lane<MemDisk, MmapPlane<&'a Budget>, &'a Budget>;
-
-/// Events of such a lane.
-type Events<'a> = Vec<LaneEvent<MmapPlane<&'a Budget>, &'a Budget>, &'a Budget>;
 
 // A frame is at hand in the queue.
 const READY: [(Call, Told); 5] = [
@@ -29,8 +22,8 @@ const READY: [(Call, Told); 5] = [
     (Complete(0, 0), Done),
 ];
 
-// The first growth is that of the replies, the second that of the frame's bytes, and the third that of the second read: the
-// first one has the stored frame's memory.
+// The first growth is that of the replies, the second that of the frame's bytes, and the third that of the second read:
+// the first one has the stored frame's memory.
 const NO_FRAME: [(Call, Told); 5] = [
     (Dequeue, Fault(StoreFault::NoMemory)),
     (Submit, Fault(StoreFault::HandEmpty)),
@@ -57,156 +50,107 @@ const ALL: [(Call, Told); 6] = [
     (Read(0), Frame(0)),
 ];
 
-// A lane in whose queue a frame is at hand.
-fn ready<'a>(rt: &impl Abort, image: Vec<u8>, memory: &'a Budget) -> Thrifty<'a> {
-    memory.allow(u64::MAX);
-    let mut lane: Thrifty<'a> = lane_over(rt, memory, MemDisk::of(image));
-    let Ok(sets) = two_sets(rt, memory) else {
-        panic!(rt; "memory for planes")
-    };
-    runs(rt, memory, &mut lane, sets, &READY);
-    lane
-}
-
-// The events of a table, in memory of a budget that grants all.
-fn granted<'a>(
-    rt: &impl Abort,
-    memory: &'a Budget,
-    sets: Vec<PlaneSet<MmapPlane<&'a Budget>>, &'a Budget>,
-    lines: &[(Call, Told)],
-) -> Events<'a> {
-    memory.allow(u64::MAX);
-    match events_of(memory, sets, lines) {
-        Ok(events) => events,
-        Err(_) => panic!(rt; "memory for events"),
-    }
-}
+// So many growths, and a table whose events need them all.
+type Within<'a> = (u64, &'a [(Call, Told)]);
 
 // Where there is no memory for the replies, the events come back.
-fn come_back<'a>(
+fn come_back<D: Disk + Drop, P: PlaneMemory, A: Allocator + Copy>(
     rt: &impl Abort,
-    memory: &'a Budget,
-    lane: &mut Thrifty<'a>,
-    events: Events<'a>,
-) -> Events<'a> {
-    memory.allow(0);
-    match lane_run(memory, lane, events) {
-        Ok(_) => panic!(rt; "replies need memory"),
-        Err((fault, events)) => {
-            same!(rt; fault, StoreFault::NoMemory);
-            events
-        }
-    }
-}
-
-// Events are answered where so many growths are granted, all of which are needed.
-fn are_answered<'a>(
-    rt: &impl Abort,
-    memory: &'a Budget,
-    lane: &mut Thrifty<'a>,
-    events: Events<'a>,
-    (allowed, lines): (u64, &[(Call, Told)]),
-) {
-    memory.allow(allowed);
-    match lane_run(memory, lane, events) {
-        Ok(replies) => all_tell(rt, &replies, lines),
-        Err(_) => panic!(rt; "there is memory for replies"),
-    }
-    same!(rt; memory.left(), 0, allowed);
+    alloc: A,
+    lane: &mut Lane<D, P, A>,
+    events: Vec<LaneEvent<P, A>, A>,
+) -> Vec<LaneEvent<P, A>, A> {
+    let Err((fault, events)) = lane_run(alloc, lane, events) else {
+        panic!(rt; "replies need memory")
+    };
+    same!(rt; fault, StoreFault::NoMemory);
+    events
 }
 
 // Does the events of a table where so many growths are granted. Where there are none, the events come back, and are
 // answered once there are enough.
-fn runs_within<'a>(
+fn runs_within<D: Disk + Drop, P: PlaneMemory, A: Allocator + Copy>(
     rt: &impl Abort,
-    memory: &'a Budget,
-    lane: &mut Thrifty<'a>,
-    (allowed, lines): (u64, &[(Call, Told)]),
+    (memory, alloc): (&Budget, A),
+    lane: &mut Lane<D, P, A>,
+    sets: Vec<PlaneSet<P>, A>,
+    (allowed, lines): Within<'_>,
 ) {
-    let events = granted(rt, memory, Vec::new(memory), lines);
-    let events = come_back(rt, memory, lane, events);
+    let events = events_of(rt, alloc, sets, lines);
+    memory.allow(0);
+    let events = come_back(rt, alloc, lane, events);
     same!(rt; events.len(), lines.len(), allowed);
-    are_answered(rt, memory, lane, events, (allowed, lines));
+    memory.allow(allowed);
+    are_answered(rt, alloc, lane, events, lines);
+    same!(rt; memory.left(), 0, allowed);
 }
 
-// Does two tables over a fresh lane.
-fn run_both(rt: &impl Abort, image: Vec<u8>, memory: &Budget, tables: [(u64, &[(Call, Told)]); 2]) {
-    let mut lane = ready(rt, image, memory);
-    let [first, second] = tables;
-    runs_within(rt, memory, &mut lane, first);
-    runs_within(rt, memory, &mut lane, second);
-}
-
-#[test]
-fn a_refused_growth_of_an_event_changes_nothing(rt: HostRuntime) -> Result<(), Fail> {
-    let alloc = rt.alloc();
-    let first = fresh(alloc)?;
-    let second = fresh(alloc)?;
-    let memory = Budget::new(alloc);
-    run_both(&rt, first, &memory, [(1, &NO_FRAME), (3, &ALL)]);
-    run_both(
-        &rt,
-        second,
-        &memory,
-        [(2, &NO_READ), (2, &[(Read(0), Frame(0))])],
-    );
-    Ok(())
-}
-
-// A request for two buffers, and what it answers within so many growths: the one behind that of the replies is the
-// queue's.
-fn requests<'a>(
+// Does the events of tables, each with two sets at hand.
+fn run_each<D: Disk + Drop, A: Allocator + Copy>(
     rt: &impl Abort,
-    memory: &'a Budget,
-    lane: &mut Thrifty<'a>,
-    (allowed, want): (u64, Told),
+    (memory, alloc): (&Budget, A),
+    lane: &mut Lane<D, MmapPlane<A>, A>,
+    tables: &[Within<'_>],
+) {
+    for table in tables {
+        memory.allow(u64::MAX);
+        runs_within(rt, (memory, alloc), lane, two_sets(rt, alloc), *table);
+    }
+}
+
+// Does the events of a first table, for which there is memory, and then those of others. All memory of their lane is
+// granted by the budget.
+fn run_all<A: Allocator + Copy>(
+    rt: &impl Abort,
+    (memory, alloc): (&Budget, A),
+    disk: MemDisk,
+    first: &[(Call, Told)],
+    tables: &[Within<'_>],
 ) {
     memory.allow(u64::MAX);
-    let Ok(sets) = two_sets(rt, memory) else {
-        panic!(rt; "memory for planes")
-    };
-    let lines = [(ReqBufs(2), want)];
-    let events = granted(rt, memory, sets, &lines);
-    are_answered(rt, memory, lane, events, (allowed, &lines));
+    let mut lane: Lane<MemDisk, MmapPlane<A>, A> = lane_over(rt, alloc, disk);
+    runs(rt, alloc, &mut lane, two_sets(rt, alloc), first);
+    run_each(rt, (memory, alloc), &mut lane, tables);
 }
 
 #[test]
-fn a_request_for_buffers_without_memory_is_refused(rt: HostRuntime) -> Result<(), Fail> {
-    let image = fresh(rt.alloc())?;
+fn a_refused_growth_of_an_event_changes_nothing(rt: HostRuntime) {
     let memory = Budget::new(rt.alloc());
-    memory.allow(u64::MAX);
-    let mut lane: Thrifty = lane_over(&rt, &memory, MemDisk::of(image));
-    requests(&rt, &memory, &mut lane, (1, Refused(Reason::NoMemory, 12)));
-    requests(&rt, &memory, &mut lane, (2, Count(2)));
-    Ok(())
+    let given = (&memory, &memory);
+    let refused = [(1, NO_FRAME.as_slice()), (3, &ALL)];
+    run_all(&rt, given, fresh(&rt, rt.alloc()), &READY, &refused);
+    let refused = [(2, NO_READ.as_slice()), (2, &[(Read(0), Frame(0))])];
+    run_all(&rt, given, fresh(&rt, rt.alloc()), &READY, &refused);
 }
 
-// A desk, where there is memory for it.
-fn with_desk<A: Allocator + Copy>(
-    rt: &impl Abort,
-    alloc: A,
-    store: Store<MemDisk, A>,
-) -> Option<Desk<MemDisk, A>> {
-    desk_of(rt, alloc, store, AMPLE).ok()
-}
-
-// The store, which comes back where there is no memory for a desk.
-fn without_desk<A: Allocator + Copy>(
-    rt: &impl Abort,
-    alloc: A,
-    store: Store<MemDisk, A>,
-) -> Option<Store<MemDisk, A>> {
-    desk_of(rt, alloc, store, AMPLE).err()
+// The growth behind that of the replies is the queue's.
+#[test]
+fn a_request_for_buffers_without_memory_is_refused(rt: HostRuntime) {
+    let memory = Budget::new(rt.alloc());
+    let refused = [(ReqBufs(2), Refused(Reason::NoMemory, 12))];
+    let granted = [(ReqBufs(2), Count(2))];
+    let tables = [(1, refused.as_slice()), (2, granted.as_slice())];
+    run_all(
+        &rt,
+        (&memory, &memory),
+        fresh(&rt, rt.alloc()),
+        &[],
+        &tables,
+    );
 }
 
 // The desk takes a frame in.
-fn submits<A: Allocator + Copy>(alloc: A, desk: &mut Desk<MemDisk, A>) -> Result<bool, AllocError> {
-    let given = frame(alloc, 12, 0)?;
-    Ok(matches!(desk.submit(given), Ok(0)))
+fn submits<D: Disk + Drop, A: Allocator + Copy>(
+    rt: &impl Abort,
+    alloc: A,
+    desk: &mut Desk<D, A>,
+) -> bool {
+    let given = frame(rt, alloc, 12, 0);
+    matches!(desk.submit(given), Ok(0))
 }
 
 // How many frames a flush stores.
-fn stored<A: Allocator + Copy>(desk: &mut Desk<MemDisk, A>) -> Option<u32> {
+fn stored<D: Disk + Drop, A: Allocator + Copy>(desk: &mut Desk<D, A>) -> Option<u32> {
     match desk.flush() {
         Ok(done) => Some(done.stored),
         Err(_) => None,
@@ -214,17 +158,23 @@ fn stored<A: Allocator + Copy>(desk: &mut Desk<MemDisk, A>) -> Option<u32> {
 }
 
 // Frame 0 is locked.
-fn is_locked<A: Allocator + Copy>(desk: &mut Desk<MemDisk, A>) -> bool {
+fn is_locked<D: Disk + Drop, A: Allocator + Copy>(desk: &mut Desk<D, A>) -> bool {
     desk.lock_clip(0, 0, 9).is_ok()
 }
 
 // Why what the desk holds isn't told.
-fn outline_fault<A: Allocator + Copy>(alloc: A, desk: &Desk<MemDisk, A>) -> Option<StoreFault> {
+fn outline_fault<D: Disk + Drop, A: Allocator + Copy>(
+    alloc: A,
+    desk: &Desk<D, A>,
+) -> Option<StoreFault> {
     desk.outline(alloc).err()
 }
 
 // Frame 0 is read, and whole.
-fn reads<A: Allocator + Copy>(alloc: A, desk: &mut Desk<MemDisk, A>) -> Result<bool, StoreFault> {
+fn reads<D: Disk + Drop, A: Allocator + Copy>(
+    alloc: A,
+    desk: &mut Desk<D, A>,
+) -> Result<bool, StoreFault> {
     match desk.read_frame(alloc, 0) {
         Ok(read) => Ok(is_whole(&read)),
         Err(fault) => Err(fault),
@@ -232,79 +182,99 @@ fn reads<A: Allocator + Copy>(alloc: A, desk: &mut Desk<MemDisk, A>) -> Result<b
 }
 
 // A frame is stored and locked.
-fn holds_one<A: Allocator + Copy>(rt: &impl Abort, alloc: A, desk: &mut Desk<MemDisk, A>) {
-    same!(rt; submits(alloc, desk).ok(), Some(true));
+fn holds_one<D: Disk + Drop, A: Allocator + Copy>(
+    rt: &impl Abort,
+    alloc: A,
+    desk: &mut Desk<D, A>,
+) {
+    holds!(rt; submits(rt, alloc, desk));
     same!(rt; stored(desk), Some(1));
     holds!(rt; is_locked(desk));
     same!(rt; desk.status().held, 1);
 }
 
 // What a desk holds needs three growths.
-fn outlines_within<'a>(rt: &impl Abort, memory: &'a Budget, desk: &Desk<MemDisk, &'a Budget>) {
+fn outlines_within<D: Disk + Drop, A: Allocator + Copy>(
+    rt: &impl Abort,
+    (memory, alloc): (&Budget, A),
+    desk: &Desk<D, A>,
+) {
     for allowed in 0..3 {
         memory.allow(allowed);
-        let fault = outline_fault(memory, desk);
-        same!(rt; fault, Some(StoreFault::NoMemory), allowed);
+        same!(rt; outline_fault(alloc, desk), Some(StoreFault::NoMemory), allowed);
         same!(rt; memory.left(), 0, allowed);
     }
     memory.allow(3);
-    same!(rt; outline_fault(memory, desk), None);
+    same!(rt; outline_fault(alloc, desk), None);
 }
 
 // A desk needs more growths than these; its store comes back.
-fn refused_within<'a>(
+fn refused_within<D: Disk + Drop, A: Allocator + Copy>(
     rt: &impl Abort,
-    memory: &'a Budget,
-    store: Store<MemDisk, &'a Budget>,
+    (memory, alloc): (&Budget, A),
+    store: Store<D, A>,
     allowed: u64,
-) -> Store<MemDisk, &'a Budget> {
+) -> Store<D, A> {
     memory.allow(allowed);
-    match without_desk(rt, memory, store) {
-        Some(store) => store,
-        None => panic!(rt; "a desk needs more growths than {allowed}"),
+    match desk_of(rt, alloc, store, AMPLE) {
+        Ok(_) => panic!(rt; "a desk needs more growths than {allowed}"),
+        Err(store) => store,
     }
 }
 
 // A desk takes its memory first: two growths, for the frames that wait and for memory to use again.
-fn desk_within<'a>(
+fn desk_within<D: Disk + Drop, A: Allocator + Copy>(
     rt: &impl Abort,
-    memory: &'a Budget,
-    store: Store<MemDisk, &'a Budget>,
-) -> Desk<MemDisk, &'a Budget> {
-    let store = refused_within(rt, memory, store, 0);
-    let store = refused_within(rt, memory, store, 1);
+    (memory, alloc): (&Budget, A),
+    store: Store<D, A>,
+) -> Desk<D, A> {
+    let store = refused_within(rt, (memory, alloc), store, 0);
+    let store = refused_within(rt, (memory, alloc), store, 1);
     same!(rt; store.geometry(), SMALL);
     memory.allow(2);
-    match with_desk(rt, memory, store) {
-        Some(desk) => desk,
-        None => panic!(rt; "two growths are enough"),
-    }
+    desk_for(rt, alloc, store)
 }
 
 // The length of the memory that a desk has to spare, or 0.
-fn spare<A: Allocator + Copy>(desk: &mut Desk<MemDisk, A>) -> usize {
+fn spare<D: Disk + Drop, A: Allocator + Copy>(desk: &mut Desk<D, A>) -> usize {
     match desk.spare_memory() {
         Some(bytes) => bytes.len(),
         None => 0,
     }
 }
 
-#[test]
-fn a_desk_takes_its_memory_first(rt: HostRuntime) -> Result<(), Fail> {
-    let image = fresh(rt.alloc())?;
-    let memory = Budget::new(rt.alloc());
-    let store = opened(&rt, &memory, MemDisk::of(image));
-    let mut desk = desk_within(&rt, &memory, store);
+// A desk that has taken its memory: a frame's is its own, and what is read takes its own.
+fn needs_no_more<D: Disk + Drop, A: Allocator + Copy>(
+    rt: &impl Abort,
+    (memory, alloc): (&Budget, A),
+    desk: &mut Desk<D, A>,
+) {
     same!(rt; memory.left(), 0);
     memory.allow(1);
-    same!(rt; spare(&mut desk), 0);
-    holds_one(&rt, &memory, &mut desk);
-    same!(rt; spare(&mut desk), 12);
-    same!(rt; spare(&mut desk), 0);
-    outlines_within(&rt, &memory, &desk);
+    same!(rt; spare(desk), 0);
+    holds_one(rt, alloc, desk);
+    same!(rt; spare(desk), 12);
+    same!(rt; spare(desk), 0);
+    outlines_within(rt, (memory, alloc), desk);
     memory.allow(0);
-    same!(rt; reads(&memory, &mut desk), Err(StoreFault::NoMemory));
+    same!(rt; reads(alloc, desk), Err(StoreFault::NoMemory));
     memory.allow(1);
-    same!(rt; reads(&memory, &mut desk), Ok(true));
-    Ok(())
+    same!(rt; reads(alloc, desk), Ok(true));
+}
+
+// A desk over a disk takes its memory first.
+fn takes_its_memory<D: Disk + Drop, A: Allocator + Copy>(
+    rt: &impl Abort,
+    (memory, alloc): (&Budget, A),
+    disk: D,
+) {
+    let store = opened(rt, alloc, disk);
+    let mut desk = desk_within(rt, (memory, alloc), store);
+    needs_no_more(rt, (memory, alloc), &mut desk);
+}
+
+#[test]
+fn a_desk_takes_its_memory_first(rt: HostRuntime) {
+    let memory = Budget::new(rt.alloc());
+    takes_its_memory(&rt, (&memory, &memory), fresh(&rt, rt.alloc()));
 }

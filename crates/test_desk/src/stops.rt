@@ -4,15 +4,14 @@ use crate::common::*;
 use crate::text::FIFTEEN;
 use crate::told::same;
 use lane_text::run_and_reopen;
-use loop_desk::{Lane, lane_run};
-use loop_disk::{CrashDisk, MemDisk, Spoil};
-use loop_plane::MmapPlane;
-use std::alloc::Global;
+use loop_desk::{Lane, LaneEvent};
+use loop_disk::{CrashDisk, Disk, MemDisk, Spoil};
+use loop_plane::{MmapPlane, PlaneMemory};
+use std::alloc::{Allocator, Global};
 use std::process::Abort;
-use std::test::Fail;
 
-/// How many calls of the disk before the end of a run the power fails, what then stands where nothing was synced, and the
-/// next number of what is opened. The run's last calls are the eight of its one flush, of one frame.
+/// How many calls of the disk before the end of a run the power fails, what then stands where nothing was synced, and
+/// the next number of what is opened. The run's last calls are the eight of its one flush, of one frame.
 const STOPS: [(usize, Spoil, u64); 5] = [
     (8, Spoil::Keep, 0),
     (4, Spoil::Gate, 0),
@@ -21,34 +20,66 @@ const STOPS: [(usize, Spoil, u64); 5] = [
     (0, Spoil::Ones, 1),
 ];
 
-/// The disk of a lane after a run.
-fn run_to_its_end(rt: &impl Abort, alloc: Global) -> Result<CrashDisk, Fail> {
-    let events = events_of(alloc, two_sets(rt, alloc)?, &FIFTEEN)?;
-    let disk = CrashDisk::of(alloc, fresh(alloc)?)?;
-    let mut lane: Lane<CrashDisk, MmapPlane> = lane_over(rt, alloc, disk);
-    let _replies = lane_run(alloc, &mut lane, events);
-    let Lane { desk, .. } = lane;
-    Ok(desk.into_disk())
+// The disk of a lane after a run.
+fn run_to_its_end<D: Disk + Drop>(
+    rt: &impl Abort,
+    alloc: Global,
+    disk: D,
+    lines: &[(Call, Told)],
+) -> D {
+    let mut lane: Lane<D, MmapPlane> = lane_over(rt, alloc, disk);
+    runs(rt, alloc, &mut lane, two_sets(rt, alloc), lines);
+    disk_of(lane)
 }
 
-/// The next number of what is opened on a disk, behind a run that it may be left of.
-fn opened(rt: &impl Abort, alloc: Global, left: MemDisk) -> Result<u64, Fail> {
-    let events = events_of(alloc, two_sets(rt, alloc)?, &FIFTEEN)?;
-    let disk = MemDisk::of(fresh(alloc)?);
-    let mut lane: Lane<MemDisk, MmapPlane> = lane_over(rt, alloc, disk);
-    match run_and_reopen(alloc, &mut lane, events, left) {
-        Ok((_, store)) => Ok(store.next()),
-        Err(_) => Err("what is left is opened".into()),
+// The next number of what is opened on a disk, behind a run that it may be left of.
+fn next_behind<D: Disk + Drop, P: PlaneMemory, A: Allocator + Copy>(
+    rt: &impl Abort,
+    alloc: A,
+    lane: &mut Lane<D, P, A>,
+    events: Vec<LaneEvent<P, A>, A>,
+    left: MemDisk,
+) -> u64 {
+    match run_and_reopen(alloc, lane, events, left) {
+        Ok((_, store)) => store.next(),
+        Err(_) => panic!(rt; "what is left is opened"),
     }
+}
+
+// The same behind the events of a table over a fresh disk.
+fn next_of(rt: &impl Abort, alloc: Global, lines: &[(Call, Told)], left: MemDisk) -> u64 {
+    let events = events_of(rt, alloc, two_sets(rt, alloc), lines);
+    let mut lane: Lane<MemDisk, MmapPlane> = lane_over(rt, alloc, fresh(rt, alloc));
+    next_behind(rt, alloc, &mut lane, events, left)
+}
+
+// What each stop leaves is opened.
+fn are_opened(
+    rt: &impl Abort,
+    alloc: Global,
+    disk: &CrashDisk,
+    lines: &[(Call, Told)],
+    stops: &[(usize, Spoil, u64)],
+) {
+    for (back, spoil, next) in stops {
+        let stop = disk.calls().saturating_sub(*back);
+        let left = disk.crash(stop, *spoil).expect(rt, "memory for an image");
+        same!(rt; next_of(rt, alloc, lines, left), *next, *back);
+    }
+}
+
+// A disk that keeps its past, freshly formatted.
+fn crash_disk(rt: &impl Abort, alloc: Global) -> CrashDisk {
+    let image = fresh(rt, alloc)
+        .bytes()
+        .to_vec(alloc)
+        .expect(rt, "memory for an image");
+    CrashDisk::of(alloc, image).expect(rt, "memory for a disk")
 }
 
 #[test]
-fn what_a_power_loss_leaves_of_a_run_is_opened(rt: HostRuntime) -> Result<(), Fail> {
+fn what_a_power_loss_leaves_of_a_run_is_opened(rt: HostRuntime) {
     let alloc = rt.alloc();
-    let disk = run_to_its_end(&rt, alloc)?;
-    for (back, spoil, next) in STOPS {
-        let left = disk.crash(disk.calls().saturating_sub(back), spoil)?;
-        same!(rt; opened(&rt, alloc, left)?, next, back);
-    }
-    Ok(())
+    let disk = run_to_its_end(&rt, alloc, crash_disk(&rt, alloc), &FIFTEEN);
+    are_opened(&rt, alloc, &disk, &FIFTEEN, &STOPS);
 }

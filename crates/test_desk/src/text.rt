@@ -5,11 +5,12 @@ use crate::common::Told::{Count, Done, Fault, Flushed, Index, Number};
 use crate::common::*;
 use crate::told::holds;
 use lane_text::record_and_export;
-use loop_desk::Lane;
-use loop_disk::MemDisk;
-use loop_plane::MmapPlane;
+use loop_desk::{Lane, LaneEvent};
+use loop_disk::{Disk, MemDisk};
+use loop_plane::{MmapPlane, PlaneMemory};
 use loop_store::StoreFault;
-use std::test::Fail;
+use std::alloc::Allocator;
+use std::process::Abort;
 
 /// One frame comes to the disk, and one is given up by the device.
 pub(crate) const FIFTEEN: [(Call, Told); 15] = [
@@ -34,16 +35,26 @@ pub(crate) const FIFTEEN: [(Call, Told); 15] = [
 const TEXT: &[u8] =
     b"YUV4MPEG2 W4 H2 F25:1 Ip A0:0 C420jpeg\nFRAME\n\x00\x01\x02\x03\x04\x05\x06\x07\x08\x09\x0a\x0b";
 
-#[test]
-fn what_a_lane_recorded_becomes_a_text(rt: HostRuntime) -> Result<(), Fail> {
-    let alloc = rt.alloc();
-    let lane: Lane<MemDisk, MmapPlane> = lane_over(&rt, alloc, MemDisk::of(fresh(alloc)?));
-    let events = events_of(alloc, two_sets(&rt, alloc)?, &FIFTEEN)?;
+// What a lane records is answered as a table says, and becomes a text.
+fn is_exported<D: Disk + Drop, P: PlaneMemory, A: Allocator + Copy>(
+    rt: &impl Abort,
+    alloc: A,
+    lane: Lane<D, P, A>,
+    events: Vec<LaneEvent<P, A>, A>,
+    (lines, text): (&[(Call, Told)], &[u8]),
+) {
     let mut out = Vec::new(alloc);
     let Ok(replies) = record_and_export(alloc, lane, events, 0, u64::MAX, &mut out) else {
         panic!(rt; "no text")
     };
-    all_tell(&rt, &replies, &FIFTEEN);
-    holds!(rt; out.iter().eq(TEXT.iter()));
-    Ok(())
+    all_tell(rt, &replies, lines);
+    holds!(rt; out.iter().eq(text.iter()));
+}
+
+#[test]
+fn what_a_lane_recorded_becomes_a_text(rt: HostRuntime) {
+    let alloc = rt.alloc();
+    let events = events_of(&rt, alloc, two_sets(&rt, alloc), &FIFTEEN);
+    let lane: Lane<MemDisk, MmapPlane> = lane_over(&rt, alloc, fresh(&rt, alloc));
+    is_exported(&rt, alloc, lane, events, (&FIFTEEN, TEXT));
 }
