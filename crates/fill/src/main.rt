@@ -5,7 +5,7 @@ use anyhow::{Context, Result, anyhow};
 use loop_desk::{Desk, DeskLimits};
 use loop_file::FileDisk;
 use loop_record::Frame;
-use loop_store::format;
+use loop_store::{Store, format};
 use loop_y4m::Y4mReader;
 use std::alloc::Global;
 use std::env;
@@ -15,12 +15,12 @@ use std::io::{BufReader, Read};
 /// How many frames wait at most. They are stored in groups.
 const WAITING: u32 = 8;
 
-/// Submits each frame of a video, and stores them: of one that is cut, those in front of the cut.
+/// Submits each frame of a video, and stores them: of one that is cut, those in front of the cut. The next number.
 fn fill<R: Read + Drop>(
     alloc: Global,
     video: &mut Y4mReader<R>,
     desk: &mut Desk<FileDisk>,
-) -> Result<()> {
+) -> Result<u64> {
     let (num, den) = video.rate();
     let mut read = Ok(true);
     for n in 0..u64::MAX {
@@ -46,29 +46,38 @@ fn fill<R: Read + Drop>(
         desk.flush()?;
     }
     read?;
-    Ok(())
+    Ok(desk.status().next)
+}
+
+/// A desk before a store.
+fn desk_of(alloc: Global, store: Store<FileDisk>) -> Result<Desk<FileDisk>> {
+    let limits = DeskLimits {
+        pending: WAITING,
+        group: 8,
+        calls: 1_000_000,
+    };
+    Desk::new(alloc, store, limits).ok().context("no memory")
+}
+
+/// Makes the store, of so many segments and slots, and fills it with the frames of a source.
+fn make(rt: &HostRuntime, path: &str, segments: u32, slots: u32, source: &str) -> Result<u64> {
+    let alloc = rt.alloc();
+    let input = BufReader::new(alloc, File::open(rt, source)?)?;
+    let mut video = Y4mReader::open(input)?;
+    let geometry = video.geometry(segments, slots)?;
+    let disk = FileDisk::create(rt, path, geometry.disk_size())?;
+    let mut desk = desk_of(alloc, format(alloc, disk, geometry)?)?;
+    fill(alloc, &mut video, &mut desk)
 }
 
 fn main(rt: HostRuntime) -> Result<()> {
-    let alloc = rt.alloc();
     let mut words = env::args(&rt)?;
     let _program = words.next();
     let path = words.next().context("no store")?;
     let segments = words.next().context("no segments")?.parse()?;
     let slots = words.next().context("no slots")?.parse()?;
     let source = words.next().context("no video")?;
-    let input = BufReader::new(alloc, File::open(&rt, source.as_str())?)?;
-    let mut video = Y4mReader::open(input)?;
-    let geometry = video.geometry(segments, slots)?;
-    let disk = FileDisk::create(&rt, path.as_str(), geometry.disk_size())?;
-    let store = format(alloc, disk, geometry)?;
-    let limits = DeskLimits {
-        pending: WAITING,
-        group: 8,
-        calls: 1_000_000,
-    };
-    let mut desk = Desk::new(alloc, store, limits).ok().context("no memory")?;
-    fill(alloc, &mut video, &mut desk)?;
-    println!(&rt; "next {}", desk.status().next)?;
+    let next = make(&rt, path.as_str(), segments, slots, source.as_str())?;
+    println!(&rt; "next {next}")?;
     Ok(())
 }

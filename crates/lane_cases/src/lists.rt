@@ -53,6 +53,13 @@ fn replies<D: Disk + Drop>(
     }
 }
 
+// What a reply says.
+fn text_of(alloc: Global, reply: &LaneReply<AnyPlane>) -> Result<Vec<u8>> {
+    let mut text = Vec::new(alloc);
+    told::lane(&mut text, reply)?;
+    Ok(text)
+}
+
 // Tells a reply, and takes in what it hands back.
 fn tells(
     alloc: Global,
@@ -60,10 +67,10 @@ fn tells(
     told: &mut Vec<Vec<u8>>,
     sets: &mut Vec<PlaneSet<AnyPlane>>,
 ) -> Result<()> {
-    let mut text = Vec::new(alloc);
-    told::lane(&mut text, &reply)?;
-    told.push(text)?;
-    takes_back(reply, sets)
+    let text = text_of(alloc, &reply);
+    takes_back(reply, sets)?;
+    told.push(text?)?;
+    Ok(())
 }
 
 // Does events as one list.

@@ -130,6 +130,13 @@ fn replies(
     }
 }
 
+// What a reply says.
+fn text_of(alloc: Global, reply: &QueueReply<AnyPlane>) -> Result<Vec<u8>> {
+    let mut text = Vec::new(alloc);
+    told::queue(&mut text, reply)?;
+    Ok(text)
+}
+
 // Tells a reply, and takes in what it hands back.
 fn tells(
     alloc: Global,
@@ -137,10 +144,9 @@ fn tells(
     told: &mut Vec<Vec<u8>>,
     sets: &mut Vec<PlaneSet<AnyPlane>>,
 ) -> Result<()> {
-    let mut text = Vec::new(alloc);
-    told::queue(&mut text, &reply)?;
-    told.push(text)?;
+    let text = text_of(alloc, &reply);
     back(reply, sets)?;
+    told.push(text?)?;
     Ok(())
 }
 
@@ -229,11 +235,17 @@ pub(crate) fn calls(
     Ok(())
 }
 
+// What the calls of a list answer over a fresh queue.
+fn told_again(alloc: Global, list: &QueueList) -> Result<Vec<Vec<u8>>> {
+    let mut told = Vec::new(alloc);
+    let mut case = begin(alloc, list.opening)?;
+    runs(alloc, &mut case, &list.calls, &mut told)?;
+    Ok(told)
+}
+
 /// Makes the calls of a list again, over a fresh queue: the replies are the same.
 pub(crate) fn again(alloc: Global, list: &QueueList, out: &mut Vec<u8>) -> Result<()> {
-    let mut case = begin(alloc, list.opening)?;
-    let mut told = Vec::new(alloc);
-    runs(alloc, &mut case, &list.calls, &mut told)?;
+    let told = told_again(alloc, list)?;
     match first_other(&told, &list.told) {
         Some(place) => write!(out, "another reply at call {place}")?,
         None => {

@@ -76,21 +76,34 @@ fn formats(
     }
 }
 
+// A case is under way, which has done nothing yet.
+fn set_case(alloc: Global, session: &mut Session, case: Case<MemDisk>, list: List) {
+    session.case = Some(case);
+    session.queue = None;
+    session.list = list;
+    session.steps = Vec::new(alloc);
+}
+
 // A lane or a desk begins over the image.
 fn begins(alloc: Global, session: &mut Session, call: &Call, out: &mut Vec<u8>) -> Result<()> {
+    out.write_all(b"begins")?;
     let opening = opening_of(call);
-    let disk = MemDisk::of(session.image.as_slice().to_vec(alloc)?);
-    session.case = Some(begin(alloc, disk, opening)?);
-    session.queue = None;
-    session.list = List {
+    let list = List {
         opening,
         start: session.image.as_slice().to_vec(alloc)?,
         calls: Vec::new(alloc),
         told: Vec::new(alloc),
     };
-    session.steps = Vec::new(alloc);
-    out.write_all(b"begins")?;
+    let disk = MemDisk::of(session.image.as_slice().to_vec(alloc)?);
+    let case = begin(alloc, disk, opening)?;
+    set_case(alloc, session, case, list);
     Ok(())
+}
+
+// A queue is under way.
+fn set_queue(session: &mut Session, queue: (QueueCase, QueueList)) {
+    session.queue = Some(queue);
+    session.case = None;
 }
 
 // A queue begins.
@@ -100,9 +113,9 @@ fn begins_queue(
     call: &Call,
     out: &mut Vec<u8>,
 ) -> Result<()> {
-    session.queue = Some(queue::begins(alloc, call)?);
-    session.case = None;
     out.write_all(b"begins")?;
+    let queue = queue::begins(alloc, call)?;
+    set_queue(session, queue);
     Ok(())
 }
 
@@ -277,6 +290,19 @@ fn answer<W: Write>(alloc: Global, session: &mut Session, line: &str, out: &mut 
     Ok(())
 }
 
+// Answers these lines.
+fn answer_all<W: Write>(
+    alloc: Global,
+    session: &mut Session,
+    lines: &[String],
+    out: &mut W,
+) -> Result<()> {
+    for line in lines {
+        answer(alloc, session, line.as_str(), out)?;
+    }
+    Ok(())
+}
+
 /// Answers each line.
 pub(crate) fn answers<R: BufRead + Drop, W: Write>(
     alloc: Global,
@@ -285,8 +311,5 @@ pub(crate) fn answers<R: BufRead + Drop, W: Write>(
 ) -> Result<()> {
     let lines: Vec<String> = read(alloc, input)?;
     let mut session = Session::new(alloc);
-    for line in &lines {
-        answer(alloc, &mut session, line.as_str(), out)?;
-    }
-    Ok(())
+    answer_all(alloc, &mut session, &lines, out)
 }
