@@ -122,7 +122,8 @@ pub fn print_absent<W: Write>(out: &mut W, camera: &str, why: &str) -> io::Resul
     writeln!(out, "absent {camera} {why}")
 }
 
-/// `other geometry NAME WxH FORMAT N:D`: what the frames of a camera's source are, where they aren't as its store has them.
+/// `other geometry NAME WxH FORMAT N:D`: what the frames of a camera's source are, where they aren't as its store has
+/// them.
 pub fn print_other_geometry<W: Write>(
     out: &mut W,
     camera: &str,

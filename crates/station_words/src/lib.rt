@@ -1,9 +1,10 @@
 //! The words of a program that records from several cameras into stores, and takes orders meanwhile.
 //!
-//! - `order` says what a line asks for, `name` what a camera may be called; `laws` has lines and their meanings as rows;
+//! - `order` says what a line asks for, `name` what a camera may be called; `laws` has lines and their meanings, as rows
+//!   of a table;
 //! - `ring` chooses how many segments and slots a store has, for so many frames or within so many bytes;
-//! - `config` reads the file that says which cameras there are, `shape` what the pattern's frames look like, and `fault`
-//!   tells what is wrong with that file;
+//! - `config` reads the file that says which cameras there are, `shape` what the pattern's frames look like, and
+//!   `fault` tells what is wrong with that file;
 //! - `answers` prints the lines that the program answers.
 //!
 //! What a line asks for, which ring is chosen, and that a file's cameras have names and stores of their own is proved

@@ -87,8 +87,8 @@ impl Link {
         known.offered
     }
 
-    /// Tells what the source's header says, with a ring of any size, and waits until there is a store: whether the frames
-    /// are as it has them.
+    /// Tells what the source's header says, with a ring of any size, and waits until there is a store: whether the
+    /// frames are as it has them.
     pub fn offer<R: Wait>(&self, rt: &R, geometry: Geometry) -> Offered {
         let mut known = self.known.lock(rt);
         known.offered = Some(geometry);

@@ -38,8 +38,8 @@ impl From<AllocError> for NotBegun {
     }
 }
 
-/// Records from each camera of a configuration into its store, and does the orders that come from the input, or from the
-/// pipe or file that the configuration names, until one says `stop`. Each answer is printed to `out`; where someone
+/// Records from each camera of a configuration into its store, and does the orders that come from the input, or from
+/// the pipe or file that the configuration names, until one says `stop`. Each answer is printed to `out`; where someone
 /// watches, a line for each camera tells every second how it stands. Where the input ends, it goes on.
 pub fn run_station<
     R: AllocGlobal + Places + Threads + Wait + Clock + Clone + Drop + Send + Sync + 'static,
@@ -84,8 +84,8 @@ fn shared<T: Drop>(alloc: Global, value: T) -> Result<Arc<T>, NotBegun> {
     }
 }
 
-// Starts a thread for each source. A source may keep its thread waiting for ever, so they aren't joined: they end with the
-// program.
+// Starts a thread for each source. A source may keep its thread waiting for ever, so they aren't joined: they end with
+// the program.
 fn start_sources<
     R: AllocGlobal + Places + Threads + Wait + Clock + Clone + Drop + Send + Sync + 'static,
     W: Write + Drop + Send + 'static,
@@ -154,7 +154,8 @@ fn run_in<
     all
 }
 
-// Starts a thread for each camera, and one that tells how they stand where someone watches; whether all could be started.
+// Starts a thread for each camera, and one that tells how they stand where someone watches; whether all could be
+// started.
 fn start_cameras<
     's,
     E,
@@ -210,8 +211,8 @@ fn show<R: AllocGlobal + Wait + Clock, W: Write + Drop>(rt: &R, station: &Statio
     }
 }
 
-// Does orders, from the pipe or file that is named, which is opened again and again, or from the input; whether one said
-// `stop`.
+// Does orders, from the pipe or file that is named, which is opened again and again, or from the input; whether one
+// said `stop`.
 fn serve<
     R: AllocGlobal + Places + Threads + Wait + Clock + Clone + Drop + Send + Sync + 'static,
     I: Read + Drop,

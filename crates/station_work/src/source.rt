@@ -1,5 +1,5 @@
-//! A source's thread: it opens the source again and again, and gives its frames to the camera's feed. A source whose frames
-//! aren't as the store has them is refused, and that is printed once.
+//! A source's thread: it opens the source again and again, and gives its frames to the camera's feed. A source whose
+//! frames aren't as the store has them is refused, and that is printed once.
 
 use crate::feed::Fed;
 use crate::link::{Offered, SourceState};

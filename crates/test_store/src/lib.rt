@@ -1,11 +1,11 @@
-//! Tests of the store and of its parts that need Rust: the bytes of each part of a disk, written and read, which stray gates
-//! are closed, which block goes, memory that is refused, looks without a write, and the names of the refusals. The worked
-//! rows of the layout and of the rules, the stops and the calls that fail are cases of `store_cases`; what an image reads
-//! as stands in loop_record's proofs too, computed on worked images.
+//! Tests of the store and of its parts that need Rust: the bytes of each part of a disk, written and read, which stray
+//! gates are closed, which block goes, memory that is refused, looks without a write, and the names of the refusals. The
+//! worked rows of the layout and of the rules, the stops and the calls that fail are cases of `store_cases`; what an
+//! image reads as stands in loop_record's proofs too, computed on worked images.
 //!
-//! - `layout`: sizes, and what stands in each part of a disk; `ring`: calls of a ring, over a disk that claims nothing of
-//!   its bytes, so that a test may begin with any image; `upgrade`: upgrades of a clip table to version 2 of the layout;
-//!   `tables`: the segments and the clips in memory;
+//! - `layout`: sizes, and what stands in each part of a disk; `ring`: calls of a ring, over a disk that claims nothing
+//!   of its bytes, so that a test may begin with any image; `upgrade`: upgrades of a clip table to version 2 of the
+//!   layout; `tables`: the segments and the clips in memory;
 //! - `common`: a geometry, frames of a pattern, images, and calls that see to their preconditions first;
 //! - `looks`: a store over a disk that is never written to;
 //! - `memory`: each growth is refused in turn;

@@ -56,8 +56,8 @@ fn disk_of(rt: &impl Abort, alloc: Global, image: &[u8]) -> MemDisk {
     MemDisk::of(image.to_vec(alloc).expect(rt, "memory for an image"))
 }
 
-// Formats a disk of zeros where so many growths are granted: the next number, or the refusal and how many calls the disk
-// that comes back passes yet.
+// Formats a disk of zeros where so many growths are granted: the next number, or the refusal and how many calls the
+// disk that comes back passes yet.
 fn formats(
     rt: &impl Abort,
     alloc: Global,
