@@ -6,7 +6,7 @@ use crate::common::*;
 use crate::told::{holds, same};
 use loop_budget::Budget;
 use loop_desk::{Desk, Lane, LaneEvent, lane_run};
-use loop_disk::{Disk, MemDisk};
+use loop_disk::Disk;
 use loop_plane::{MmapPlane, PlaneMemory};
 use loop_store::{Store, StoreFault};
 use loop_vb2::{PlaneSet, Reason};
@@ -100,15 +100,15 @@ fn run_each<D: Disk + Drop, A: Allocator + Copy>(
 
 // Does the events of a first table, for which there is memory, and then those of others. All memory of their lane is
 // granted by the budget.
-fn run_all<A: Allocator + Copy>(
+fn run_all<D: Disk + Drop, A: Allocator + Copy>(
     rt: &impl Abort,
     (memory, alloc): (&Budget, A),
-    disk: MemDisk,
+    disk: D,
     first: &[(Call, Told)],
     tables: &[Within<'_>],
 ) {
     memory.allow(u64::MAX);
-    let mut lane: Lane<MemDisk, MmapPlane<A>, A> = lane_over(rt, alloc, disk);
+    let mut lane: Lane<D, MmapPlane<A>, A> = lane_over(rt, alloc, disk);
     runs(rt, alloc, &mut lane, two_sets(rt, alloc), first);
     run_each(rt, (memory, alloc), &mut lane, tables);
 }
@@ -170,11 +170,13 @@ fn outline_fault<D: Disk + Drop, A: Allocator + Copy>(
     desk.outline(alloc).err()
 }
 
-// Frame 0 is read, and whole.
-fn reads<D: Disk + Drop, A: Allocator + Copy>(
-    alloc: A,
+// Within so many growths frame 0 is read, and whole.
+fn reads_within<D: Disk + Drop, A: Allocator + Copy>(
+    allowed: u64,
+    (memory, alloc): (&Budget, A),
     desk: &mut Desk<D, A>,
 ) -> Result<bool, StoreFault> {
+    memory.allow(allowed);
     match desk.read_frame(alloc, 0) {
         Ok(read) => Ok(is_whole(&read)),
         Err(fault) => Err(fault),
@@ -253,13 +255,10 @@ fn needs_no_more<D: Disk + Drop, A: Allocator + Copy>(
     memory.allow(1);
     same!(rt; spare(desk), 0);
     holds_one(rt, alloc, desk);
-    same!(rt; spare(desk), 12);
-    same!(rt; spare(desk), 0);
+    same!(rt; (spare(desk), spare(desk)), (12, 0));
     outlines_within(rt, (memory, alloc), desk);
-    memory.allow(0);
-    same!(rt; reads(alloc, desk), Err(StoreFault::NoMemory));
-    memory.allow(1);
-    same!(rt; reads(alloc, desk), Ok(true));
+    same!(rt; reads_within(0, (memory, alloc), desk), Err(StoreFault::NoMemory));
+    same!(rt; reads_within(1, (memory, alloc), desk), Ok(true));
 }
 
 // A desk over a disk takes its memory first.

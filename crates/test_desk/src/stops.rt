@@ -5,7 +5,7 @@ use crate::text::FIFTEEN;
 use crate::told::same;
 use lane_text::run_and_reopen;
 use loop_desk::{Lane, LaneEvent};
-use loop_disk::{CrashDisk, Disk, MemDisk, Spoil};
+use loop_disk::{CrashDisk, Disk, Spoil};
 use loop_plane::{MmapPlane, PlaneMemory};
 use std::alloc::{Allocator, Global};
 use std::process::Abort;
@@ -33,12 +33,12 @@ fn run_to_its_end<D: Disk + Drop>(
 }
 
 // The next number of what is opened on a disk, behind a run that it may be left of.
-fn next_behind<D: Disk + Drop, P: PlaneMemory, A: Allocator + Copy>(
+fn next_behind<D: Disk + Drop, E: Disk + Drop, P: PlaneMemory, A: Allocator + Copy>(
     rt: &impl Abort,
     alloc: A,
     lane: &mut Lane<D, P, A>,
     events: Vec<LaneEvent<P, A>, A>,
-    left: MemDisk,
+    left: E,
 ) -> u64 {
     match run_and_reopen(alloc, lane, events, left) {
         Ok((_, store)) => store.next(),
@@ -46,10 +46,16 @@ fn next_behind<D: Disk + Drop, P: PlaneMemory, A: Allocator + Copy>(
     }
 }
 
-// The same behind the events of a table over a fresh disk.
-fn next_of(rt: &impl Abort, alloc: Global, lines: &[(Call, Told)], left: MemDisk) -> u64 {
+// The same behind the events of a table over a disk.
+fn next_of<D: Disk + Drop, E: Disk + Drop>(
+    rt: &impl Abort,
+    alloc: Global,
+    disk: D,
+    lines: &[(Call, Told)],
+    left: E,
+) -> u64 {
     let events = events_of(rt, alloc, two_sets(rt, alloc), lines);
-    let mut lane: Lane<MemDisk, MmapPlane> = lane_over(rt, alloc, fresh(rt, alloc));
+    let mut lane: Lane<D, MmapPlane> = lane_over(rt, alloc, disk);
     next_behind(rt, alloc, &mut lane, events, left)
 }
 
@@ -64,7 +70,7 @@ fn are_opened(
     for (back, spoil, next) in stops {
         let stop = disk.calls().saturating_sub(*back);
         let left = disk.crash(stop, *spoil).expect(rt, "memory for an image");
-        same!(rt; next_of(rt, alloc, lines, left), *next, *back);
+        same!(rt; next_of(rt, alloc, fresh(rt, alloc), lines, left), *next, *back);
     }
 }
 

@@ -11,11 +11,10 @@ use loop_disk::{Disk, DiskFault, FuseDisk, MemDisk, OnceDisk};
 use loop_record::{Frame, Geometry, OPEN, PixelFormat};
 use loop_store::{Store, StoreFault, format};
 use loop_y4m::{ExportFault, export};
-use std::alloc::{AllocError, Allocator, Global};
+use std::alloc::{Allocator, Global};
 use std::io;
 use std::io::{ErrorKind, Write};
 use std::process::Abort;
-use std::test::Fail;
 
 /// Three segments with two slots each, of frames of 12 bytes.
 const SMALL: Geometry = Geometry {
@@ -60,19 +59,19 @@ impl Write for Sizes {
 }
 
 // The frame of a number: byte i is the number + i.
-fn frame<A: Allocator + Copy>(alloc: A, size: usize, number: u64) -> Result<Frame<A>, AllocError> {
-    let mut bytes = vec![in alloc; 0; size]?;
+fn frame<A: Allocator + Copy>(rt: &impl Abort, alloc: A, size: usize, number: u64) -> Frame<A> {
+    let mut bytes = vec![in alloc; 0; size].expect(rt, "memory for a frame");
     let mut next = (number % 256) as u8;
     for byte in bytes.iter_mut() {
         *byte = next;
         next = next.wrapping_add(1);
     }
-    Ok(Frame {
+    Frame {
         sequence: 0,
         flags: 0x2000,
         timestamp: 0,
         bytes,
-    })
+    }
 }
 
 // Whether each frame has so many bytes.
@@ -101,16 +100,28 @@ fn append<D: Disk + Drop, A: Allocator + Copy>(
     store: &mut Store<D, A>,
 ) -> Result<u64, StoreFault> {
     let size = store.geometry().frame_bytes() as usize;
-    let mut frames = Vec::with_capacity(alloc, 1)?;
-    frames.push_reserved(frame(alloc, size, store.next())?);
+    let mut frames = Vec::with_capacity(alloc, 1).expect(rt, "memory for a list");
+    frames.push_reserved(frame(rt, alloc, size, store.next()));
     put(rt, store, &frames)
 }
 
 // Opens a disk.
-fn opened<D: Disk + Drop, A: Allocator + Copy>(alloc: A, disk: D) -> Result<Store<D, A>, Fail> {
-    match Store::open(alloc, disk) {
-        Ok(store) => Ok(store),
-        Err(_) => Err("the disk is opened".into()),
+fn opened<D: Disk + Drop, A: Allocator + Copy>(rt: &impl Abort, alloc: A, disk: D) -> Store<D, A> {
+    let Ok(store) = Store::open(alloc, disk) else {
+        panic!(rt; "the disk is opened")
+    };
+    store
+}
+
+// Appends so many frames to an empty store.
+fn appends<D: Disk + Drop, A: Allocator + Copy>(
+    rt: &impl Abort,
+    alloc: A,
+    store: &mut Store<D, A>,
+    count: u64,
+) {
+    for number in 0..count {
+        same!(rt; append(rt, alloc, store), Ok(number));
     }
 }
 
@@ -120,16 +131,14 @@ fn stored<A: Allocator + Copy>(
     alloc: A,
     geometry: Geometry,
     count: u64,
-) -> Result<Store<MemDisk<A>, A>, Fail> {
+) -> Store<MemDisk<A>, A> {
     assert!(rt; geometry.check().is_ok());
-    let disk = MemDisk::new(alloc, geometry.disk_size())?;
+    let disk = MemDisk::new(alloc, geometry.disk_size()).expect(rt, "memory for a disk");
     let Ok(mut store) = format(alloc, disk, geometry) else {
-        return Err("the disk is formatted".into());
+        panic!(rt; "the disk is formatted")
     };
-    for number in 0..count {
-        same!(rt; append(rt, alloc, &mut store), Ok(number));
-    }
-    Ok(store)
+    appends(rt, alloc, &mut store, count);
+    store
 }
 
 /// What an export answers.
@@ -147,43 +156,42 @@ fn exported<D: Disk + Drop>(
     (answer, out)
 }
 
+// The two frames are exported up to this number.
+fn exports_both<D: Disk + Drop>(rt: &impl Abort, alloc: Global, store: &mut Store<D>, to: u64) {
+    let (answer, text) = exported(alloc, store, 0, to);
+    same!(rt; answer, Ok(2), to);
+    same!(rt; text.as_slice(), TWO.as_slice(), to);
+    let shape = (PixelFormat::Ym12, 4, 2, (25, 1));
+    reads(
+        rt,
+        alloc,
+        text.as_slice(),
+        (Ok(shape), PIXELS, Ok(false)),
+        2,
+    );
+}
+
 // The two frames are exported, and the second of them alone.
-fn exports_two(
-    rt: &impl Abort,
-    alloc: Global,
-    store: &mut Store<MemDisk>,
-    ends: &[u64],
-) -> Result<(), Fail> {
+fn exports_two<D: Disk + Drop>(rt: &impl Abort, alloc: Global, store: &mut Store<D>, ends: &[u64]) {
     for to in ends {
-        let (answer, text) = exported(alloc, store, 0, *to);
-        same!(rt; answer, Ok(2), *to);
-        same!(rt; text.as_slice(), TWO.as_slice(), *to);
-        let shape = (PixelFormat::Ym12, 4, 2, (25, 1));
-        reads(
-            rt,
-            alloc,
-            text.as_slice(),
-            &(Ok(shape), PIXELS, Ok(false)),
-            2,
-        )?;
+        exports_both(rt, alloc, store, *to);
     }
     let (answer, text) = exported(alloc, store, 1, 1);
     same!(rt; (answer, text.len()), (Ok(1), 57));
     same!(rt; text.get(45..), TWO.get(63..));
-    Ok(())
 }
 
 #[test]
-fn two_frames_are_exported_as_these_75_bytes(rt: HostRuntime) -> Result<(), Fail> {
-    let mut store = stored(&rt, rt.alloc(), SMALL, 2)?;
-    exports_two(&rt, rt.alloc(), &mut store, &[1, 2, u64::MAX])
+fn two_frames_are_exported_as_these_75_bytes(rt: HostRuntime) {
+    let mut store = stored(&rt, rt.alloc(), SMALL, 2);
+    exports_two(&rt, rt.alloc(), &mut store, &[1, 2, u64::MAX]);
 }
 
 // Exports the two frames to a writer that takes one byte a call, of which the call of a number fails.
-fn exports_failing(
+fn exports_failing<D: Disk + Drop>(
     rt: &impl Abort,
     alloc: Global,
-    store: &mut Store<MemDisk>,
+    store: &mut Store<D>,
     fails: (usize, Option<ErrorKind>),
 ) {
     let (want, left) = if fails.0 == 75 || fails.1 == Some(ErrorKind::Interrupted) {
@@ -197,190 +205,214 @@ fn exports_failing(
     same!(rt; Some(out.got.as_slice()), TWO.get(..left), fails);
 }
 
-#[test]
-fn a_writer_that_fails_has_a_beginning_of_the_text(rt: HostRuntime) -> Result<(), Fail> {
-    let mut store = stored(&rt, rt.alloc(), SMALL, 2)?;
+// Each call fails in turn, in each of three ways.
+fn exports_failing_at<D: Disk + Drop>(
+    rt: &impl Abort,
+    alloc: Global,
+    store: &mut Store<D>,
+    kinds: &[Option<ErrorKind>],
+) {
     for number in 0..=75usize {
-        for kind in &[
-            None,
-            Some(ErrorKind::BrokenPipe),
-            Some(ErrorKind::Interrupted),
-        ] {
-            exports_failing(&rt, rt.alloc(), &mut store, (number, *kind));
+        for kind in kinds {
+            exports_failing(rt, alloc, store, (number, *kind));
         }
     }
-    Ok(())
+}
+
+#[test]
+fn a_writer_that_fails_has_a_beginning_of_the_text(rt: HostRuntime) {
+    let kinds = [
+        None,
+        Some(ErrorKind::BrokenPipe),
+        Some(ErrorKind::Interrupted),
+    ];
+    let mut store = stored(&rt, rt.alloc(), SMALL, 2);
+    exports_failing_at(&rt, rt.alloc(), &mut store, &kinds);
 }
 
 /// A range, and the numbers of the frames that are exported of it.
 type Range<'a> = ((u64, u64), &'a [u64]);
 
 // The bytes of small frames of these numbers.
-fn pixels_of(alloc: Global, numbers: &[u64]) -> Result<Vec<u8>, AllocError> {
+fn pixels_of(rt: &impl Abort, alloc: Global, numbers: &[u64]) -> Vec<u8> {
     let mut pixels = Vec::new(alloc);
     for number in numbers {
-        pixels.extend_from_slice(&frame(alloc, 12, *number)?.bytes)?;
+        let frame = frame(rt, alloc, 12, *number);
+        pixels
+            .extend_from_slice(&frame.bytes)
+            .expect(rt, "memory for frames");
     }
-    Ok(pixels)
+    pixels
 }
 
-// The frames of a range that are exported have these numbers.
-fn is_exported(
-    rt: &impl Abort,
-    alloc: Global,
-    store: &mut Store<MemDisk>,
-    row: &Range,
-) -> Result<(), AllocError> {
-    let (from, to) = row.0;
-    let (answer, text) = exported(alloc, store, from, to);
-    same!(rt; answer, Ok(row.1.len() as u64), from);
-    let pixels = pixels_of(alloc, row.1)?;
-    let told = tell(alloc, text.as_slice())?;
-    same!(rt; told.frames.as_slice(), pixels.as_slice(), from);
-    same!(rt; told.ends, [Ok(false); 2], from);
-    Ok(())
+// A text has the frames of these numbers.
+fn has_frames(rt: &impl Abort, alloc: Global, text: &[u8], numbers: &[u64], note: u64) {
+    let told = tell(rt, alloc, text);
+    same!(rt; told.frames, pixels_of(rt, alloc, numbers), note);
+    same!(rt; told.ends, [Ok(false); 2], note);
 }
 
 // The frames of each range that are exported have these numbers.
-fn are_exported(
+fn are_exported<D: Disk + Drop>(
     rt: &impl Abort,
     alloc: Global,
-    store: &mut Store<MemDisk>,
+    store: &mut Store<D>,
     rows: &[Range],
-) -> Result<(), AllocError> {
-    for row in rows {
-        is_exported(rt, alloc, store, row)?;
+) {
+    for ((from, to), numbers) in rows {
+        let (answer, text) = exported(alloc, store, *from, *to);
+        same!(rt; answer, Ok(numbers.len() as u64), *from);
+        has_frames(rt, alloc, &text, numbers, *from);
     }
-    Ok(())
 }
 
 // The image of a store that was taken back to its disk.
-fn image_of(alloc: Global, store: Store<MemDisk>) -> Result<Vec<u8>, AllocError> {
-    store.into_disk().bytes().to_vec(alloc)
+fn image_of(rt: &impl Abort, alloc: Global, store: Store<MemDisk>) -> Vec<u8> {
+    store
+        .into_disk()
+        .bytes()
+        .to_vec(alloc)
+        .expect(rt, "memory for an image")
 }
 
-// Six frames of which a clip has 0 and 1, and one more.
-fn clipped(rt: &impl Abort, alloc: Global) -> Result<Store<MemDisk>, Fail> {
-    let mut image = image_of(alloc, stored(rt, alloc, SMALL, 6)?)?;
-    *image.get_mut(512).ok_or("it is too short")? = OPEN;
-    *image.get_mut(528).ok_or("it is too short")? = 1;
-    let mut store = opened(alloc, MemDisk::of(image))?;
-    same!(rt; append(rt, alloc, &mut store), Ok(6));
-    Ok(store)
+// Writes an open clip of frames 0 and 1 into an image.
+fn put_clip(rt: &impl Abort, image: &mut [u8]) {
+    assert!(rt; image.len() > 528);
+    image[512] = OPEN;
+    image[528] = 1;
 }
 
-// A clip has kept frames 0 and 1, and 2 and 3 went.
-fn exports_clipped(rt: &impl Abort, alloc: Global, rows: &[Range]) -> Result<(), Fail> {
-    let mut store = clipped(rt, alloc)?;
-    are_exported(rt, alloc, &mut store, rows)?;
-    let (answer, text) = exported(alloc, &mut store, 2, 3);
+// The disk of six frames of which a clip has 0 and 1.
+fn clipped(rt: &impl Abort, alloc: Global) -> MemDisk {
+    let mut image = image_of(rt, alloc, stored(rt, alloc, SMALL, 6));
+    put_clip(rt, &mut image);
+    MemDisk::of(image)
+}
+
+// A clip has kept frames 0 and 1, and 2 and 3 went for one more.
+fn exports_clipped<D: Disk + Drop>(
+    rt: &impl Abort,
+    alloc: Global,
+    store: &mut Store<D>,
+    rows: &[Range],
+) {
+    same!(rt; append(rt, alloc, store), Ok(6));
+    are_exported(rt, alloc, store, rows);
+    let (answer, text) = exported(alloc, store, 2, 3);
     same!(rt; (answer, text.len()), (Err(ExportFault::Store(StoreFault::NotHeld)), 0));
-    Ok(())
 }
 
-// The ring has taken frames 0 and 1 back.
-fn exports_seven(rt: &impl Abort, alloc: Global, rows: &[Range]) -> Result<(), Fail> {
-    let mut store = stored(rt, alloc, SMALL, 7)?;
-    are_exported(rt, alloc, &mut store, rows)?;
-    Ok(())
-}
-
+// The ring has taken frames 0 and 1 back, or a clip has kept them.
 #[test]
-fn the_held_frames_of_a_range_are_exported(rt: HostRuntime) -> Result<(), Fail> {
-    let rows: [Range; 2] = [((0, u64::MAX), &[2, 3, 4, 5, 6]), ((0, 3), &[2, 3])];
-    exports_seven(&rt, rt.alloc(), &rows)?;
-    let rows: [Range; 2] = [((0, u64::MAX), &[0, 1, 4, 5, 6]), ((1, 4), &[1, 4])];
-    exports_clipped(&rt, rt.alloc(), &rows)
-}
-
-#[test]
-fn a_large_frame_is_moved_in_pieces(rt: HostRuntime) -> Result<(), Fail> {
+fn the_held_frames_of_a_range_are_exported(rt: HostRuntime) {
     let alloc = rt.alloc();
-    let mut store = stored(&rt, alloc, LARGE, 1)?;
+    let rows: [Range; 2] = [((0, u64::MAX), &[2, 3, 4, 5, 6]), ((0, 3), &[2, 3])];
+    are_exported(&rt, alloc, &mut stored(&rt, alloc, SMALL, 7), &rows);
+    let rows: [Range; 2] = [((0, u64::MAX), &[0, 1, 4, 5, 6]), ((1, 4), &[1, 4])];
+    exports_clipped(
+        &rt,
+        alloc,
+        &mut opened(&rt, alloc, clipped(&rt, alloc)),
+        &rows,
+    );
+}
+
+// An export of the first frame writes pieces of these sizes.
+fn exports_pieces<D: Disk + Drop>(
+    rt: &impl Abort,
+    alloc: Global,
+    store: &mut Store<D>,
+    sizes: &[usize],
+) {
     let mut out = Sizes {
         sizes: Vec::new(alloc),
     };
-    same!(rt; export(alloc, &mut store, 0, 0, &mut out), Ok(1));
-    same!(rt; out.sizes.as_slice(), [40, 6, 65_536, 2usize].as_slice());
-    Ok(())
+    same!(rt; export(alloc, store, 0, 0, &mut out), Ok(1));
+    same!(rt; out.sizes.as_slice(), sizes);
+}
+
+#[test]
+fn a_large_frame_is_moved_in_pieces(rt: HostRuntime) {
+    let mut store = stored(&rt, rt.alloc(), LARGE, 1);
+    exports_pieces(&rt, rt.alloc(), &mut store, &[40, 6, 65_536, 2]);
 }
 
 // The text of the large frame.
-fn large_text(alloc: Global) -> Result<Vec<u8>, AllocError> {
-    let mut text = LARGE_HEADER.to_vec(alloc)?;
-    text.extend_from_slice(b"FRAME\n")?;
-    text.extend_from_slice(&frame(alloc, 65_538, 0)?.bytes)?;
-    Ok(text)
+fn large_text(rt: &impl Abort, alloc: Global) -> Vec<u8> {
+    let mut text = LARGE_HEADER.to_vec(alloc).expect(rt, "memory for a header");
+    text.extend_from_slice(b"FRAME\n")
+        .expect(rt, "memory for a line");
+    let frame = frame(rt, alloc, 65_538, 0);
+    text.extend_from_slice(&frame.bytes)
+        .expect(rt, "memory for a text");
+    text
 }
 
-// What an export of an image writes and answers where the disk's call of a number fails, and what a second one
-// answers. Nothing where the disk isn't opened.
-fn exported_once(
-    alloc: Global,
-    image: &[u8],
-    call: u64,
-) -> Result<Option<(Answer, Vec<u8>, Answer)>, Fail> {
-    let disk = OnceDisk::new(MemDisk::of(image.to_vec(alloc)?), call);
-    let Ok(mut store) = Store::open(alloc, disk) else {
-        return Ok(None);
-    };
-    let (answer, written) = exported(alloc, &mut store, 0, u64::MAX);
-    let (again, _) = exported(alloc, &mut store, 0, 0);
-    Ok(Some((answer, written, again)))
+/// What an export answers and writes, and what a second one answers.
+type Twice = (Answer, Vec<u8>, Answer);
+
+// What an export of a store writes and answers, and what a second one answers.
+fn exported_twice<D: Disk + Drop>(alloc: Global, store: &mut Store<D>) -> Twice {
+    let (answer, written) = exported(alloc, store, 0, u64::MAX);
+    let (again, _) = exported(alloc, store, 0, 0);
+    (answer, written, again)
 }
 
-// An export whose read failed answers so, with these bytes of the text; it is read through a second time.
-fn fails(rt: &impl Abort, told: &(Answer, Vec<u8>, Answer), written: &[u8], call: u64) {
+// The same of an image, where the disk's call of a number fails. Nothing where the disk isn't opened.
+fn exported_once(rt: &impl Abort, alloc: Global, image: &[u8], call: u64) -> Option<Twice> {
+    let image = image.to_vec(alloc).expect(rt, "memory for an image");
+    match Store::open(alloc, OnceDisk::new(MemDisk::of(image), call)) {
+        Ok(mut store) => Some(exported_twice(alloc, &mut store)),
+        Err(_) => None,
+    }
+}
+
+// An export whose read failed answers so, with so many bytes of the text; it is read through a second time.
+fn fails(rt: &impl Abort, told: &Twice, (text, length): (&[u8], usize), call: u64) {
     same!(rt; told.0, Err(ExportFault::Store(StoreFault::Disk(DiskFault::Read))), call);
-    same!(rt; told.1.len(), written.len(), call);
-    holds!(rt; told.1.as_slice() == written, call);
+    same!(rt; told.1.len(), length, call);
+    holds!(rt; Some(told.1.as_slice()) == text.get(..length), call);
     same!(rt; told.2, Ok(1), call);
 }
 
 // Fails each call of an export in turn: it writes so many bytes of the text.
-fn fails_in_turn(
-    rt: &impl Abort,
-    alloc: Global,
-    image: &[u8],
-    text: &[u8],
-    lengths: &[usize],
-) -> Result<(), Fail> {
+fn fails_in_turn(rt: &impl Abort, alloc: Global, image: &[u8], text: &[u8], lengths: &[usize]) {
     let mut lengths = lengths.iter();
     for call in 0..40 {
-        let Some(told) = exported_once(alloc, image, call)? else {
+        let Some(told) = exported_once(rt, alloc, image, call) else {
             continue;
         };
         let Some(length) = lengths.next() else {
             same!(rt; told.0, Ok(1), call);
             holds!(rt; told.1.as_slice() == text, call);
-            return Ok(());
+            return;
         };
-        fails(rt, &told, text.get(..*length).ok_or("too long")?, call);
+        fails(rt, &told, (text, *length), call);
     }
-    Err("an export makes so many reads".into())
+    panic!(rt; "an export makes so many reads")
 }
 
 // Four reads: the frame's head, and a piece, twice.
 #[test]
-fn a_read_that_fails_leaves_a_beginning_of_the_text(rt: HostRuntime) -> Result<(), Fail> {
+fn a_read_that_fails_leaves_a_beginning_of_the_text(rt: HostRuntime) {
     let alloc = rt.alloc();
-    let image = image_of(alloc, stored(&rt, alloc, LARGE, 1)?)?;
-    let text = large_text(alloc)?;
+    let image = image_of(&rt, alloc, stored(&rt, alloc, LARGE, 1));
+    let text = large_text(&rt, alloc);
     same!(rt; text.len(), 65_584);
-    fails_in_turn(&rt, alloc, &image, &text, &[46, 46, 65_582, 65_582])
+    fails_in_turn(&rt, alloc, &image, &text, &[46, 46, 65_582, 65_582]);
 }
 
 // What an export of a range answers where so many growths are granted, and how much it writes.
-fn granted<'a, D: Disk + Drop>(
+fn granted<D: Disk + Drop, A: Allocator + Copy>(
     alloc: Global,
-    memory: &'a Budget,
-    store: &mut Store<D, &'a Budget>,
+    (memory, given): (&Budget, A),
+    store: &mut Store<D, A>,
     growths: u64,
     to: u64,
 ) -> (Answer, usize) {
     let mut out = Vec::new(alloc);
     memory.allow(growths);
-    let answer = export(memory, store, 2, to, &mut out);
+    let answer = export(given, store, 2, to, &mut out);
     (answer, out.len())
 }
 
@@ -388,70 +420,95 @@ fn granted<'a, D: Disk + Drop>(
 type Growth = (u64, u64, (Answer, usize));
 
 // Exports where memory is refused answer so, and leave no growth.
-fn grows(rt: &impl Abort, alloc: Global, rows: &[Growth]) -> Result<(), Fail> {
-    let memory = Budget::new(alloc);
-    let mut store = stored(rt, &memory, SMALL, 3)?;
+fn grows<D: Disk + Drop, A: Allocator + Copy>(
+    rt: &impl Abort,
+    alloc: Global,
+    (memory, given): (&Budget, A),
+    store: &mut Store<D, A>,
+    rows: &[Growth],
+) {
     for (growths, to, want) in rows {
-        let told = granted(alloc, &memory, &mut store, *growths, *to);
+        let told = granted(alloc, (memory, given), store, *growths, *to);
         same!(rt; told, *want, *growths);
         same!(rt; memory.left(), 0, *growths);
     }
-    Ok(())
+}
+
+// The same of a store all of whose memory is granted by the budget.
+fn grows_within<A: Allocator + Copy>(
+    rt: &impl Abort,
+    alloc: Global,
+    (memory, given): (&Budget, A),
+    rows: &[Growth],
+) {
+    let mut store = stored(rt, given, SMALL, 3);
+    grows(rt, alloc, (memory, given), &mut store, rows);
 }
 
 #[test]
-fn an_export_takes_memory_once_before_it_writes(rt: HostRuntime) -> Result<(), Fail> {
+fn an_export_takes_memory_once_before_it_writes(rt: HostRuntime) {
     let rows = [
         (0, 2, (Err(ExportFault::Store(StoreFault::NoMemory)), 0)),
         (1, 2, (Ok(1), 57)),
         (0, 1, (Err(ExportFault::Store(StoreFault::NotHeld)), 0)),
     ];
-    grows(&rt, rt.alloc(), &rows)
+    let memory = Budget::new(rt.alloc());
+    grows_within(&rt, rt.alloc(), (&memory, &memory), &rows);
 }
 
-// A store that is opened in so many calls, of which the next one then fails an append. Nothing where the disk isn't
-// opened.
-fn broken<'a>(
-    rt: &impl Abort,
-    memory: &'a Budget,
-    image: Vec<u8>,
-    calls: u64,
-) -> Option<Store<FuseDisk<MemDisk>, &'a Budget>> {
-    let disk = FuseDisk::new(MemDisk::of(image), calls);
-    let mut store = Store::open(memory, disk).ok()?;
-    let failed = append(rt, memory, &mut store).err();
-    same!(rt; failed, Some(StoreFault::Disk(DiskFault::Write)));
-    Some(store)
-}
-
-// A store that is opened in so many calls of its disk exports nothing once an append has failed. False where it isn't
-// opened.
-fn is_broken(
+// A store whose append fails exports nothing.
+fn exports_nothing<D: Disk + Drop, A: Allocator + Copy>(
     rt: &impl Abort,
     alloc: Global,
-    memory: &Budget,
-    image: &[u8],
-    calls: u64,
-) -> Result<bool, AllocError> {
-    let Some(mut store) = broken(rt, memory, image.to_vec(alloc)?, calls) else {
-        return Ok(false);
-    };
+    (memory, given): (&Budget, A),
+    store: &mut Store<D, A>,
+) {
+    let failed = append(rt, given, store).err();
+    same!(rt; failed, Some(StoreFault::Disk(DiskFault::Write)));
     for to in &[1, 2] {
-        let told = granted(alloc, memory, &mut store, 0, *to);
+        let told = granted(alloc, (memory, given), store, 0, *to);
         same!(rt; told, (Err(ExportFault::Store(StoreFault::MustReopen)), 0), *to);
     }
-    Ok(true)
+}
+
+// A store that is opened in so many calls of its disk exports nothing once an append has failed, at the next call.
+// False where it isn't opened.
+fn is_broken<A: Allocator + Copy>(
+    rt: &impl Abort,
+    alloc: Global,
+    (memory, given): (&Budget, A),
+    image: Vec<u8>,
+    calls: u64,
+) -> bool {
+    match Store::open(given, FuseDisk::new(MemDisk::of(image), calls)) {
+        Ok(mut store) => {
+            exports_nothing(rt, alloc, (memory, given), &mut store);
+            true
+        }
+        Err(_) => false,
+    }
+}
+
+// Some count of calls is enough to open it.
+fn is_broken_once<A: Allocator + Copy>(
+    rt: &impl Abort,
+    alloc: Global,
+    (memory, given): (&Budget, A),
+    image: &[u8],
+) {
+    for calls in 0..40 {
+        let image = image.to_vec(alloc).expect(rt, "memory for an image");
+        if is_broken(rt, alloc, (memory, given), image, calls) {
+            return;
+        }
+    }
+    panic!(rt; "it is opened")
 }
 
 #[test]
-fn a_store_that_must_be_reopened_exports_nothing(rt: HostRuntime) -> Result<(), Fail> {
+fn a_store_that_must_be_reopened_exports_nothing(rt: HostRuntime) {
     let alloc = rt.alloc();
     let memory = Budget::new(alloc);
-    let image = image_of(alloc, stored(&rt, alloc, SMALL, 3)?)?;
-    for calls in 0..40 {
-        if is_broken(&rt, alloc, &memory, &image, calls)? {
-            return Ok(());
-        }
-    }
-    Err("it is opened".into())
+    let image = image_of(&rt, alloc, stored(&rt, alloc, SMALL, 3));
+    is_broken_once(&rt, alloc, (&memory, &memory), &image);
 }

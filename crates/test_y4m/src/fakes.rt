@@ -3,7 +3,7 @@
 use crate::told::same;
 use loop_record::PixelFormat;
 use loop_y4m::{Y4mFault, Y4mReader};
-use std::alloc::{AllocError, Global};
+use std::alloc::Global;
 use std::io;
 use std::io::{Error, ErrorKind, Read, Write};
 use std::process::Abort;
@@ -104,16 +104,19 @@ fn next<R: Read + Drop>(reader: &mut Y4mReader<R>, out: &mut [u8]) -> Result<boo
 }
 
 /// The frames of a reader that was opened, at most eight.
-fn go_on<R: Read + Drop>(alloc: Global, mut reader: Y4mReader<R>) -> Result<Story, AllocError> {
+fn go_on<R: Read + Drop>(rt: &impl Abort, alloc: Global, mut reader: Y4mReader<R>) -> Story {
     let mut frames = Vec::new(alloc);
-    let mut out = vec![in alloc; 0u8; reader.frame_bytes() as usize]?;
+    let size = reader.frame_bytes() as usize;
+    let mut out = vec![in alloc; 0u8; size].expect(rt, "memory for a frame");
     let mut end = Ok(true);
     for _ in 0..9 {
         end = next(&mut reader, &mut out);
         if end != Ok(true) {
             break;
         }
-        frames.extend_from_slice(&out)?;
+        frames
+            .extend_from_slice(&out)
+            .expect(rt, "memory for frames");
     }
     let shape = (
         reader.format(),
@@ -121,22 +124,22 @@ fn go_on<R: Read + Drop>(alloc: Global, mut reader: Y4mReader<R>) -> Result<Stor
         reader.height(),
         reader.rate(),
     );
-    Ok(Story {
+    Story {
         opened: Ok(shape),
         frames,
         ends: [end, next(&mut reader, &mut out)],
-    })
+    }
 }
 
 /// Reads a whole input of at most eight frames.
-pub fn tell<R: Read + Drop>(alloc: Global, input: R) -> Result<Story, AllocError> {
+pub fn tell<R: Read + Drop>(rt: &impl Abort, alloc: Global, input: R) -> Story {
     match Y4mReader::open(input) {
-        Ok(reader) => go_on(alloc, reader),
-        Err(fault) => Ok(Story {
+        Ok(reader) => go_on(rt, alloc, reader),
+        Err(fault) => Story {
             opened: Err(fault),
             frames: Vec::new(alloc),
             ends: [Err(fault); 2],
-        }),
+        },
     }
 }
 
@@ -148,12 +151,11 @@ pub fn reads<R: Read + Drop>(
     rt: &impl Abort,
     alloc: Global,
     input: R,
-    want: &Want,
+    (opened, frames, end): Want<'_>,
     note: usize,
-) -> Result<(), AllocError> {
-    let told = tell(alloc, input)?;
-    same!(rt; told.opened, want.0, note);
-    same!(rt; told.frames.as_slice(), want.1, note);
-    same!(rt; told.ends, [want.2; 2], note);
-    Ok(())
+) {
+    let told = tell(rt, alloc, input);
+    same!(rt; told.opened, opened, note);
+    same!(rt; told.frames.as_slice(), frames, note);
+    same!(rt; told.ends, [end; 2], note);
 }

@@ -4,11 +4,10 @@ use crate::fakes::{Drip, Shape, Want, reads, tell};
 use crate::told::same;
 use loop_record::{Geometry, PixelFormat};
 use loop_y4m::{GeometryFault, Y4mFault, Y4mReader};
-use std::alloc::{AllocError, Global};
+use std::alloc::Global;
 use std::io::ErrorKind;
 use std::ops::RangeInclusive;
 use std::process::Abort;
-use std::test::Fail;
 
 /// Two frames of 4 by 2: byte i of frame n is n + i.
 pub const TWO: &[u8; 75] = b"YUV4MPEG2 W4 H2 F25:1 Ip A0:0 C420jpeg\nFRAME\n\
@@ -43,75 +42,64 @@ const CUTS: [Cut; 7] = [
 ];
 
 // Reads what is left of the two frames, whole and by one byte a call.
-fn reads_cut(rt: &impl Abort, alloc: Global, rows: &[Cut]) -> Result<(), Fail> {
+fn reads_cut(rt: &impl Abort, alloc: Global, rows: &[Cut]) {
     for row in rows {
-        let frames = PIXELS.get(..row.3).ok_or("too long")?;
-        reads_each(rt, alloc, row.0..=row.1, &(row.2, frames, row.4))?;
+        let frames = PIXELS.get(..row.3).expect(rt, "so many bytes of frames");
+        reads_each(rt, alloc, row.0..=row.1, (row.2, frames, row.4));
     }
-    Ok(())
 }
 
 // So many bytes of the two frames are all read as this.
-fn reads_each(
-    rt: &impl Abort,
-    alloc: Global,
-    counts: RangeInclusive<usize>,
-    want: &Want,
-) -> Result<(), Fail> {
+fn reads_each(rt: &impl Abort, alloc: Global, counts: RangeInclusive<usize>, want: Want<'_>) {
     for count in counts {
-        let bytes = TWO.get(..count).ok_or("too long")?;
-        reads(rt, alloc, bytes, want, count)?;
-        reads(rt, alloc, Drip::new(bytes, None), want, count)?;
+        let bytes = TWO.get(..count).expect(rt, "so many bytes");
+        reads(rt, alloc, bytes, want, count);
+        reads(rt, alloc, Drip::new(bytes, None), want, count);
     }
-    Ok(())
 }
 
 #[test]
-fn an_input_that_is_cut_gives_its_whole_frames_and_then_truncated(
-    rt: HostRuntime,
-) -> Result<(), Fail> {
-    reads_cut(&rt, rt.alloc(), &CUTS)
+fn an_input_that_is_cut_gives_its_whole_frames_and_then_truncated(rt: HostRuntime) {
+    reads_cut(&rt, rt.alloc(), &CUTS);
 }
 
-// Reads by one byte a call, of which the call of this number fails or is interrupted.
-fn reads_failing(rt: &impl Abort, alloc: Global, number: usize) -> Result<(), Fail> {
-    let frames = match number {
-        0..=56 => 0,
-        57..=74 => 12,
-        _ => 24,
-    };
-    let opened = if number < 39 {
-        Err(Y4mFault::Read)
-    } else {
-        Ok(SMALL)
-    };
-    let frames = PIXELS.get(..frames).ok_or("too long")?;
-    let failing = Drip::new(TWO, Some((number, ErrorKind::Other)));
-    reads(
-        rt,
-        alloc,
-        failing,
-        &(opened, frames, Err(Y4mFault::Read)),
-        number,
-    )?;
-    let interrupted = Drip::new(TWO, Some((number, ErrorKind::Interrupted)));
-    reads(
-        rt,
-        alloc,
-        interrupted,
-        &(Ok(SMALL), PIXELS, Ok(false)),
-        number,
-    )?;
-    Ok(())
+// Reads the two frames by one byte a call, of which the call of this number fails so.
+fn reads_failing(
+    rt: &impl Abort,
+    alloc: Global,
+    (number, kind): (usize, ErrorKind),
+    want: Want<'_>,
+) {
+    let input = Drip::new(TWO, Some((number, kind)));
+    reads(rt, alloc, input, want, number);
+}
+
+// What is read before the read of a number fails: the header, or nothing, and so many bytes of frames.
+fn until(number: usize) -> (Result<Shape, Y4mFault>, usize) {
+    match number {
+        0..=38 => (Err(Y4mFault::Read), 0),
+        39..=56 => (Ok(SMALL), 0),
+        57..=74 => (Ok(SMALL), 12),
+        _ => (Ok(SMALL), 24),
+    }
+}
+
+// The call of this number fails or is interrupted.
+fn reads_failing_at(rt: &impl Abort, alloc: Global, number: usize) {
+    let (opened, frames) = until(number);
+    let frames = PIXELS.get(..frames).expect(rt, "so many bytes of frames");
+    let failed = (opened, frames, Err(Y4mFault::Read));
+    reads_failing(rt, alloc, (number, ErrorKind::Other), failed);
+    let whole = (Ok(SMALL), PIXELS.as_slice(), Ok(false));
+    reads_failing(rt, alloc, (number, ErrorKind::Interrupted), whole);
 }
 
 // One byte a read: the read of number k is that of byte k, and that of number 75 finds the end.
 #[test]
-fn a_read_that_fails_is_answered_then_and_from_then_on(rt: HostRuntime) -> Result<(), Fail> {
+fn a_read_that_fails_is_answered_then_and_from_then_on(rt: HostRuntime) {
     for number in 0..=75usize {
-        reads_failing(&rt, rt.alloc(), number)?;
+        reads_failing_at(&rt, rt.alloc(), number);
     }
-    Ok(())
 }
 
 /// Header lines, and what they say.
@@ -194,22 +182,15 @@ const HEADERS: [(&[u8], Result<Shape, Y4mFault>); 36] = [
 ];
 
 // Each of these header lines says this.
-fn opens(
-    rt: &impl Abort,
-    alloc: Global,
-    rows: &[(&[u8], Result<Shape, Y4mFault>)],
-) -> Result<(), AllocError> {
+fn opens(rt: &impl Abort, alloc: Global, rows: &[(&[u8], Result<Shape, Y4mFault>)]) {
     for (row, (line, opened)) in rows.iter().enumerate() {
-        let told = tell(alloc, *line)?;
-        same!(rt; told.opened, *opened, row);
+        same!(rt; tell(rt, alloc, *line).opened, *opened, row);
     }
-    Ok(())
 }
 
 #[test]
-fn a_header_is_read_or_refused_by_name(rt: HostRuntime) -> Result<(), Fail> {
-    opens(&rt, rt.alloc(), &HEADERS)?;
-    Ok(())
+fn a_header_is_read_or_refused_by_name(rt: HostRuntime) {
+    opens(&rt, rt.alloc(), &HEADERS);
 }
 
 /// Header lines, segments and slots, and the geometry of a store of them.
@@ -305,9 +286,8 @@ fn gives_geometry(rt: &impl Abort, rows: &[(&[u8], u32, u32, Result<Geometry, Ge
 }
 
 #[test]
-fn a_geometry_is_the_headers_or_refused_by_name(rt: HostRuntime) -> Result<(), Fail> {
+fn a_geometry_is_the_headers_or_refused_by_name(rt: HostRuntime) {
     gives_geometry(&rt, &GEOMETRIES);
-    Ok(())
 }
 
 /// What stands behind a header of frames of one byte, the frames' bytes, and what ends them.
@@ -328,40 +308,58 @@ const POINT: &[u8; 22] = b"YUV4MPEG2 W1 H1 Cmono\n";
 
 const ONE: Result<Shape, Y4mFault> = Ok((PixelFormat::Grey, 1, 1, (0, 0)));
 
+// The header of frames of one byte, and what stands behind it.
+fn point(rt: &impl Abort, alloc: Global, behind: &[u8]) -> Vec<u8> {
+    let mut input = POINT.to_vec(alloc).expect(rt, "memory for a header");
+    input
+        .extend_from_slice(behind)
+        .expect(rt, "memory for frames");
+    input
+}
+
 // What stands behind the header of frames of one byte is read as this.
-fn reads_behind(
-    rt: &impl Abort,
-    alloc: Global,
-    rows: &[(&[u8], &[u8], Result<bool, Y4mFault>)],
-) -> Result<(), AllocError> {
+fn reads_behind(rt: &impl Abort, alloc: Global, rows: &[(&[u8], &[u8], Result<bool, Y4mFault>)]) {
     for (row, (behind, frames, end)) in rows.iter().enumerate() {
-        let mut input = POINT.to_vec(alloc)?;
-        input.extend_from_slice(behind)?;
-        reads(rt, alloc, input.as_slice(), &(ONE, *frames, *end), row)?;
+        let input = point(rt, alloc, behind);
+        reads(rt, alloc, input.as_slice(), (ONE, *frames, *end), row);
     }
-    Ok(())
 }
 
 #[test]
-fn frames_are_read_up_to_the_end_or_a_fault(rt: HostRuntime) -> Result<(), Fail> {
-    reads_behind(&rt, rt.alloc(), &FRAMES)?;
-    Ok(())
+fn frames_are_read_up_to_the_end_or_a_fault(rt: HostRuntime) {
+    reads_behind(&rt, rt.alloc(), &FRAMES);
+}
+
+// Bytes, filled up to a length with one byte, and more behind it.
+fn filled(
+    rt: &impl Abort,
+    alloc: Global,
+    start: &[u8],
+    (length, byte): (usize, u8),
+    end: &[u8],
+) -> Vec<u8> {
+    let mut line = Vec::from_slice(alloc, start).expect(rt, "memory for a start");
+    line.resize(length, byte).expect(rt, "memory for a line");
+    line.extend_from_slice(end).expect(rt, "memory for an end");
+    line
 }
 
 // A header line of so many bytes.
-fn long_header(alloc: Global, length: usize) -> Result<Vec<u8>, AllocError> {
-    let mut line = Vec::from_slice(alloc, b"YUV4MPEG2 W1 H1 Cmono X")?;
-    line.resize(length.saturating_sub(1), b'x')?;
-    line.push(b'\n')?;
-    Ok(line)
+fn long_header(rt: &impl Abort, alloc: Global, length: usize) -> Vec<u8> {
+    let length = length.saturating_sub(1);
+    filled(rt, alloc, b"YUV4MPEG2 W1 H1 Cmono X", (length, b'x'), b"\n")
 }
 
 // A frame of one byte behind a frame's line of so many bytes.
-fn long_frame(alloc: Global, length: usize) -> Result<Vec<u8>, AllocError> {
-    let mut input = Vec::from_slice(alloc, b"YUV4MPEG2 W1 H1 Cmono\nFRAME")?;
-    input.resize(length.saturating_add(21), b' ')?;
-    input.extend_from_slice(b"\na")?;
-    Ok(input)
+fn long_frame(rt: &impl Abort, alloc: Global, length: usize) -> Vec<u8> {
+    let length = length.saturating_add(21);
+    filled(
+        rt,
+        alloc,
+        b"YUV4MPEG2 W1 H1 Cmono\nFRAME",
+        (length, b' '),
+        b"\na",
+    )
 }
 
 // A header line of so many bytes is opened so, and a frame's line ends the input so.
@@ -369,24 +367,22 @@ fn long_lines(
     rt: &impl Abort,
     alloc: Global,
     rows: &[(usize, Option<Y4mFault>, Result<bool, Y4mFault>)],
-) -> Result<(), AllocError> {
+) {
     for (length, refusal, end) in rows {
-        let told = tell(alloc, long_header(alloc, *length)?.as_slice())?;
-        same!(rt; told.opened.err(), *refusal, *length);
-        let told = tell(alloc, long_frame(alloc, *length)?.as_slice())?;
-        same!(rt; told.ends, [*end; 2], *length);
+        let header = long_header(rt, alloc, *length);
+        same!(rt; tell(rt, alloc, header.as_slice()).opened.err(), *refusal, *length);
+        let frame = long_frame(rt, alloc, *length);
+        same!(rt; tell(rt, alloc, frame.as_slice()).ends, [*end; 2], *length);
     }
-    Ok(())
 }
 
 // A line is read up to 4,096 bytes, its 0x0A among them.
 #[test]
-fn a_line_of_4_097_bytes_is_too_long(rt: HostRuntime) -> Result<(), Fail> {
+fn a_line_of_4_097_bytes_is_too_long(rt: HostRuntime) {
     let rows = [
         (4_096usize, None, Ok(false)),
         (4_097, Some(Y4mFault::BadHeader), Err(Y4mFault::BadHeader)),
         (9_999, Some(Y4mFault::BadHeader), Err(Y4mFault::BadHeader)),
     ];
-    long_lines(&rt, rt.alloc(), &rows)?;
-    Ok(())
+    long_lines(&rt, rt.alloc(), &rows);
 }

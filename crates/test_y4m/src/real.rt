@@ -1,12 +1,11 @@
-//! Streams of one frame that ffmpeg 5.1.9 and mjpegtools 2.1.0 wrote, each under the command that made it. The frames' bytes beside
-//! them are what ffmpeg decoded of the stream: `ffmpeg -i - -f rawvideo -`.
+//! Streams of one frame that ffmpeg 5.1.9 and mjpegtools 2.1.0 wrote, each under the command that made it. The frames'
+//! bytes beside them are what ffmpeg decoded of the stream: `ffmpeg -i - -f rawvideo -`.
 
 use crate::fakes::{Shape, reads};
 use loop_record::PixelFormat;
 use loop_y4m::Y4mFault;
 use std::alloc::Global;
 use std::process::Abort;
-use std::test::Fail;
 
 /// A stream, what its header says or why it is refused, its frame's bytes, and what ends it.
 type Row = (
@@ -164,14 +163,13 @@ const ROWS: [Row; 17] = [
 ];
 
 // Each of these streams is read as this.
-fn reads_streams(rt: &impl Abort, alloc: Global, rows: &[Row]) -> Result<(), Fail> {
+fn reads_streams(rt: &impl Abort, alloc: Global, rows: &[Row]) {
     for (number, row) in rows.iter().enumerate() {
-        reads(rt, alloc, row.0, &(row.1, row.2, row.3), number)?;
+        reads(rt, alloc, row.0, (row.1, row.2, row.3), number);
     }
-    Ok(())
 }
 
 #[test]
-fn what_real_tools_write_is_read_or_refused_by_name(rt: HostRuntime) -> Result<(), Fail> {
-    reads_streams(&rt, rt.alloc(), &ROWS)
+fn what_real_tools_write_is_read_or_refused_by_name(rt: HostRuntime) {
+    reads_streams(&rt, rt.alloc(), &ROWS);
 }

@@ -2,14 +2,13 @@
 
 use crate::fakes::{Gutter, reads};
 use crate::reading::{PIXELS, TWO};
-use crate::told::same;
+use crate::told::{holds, same};
 use loop_record::{Geometry, PixelFormat};
 use loop_y4m::{write_frame, write_header};
-use std::alloc::{AllocError, Global};
+use std::alloc::Global;
 use std::io;
 use std::io::{ErrorKind, Write};
 use std::process::Abort;
-use std::test::Fail;
 
 const SMALL: Geometry = Geometry {
     width: 4,
@@ -64,24 +63,27 @@ fn writes_failing_at(rt: &impl Abort, alloc: Global, number: usize) {
     writes_failing(rt, alloc, (number, interrupted), (None, 75));
 }
 
-#[test]
-fn two_frames_are_written_as_these_75_bytes(rt: HostRuntime) -> Result<(), Fail> {
-    let alloc = rt.alloc();
-    let mut out: Vec<u8> = Vec::new(alloc);
-    write_two(&mut out)?;
-    same!(rt; out.as_slice(), TWO.as_slice());
-    for number in 0..75usize {
-        writes_failing_at(&rt, alloc, number);
-    }
-    // There is no call of number 75.
+// There is no call of number 75, so none fails.
+fn writes_to_the_end(rt: &impl Abort, alloc: Global) {
     for kind in &[
         None,
         Some(ErrorKind::BrokenPipe),
         Some(ErrorKind::Interrupted),
     ] {
-        writes_failing(&rt, alloc, (75, *kind), (None, 75));
+        writes_failing(rt, alloc, (75, *kind), (None, 75));
     }
-    Ok(())
+}
+
+#[test]
+fn two_frames_are_written_as_these_75_bytes(rt: HostRuntime) {
+    let alloc = rt.alloc();
+    let mut out: Vec<u8> = Vec::new(alloc);
+    same!(rt; refusal(&mut out), None);
+    same!(rt; out.as_slice(), TWO.as_slice());
+    for number in 0..75usize {
+        writes_failing_at(&rt, alloc, number);
+    }
+    writes_to_the_end(&rt, alloc);
 }
 
 /// Formats, the sizes of their frames of 5 by 3 pixels, and the header that is written.
@@ -108,9 +110,16 @@ const ODD: [(PixelFormat, usize, &[u8]); 4] = [
     ),
 ];
 
+// The header of a geometry.
+fn header(rt: &impl Abort, alloc: Global, geometry: &Geometry) -> Vec<u8> {
+    let mut out: Vec<u8> = Vec::new(alloc);
+    holds!(rt; write_header(geometry, &mut out).is_ok());
+    out
+}
+
 // No header is longer: each number has its ten digits, and the colour its longest name.
 #[test]
-fn the_longest_header_is_written(rt: HostRuntime) -> Result<(), Fail> {
+fn the_longest_header_is_written(rt: HostRuntime) {
     let geometry = Geometry {
         width: u32::MAX,
         height: u32::MAX,
@@ -118,58 +127,50 @@ fn the_longest_header_is_written(rt: HostRuntime) -> Result<(), Fail> {
         rate_den: u32::MAX,
         ..SMALL
     };
-    let mut out: Vec<u8> = Vec::new(rt.alloc());
-    write_header(&geometry, &mut out)?;
     let line = b"YUV4MPEG2 W4294967295 H4294967295 F4294967295:4294967295 Ip A0:0 C420jpeg\n";
-    same!(rt; out.as_slice(), line.as_slice());
-    Ok(())
+    same!(rt; header(&rt, rt.alloc(), &geometry).as_slice(), line.as_slice());
 }
 
 // So many bytes, from 200 on.
-fn pixels(alloc: Global, size: usize) -> Result<Vec<u8>, AllocError> {
-    let mut pixels = vec![in alloc; 0; size]?;
+fn pixels(rt: &impl Abort, alloc: Global, size: usize) -> Vec<u8> {
+    let mut pixels = vec![in alloc; 0; size].expect(rt, "memory for a frame");
     let mut next = 200u8;
     for byte in pixels.iter_mut() {
         *byte = next;
         next = next.wrapping_add(1);
     }
-    Ok(pixels)
+    pixels
 }
 
-// Writes a frame of 5 by 3 pixels, of a format and a size, behind this header, and reads it back.
-fn is_read_back(
-    rt: &impl Abort,
-    alloc: Global,
-    row: &(PixelFormat, usize, &[u8]),
-) -> Result<(), Fail> {
-    let geometry = Geometry {
+// The geometry of frames of 5 by 3 pixels of a format.
+fn odd(format: PixelFormat) -> Geometry {
+    Geometry {
         width: 5,
         height: 3,
-        format: row.0,
+        format,
         rate_num: u32::MAX,
         rate_den: 1001,
         ..SMALL
-    };
-    let pixels = pixels(alloc, row.1)?;
-    let mut out: Vec<u8> = Vec::new(alloc);
-    write_header(&geometry, &mut out)?;
+    }
+}
+
+// Writes a frame of 5 by 3 pixels, of a format and a size, behind this header, and reads it back.
+fn is_read_back(rt: &impl Abort, alloc: Global, row: &(PixelFormat, usize, &[u8])) {
+    let pixels = pixels(rt, alloc, row.1);
+    let mut out = header(rt, alloc, &odd(row.0));
     same!(rt; out.as_slice(), row.2, row.1);
-    write_frame(&pixels, &mut out)?;
-    let shape = (row.0, 5, 3, (u32::MAX, 1001));
-    reads(
-        rt,
-        alloc,
-        out.as_slice(),
-        &(Ok(shape), pixels.as_slice(), Ok(false)),
-        row.1,
-    )?;
-    Ok(())
+    holds!(rt; write_frame(&pixels, &mut out).is_ok());
+    let want = (
+        Ok((row.0, 5, 3, (u32::MAX, 1001))),
+        pixels.as_slice(),
+        Ok(false),
+    );
+    reads(rt, alloc, out.as_slice(), want, row.1);
 }
 
 #[test]
-fn what_is_written_is_read_back(rt: HostRuntime) -> Result<(), Fail> {
+fn what_is_written_is_read_back(rt: HostRuntime) {
     for row in ODD.as_slice() {
-        is_read_back(&rt, rt.alloc(), row)?;
+        is_read_back(&rt, rt.alloc(), row);
     }
-    Ok(())
 }
