@@ -87,13 +87,18 @@ pub(crate) struct Parts<'a> {
     pub(crate) seen: &'a Cell<[(usize, u32); 4]>,
 }
 
+// Notes a value in its place, if there is one.
+fn note<T: Copy, const N: usize>(notes: &Cell<[T; N]>, at: usize, value: T) {
+    let mut values = notes.get();
+    if let Some(place) = values.get_mut(at) {
+        *place = value;
+    }
+    notes.set(values);
+}
+
 impl Read for Parts<'_> {
     fn read(&mut self, buf: &mut [u8]) -> io::Result<usize> {
-        let mut seen = self.seen.get();
-        if let Some(place) = seen.get_mut(self.next) {
-            *place = self.screen.get();
-        }
-        self.seen.set(seen);
+        note(self.seen, self.next, self.screen.get());
         let Some(part) = self.parts.get(self.next) else {
             return Ok(0);
         };
@@ -133,11 +138,7 @@ pub(crate) struct Noted<'a> {
 
 impl Write for Noted<'_> {
     fn write(&mut self, buf: &[u8]) -> io::Result<usize> {
-        let mut sizes = self.sizes.get();
-        if let Some(size) = sizes.get_mut(self.next) {
-            *size = buf.len();
-        }
-        self.sizes.set(sizes);
+        note(self.sizes, self.next, buf.len());
         self.next = self.next.saturating_add(1);
         Ok(buf.len())
     }

@@ -1,14 +1,14 @@
 //! Scripts and sessions where memory is refused.
 
-use crate::ran::{Ran, comes_to, run_script, text};
+use crate::ran::{Ran, comes_to, run_script};
 use crate::told::{holds, same};
 use loop_budget::Budget;
-use loop_desk::Flushed;
+use loop_desk::{Flushed, Outline};
 use loop_record::{Geometry, PixelFormat};
 use loop_script::Session;
-use loop_store::StoreFault;
+use loop_store::{ReadFrame, StoreFault};
+use std::alloc::{Allocator, Global};
 use std::process::Abort;
-use std::test::Fail;
 
 // A script that allocates in each of its lines.
 const SCRIPT: &[u8] = b"format 4 2 YM12 25:1 3 2\nstore 2\nreopen\nlist\n";
@@ -56,80 +56,39 @@ fn count(rt: &impl Abort, refused: &mut Refused, ran: &Ran, blocks: u64) {
     }
 }
 
+// Runs the script with so many blocks of memory, and counts the run.
+fn is_counted<A: Allocator + Copy>(
+    rt: &impl Abort,
+    refused: &mut Refused,
+    (alloc, home): (A, Global),
+    blocks: u64,
+) {
+    let ran = run_script(alloc, home, SCRIPT);
+    count(rt, refused, &ran, blocks);
+}
+
+// Runs the script with memory enough.
+fn is_run<A: Allocator + Copy>(rt: &impl Abort, (alloc, home): (A, Global)) {
+    let ran = run_script(alloc, home, SCRIPT);
+    let printed = "formatted\nstored 0..1\nopened\nnext 2\nframes 0..1\n";
+    comes_to(rt, &ran, printed, "", 0, &());
+}
+
 #[test]
 fn want_of_memory_is_a_refusal_of_its_line(rt: HostRuntime) {
     let budget = Budget::new(rt.alloc());
     let mut refused = Refused::default();
     for blocks in 0..100u64 {
         budget.allow(blocks);
-        let ran = run_script(&budget, rt.alloc(), SCRIPT);
-        count(&rt, &mut refused, &ran, blocks);
+        is_counted(&rt, &mut refused, (&budget, rt.alloc()), blocks);
     }
-    same!(rt; refused.buffers, 3);
+    // One store is refused, for the first frame, in whose memory the second lies.
+    same!(rt; (refused.buffers, refused.stores), (3, 1));
     holds!(rt; refused.formats >= 4, refused.formats);
-    // One for the first frame, in whose memory the second lies.
-    same!(rt; refused.stores, 1);
     // A refused reopen leaves no store.
     holds!(rt; refused.reopens >= 3, refused.reopens);
     budget.allow(1000);
-    let ran = run_script(&budget, rt.alloc(), SCRIPT);
-    same!(rt; ran.status, 0);
-    same!(rt; text(&ran.out), "formatted\nstored 0..1\nopened\nnext 2\nframes 0..1\n");
-}
-
-// The session over memory that is granted block by block.
-type Granted<'a> = Session<&'a Budget>;
-
-// Submits the next frame of the pattern, with so many blocks of memory.
-fn submits<'a>(
-    rt: &impl Abort,
-    budget: &'a Budget,
-    session: &mut Granted<'a>,
-    blocks: u64,
-    want: Result<u64, StoreFault>,
-) {
-    budget.allow(blocks);
-    same!(rt; session.submit_next(budget), want);
-}
-
-// Stores the next frame of the pattern, with so many blocks of memory.
-fn stores<'a>(
-    rt: &impl Abort,
-    budget: &'a Budget,
-    session: &mut Granted<'a>,
-    blocks: u64,
-    want: Result<Flushed, StoreFault>,
-) {
-    budget.allow(blocks);
-    same!(rt; session.store_next(budget), want);
-}
-
-// Reads the sequence of a frame, with so many blocks of memory.
-fn reads<'a>(
-    rt: &impl Abort,
-    budget: &'a Budget,
-    session: &mut Granted<'a>,
-    (blocks, number): (u64, u64),
-    want: Result<u32, StoreFault>,
-) {
-    budget.allow(blocks);
-    let sequence = session
-        .read(budget, number)
-        .map(|frame| frame.head.sequence);
-    same!(rt; sequence, want, number);
-}
-
-// How many frames wait, as an outline tells it, with so many blocks of memory.
-fn tells<'a>(
-    rt: &impl Abort,
-    budget: &'a Budget,
-    session: &Granted<'a>,
-    blocks: u64,
-    want: Result<u32, StoreFault>,
-) {
-    budget.allow(blocks);
-    let pending = session.outline(budget).map(|outline| outline.pending);
-    same!(rt; pending, want);
+    is_run(&rt, (&budget, rt.alloc()));
 }
 
 // What a flush answers that stored so many frames from this one on.
@@ -138,6 +97,108 @@ fn stored(first: u64, stored: u32) -> Flushed {
         first,
         stored,
         left: 0,
+    }
+}
+
+// A call of a session, with its answer.
+#[derive(Drop)]
+enum Call {
+    // Submits the next frame of the pattern.
+    Submit(Result<u64, StoreFault>),
+    // Stores the next frame of the pattern.
+    Store(Result<Flushed, StoreFault>),
+    // Stores a frame of the pattern for each number from one to below another.
+    StoreEach(u64, u64),
+    // Reads the sequence of a frame.
+    Read(u64, Result<u32, StoreFault>),
+    // Has an outline tell how many frames wait.
+    Tell(Result<u32, StoreFault>),
+}
+
+// So many blocks of memory, and the call that has them.
+type Step = (u64, Call);
+
+// Submits the next frame of the pattern.
+fn submits<A: Allocator + Copy>(
+    rt: &impl Abort,
+    alloc: A,
+    session: &mut Session<A>,
+    want: &Result<u64, StoreFault>,
+) {
+    same!(rt; session.submit_next(alloc), *want);
+}
+
+// Stores the next frame of the pattern.
+fn stores<A: Allocator + Copy>(
+    rt: &impl Abort,
+    alloc: A,
+    session: &mut Session<A>,
+    want: &Result<Flushed, StoreFault>,
+) {
+    same!(rt; session.store_next(alloc), *want);
+}
+
+// The sequence of a frame that was read.
+fn sequence_of<A: Allocator>(read: Result<ReadFrame<A>, StoreFault>) -> Result<u32, StoreFault> {
+    match read {
+        Ok(frame) => Ok(frame.head.sequence),
+        Err(fault) => Err(fault),
+    }
+}
+
+// Reads the sequence of a frame.
+fn reads<A: Allocator + Copy>(
+    rt: &impl Abort,
+    alloc: A,
+    session: &mut Session<A>,
+    (number, want): (u64, &Result<u32, StoreFault>),
+) {
+    same!(rt; sequence_of(session.read(alloc, number)), *want, number);
+}
+
+// How many frames wait.
+fn pending_of<A: Allocator>(told: Result<Outline<A>, StoreFault>) -> Result<u32, StoreFault> {
+    match told {
+        Ok(outline) => Ok(outline.pending),
+        Err(fault) => Err(fault),
+    }
+}
+
+// Has an outline tell how many frames wait.
+fn tells<A: Allocator + Copy>(
+    rt: &impl Abort,
+    alloc: A,
+    session: &Session<A>,
+    want: &Result<u32, StoreFault>,
+) {
+    same!(rt; pending_of(session.outline(alloc)), *want);
+}
+
+// Makes a call.
+fn does<A: Allocator + Copy>(rt: &impl Abort, alloc: A, session: &mut Session<A>, call: &Call) {
+    match call {
+        Call::Submit(want) => submits(rt, alloc, session, want),
+        Call::Store(want) => stores(rt, alloc, session, want),
+        Call::StoreEach(from, to) => {
+            for number in *from..*to {
+                stores(rt, alloc, session, &Ok(stored(number, 1)));
+            }
+        }
+        Call::Read(number, want) => reads(rt, alloc, session, (*number, want)),
+        Call::Tell(want) => tells(rt, alloc, session, want),
+    }
+}
+
+// Makes these calls in turn.
+fn plays<A: Allocator + Copy>(
+    rt: &impl Abort,
+    (budget, alloc): (&Budget, A),
+    session: &mut Session<A>,
+    steps: &[Step],
+) {
+    for (blocks, call) in steps {
+        budget.allow(*blocks);
+        does(rt, alloc, session, call);
     }
 }
 
@@ -151,47 +212,65 @@ const SMALL: Geometry = Geometry {
     slots: 2,
 };
 
+const FIRST: Flushed = Flushed {
+    first: 0,
+    stored: 1,
+    left: 0,
+};
+
+// Calls of a fresh session.
+static FRESH: [Step; 12] = [
+    (0, Call::Submit(Err(StoreFault::NoMemory))),
+    (0, Call::Store(Err(StoreFault::NoMemory))),
+    (1, Call::Store(Ok(FIRST))),
+    // The next frame lies in the memory of the stored one.
+    (0, Call::StoreEach(1, 1000)),
+    // So does a frame that is read, and the next one that is read has none.
+    (0, Call::Read(999, Ok(999))),
+    (0, Call::Read(999, Err(StoreFault::NoMemory))),
+    (0, Call::Read(1000, Err(StoreFault::NotHeld))),
+    (0, Call::Tell(Err(StoreFault::NoMemory))),
+    (0, Call::Submit(Err(StoreFault::NoMemory))),
+    (1, Call::Submit(Ok(1000))),
+    (1, Call::Submit(Ok(1001))),
+    (1, Call::Read(999, Ok(999))),
+];
+
+// Calls of one that was opened again.
+static OPENED: [Step; 2] = [(1000, Call::Submit(Ok(1000))), (1000, Call::Tell(Ok(1)))];
+
+// Opens the store of a session again.
+fn reopened<A: Allocator + Copy>(rt: &impl Abort, alloc: A, session: Session<A>) -> Session<A> {
+    assert!(rt; session.can_keep(1));
+    session.reopen(alloc, 1).expect(rt, "memory for a session")
+}
+
+// No frame waits behind those that are stored.
+fn has_none_waiting<A: Allocator + Copy>(rt: &impl Abort, session: &mut Session<A>, next: u64) {
+    same!(rt; session.next(), next);
+    same!(rt; session.flush(), Ok(stored(next, 0)));
+}
+
+// Makes calls of a fresh session, and others once it was opened again.
+fn is_tried<A: Allocator + Copy>(
+    rt: &impl Abort,
+    (budget, alloc): (&Budget, A),
+    fresh: &[Step],
+    opened: &[Step],
+) {
+    budget.allow(1000);
+    let mut session = Session::format(alloc, SMALL).expect(rt, "memory for a session");
+    plays(rt, (budget, alloc), &mut session, fresh);
+    budget.allow(1000);
+    let mut session = reopened(rt, alloc, session);
+    has_none_waiting(rt, &mut session, 1000);
+    plays(rt, (budget, alloc), &mut session, opened);
+}
+
 #[test]
 fn each_frame_that_waits_takes_one_block_of_memory_and_without_it_nothing_is_changed(
     rt: HostRuntime,
-) -> Result<(), Fail> {
+) {
     let budget = Budget::new(rt.alloc());
-    budget.allow(1000);
-    let mut session = Session::format(&budget, SMALL)?;
-    submits(&rt, &budget, &mut session, 0, Err(StoreFault::NoMemory));
-    stores(&rt, &budget, &mut session, 0, Err(StoreFault::NoMemory));
-    stores(&rt, &budget, &mut session, 1, Ok(stored(0, 1)));
-    // The next frame lies in the memory of the stored one.
-    for first in 1..1000 {
-        stores(&rt, &budget, &mut session, 0, Ok(stored(first, 1)));
-    }
-    // So does a frame that is read, and the next one that is read has none.
-    reads(&rt, &budget, &mut session, (0, 999), Ok(999));
-    reads(
-        &rt,
-        &budget,
-        &mut session,
-        (0, 999),
-        Err(StoreFault::NoMemory),
-    );
-    reads(
-        &rt,
-        &budget,
-        &mut session,
-        (0, 1000),
-        Err(StoreFault::NotHeld),
-    );
-    tells(&rt, &budget, &session, 0, Err(StoreFault::NoMemory));
-    submits(&rt, &budget, &mut session, 0, Err(StoreFault::NoMemory));
-    submits(&rt, &budget, &mut session, 1, Ok(1000));
-    submits(&rt, &budget, &mut session, 1, Ok(1001));
-    reads(&rt, &budget, &mut session, (1, 999), Ok(999));
-    budget.allow(1000);
-    assert!(rt; session.can_keep(1));
-    let mut session = session.reopen(&budget, 1)?;
-    same!(rt; session.next(), 1000);
-    same!(rt; session.flush(), Ok(stored(1000, 0)));
-    submits(&rt, &budget, &mut session, 1000, Ok(1000));
-    tells(&rt, &budget, &session, 1000, Ok(1));
-    Ok(())
+    is_tried(&rt, (&budget, &budget), &FRESH, &OPENED);
 }

@@ -11,8 +11,8 @@ use loop_script::{
 };
 use loop_store::StoreFault;
 use std::alloc::Global;
+use std::io::Write;
 use std::process::Abort;
-use std::test::Fail;
 
 // So many bytes and then an ending, and what reading a line of them answers.
 static LINES: [(usize, &str, Result<bool, BadLine>); 7] = [
@@ -25,32 +25,46 @@ static LINES: [(usize, &str, Result<bool, BadLine>); 7] = [
     (9000, "\n", Err(BadLine)),
 ];
 
-// Reads a line into memory that has just room for it, and where one is read, looks for one behind it.
+// A line of so many bytes, with an ending.
+fn line_of(rt: &impl Abort, alloc: Global, length: usize, ending: &str) -> Vec<u8> {
+    let mut bytes = vec![in alloc; b'a'; length].expect(rt, "memory for a line");
+    let ended = bytes.extend_from_slice(ending.as_bytes());
+    holds!(rt; ended.is_ok(), "memory for an ending");
+    bytes
+}
+
+// Reads a line where there is just room for it.
+fn reads(
+    rt: &impl Abort,
+    input: &mut &[u8],
+    line: &mut Vec<u8>,
+    length: usize,
+    answer: Result<bool, BadLine>,
+) {
+    same!(rt; (next_line(input, line), line.capacity()), (answer, 4097), length);
+}
+
+// Reads a line, and where one is read, looks for one behind it.
 fn is_read(
     rt: &impl Abort,
     alloc: Global,
-    row: &(usize, &str, Result<bool, BadLine>),
-) -> Result<(), Fail> {
-    let (length, ending, answer) = row;
-    let mut bytes = vec![in alloc; b'a'; *length]?;
-    bytes.extend_from_slice(ending.as_bytes())?;
-    let mut input = bytes.as_slice();
-    let mut line = Vec::with_capacity(alloc, 4097)?;
-    same!(rt; next_line(&mut input, &mut line), *answer, length);
-    same!(rt; line.capacity(), 4097, length);
-    if *answer == Ok(true) {
-        same!(rt; line.len(), *length, length);
-        same!(rt; next_line(&mut input, &mut line), Ok(false), length);
+    mut input: &[u8],
+    (length, answer): (usize, Result<bool, BadLine>),
+) {
+    let mut line = Vec::with_capacity(alloc, 4097).expect(rt, "memory for a line");
+    reads(rt, &mut input, &mut line, length, answer);
+    if answer == Ok(true) {
+        same!(rt; line.len(), length, length);
+        reads(rt, &mut input, &mut line, length, Ok(false));
     }
-    Ok(())
 }
 
 #[test]
-fn a_line_of_4096_bytes_is_read_and_a_longer_one_is_not(rt: HostRuntime) -> Result<(), Fail> {
-    for row in &LINES {
-        is_read(&rt, rt.alloc(), row)?;
+fn a_line_of_4096_bytes_is_read_and_a_longer_one_is_not(rt: HostRuntime) {
+    for (length, ending, answer) in &LINES {
+        let bytes = line_of(&rt, rt.alloc(), *length, ending);
+        is_read(&rt, rt.alloc(), &bytes, (*length, *answer));
     }
-    Ok(())
 }
 
 // A refusal, and its line.
@@ -76,42 +90,65 @@ static REFUSALS: [(StoreFault, &str); 10] = [
     (StoreFault::BadKeep, "refused 22 BadKeep\n"),
 ];
 
-// Prints each refusal, and then where nothing can be printed.
-fn each_is_printed(
-    rt: &impl Abort,
-    alloc: Global,
-    rows: &[(StoreFault, &str)],
-) -> Result<(), Fail> {
-    for (fault, line) in rows {
-        let mut out: Vec<u8> = Vec::new(alloc);
-        print_refusal(&mut out, *fault)?;
-        same!(rt; text(&out), *line);
-        holds!(rt; print_refusal(&mut Broken, *fault).is_err(), line);
-    }
-    Ok(())
+// Prints a refusal, and answers whether it could be printed.
+fn prints<W: Write>(out: &mut W, fault: StoreFault) -> bool {
+    print_refusal(out, fault).is_ok()
+}
+
+// Prints a refusal, and then where nothing can be printed.
+fn is_printed(rt: &impl Abort, alloc: Global, fault: StoreFault, line: &str) {
+    let mut out: Vec<u8> = Vec::new(alloc);
+    let printed = (prints(&mut out, fault), prints(&mut Broken, fault));
+    same!(rt; (printed, text(&out)), ((true, false), line));
 }
 
 #[test]
-fn a_refusal_is_printed_with_its_number_its_name_and_its_argument(
-    rt: HostRuntime,
-) -> Result<(), Fail> {
-    each_is_printed(&rt, rt.alloc(), &REFUSALS)
+fn a_refusal_is_printed_with_its_number_its_name_and_its_argument(rt: HostRuntime) {
+    for (fault, line) in &REFUSALS {
+        is_printed(&rt, rt.alloc(), *fault, line);
+    }
+}
+
+// Lines, and what they ask for.
+static COMMANDS: [(&str, Option<Command>); 3] = [
+    (
+        "lock 2 18446744073709551615",
+        Some(Command::Lock(Span {
+            from: 2,
+            to: u64::MAX,
+            tag: 0,
+        })),
+    ),
+    (
+        "lock 2 18446744073709551615 9",
+        Some(Command::Lock(Span {
+            from: 2,
+            to: u64::MAX,
+            tag: 9,
+        })),
+    ),
+    ("lock 2", None),
+];
+
+// Reads each line.
+fn each_is_asked(rt: &impl Abort, rows: &[(&str, Option<Command>)]) {
+    for (line, command) in rows {
+        same!(rt; read_command(line), *command, line);
+    }
 }
 
 #[test]
 fn lines_numbers_and_frames_of_the_pattern_are_made_alone(rt: HostRuntime) {
-    let (from, to) = (2, u64::MAX);
-    let locks = read_command("lock 2 18446744073709551615");
-    same!(rt; locks, Some(Command::Lock(Span { from, to, tag: 0 })));
-    let locks = read_command("lock 2 18446744073709551615 9");
-    same!(rt; locks, Some(Command::Lock(Span { from, to, tag: 9 })));
-    same!(rt; read_command("lock 2"), None);
-    same!(rt; small_number("00004294967295"), Some(u32::MAX));
-    same!(rt; small_number("4294967296"), None);
+    each_is_asked(&rt, &COMMANDS);
+    let numbers = [small_number("00004294967295"), small_number("4294967296")];
+    same!(rt; numbers, [Some(u32::MAX), None]);
     let mut bytes = [0; 4];
     fill_pattern(&mut bytes, 510);
     same!(rt; bytes, [254, 255, 0, 1]);
     same!(rt; pattern_sequence((1 << 32) + 3), 3);
-    same!(rt; pattern_timestamp(2, 30000, 1001), 66733);
-    same!(rt; pattern_timestamp(u64::MAX, 1, 1), u64::MAX);
+    let times = [
+        pattern_timestamp(2, 30000, 1001),
+        pattern_timestamp(u64::MAX, 1, 1),
+    ];
+    same!(rt; times, [66733, u64::MAX]);
 }

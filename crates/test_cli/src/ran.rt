@@ -63,7 +63,6 @@ pub(crate) fn comes_to(
     status: u8,
     note: &impl Debug,
 ) {
-    same!(rt; text(&ran.out), printed, note);
-    same!(rt; text(&ran.err), told, note);
-    same!(rt; ran.status, status, note);
+    let got = (text(&ran.out), text(&ran.err), ran.status);
+    same!(rt; got, (printed, told, status), note);
 }

@@ -6,67 +6,67 @@ use crate::whole::WHOLE;
 use std::alloc::Global;
 use std::process::Abort;
 
-/// A script, what it prints, what it tells on the other output, and the status.
-pub(crate) type Row = (&'static [u8], &'static str, &'static str, u8);
+// A script, what it prints, what it tells on the other output, and the status.
+type Row = (&'static str, &'static str, &'static str, u8);
 
 static RUNS: [Row; 10] = [
-    (b"", "", "", 0),
+    ("", "", "", 0),
     // There is nothing to open before the first accepted format.
     (
-        b"reopen\nformat 4 2 YM12 25:1 1 2\nreopen\nlist\n",
+        "reopen\nformat 4 2 YM12 25:1 1 2\nreopen\nlist\n",
         "refused 4 NotFormatted\nrefused 16 BadGeometry\nrefused 4 NotFormatted\nrefused 4 NotFormatted\n",
         "",
         0,
     ),
     // Nothing is done before the first accepted format.
     (
-        b"store 0\nread 0\nlist\nformat 0 2 YM12 25:1 3 2\nlist\n",
+        "store 0\nread 0\nlist\nformat 0 2 YM12 25:1 3 2\nlist\n",
         "refused 4 NotFormatted\nrefused 4 NotFormatted\nrefused 4 NotFormatted\nrefused 16 BadGeometry\nrefused 4 NotFormatted\n",
         "",
         0,
     ),
     // Nor are clips and frames that wait to be had.
     (
-        b"lock 0 0\nunlock 0\n",
+        "lock 0 0\nunlock 0\n",
         "refused 4 NotFormatted\nrefused 4 NotFormatted\n",
         "",
         0,
     ),
     (
-        b"upgrade\nlock 0 0 9\nreopen 0\n",
+        "upgrade\nlock 0 0 9\nreopen 0\n",
         "refused 4 NotFormatted\nrefused 4 NotFormatted\nrefused 4 NotFormatted\n",
         "",
         0,
     ),
     (
-        b"submit 1\nflush\n",
+        "submit 1\nflush\n",
         "refused 4 NotFormatted\nrefused 4 NotFormatted\n",
         "",
         0,
     ),
     // Numbers at their limits, which are judged after the line was read.
     (
-        b"read 18446744073709551615\nread 00000000000000000007\nstore 18446744073709551615\n",
+        "read 18446744073709551615\nread 00000000000000000007\nstore 18446744073709551615\n",
         "refused 4 NotFormatted\nrefused 4 NotFormatted\nrefused 4 NotFormatted\n",
         "",
         0,
     ),
     // The last line needs no 0x0A.
     (
-        b"format 4 2 YM12 25:1 3 2\nstore 1\nlist",
+        "format 4 2 YM12 25:1 3 2\nstore 1\nlist",
         "formatted\nstored 0..0\nnext 1\nframes 0..0\n",
         "",
         0,
     ),
     // What was done before a line that can't be read stays done.
     (
-        b"format 4 2 YM12 25:1 3 2\nstore 1\nlist \nlist\n",
+        "format 4 2 YM12 25:1 3 2\nstore 1\nlist \nlist\n",
         "formatted\nstored 0..0\n",
         "line 3: bad command\n",
         1,
     ),
     (
-        b"list\n\nlist\n",
+        "list\n\nlist\n",
         "refused 4 NotFormatted\n",
         "line 2: bad command\n",
         1,
@@ -127,26 +127,42 @@ static BAD_LINES: [&[u8]; 50] = [
     b"format 4 2 YM12 4294967296:1 3 2\n",
 ];
 
+// Runs a script.
+fn is_run(
+    rt: &impl Abort,
+    alloc: Global,
+    script: &[u8],
+    (printed, told, status): (&str, &str, u8),
+) {
+    let ran = run_script(alloc, alloc, script);
+    comes_to(rt, &ran, printed, told, status, &script);
+}
+
 // Runs each script.
 fn each_comes_to(rt: &impl Abort, alloc: Global, rows: &[Row]) {
     for (script, printed, told, status) in rows {
-        let ran = run_script(alloc, alloc, script);
-        comes_to(rt, &ran, printed, told, *status, script);
+        is_run(rt, alloc, script.as_bytes(), (printed, told, *status));
+    }
+}
+
+// Runs each script, which comes to its end.
+fn each_prints(rt: &impl Abort, alloc: Global, rows: &[(&str, &str)]) {
+    for (script, printed) in rows {
+        is_run(rt, alloc, script.as_bytes(), (printed, "", 0));
     }
 }
 
 // Runs each line alone.
 fn each_is_bad(rt: &impl Abort, alloc: Global, lines: &[&[u8]]) {
     for line in lines {
-        let ran = run_script(alloc, alloc, line);
-        comes_to(rt, &ran, "", "line 1: bad command\n", 1, line);
+        is_run(rt, alloc, line, ("", "line 1: bad command\n", 1));
     }
 }
 
 #[test]
 fn scripts_print_what_their_lines_did(rt: HostRuntime) {
     each_comes_to(&rt, rt.alloc(), &RUNS);
-    each_comes_to(&rt, rt.alloc(), &WHOLE);
+    each_prints(&rt, rt.alloc(), &WHOLE);
 }
 
 #[test]

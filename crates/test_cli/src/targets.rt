@@ -4,16 +4,15 @@ use crate::files::ring;
 use crate::ran::text;
 use crate::told::same;
 use loop_budget::Budget;
-use loop_commands::{Target, export_along, export_apart, export_text, list};
+use loop_commands::{NotExported, Target, export_along, export_apart, export_text, list};
 use loop_disk::MemDisk;
 use loop_store::{Store, StoreFault};
 use loop_y4m::ExportFault;
-use std::alloc::Global;
+use std::alloc::{Allocator, Global};
 use std::cell::Cell;
 use std::io;
 use std::io::{Error, ErrorKind, Write};
 use std::process::Abort;
-use std::test::Fail;
 
 // Which call of a target fails.
 #[derive(Clone, Copy, PartialEq, Eq, Debug)]
@@ -77,6 +76,34 @@ static ROWS: [((u64, u64), Fails, Option<ExportFault>, &str, usize); 6] = [
     ((2, 3), Fails::Flush, Some(ExportFault::Write), "", 75),
 ];
 
+// A store on a disk in memory that has the ring.
+fn store_of<A: Allocator + Copy>(rt: &impl Abort, home: Global, alloc: A) -> Store<MemDisk, A> {
+    let image = Vec::from_slice(home, &ring()).expect(rt, "memory for the ring");
+    let Ok(store) = Store::open(alloc, MemDisk::of(image)) else {
+        panic!(rt; "the ring is a store")
+    };
+    store
+}
+
+// Why an export was refused, if it was.
+fn fault_of(answer: Result<(u64, Fake<'_>), NotExported<Fake<'_>>>) -> Option<ExportFault> {
+    match answer {
+        Ok(_) => None,
+        Err(refused) => Some(refused.fault),
+    }
+}
+
+// Exports frames into what is emptied before.
+fn writes_apart<A: Allocator + Copy, W: Write>(
+    alloc: A,
+    store: &mut Store<MemDisk, A>,
+    (from, to): (u64, u64),
+    target: Fake<'_>,
+    out: &mut W,
+) -> Option<ExportFault> {
+    fault_of(export_apart(alloc, store, from, to, target, out).answer)
+}
+
 // Exports as a row says.
 fn exports(
     rt: &impl Abort,
@@ -84,138 +111,187 @@ fn exports(
     store: &mut Store<MemDisk>,
     row: &((u64, u64), Fails, Option<ExportFault>, &str, usize),
 ) {
-    let ((from, to), fails, fault, printed, count) = row;
+    let (range, fails, fault, printed, count) = row;
     let bytes = Cell::new(100);
-    let mut out: Vec<u8> = Vec::new(alloc);
     let target = Fake {
         bytes: &bytes,
         fails: *fails,
     };
-    let told = export_apart(alloc, store, *from, *to, target, &mut out);
-    let got = told.answer.err().map(|refused| refused.fault);
-    same!(rt; got, *fault, (from, fails));
-    same!(rt; (text(&out), bytes.get()), (*printed, *count), (from, fails));
+    let mut out: Vec<u8> = Vec::new(alloc);
+    let got = writes_apart(alloc, store, *range, target, &mut out);
+    same!(rt; (got, text(&out), bytes.get()), (*fault, *printed, *count), (range, fails));
+}
+
+// Exports as each row says.
+fn each_exports(
+    rt: &impl Abort,
+    alloc: Global,
+    store: &mut Store<MemDisk>,
+    rows: &[((u64, u64), Fails, Option<ExportFault>, &str, usize)],
+) {
+    for row in rows {
+        exports(rt, alloc, store, row);
+    }
 }
 
 #[test]
-fn an_export_is_told_only_where_its_last_flush_was_done(rt: HostRuntime) -> Result<(), Fail> {
-    let alloc = rt.alloc();
-    let image = Vec::from_slice(alloc, &ring())?;
-    let Ok(mut store) = Store::open(alloc, MemDisk::of(image)) else {
-        panic!(rt; "the ring is a store")
-    };
-    for row in &ROWS {
-        exports(&rt, alloc, &mut store, row);
-    }
-    Ok(())
+fn an_export_is_told_only_where_its_last_flush_was_done(rt: HostRuntime) {
+    let mut store = store_of(&rt, rt.alloc(), rt.alloc());
+    each_exports(&rt, rt.alloc(), &mut store, &ROWS);
 }
 
-// A store whose memory is granted block by block.
-type Thrifty<'a> = Store<MemDisk, &'a Budget>;
-
-// A target that counts its bytes.
-fn counting(bytes: &Cell<usize>) -> Fake<'_> {
-    Fake {
-        bytes,
-        fails: Fails::Nothing,
-    }
+// How the frames 2 and 3 are exported.
+#[derive(Clone, Copy, Debug)]
+enum Way {
+    // Nothing is told.
+    Text,
+    // Into what is emptied before.
+    Apart,
+    // Through what tells of it.
+    Along,
 }
 
-// Exports the frames 2 and 3 and tells nothing.
-fn writes_text<'a>(
-    budget: &'a Budget,
-    store: &mut Thrifty<'a>,
-    bytes: &Cell<usize>,
+// Exports them, and tells nothing.
+fn writes_text<A: Allocator + Copy>(
+    alloc: A,
+    store: &mut Store<MemDisk, A>,
+    target: Fake<'_>,
 ) -> Option<ExportFault> {
-    export_text(budget, store, 2, 3, counting(bytes)).err()
-}
-
-// Exports them into what is emptied before.
-fn writes_apart<'a>(
-    budget: &'a Budget,
-    store: &mut Thrifty<'a>,
-    bytes: &Cell<usize>,
-) -> Option<ExportFault> {
-    let told = export_apart(budget, store, 2, 3, counting(bytes), &mut io::sink());
-    told.answer.err().map(|refused| refused.fault)
+    export_text(alloc, store, 2, 3, target).err()
 }
 
 // Exports them through what tells of it.
-fn writes_along<'a>(
-    budget: &'a Budget,
-    store: &mut Thrifty<'a>,
-    bytes: &Cell<usize>,
+fn writes_along<A: Allocator + Copy>(
+    alloc: A,
+    store: &mut Store<MemDisk, A>,
+    target: Fake<'_>,
 ) -> Option<ExportFault> {
-    export_along(budget, store, 2, 3, counting(bytes))
-        .answer
-        .err()
+    export_along(alloc, store, 2, 3, target).answer.err()
 }
 
-// How many blocks are granted, all of which are needed: one for what gathers the text, and one for a piece of a frame.
-// Then why there is no text, and how many bytes a target has that had a hundred, where nothing is told, where it was
-// emptied, and where it is told there.
-static GRANTED: [(u64, Option<ExportFault>, [usize; 3]); 3] = [
+// Exports them in a way.
+fn writes<A: Allocator + Copy>(
+    alloc: A,
+    store: &mut Store<MemDisk, A>,
+    way: Way,
+    target: Fake<'_>,
+) -> Option<ExportFault> {
+    match way {
+        Way::Text => writes_text(alloc, store, target),
+        Way::Apart => writes_apart(alloc, store, (2, 3), target, &mut io::sink()),
+        Way::Along => writes_along(alloc, store, target),
+    }
+}
+
+// A way, and how many blocks are granted, all of which are needed: one for what gathers the text, and one for a piece
+// of a frame. Then why there is no text, and how many bytes a target has that had a hundred.
+static GRANTED: [(Way, u64, Option<ExportFault>, usize); 9] = [
     (
+        Way::Text,
         0,
         Some(ExportFault::Store(StoreFault::NoMemory)),
-        [100, 0, 100],
+        100,
     ),
     (
+        Way::Apart,
+        0,
+        Some(ExportFault::Store(StoreFault::NoMemory)),
+        0,
+    ),
+    (
+        Way::Along,
+        0,
+        Some(ExportFault::Store(StoreFault::NoMemory)),
+        100,
+    ),
+    (
+        Way::Text,
         1,
         Some(ExportFault::Store(StoreFault::NoMemory)),
-        [100, 0, 100],
+        100,
     ),
-    (2, None, [175, 75, 186]),
+    (
+        Way::Apart,
+        1,
+        Some(ExportFault::Store(StoreFault::NoMemory)),
+        0,
+    ),
+    (
+        Way::Along,
+        1,
+        Some(ExportFault::Store(StoreFault::NoMemory)),
+        100,
+    ),
+    (Way::Text, 2, None, 175),
+    (Way::Apart, 2, None, 75),
+    (Way::Along, 2, None, 186),
 ];
 
-// Exports in each way, with as many blocks as a row says.
-fn exports_granted<'a>(
+// Exports as each row says.
+fn each_is_granted<A: Allocator + Copy>(
     rt: &impl Abort,
-    budget: &'a Budget,
-    store: &mut Thrifty<'a>,
-    row: &(u64, Option<ExportFault>, [usize; 3]),
+    (budget, alloc): (&Budget, A),
+    store: &mut Store<MemDisk, A>,
+    rows: &[(Way, u64, Option<ExportFault>, usize)],
 ) {
-    let (blocks, fault, counts) = row;
-    let [text, apart, along] = counts;
-    let bytes = Cell::new(100);
-    budget.allow(*blocks);
-    let got = writes_text(budget, store, &bytes);
-    same!(rt; (got, bytes.replace(100), budget.left()), (*fault, *text, 0), blocks);
-    budget.allow(*blocks);
-    let got = writes_apart(budget, store, &bytes);
-    same!(rt; (got, bytes.replace(100), budget.left()), (*fault, *apart, 0), blocks);
-    budget.allow(*blocks);
-    let got = writes_along(budget, store, &bytes);
-    same!(rt; (got, bytes.get(), budget.left()), (*fault, *along, 0), blocks);
+    for (way, blocks, fault, count) in rows {
+        let bytes = Cell::new(100);
+        let target = Fake {
+            bytes: &bytes,
+            fails: Fails::Nothing,
+        };
+        budget.allow(*blocks);
+        let got = writes(alloc, store, *way, target);
+        same!(rt; (got, bytes.get(), budget.left()), (*fault, *count, 0), (way, blocks));
+    }
 }
 
-// Lists with so many blocks, all of which are needed.
-fn lists_granted<'a>(
+// Lists a store, and answers why it isn't listed.
+fn lists<A: Allocator + Copy>(
+    alloc: A,
+    store: &Store<MemDisk, A>,
+    out: &mut Vec<u8>,
+) -> Option<StoreFault> {
+    list(store, alloc, out).answer.err()
+}
+
+// How many blocks are granted to a list, all of which are needed. Then why there is none, and what is printed.
+static LISTED: [(u64, Option<StoreFault>, &str); 4] = [
+    (0, Some(StoreFault::NoMemory), ""),
+    (1, Some(StoreFault::NoMemory), ""),
+    (2, Some(StoreFault::NoMemory), ""),
+    (3, None, "next 7\nframes 2..6\n"),
+];
+
+// Lists as each row says.
+fn each_lists<A: Allocator + Copy>(
     rt: &impl Abort,
-    budget: &'a Budget,
-    store: &Thrifty<'a>,
-    (blocks, fault, printed): (u64, Option<StoreFault>, &str),
+    (budget, alloc): (&Budget, A),
+    store: &Store<MemDisk, A>,
+    rows: &[(u64, Option<StoreFault>, &str)],
 ) {
-    let mut out: Vec<u8> = Vec::new(*budget.inner());
-    budget.allow(blocks);
-    let got = list(store, budget, &mut out).answer.err();
-    same!(rt; (got, text(&out), budget.left()), (fault, printed, 0), blocks);
+    for (blocks, fault, printed) in rows {
+        let mut out: Vec<u8> = Vec::new(*budget.inner());
+        budget.allow(*blocks);
+        let got = lists(alloc, store, &mut out);
+        same!(rt; (got, text(&out), budget.left()), (*fault, *printed, 0), blocks);
+    }
+}
+
+// Exports and lists the ring over memory that is granted block by block.
+fn is_granted<A: Allocator + Copy>(
+    rt: &impl Abort,
+    (budget, alloc): (&Budget, A),
+    exported: &[(Way, u64, Option<ExportFault>, usize)],
+    listed: &[(u64, Option<StoreFault>, &str)],
+) {
+    let mut store = store_of(rt, *budget.inner(), alloc);
+    each_is_granted(rt, (budget, alloc), &mut store, exported);
+    each_lists(rt, (budget, alloc), &store, listed);
 }
 
 #[test]
-fn each_growth_of_an_export_and_of_a_list_is_refused_in_turn(rt: HostRuntime) -> Result<(), Fail> {
+fn each_growth_of_an_export_and_of_a_list_is_refused_in_turn(rt: HostRuntime) {
     let budget = Budget::new(rt.alloc());
-    let image = Vec::from_slice(rt.alloc(), &ring())?;
-    let Ok(mut store) = Store::open(&budget, MemDisk::of(image)) else {
-        panic!(rt; "the ring is a store")
-    };
-    for row in &GRANTED {
-        exports_granted(&rt, &budget, &mut store, row);
-    }
-    for blocks in 0..3 {
-        let refused = (blocks, Some(StoreFault::NoMemory), "");
-        lists_granted(&rt, &budget, &store, refused);
-    }
-    lists_granted(&rt, &budget, &store, (3, None, "next 7\nframes 2..6\n"));
-    Ok(())
+    is_granted(&rt, (&budget, &budget), &GRANTED, &LISTED);
 }

@@ -25,10 +25,10 @@ fn what_a_line_printed_is_out_before_the_next_one_is_awaited(rt: HostRuntime) {
         seen: &seen,
     };
     let mut out = Screen { screen: &screen };
-    same!(rt; simulate(rt.alloc(), input, &mut out, &mut Broken), 0);
+    let status = simulate(rt.alloc(), input, &mut out, &mut Broken);
+    same!(rt; (status, screen.get()), (0, (53, 3)));
     // `formatted`; two lines in one write; and `next 2` with `frames 0..1`.
     same!(rt; seen.get(), [(0, 0), (10, 1), (34, 2), (53, 3)]);
-    same!(rt; screen.get(), (53, 3));
 }
 
 // How many lines `list` an input has, whether a read behind them fails, what is told, and the status.
@@ -48,8 +48,7 @@ fn each_input_comes_to(rt: &impl Abort, alloc: Global, rows: &[(u32, bool, &str,
         };
         let mut err: Vec<u8> = Vec::new(alloc);
         let answer = simulate(alloc, input, &mut io::sink(), &mut err);
-        same!(rt; answer, *status, (lines, fails));
-        same!(rt; text(&err), *told, (lines, fails));
+        same!(rt; (answer, text(&err)), (*status, *told), (lines, fails));
     }
 }
 
@@ -62,10 +61,9 @@ fn inputs_that_fail_or_are_too_long_end_the_run(rt: HostRuntime) {
 fn outputs_that_fail_end_the_run(rt: HostRuntime) {
     let alloc = rt.alloc();
     let mut err: Vec<u8> = Vec::new(alloc);
-    same!(rt; simulate(alloc, b"list\n".as_slice(), &mut Broken, &mut err), 1);
-    same!(rt; err.len(), 0);
-    same!(rt; simulate(alloc, b"list\n".as_slice(), &mut Idle, &mut err), 1);
-    same!(rt; err.len(), 0);
+    let broken = simulate(alloc, b"list\n".as_slice(), &mut Broken, &mut err);
+    let idle = simulate(alloc, b"list\n".as_slice(), &mut Idle, &mut err);
+    same!(rt; (broken, idle, err.len()), (1, 1, 0));
     let mut out: Vec<u8> = Vec::new(alloc);
     same!(rt; simulate(alloc, b"list \n".as_slice(), &mut out, &mut Broken), 1);
 }
@@ -78,6 +76,7 @@ fn an_input_that_is_interrupted_is_read_on(rt: HostRuntime) {
         is_ready: true,
     };
     let mut out: Vec<u8> = Vec::new(alloc);
-    same!(rt; simulate(alloc, input, &mut out, &mut Broken), 0);
-    same!(rt; text(&out), "refused 4 NotFormatted\nrefused 4 NotFormatted\n");
+    let status = simulate(alloc, input, &mut out, &mut Broken);
+    let printed = "refused 4 NotFormatted\nrefused 4 NotFormatted\n";
+    same!(rt; (status, text(&out)), (0, printed));
 }
