@@ -1,7 +1,6 @@
 //! Orders, read line by line and done.
 
-use crate::absent::Absent;
-use crate::clerk::{Answer, Request};
+use crate::clerk::Request;
 use crate::clock::micros;
 use crate::outlet::Outlet;
 use crate::places::Places;
@@ -11,7 +10,7 @@ use crate::told::{tell_kept, tell_listed, tell_released, tell_status};
 use loop_recorder::Times;
 use loop_script::{MAX_LINE, next_line};
 use station_words::{Order, print_bad_order, print_no_camera, print_not_saved, read_order};
-use std::alloc::{AllocGlobal, Global};
+use std::alloc::AllocGlobal;
 use std::io::{BufRead, Write};
 use std::sync::atomic::{AtomicU64, Ordering};
 use std::sync::{Arc, Wait};

@@ -8,14 +8,14 @@ use crate::sessions::run_camera;
 use crate::source::run_source;
 use crate::state::CameraState;
 use loop_script::MAX_LINE;
-use station_words::{CameraConfig, Config};
+use station_words::Config;
 use std::alloc::{AllocError, AllocGlobal, Global};
 use std::io::{BufReader, Read, Write};
 use std::sync::atomic::{AtomicU64, Ordering};
 use std::sync::{Arc, Wait};
+use std::thread;
 use std::thread::{JoinHandle, Scope, Threads};
 use std::time::{Clock, Duration};
-use std::{io, thread};
 
 /// How often it is looked whether a status is due.
 const STATUS_STEPS: u32 = 10;

@@ -7,10 +7,10 @@ use crate::places::Places;
 use crate::state::CameraState;
 use loop_record::Geometry;
 use loop_recorder::SessionFault;
-use loop_store::{Clip, StoreFault};
+use loop_store::Clip;
 use loop_y4m::{write_frame, write_header};
 use station_words::{print_not_saved, print_saved};
-use std::alloc::{AllocGlobal, Global};
+use std::alloc::AllocGlobal;
 use std::io::{BufWriter, Write};
 use std::sync::Wait;
 
