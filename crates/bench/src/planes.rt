@@ -1,10 +1,10 @@
 // Planes beside plain copies of as many bytes.
-ghost use Rattle.std.specs.Prelude.{◌≡◌, ◌+◌, ◌<◌, ◌≤◌, length};
+ghost use Rattle.std.specs.Prelude.{◌≡◌, ◌<◌, ◌≤◌, length};
 
 use crate::memory::{claimed, copy};
 use crate::words::number;
 use anyhow::Result;
-use loop_pages::{PageHold, PageLedger};
+use loop_pages::PageLedger;
 use loop_plane::{DmabufPlane, MmapPlane, PAGE_BYTES, PlaneMemory, UserPlane};
 use std::alloc::{AllocError, Global};
 use std::env::Args;
@@ -61,7 +61,7 @@ fn plane_nanos<P: PlaneMemory>(
 fn report<P: PlaneMemory>(
     rt: &(impl Clock + Print),
     name: &str,
-    plane: &mut P,
+    mut plane: P,
     row: &mut [u8],
     source: &[u8],
     out: &mut [u8],
@@ -71,117 +71,53 @@ fn report<P: PlaneMemory>(
     requires out { length out.old ≡ length source.now }
 {
     let plain = plain_nanos(rt, row, source, out, rounds)?;
-    let nanos = plane_nanos(rt, plane, source, out, rounds)?;
+    let nanos = plane_nanos(rt, &mut plane, source, out, rounds)?;
     let percent = plain.saturating_mul(100) / nanos.max(1);
     println!(rt; "{name} {percent} %")?;
     Ok(())
 }
 
-// What is measured of each kind: so many pages, and as many rounds.
-#[derive(Clone, Copy)]
-struct Work {
-    pages: u32,
-    rounds: u32,
-}
-
-// Measures mapped memory.
-fn measure_mmap(
-    rt: &(impl Clock + Print),
-    alloc: Global,
-    hold: PageHold,
-    row: &mut [u8],
-    source: &[u8],
-    out: &mut [u8],
-    work: Work,
-) -> Result<()>
-    requires row { length row.old ≡ length source.now }
-    requires out { length out.old ≡ length source.now }
-{
-    let mut plane = MmapPlane::new(alloc, hold).map_err(|_| AllocError)?;
-    report(rt, "mmap", &mut plane, row, source, out, work.rounds)
-}
-
-// Measures memory of an application's own, which begins within its first page.
-fn measure_user(
-    rt: &(impl Clock + Print),
-    alloc: Global,
-    hold: PageHold,
-    row: &mut [u8],
-    source: &[u8],
-    out: &mut [u8],
-    work: Work,
-) -> Result<()>
-    requires row { length row.old ≡ length source.now }
-    requires out { length out.old ≡ length source.now }
-    requires few { work.pages ≤ 300 }
-    requires hold { length hold.pages ≡ work.pages + 1 }
-{
-    let size = work.pages * PAGE_BYTES;
-    let mut plane = UserPlane::new(alloc, hold, OFFSET, size).map_err(|_| AllocError)?;
-    report(rt, "user", &mut plane, row, source, out, work.rounds)
-}
-
-// Measures memory of another device.
-fn measure_dmabuf(
-    rt: &(impl Clock + Print),
-    alloc: Global,
-    hold: PageHold,
-    row: &mut [u8],
-    source: &[u8],
-    out: &mut [u8],
-    work: Work,
-) -> Result<()>
-    requires row { length row.old ≡ length source.now }
-    requires out { length out.old ≡ length source.now }
-{
-    let mut plane = DmabufPlane::new(alloc, hold).map_err(|_| AllocError)?;
-    report(rt, "dmabuf", &mut plane, row, source, out, work.rounds)
-}
-
-// Measures a plane of each kind with these rows of bytes. Three such planes and a page more fit the ledger.
+// Measures a plane of each kind, of so many pages, with these rows of bytes. Three such planes and a page more fit the
+// ledger.
 fn measure_with(
     rt: &(impl Clock + Print),
     alloc: Global,
     row: &mut [u8],
     source: &[u8],
     out: &mut [u8],
-    work: Work,
+    pages: u32,
+    rounds: u32,
 ) -> Result<()>
     requires row { length row.old ≡ length source.now }
     requires out { length out.old ≡ length source.now }
-    requires pages { (0 < work.pages) × (work.pages ≤ 300) }
+    requires pages { (0 < pages) × (pages ≤ 300) }
 {
     let (ledger, seat) = PageLedger::new(alloc, 1024)?;
     let (one, seat) = ledger.split(seat);
     let (two, three) = ledger.split(seat);
-    let hold = claimed(alloc, &ledger, one, work.pages)?;
-    measure_mmap(rt, alloc, hold, row, source, out, work)?;
-    let hold = claimed(alloc, &ledger, two, work.pages + 1)?;
-    measure_user(rt, alloc, hold, row, source, out, work)?;
-    let hold = claimed(alloc, &ledger, three, work.pages)?;
-    measure_dmabuf(rt, alloc, hold, row, source, out, work)
+    let hold = claimed(alloc, &ledger, one, pages)?;
+    let plane = MmapPlane::new(alloc, hold).map_err(|_| AllocError)?;
+    report(rt, "mmap", plane, row, source, out, rounds)?;
+    let hold = claimed(alloc, &ledger, two, pages + 1)?;
+    let plane = UserPlane::new(alloc, hold, OFFSET, pages * PAGE_BYTES).map_err(|_| AllocError)?;
+    report(rt, "user", plane, row, source, out, rounds)?;
+    let hold = claimed(alloc, &ledger, three, pages)?;
+    let plane = DmabufPlane::new(alloc, hold).map_err(|_| AllocError)?;
+    report(rt, "dmabuf", plane, row, source, out, rounds)
 }
 
 // Measures a plane of each kind, of so many pages.
-fn measure_each(rt: &(impl Clock + Print), alloc: Global, work: Work) -> Result<()>
-    requires { (0 < work.pages) × (work.pages ≤ 300) }
+fn measure_each(rt: &(impl Clock + Print), alloc: Global, pages: u32, rounds: u32) -> Result<()>
+    requires { (0 < pages) × (pages ≤ 300) }
 {
-    let size = (work.pages * PAGE_BYTES) as usize;
+    let size = (pages * PAGE_BYTES) as usize;
     let source = vec![in alloc; 7u8; size]?;
     let mut row = vec![in alloc; 0u8; size]?;
     let mut out = vec![in alloc; 0u8; size]?;
-    measure_with(rt, alloc, &mut row, &source, &mut out, work)
+    measure_with(rt, alloc, &mut row, &source, &mut out, pages, rounds)
 }
 
 /// Measures a plane of each kind, as many rounds as the next word says.
 pub(crate) fn measure(rt: &(impl Clock + Print), alloc: Global, words: &mut Args) -> Result<()> {
-    let rounds = number(words)?;
-    measure_each(
-        rt,
-        alloc,
-        Work {
-            pages: PAGES,
-            rounds,
-        },
-    )
+    measure_each(rt, alloc, PAGES, number(words)?)
 }
