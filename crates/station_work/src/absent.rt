@@ -20,6 +20,12 @@ pub enum Absent {
     Stopped,
 }
 
+impl From<FileFault> for Absent {
+    fn from(fault: FileFault) -> Self {
+        Absent::File(fault)
+    }
+}
+
 impl Absent {
     /// Its name.
     pub fn name(&self) -> &'static str {

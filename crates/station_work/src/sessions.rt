@@ -5,6 +5,7 @@ ghost use Rattle.loop_recorder.specs.Opened.{IsReady};
 
 use crate::absent::Absent;
 use crate::feed::FeedSource;
+use crate::outlet::Outlet;
 use crate::places::Places;
 use crate::size::size_of;
 use crate::state::CameraState;
@@ -18,8 +19,9 @@ use loop_recorder::{
     Camera, EndRefused, Ended, NewRefused, Pass, Recorder, camera_again, record_led,
 };
 use loop_store::{OpenRefused, Store, StoreFault};
-use station_words::{RingSize, Room, frames_in, ring_for, ring_within};
+use station_words::{RingSize, Room, frames_in, print_not_a_store, ring_for, ring_within};
 use std::alloc::{AllocGlobal, Global};
+use std::io::Write;
 use std::sync::atomic::Ordering;
 use std::sync::{Arc, Wait};
 use std::thread;
@@ -41,10 +43,11 @@ type FileCamera = Camera<FileDisk, MmapPlane>;
 
 /// Opens a camera's store, or makes it, and records into it, until the camera is stopped. Where the store can't be had
 /// or its disk fails, it is opened again.
-pub(crate) fn run_camera<R: AllocGlobal + Places + Threads + Wait + Clock + Sync>(
-    rt: &R,
-    state: &CameraState,
-) {
+pub(crate) fn run_camera<
+    R: AllocGlobal + Places + Threads + Wait + Clock + Sync,
+    W: Write + Drop,
+>(rt: &R, state: &CameraState, outlet: &Outlet<W>) {
+    let mut told = false;
     for _ in rt.forever() {
         if state.is_stopped() {
             break;
@@ -54,6 +57,7 @@ pub(crate) fn run_camera<R: AllocGlobal + Places + Threads + Wait + Clock + Sync
             Err(why) => why,
         };
         state.leave(rt, why);
+        told = tell_not_a_store(rt, state, outlet, why, told);
         if !state.is_stopped() {
             state.counts.faults.fetch_add(1, Ordering::SeqCst);
             thread::sleep(rt, Duration::from_millis(OPEN_AGAIN));
@@ -62,15 +66,33 @@ pub(crate) fn run_camera<R: AllocGlobal + Places + Threads + Wait + Clock + Sync
     state.leave(rt, Absent::Stopped);
 }
 
+/// Prints that what stands where the store is to be isn't one, unless that was told; whether it is so.
+fn tell_not_a_store<R: AllocGlobal + Wait, W: Write + Drop>(
+    rt: &R,
+    state: &CameraState,
+    outlet: &Outlet<W>,
+    why: Absent,
+    told: bool,
+) -> bool {
+    if !matches!(why, Absent::Store(StoreFault::NotFormatted)) {
+        return false;
+    }
+    let mut line = Vec::new(rt.alloc());
+    let (name, path) = (state.config.name.as_str(), state.config.store.as_str());
+    if !told && print_not_a_store(&mut line, name, path).is_ok() {
+        outlet.put(rt, &line);
+    }
+    true
+}
+
 /// The store of a camera, made for its source where it isn't there.
 fn open_store<R: AllocGlobal + Places + Wait + Clock>(
     rt: &R,
     state: &CameraState,
 ) -> Result<Store<FileDisk>, Absent> {
-    let path = state.config.store.as_str();
-    let disk = match rt.open_store(path) {
+    let disk = match rt.open_store(state.config.store.as_str()) {
         Ok(disk) => disk,
-        Err(FileFault::Missing) => make_store(rt, state, path)?,
+        Err(FileFault::Missing) => return make_store(rt, state),
         Err(fault) => return Err(Absent::File(fault)),
     };
     match Store::open(rt.alloc(), disk) {
@@ -79,12 +101,11 @@ fn open_store<R: AllocGlobal + Places + Wait + Clock>(
     }
 }
 
-/// Makes the store of a camera for what its source's header says, once that is there, and opens its file.
+/// Makes the store of a camera for what its source's header says, once that is there.
 fn make_store<R: AllocGlobal + Places + Wait + Clock>(
     rt: &R,
     state: &CameraState,
-    path: &str,
-) -> Result<FileDisk, Absent> {
+) -> Result<Store<FileDisk>, Absent> {
     state.leave(rt, Absent::NoStore);
     let Some(header) = wait_header(rt, state) else {
         return Err(Absent::Stopped);
@@ -92,13 +113,7 @@ fn make_store<R: AllocGlobal + Places + Wait + Clock>(
     let Some(geometry) = geometry_for(&header, &state.config.room) else {
         return Err(Absent::NoGeometry);
     };
-    if !rt.make_store(path, geometry) {
-        return Err(Absent::File(FileFault::Failed));
-    }
-    match rt.open_store(path) {
-        Ok(disk) => Ok(disk),
-        Err(fault) => Err(Absent::File(fault)),
-    }
+    rt.make_store(state.config.store.as_str(), geometry)
 }
 
 /// What the source's header says, once it is there; None where the camera is stopped before.
