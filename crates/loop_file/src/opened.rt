@@ -1,5 +1,5 @@
 // How files are opened: none gets the number of a standard stream.
-ghost use Rattle.std.specs.Prelude.{◌≤◌, IfOk};
+ghost use Rattle.std.specs.Prelude.{◌≤ℤ◌, IfOk, pos};
 ghost use Rattle.std.specs.Fd.{file_raw_fd};
 
 use std::fs::{File, OpenOptions};
@@ -25,7 +25,7 @@ pub fn open_file<R: Files<File = File>, P: AsPath>(
     how: &OpenOptions,
     path: P,
 ) -> io::Result<File>
-    ensures { IfOk result (λ file. 3 ≤ file_raw_fd file) }
+    ensures { IfOk result (λ file. pos 3 ≤ℤ file_raw_fd file) }
 {
     take_streams(rt)?;
     let file = how.open(rt, path)?;
@@ -38,7 +38,7 @@ pub fn open_file<R: Files<File = File>, P: AsPath>(
 
 /// Opens a file, pipe, device or folder to be read, as `open_file` does.
 pub fn open_to_read<R: Files<File = File>, P: AsPath>(rt: &R, path: P) -> io::Result<File>
-    ensures { IfOk result (λ file. 3 ≤ file_raw_fd file) }
+    ensures { IfOk result (λ file. pos 3 ≤ℤ file_raw_fd file) }
 {
     open_file(rt, OpenOptions::new().read(true), path)
 }
