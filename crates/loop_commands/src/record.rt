@@ -9,7 +9,7 @@ use loop_plane::{MmapPlane, PlaneMemory};
 use loop_record::Geometry;
 use loop_recorder::Ended;
 use loop_script::{
-    Likeness, Recording, likeness, print_line, print_other_geometry, print_other_rate, print_parts,
+    Likeness, Recording, compare_frames, print_line, print_other_geometry, print_other_rate, print_parts,
     print_refusal,
 };
 use loop_store::{OpenRefused, Store, StoreFault};
@@ -161,7 +161,7 @@ fn tell_others<D: Disk + Drop, E: Write>(
         let Source::Footage(_, footage) = source else {
             continue;
         };
-        match likeness(footage, &store.geometry()) {
+        match compare_frames(footage, &store.geometry()) {
             Likeness::OtherGeometry => return print_other_geometry(err, name, footage),
             Likeness::OtherRate => other_rate = Some(footage),
             Likeness::Alike => {}

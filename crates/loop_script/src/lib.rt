@@ -33,6 +33,6 @@ pub use print::{print_line, print_parts};
 pub use refusal::{RefusalWords, print_refusal};
 pub use runs::run_length;
 pub use session::{LIMITS, Session};
-pub use source::{Likeness, likeness, print_other_geometry, print_other_rate};
+pub use source::{Likeness, compare_frames, print_other_geometry, print_other_rate};
 pub use task::{FileCommand, Paths, Recording, Task, read_task};
 pub use upgrade::upgrade_words;

@@ -16,7 +16,7 @@ pub enum Likeness {
 }
 
 /// How the frames of two geometries are alike, whatever their rings. Rates are compared as fractions.
-pub fn likeness(one: &Geometry, other: &Geometry) -> Likeness {
+pub fn compare_frames(one: &Geometry, other: &Geometry) -> Likeness {
     if one.width != other.width || one.height != other.height || one.format != other.format {
         return Likeness::OtherGeometry;
     }

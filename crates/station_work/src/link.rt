@@ -1,7 +1,7 @@
 //! What a camera's source and its store know of each other.
 
 use loop_record::Geometry;
-use loop_script::{Likeness, likeness};
+use loop_script::{Likeness, compare_frames};
 use std::sync::{Condvar, Mutex, Wait};
 use std::time::{Clock, Duration};
 
@@ -111,7 +111,7 @@ impl Link {
 
 // What comes of an offer, where the source stood so before.
 fn judged(before: SourceState, wanted: &Geometry, geometry: &Geometry) -> Offered {
-    if likeness(wanted, geometry) == Likeness::Alike {
+    if compare_frames(wanted, geometry) == Likeness::Alike {
         return Offered::Fits;
     }
     match before {

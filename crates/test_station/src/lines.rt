@@ -2,7 +2,7 @@
 
 use crate::told::{holds, same};
 use loop_record::{Geometry, PixelFormat};
-use loop_script::{Likeness, likeness, print_other_geometry, print_other_rate};
+use loop_script::{Likeness, compare_frames, print_other_geometry, print_other_rate};
 use loop_store::{Clip, StoreFault};
 use station_words::{
     CameraStatus, RingSize, print_absent, print_bad_order, print_kept, print_no_camera,
@@ -114,9 +114,9 @@ const TALL: Geometry = Geometry {
 
 #[test]
 fn frames_are_alike_whatever_their_rings(rt: HostRuntime) {
-    same!(rt; likeness(&OTHER, &SAME), Likeness::Alike);
-    same!(rt; likeness(&OTHER, &SLOW), Likeness::OtherRate);
-    same!(rt; likeness(&OTHER, &TALL), Likeness::OtherGeometry);
+    same!(rt; compare_frames(&OTHER, &SAME), Likeness::Alike);
+    same!(rt; compare_frames(&OTHER, &SLOW), Likeness::OtherRate);
+    same!(rt; compare_frames(&OTHER, &TALL), Likeness::OtherGeometry);
 }
 
 // So many frames, and the segments and slots for them; none where there are no such.
