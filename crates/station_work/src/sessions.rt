@@ -15,7 +15,7 @@ use loop_file::{FileDisk, FileFault};
 use loop_plane::{MmapPlane, PlaneMemory};
 use loop_record::Geometry;
 use loop_recorder::{
-    Camera, EndRefused, Ended, NewRefused, Pass, Recorder, camera_again, record_led,
+    Camera, EndRefused, Ended, NewRefused, Pass, Pool, Recorder, Unended, camera_again, start_pool,
 };
 use loop_store::{OpenRefused, Store, StoreFault};
 use station_words::{RingSize, Room, frames_in, ring_for, ring_within};
@@ -39,8 +39,11 @@ const PASSES: u32 = 5;
 /// A camera over a file.
 type FileCamera = Camera<FileDisk, MmapPlane>;
 
-/// Opens a camera's store, or makes it, and records into it, until the camera is stopped. Where the store can't be had
-/// or its disk fails, it is opened again.
+/// The threads of a camera's sessions.
+type FilePool = Pool<FileDisk, MmapPlane>;
+
+/// Opens a camera's store, or makes it, and records into it, until the camera is stopped. Where its threads can't be
+/// started, the store can't be had or its disk fails, that is tried again.
 pub(crate) fn run_camera<R: AllocGlobal + Places + Threads + Wait + Clock + Sync>(
     rt: &R,
     state: &CameraState,
@@ -49,17 +52,59 @@ pub(crate) fn run_camera<R: AllocGlobal + Places + Threads + Wait + Clock + Sync
         if state.is_stopped() {
             break;
         }
-        let why = match open_store(rt, state) {
-            Ok(store) => record_into(rt, state, store),
-            Err(why) => why,
+        let began = match Pool::new(rt.alloc(), PASSES as usize) {
+            Ok(pool) => run_behind(rt, state, &pool),
+            Err(_) => false,
         };
-        state.leave(rt, why);
-        if !state.is_stopped() {
-            state.counts.faults.fetch_add(1, Ordering::SeqCst);
-            thread::sleep(rt, Duration::from_millis(OPEN_AGAIN));
+        if !began {
+            rest(rt, state, Absent::NoBuffers);
         }
     }
     state.leave(rt, Absent::Stopped);
+}
+
+/// The scope that a camera's threads run in, all its sessions long; whether they could be started.
+fn run_behind<R: AllocGlobal + Places + Threads + Wait + Clock + Sync>(
+    rt: &R,
+    state: &CameraState,
+    pool: &FilePool,
+) -> bool {
+    let (rt, state, pool) = (&*rt, &*state, &*pool);
+    thread::scope(thread::scope_env(), rt, move |scope| -> bool {
+        let began = start_pool(rt, rt.alloc(), scope, state, pool);
+        if began {
+            run_stores(rt, state, pool);
+        }
+        pool.close(rt);
+        began
+    })
+}
+
+/// Opens a camera's store, or makes it, and records into it, again and again until the camera is stopped.
+fn run_stores<R: AllocGlobal + Places + Wait + Clock>(
+    rt: &R,
+    state: &CameraState,
+    pool: &FilePool,
+) {
+    for _ in rt.forever() {
+        if state.is_stopped() {
+            break;
+        }
+        let why = match open_store(rt, state) {
+            Ok(store) => record_into(rt, state, pool, store),
+            Err(why) => why,
+        };
+        rest(rt, state, why);
+    }
+}
+
+/// The store isn't there, and is left alone for a while.
+fn rest<R: Wait + Clock>(rt: &R, state: &CameraState, why: Absent) {
+    state.leave(rt, why);
+    if !state.is_stopped() {
+        state.counts.faults.fetch_add(1, Ordering::SeqCst);
+        thread::sleep(rt, Duration::from_millis(OPEN_AGAIN));
+    }
 }
 
 /// The store of a camera, made for its source where it isn't there.
@@ -137,14 +182,15 @@ fn geometry_for(header: &Geometry, room: &Room) -> Option<Geometry> {
 
 /// Records into a store, a session behind the other, until the camera is stopped or the store must be reopened; why it
 /// ended.
-fn record_into<R: AllocGlobal + Threads + Wait + Clock + Sync>(
+fn record_into<R: AllocGlobal + Wait + Clock>(
     rt: &R,
     state: &CameraState,
+    pool: &FilePool,
     store: Store<FileDisk>,
 ) -> Absent {
     state.link.set_store(rt, store.geometry());
     match camera_for(rt.alloc(), store) {
-        Ok((camera, start)) => run_sessions(rt, state, camera, start),
+        Ok((camera, start)) => run_sessions(rt, state, pool, camera, start),
         Err(_) => Absent::NoBuffers,
     }
 }
@@ -159,27 +205,23 @@ fn camera_for(alloc: Global, store: Store<FileDisk>) -> Result<(FileCamera, Star
 }
 
 /// The sessions of a camera, and why they ended.
-fn run_sessions<R: AllocGlobal + Threads + Wait + Clock + Sync>(
+fn run_sessions<R: AllocGlobal + Wait + Clock>(
     rt: &R,
     state: &CameraState,
+    pool: &FilePool,
     camera: FileCamera,
     start: Start,
 ) -> Absent
     requires { IsReady ⟦<MmapPlane as PlaneMemory>⟧.plane camera }
 {
     let alloc = rt.alloc();
-    let (Some(size), Some(source)) = (size_of(&camera.0.geometry()), source_of(alloc, state)) else {
+    let (Some(size), Some(source)) = (size_of(&camera.0.geometry()), source_of(state)) else {
         return Absent::NoBuffers;
     };
-    let source: Box<dyn FrameSource + Send> = source;
-    let (Ok(device), Ok(mut devices)) = (
-        Device::new(alloc, source, size),
-        Vec::with_capacity(alloc, 1),
-    ) else {
+    let Ok(mut device) = Device::new(alloc, source, size) else {
         return Absent::NoBuffers;
     };
-    devices.push_reserved(device);
-    let mut next = run_session(rt, alloc, state, camera, Some(start), &mut devices);
+    let mut next = run_session(rt, alloc, state, pool, camera, Some(start), &mut device);
     'sessions: for _ in rt.forever() {
         let Some(camera) = next else {
             break;
@@ -187,43 +229,40 @@ fn run_sessions<R: AllocGlobal + Threads + Wait + Clock + Sync>(
         if state.is_stopped() {
             break;
         }
-        next = run_session(rt, alloc, state, camera, None, &mut devices);
+        next = run_session(rt, alloc, state, pool, camera, None, &mut device);
     }
     Absent::Store(StoreFault::MustReopen)
 }
 
 /// What gives a camera's frames to its device; None where memory was refused.
-fn source_of(alloc: Global, state: &CameraState) -> Option<Box<FeedSource>> {
+fn source_of(state: &CameraState) -> Option<FeedSource> {
     let feed = Arc::try_clone(&state.feed).ok()?;
-    Box::new(alloc, FeedSource { feed }).ok()
+    Some(FeedSource { feed })
 }
 
 /// A session: a recorder of the camera is recorded until it is over, and ended. The camera for the next one; None where
 /// its store must be reopened, or memory was refused.
-fn run_session<R: Threads + Wait + Clock + Sync>(
+fn run_session<R: Wait + Clock>(
     rt: &R,
     alloc: Global,
     state: &CameraState,
+    pool: &FilePool,
     camera: FileCamera,
     start: Option<Start>,
-    devices: &mut [Device],
+    device: &mut Device<FeedSource>,
 ) -> Option<FileCamera>
     requires { IsReady ⟦<MmapPlane as PlaneMemory>⟧.plane camera }
     ensures { IfSome result (IsReady ⟦<MmapPlane as PlaneMemory>⟧.plane) }
 {
-    if devices.len() != 1 {
-        return None;
-    }
     let (recorder, passes) = recorder_of(alloc, camera)?;
     if let Some(start) = start {
         start_queue(rt, &recorder, 0, start).ok()?;
     }
     state.begin_session(rt);
-    match record_led(rt, alloc, recorder, passes, devices, state) {
+    match pool.record(rt, alloc, recorder, passes, device, state) {
         Ok(ended) => camera_of(state, ended),
-        Err(EndRefused::TieBroken(_, ended)) => camera_of(state, ended),
-        Err(EndRefused::PassesMissing(_, _, _, _)) => None,
-        Err(EndRefused::NoMemory(_, _)) => None,
+        Err(Unended::Refused(EndRefused::TieBroken(_, ended))) => camera_of(state, ended),
+        Err(_) => None,
     }
 }
 
