@@ -8,7 +8,7 @@ use crate::feed::FeedSource;
 use crate::places::Places;
 use crate::size::size_of;
 use crate::state::CameraState;
-use loop_capture::{Device, FrameSource};
+use loop_capture::Device;
 use loop_commands::{Start, Unrecorded, camera_before, start_of, start_queue};
 use loop_disk::Disk;
 use loop_file::{FileDisk, FileFault};
