@@ -5,8 +5,8 @@ use loop_record::{Geometry, PixelFormat};
 use loop_script::{Likeness, compare_frames, print_other_geometry, print_other_rate};
 use loop_store::{Clip, StoreFault};
 use station_words::{
-    CameraStatus, RingSize, print_absent, print_bad_order, print_kept, print_no_camera,
-    print_not_a_store, print_not_saved, print_refused, print_released, print_saved, print_saving,
+    CameraStatus, RingSize, print_absent, print_bad_order, print_broken_tie, print_kept,
+    print_no_camera, print_not_a_store, print_not_saved, print_refused, print_released, print_saved, print_saving,
     print_status, print_too_many_saves, ring_for, ring_within,
 };
 use std::alloc::Global;
@@ -27,6 +27,7 @@ status left stored 1 given up 2 waiting 3 room 4 faults 5 source on\n\
 other geometry left 320x240 GREY 30000:1001\n\
 other rate left 30000:1001\n\
 not a store left a store.loop: move it away, and a store is made\n\
+tie broken left: its store is opened again\n\
 no camera left\n\
 absent left NoStore\n\
 bad order\n";
@@ -72,6 +73,7 @@ fn prints(out: &mut Vec<u8>) -> bool {
         && print_other_geometry(out, "left", &OTHER).is_ok()
         && print_other_rate(out, "left", &OTHER).is_ok()
         && print_not_a_store(out, "left", "a store.loop").is_ok()
+        && print_broken_tie(out, "left").is_ok()
         && print_no_camera(out, "left").is_ok()
         && print_absent(out, "left", "NoStore").is_ok()
         && print_bad_order(out).is_ok()
