@@ -9,8 +9,8 @@ use loop_plane::{MmapPlane, PlaneMemory};
 use loop_record::Geometry;
 use loop_recorder::Ended;
 use loop_script::{
-    Likeness, Recording, compare_frames, print_line, print_other_geometry, print_other_rate, print_parts,
-    print_refusal,
+    Likeness, Recording, compare_frames, print_line, print_other_geometry, print_other_rate,
+    print_parts, print_refusal,
 };
 use loop_store::{OpenRefused, Store, StoreFault};
 use loop_y4m::Y4mReader;
@@ -125,12 +125,7 @@ fn perform<
     R: AllocGlobal + Files<File = File> + Threads + Wait + Clock + Sync,
     W: Write,
     E: Write,
->(
-    rt: &R,
-    recording: &Recording<'a>,
-    out: &mut W,
-    err: &mut E,
-) -> Result<(), Undone<'a>> {
+>(rt: &R, recording: &Recording<'a>, out: &mut W, err: &mut E) -> Result<(), Undone<'a>> {
     let paths = recording.paths.words();
     let Ok(mut out) = BufWriter::new(rt.alloc(), &mut *out) else {
         return Err(Undone::Refused(StoreFault::NoMemory));

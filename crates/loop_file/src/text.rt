@@ -23,7 +23,10 @@ pub struct TextFile {
 impl TextFile {
     /// Opens what a path leads to, or makes a file there. Nothing that it has is changed. `Busy` where another program,
     /// or another part of this one, has the file: a store that is recorded into, for one.
-    pub fn open<R: AllocGlobal + Files<File = File>>(rt: &R, path: &str) -> Result<Self, FileFault> {
+    pub fn open<R: AllocGlobal + Files<File = File>>(
+        rt: &R,
+        path: &str,
+    ) -> Result<Self, FileFault> {
         match open_file(rt, OpenOptions::new().write(true), path) {
             Ok(file) => TextFile::over(file, None),
             Err(error) if error.kind() == ErrorKind::NotFound => {

@@ -57,7 +57,9 @@ pub fn print_other_geometry<W: Write>(
 /// `other rate NAME N:D`: at which rate the frames of a source come, where its store has another one.
 pub fn print_other_rate<W: Write>(out: &mut W, name: &str, geometry: &Geometry) -> io::Result<()> {
     let Geometry {
-        rate_num, rate_den, ..
+        rate_num,
+        rate_den,
+        ..
     } = geometry;
     writeln!(out, "other rate {name} {rate_num}:{rate_den}")
 }

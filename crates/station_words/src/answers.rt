@@ -4,8 +4,8 @@ use loop_script::{Listing, print_line, print_parts};
 use loop_store::{Clip, StoreFault};
 use std::alloc::Allocator;
 use std::fmt::Display;
-use std::io::Write;
 use std::io;
+use std::io::Write;
 
 /// How a camera stands.
 #[derive(Clone, Copy, Debug, PartialEq, Eq)]

@@ -73,10 +73,12 @@ fn left_at<R: AllocGlobal + Files<File = File>>(
     };
     match Store::open(rt.alloc(), disk) {
         Ok(store) => Ok(Some(store)),
-        Err(OpenRefused {
-            fault: StoreFault::NotFormatted,
-            disk: _,
-        }) => Ok(None),
+        Err(
+            OpenRefused {
+                fault: StoreFault::NotFormatted,
+                disk: _,
+            },
+        ) => Ok(None),
         Err(OpenRefused { fault, disk: _ }) => Err(Absent::Store(fault)),
     }
 }

@@ -215,7 +215,10 @@ impl Saves {
 
     // Whether a save is under way.
     fn is_busy<R: Wait>(&self, rt: &R) -> bool {
-        self.places.lock(rt).iter().any(|place| place.save.is_some())
+        self.places
+            .lock(rt)
+            .iter()
+            .any(|place| place.save.is_some())
     }
 
     /// Ends all saves, within a second: what hasn't ended by itself shortly is told as stopped, and never again.

@@ -19,7 +19,9 @@ use loop_recorder::{
     Camera, EndRefused, Ended, NewRefused, Pass, Pool, Recorder, Unended, camera_again, start_pool,
 };
 use loop_store::{OpenRefused, Store, StoreFault};
-use station_words::{RingSize, Room, frames_in, print_broken_tie, print_not_a_store, ring_for, ring_within};
+use station_words::{
+    RingSize, Room, frames_in, print_broken_tie, print_not_a_store, ring_for, ring_within,
+};
 use std::alloc::{AllocGlobal, Global};
 use std::io::Write;
 use std::sync::atomic::Ordering;
@@ -291,7 +293,9 @@ fn run_session<R: Wait + Clock>(
             None => Err(Absent::Store(StoreFault::MustReopen)),
         },
         Err(Unended::Refused(EndRefused::TieBroken(_, ended))) => {
-            let _camera = camera_of(state, ended);
+            if let Some((desk, _, _)) = camera_of(state, ended) {
+                lose(state, desk.status().pending);
+            }
             Err(Absent::TieBroken)
         }
         Err(_) => Err(Absent::Store(StoreFault::MustReopen)),
@@ -338,11 +342,16 @@ fn camera_of(state: &CameraState, ended: Ended<FileDisk, MmapPlane>) -> Option<F
     let (camera, port) = (cameras.pop()?, ports.pop()?);
     let status = camera.desk.status();
     if status.must_reopen {
-        state
-            .counts
-            .given_up
-            .fetch_add(u64::from(status.pending), Ordering::SeqCst);
+        lose(state, status.pending);
         return None;
     }
     Some(camera_again(camera, port))
+}
+
+/// Counts frames that waited at a desk that is given up.
+fn lose(state: &CameraState, pending: u32) {
+    state
+        .counts
+        .given_up
+        .fetch_add(u64::from(pending), Ordering::SeqCst);
 }

@@ -6,8 +6,8 @@ use loop_script::{Likeness, compare_frames, print_other_geometry, print_other_ra
 use loop_store::{Clip, StoreFault};
 use station_words::{
     CameraStatus, RingSize, print_absent, print_bad_order, print_broken_tie, print_kept,
-    print_no_camera, print_not_a_store, print_not_saved, print_refused, print_released, print_saved, print_saving,
-    print_status, print_too_many_saves, ring_for, ring_within,
+    print_no_camera, print_not_a_store, print_not_saved, print_refused, print_released,
+    print_saved, print_saving, print_status, print_too_many_saves, ring_for, ring_within,
 };
 use std::alloc::Global;
 use std::process::Abort;
