@@ -295,7 +295,8 @@ fn own_output<'a, R: AllocGlobal + Files<File = File>>(
     }
     match TextFile::open(rt, target) {
         Ok(text) => Ok(Opened::Own(Some(text))),
-        Err(FileFault::Busy) => Err(Undone::CannotWrite(target)),
+        // Whether someone has it can't be told, or someone has.
+        Err(FileFault::Busy | FileFault::Failed) => Err(Undone::CannotWrite(target)),
         Err(_) => Ok(Opened::Own(None)),
     }
 }
