@@ -74,15 +74,20 @@ fn left_at<R: AllocGlobal + Files<File = File>>(
         Err(fault) => return Err(Absent::File(fault)),
     };
     match Store::open(rt.alloc(), disk) {
-        Ok(store) if store.next() > 0 || store.geometry() == *geometry => Ok(Some(store)),
-        Ok(_) => Ok(None),
-        Err(
-            OpenRefused {
-                fault: StoreFault::NotFormatted,
-                disk: _,
-            },
-        ) => Ok(None),
-        Err(_) => Err(Absent::Unfinished),
+        Ok(store) => Ok(for_frames(store, geometry)),
+        Err(OpenRefused { fault, disk: _ }) => match fault {
+            StoreFault::NotFormatted => Ok(None),
+            _ => Err(Absent::Unfinished),
+        },
+    }
+}
+
+/// A store that has a frame, or is for frames like these.
+fn for_frames(store: Store<FileDisk>, geometry: &Geometry) -> Option<Store<FileDisk>> {
+    if store.next() > 0 || store.geometry() == *geometry {
+        Some(store)
+    } else {
+        None
     }
 }
 
