@@ -95,6 +95,19 @@ fn after<R: Wait + Clock + Abort>(
     camera_again(camera, port)
 }
 
+// A recorder of one camera, and four passes.
+fn recorder_after(
+    rt: &impl Abort,
+    alloc: Global,
+    camera: Camera<MemDisk, MmapPlane>,
+) -> (Rec, Vec<Pass>)
+    requires { IsReady ⟦<MmapPlane as PlaneMemory>⟧.plane camera }
+    ensures { length result.0.outlines ≡ 1 }
+{
+    let cameras = vec![in alloc; camera].expect(rt, "memory for a list");
+    recorder_of(rt, alloc, cameras, 4)
+}
+
 // Two recordings of one camera; and none where there is a pass less than the pool has places.
 fn records<R: Wait + Clock + Abort>(rt: &R, alloc: Global, pool: &TestPool, lead: &Led) {
     let Ok(mut device) = Device::new(alloc, Pattern::new(), 12) else {
@@ -105,8 +118,7 @@ fn records<R: Wait + Clock + Abort>(rt: &R, alloc: Global, pool: &TestPool, lead
     let camera = after(rt, alloc, pool, lead, first, &mut device);
     let next = camera.0.status().next;
     holds!(rt; 8 <= next && next <= 20, next);
-    let cameras = vec![in alloc; camera].expect(rt, "memory for a list");
-    let second = recorder_of(rt, alloc, cameras, 4);
+    let second = recorder_after(rt, alloc, camera);
     let camera = after(rt, alloc, pool, lead, second, &mut device);
     let then = camera.0.status().next;
     holds!(rt; 16 <= then && then <= 40, then);
