@@ -34,11 +34,22 @@ class Station:
     def send(self, text):
         """Writes orders, all in one write."""
         if self.orders:
-            descriptor = os.open(self.orders, os.O_WRONLY)
+            descriptor = self.opened(20)
             os.write(descriptor, text.encode())
             os.close(descriptor)
         else:
             os.write(self.run.stdin.fileno(), text.encode())
+
+    def opened(self, seconds):
+        """The pipe of the orders, once the station reads from it."""
+        end = time.monotonic() + seconds
+        while True:
+            try:
+                return os.open(self.orders, os.O_WRONLY | os.O_NONBLOCK)
+            except OSError:
+                if time.monotonic() > end or self.run.poll() is not None:
+                    raise Silent(f"nobody takes orders, status {self.run.poll()}") from None
+                time.sleep(0.02)
 
     def wait(self, until, seconds=20):
         """Waits until the lines are as they have to be, and answers what `until` says of them."""

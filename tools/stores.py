@@ -1,4 +1,4 @@
-"""What kill_check, power_check, format_check, start_check and output_check share: the programs, the preloaded library and its log, what a loss of power may leave of a
+"""What kill_check, power_check, format_check, start_check, output_check, descriptor_check and save_check share: the programs, the preloaded library and its log, what a loss of power may leave of a
 file, and the plain recorder that says what may stand in it."""
 import os
 import random
@@ -20,15 +20,18 @@ class Violation(Exception):
 
 
 def built(name):
-    """A program's path. One that is named by the variable NAME_PROGRAM is taken as it is; else it is built, and proved where something changed."""
-    given = os.environ.get(f"{name.upper()}_PROGRAM")
+    """A program's path. One that the variable LOOP_CLI, LOOP_STATION, BENCH or FILL names is taken as it is; else it is built, and proved where something changed."""
+    given = os.environ.get(name.upper())
     if given:
-        return given
+        return os.path.abspath(given)
     crate = os.path.join(CRATES, name)
+    made = os.path.join(crate, "out", name)
     print(f"proving and building {name} where something has changed: up to an hour, silently", file=sys.stderr, flush=True)
-    if subprocess.run(["rt", "run", "--jobs", "1"], cwd=crate, stdin=subprocess.DEVNULL, capture_output=True).returncode != 0:
+    done = subprocess.run(["rt", "run", "--jobs", "1"], cwd=crate, stdin=subprocess.DEVNULL, capture_output=True)
+    # A program that wants words ends with 1 or 2 where it has none.
+    if done.returncode != 0 and not os.path.exists(made):
         sys.exit(f"rt run made no {name}")
-    return os.path.join(crate, "out", name)
+    return made
 
 
 def library(folder):
