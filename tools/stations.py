@@ -1,10 +1,15 @@
 """What station_check, save_check, descriptor_check, start_check, power_check and bench/station share: the station as it runs, the lines that it prints, and pipes that
 bring it frames."""
+import ctypes
 import os
+import signal
 import subprocess
 import threading
 import time
 from pathlib import Path
+
+LIBC = ctypes.CDLL(None)
+PARENT_DEATH = 1
 
 
 class Silent(Exception):
@@ -16,8 +21,15 @@ class Station:
 
     def __init__(self, program, folder, env=None, orders=None, before=None, **outputs):
         self.lines, self.more, self.orders = [], threading.Condition(), orders
+
+        def begin():
+            # It ends with the check, however that ends.
+            LIBC.prctl(PARENT_DEATH, signal.SIGKILL)
+            if before:
+                before()
+
         self.run = subprocess.Popen(
-            [program, "station.toml"], cwd=folder, stdin=subprocess.DEVNULL if orders else subprocess.PIPE, env=env, preexec_fn=before,
+            [program, "station.toml"], cwd=folder, stdin=subprocess.DEVNULL if orders else subprocess.PIPE, env=env, preexec_fn=begin,
             **{"stdout": subprocess.PIPE, **outputs}
         )
         if self.run.stdout:

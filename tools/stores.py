@@ -41,10 +41,10 @@ def library(folder):
     return path
 
 
-def under(preload, path, log=None, mode=None, fail=None, threads=None):
+def under(preload, path, log=None, mode=None, fail=None, threads=None, text=None, kill=None):
     """The environment of a program with the library before it."""
     env = dict(os.environ, LD_PRELOAD=preload, LOOP_FILE=path)
-    given = (("LOOP_LOG", log), ("LOOP_MODE", mode), ("LOOP_FAIL", fail), ("LOOP_THREADS", threads))
+    given = (("LOOP_LOG", log), ("LOOP_MODE", mode), ("LOOP_FAIL", fail), ("LOOP_THREADS", threads), ("LOOP_TEXT", text), ("LOOP_KILL", kill))
     env.update({name: value for name, value in given if value})
     return env
 
@@ -59,7 +59,7 @@ def log_of(path):
     while at + 17 <= len(data):
         kind = chr(data[at])
         place, count = struct.unpack_from("<QQ", data, at + 1)
-        size = count if kind in "WA" else 0
+        size = count if kind in "WAw" else 0
         if at + 17 + size > len(data):
             break
         records.append((kind, place, data[at + 17: at + 17 + size]))
