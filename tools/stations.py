@@ -1,5 +1,5 @@
-"""What station_check, save_check, descriptor_check, start_check, power_check and bench/station share: the station as it runs, the lines that it prints, and pipes that
-bring it frames."""
+"""What station_check, save_check, descriptor_check, start_check, power_check and bench/station share: the station as it runs, the lines that it
+prints, and pipes that bring it frames."""
 import ctypes
 import os
 import signal
@@ -96,7 +96,9 @@ class Station:
 
     def stop(self, seconds=20):
         """Ends the station by an order."""
-        if self.ask("stop", 1, seconds) != ["stopped"] or self.run.wait(seconds) != 0:
+        self.send("stop\n")
+        self.wait(lambda lines: lines and lines[-1] == "stopped", seconds)
+        if self.run.wait(seconds) != 0:
             raise Silent(f"stop: {self.lines[-3:]}, status {self.run.poll()}")
 
     def kill(self):
@@ -117,7 +119,8 @@ def configure(folder, *cameras, orders=None):
 
 
 def feed(path, width, height, rate, frame, at_once=1):
-    """Brings a named pipe frames of YM12, so many a second and so many in one write, from a thread that ends with the pipe's reader. `frame` makes one of its number."""
+    """Brings a named pipe frames of YM12, so many a second and so many in one write, from a thread that ends with the pipe's reader. `frame` makes
+    the one of a number."""
     def bring():
         with open(path, "wb", buffering=0) as out:
             try:

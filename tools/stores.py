@@ -1,5 +1,5 @@
-"""What kill_check, power_check, format_check, start_check, output_check, descriptor_check and save_check share: the programs, the preloaded library and its log, what a loss of power may leave of a
-file, and the plain recorder that says what may stand in it."""
+"""What kill_check, power_check, format_check, start_check, output_check, descriptor_check and save_check share: the programs, the preloaded library
+and its log, what a loss of power may leave of a file, and the plain recorder that says what may stand in it."""
 import os
 import random
 import struct
@@ -20,7 +20,8 @@ class Violation(Exception):
 
 
 def built(name):
-    """A program's path. One that the variable LOOP_CLI, LOOP_STATION, BENCH or FILL names is taken as it is; else it is built, and proved where something changed."""
+    """A program's path. One that the variable LOOP_CLI, LOOP_STATION, BENCH or FILL names is taken as it is; else it is built, and proved where
+    something changed."""
     given = os.environ.get(name.upper())
     if given:
         return os.path.abspath(given)
