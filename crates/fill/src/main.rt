@@ -3,13 +3,12 @@
 
 use anyhow::{Context, Result, anyhow};
 use loop_desk::{Desk, DeskLimits};
-use loop_file::FileDisk;
+use loop_file::{FileDisk, open_to_read};
 use loop_record::Frame;
 use loop_store::{Store, format};
 use loop_y4m::Y4mReader;
 use std::alloc::Global;
 use std::env;
-use std::fs::File;
 use std::io::{BufReader, Read};
 
 /// How many frames wait at most. They are stored in groups.
@@ -62,7 +61,7 @@ fn desk_of(alloc: Global, store: Store<FileDisk>) -> Result<Desk<FileDisk>> {
 /// Makes the store, of so many segments and slots, and fills it with the frames of a source.
 fn make(rt: &HostRuntime, path: &str, segments: u32, slots: u32, source: &str) -> Result<u64> {
     let alloc = rt.alloc();
-    let input = BufReader::new(alloc, File::open(rt, source)?)?;
+    let input = BufReader::new(alloc, open_to_read(rt, source)?)?;
     let mut video = Y4mReader::open(input)?;
     let geometry = video.geometry(segments, slots)?;
     let disk = FileDisk::create(rt, path, geometry.disk_size())?;

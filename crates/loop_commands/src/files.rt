@@ -2,16 +2,18 @@
 ghost use Rattle.std.specs.Prelude.{IsTrue};
 ghost use Rattle.loop_record.specs.Geometry.{is_good};
 
-use crate::on_store::{Target, Told, export_along, export_apart, list, lock, unlock, upgrade};
+use crate::on_store::{
+    Beneath, Target, Told, export_along, export_apart, list, lock, unlock, upgrade,
+};
 use loop_ahead::AheadDisk;
 use loop_disk::Disk;
-use loop_file::{FileDisk, FileFault, FilePlace};
+use loop_file::{FileDisk, FileFault, FilePlace, TextFile};
 use loop_record::Geometry;
 use loop_script::{FileCommand, print_line, print_parts, print_refusal};
 use loop_store::{OpenRefused, Store, StoreFault};
 use loop_y4m::ExportFault;
 use std::alloc::{AllocGlobal, Global};
-use std::fs::{File, OpenFile, OpenOptions};
+use std::fs::File;
 use std::io::{BufWriter, Error, Write};
 use std::os::unix::fs::MetadataExt;
 use std::rt::Files;
@@ -27,36 +29,27 @@ const OWN_OUTPUT: &str = "/dev/stdout";
 #[derive(Drop)]
 enum Opened {
     /// Through the program's own output, in front of what is printed. Where that is a file, its lock is held.
-    Own(Option<File>),
+    Own(Option<TextFile>),
     /// Elsewhere.
-    Apart(Output),
+    Apart(TextFile),
 }
 
-/// A file, whose lock is held, or a pipe or a device.
-#[derive(Drop)]
-struct Output {
-    file: File,
-    is_file: bool,
-}
-
-impl Write for Output {
-    fn write(&mut self, buf: &[u8]) -> io::Result<usize> {
-        self.file.write(buf)
-    }
-
-    fn flush(&mut self) -> io::Result<()> {
-        self.file.flush()
-    }
-}
-
-impl Target for Output {
-    // One that has nothing is left alone, since some file systems write a file that was cut to nothing through to the
-    // disk when it is closed.
+impl Target for TextFile {
     fn empty(&mut self) -> io::Result<()> {
-        if self.is_file && self.file.metadata()?.len() > 0 {
-            self.file.set_len(0)?;
+        TextFile::empty(self)
+    }
+
+    fn settle(&mut self) -> io::Result<()> {
+        TextFile::settle(self)
+    }
+}
+
+impl Beneath for Option<TextFile> {
+    fn settle(&self) -> io::Result<()> {
+        match self {
+            Some(file) => file.settle(),
+            None => Ok(()),
         }
-        Ok(())
     }
 }
 
@@ -183,8 +176,8 @@ fn print_export<'a, R: AllocGlobal + Files<File = File>, W: Write>(
     let opened = target_of(rt, target)?;
     let mut store = find_ahead(rt.alloc(), disk)?;
     match opened {
-        Opened::Own(_lock) => {
-            let told = export_along(rt.alloc(), &mut store, from, to, out);
+        Opened::Own(beneath) => {
+            let told = export_along(rt.alloc(), &mut store, from, to, out, &beneath);
             is_exported(told.answer.err(), told.printed, target)
         }
         Opened::Apart(text) => {
@@ -266,26 +259,16 @@ fn find_ahead<'a>(alloc: Global, disk: FileDisk) -> Result<Store<AheadDisk<FileD
 
 // Opens what a text goes to. Nothing of it is changed. A file that has a lock is a store that is in use, the one that
 // is exported perhaps.
-fn target_of<'a, R: Files<File = File>>(rt: &R, target: &'a str) -> Result<Opened, Undone<'a>> {
+fn target_of<'a, R: AllocGlobal + Files<File = File>>(
+    rt: &R,
+    target: &'a str,
+) -> Result<Opened, Undone<'a>> {
     if is_own_output(rt, target) {
         return own_output(rt, target);
     }
-    let Ok(file) = OpenOptions::new().write(true).create(true).open(rt, target) else {
-        return Err(Undone::CannotWrite(target));
-    };
-    match file.metadata() {
+    match TextFile::open(rt, target) {
+        Ok(text) => Ok(Opened::Apart(text)),
         Err(_) => Err(Undone::CannotWrite(target)),
-        Ok(data) if !data.is_file() => Ok(Opened::Apart(Output {
-            file,
-            is_file: false,
-        })),
-        Ok(_) => match file.try_lock() {
-            Ok(()) => Ok(Opened::Apart(Output {
-                file,
-                is_file: true,
-            })),
-            Err(_) => Err(Undone::CannotWrite(target)),
-        },
     }
 }
 
@@ -302,17 +285,19 @@ fn is_own_output<R: Files<File = File>>(rt: &R, target: &str) -> bool {
 
 // The program's own output, whatever that is. Where it is a file its lock is taken as of any other: it may be the store
 // that is exported. One that can't be opened anew is written all the same.
-fn own_output<'a, R: Files<File = File>>(rt: &R, target: &'a str) -> Result<Opened, Undone<'a>> {
+fn own_output<'a, R: AllocGlobal + Files<File = File>>(
+    rt: &R,
+    target: &'a str,
+) -> Result<Opened, Undone<'a>> {
     match fs::metadata(rt, target) {
         Ok(data) if data.is_file() => (),
         _ => return Ok(Opened::Own(None)),
     }
-    let Ok(file) = OpenOptions::new().write(true).open(rt, target) else {
-        return Ok(Opened::Own(None));
-    };
-    match file.try_lock() {
-        Ok(()) => Ok(Opened::Own(Some(file))),
-        Err(_) => Err(Undone::CannotWrite(target)),
+    match TextFile::open(rt, target) {
+        Ok(text) => Ok(Opened::Own(Some(text))),
+        // Whether someone has it can't be told, or someone has.
+        Err(FileFault::Busy | FileFault::Failed) => Err(Undone::CannotWrite(target)),
+        Err(_) => Ok(Opened::Own(None)),
     }
 }
 

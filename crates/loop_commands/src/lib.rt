@@ -22,7 +22,8 @@ pub use cameras::{Start, Unrecorded, camera_before, start_of, start_queue};
 pub use even::EvenWriter;
 pub use files::run_on_file;
 pub use on_store::{
-    NotExported, Target, Told, export_along, export_apart, export_text, list, lock, unlock, upgrade,
+    Beneath, NotExported, Target, Told, export_along, export_apart, export_text, list, lock,
+    unlock, upgrade,
 };
 pub use program::{run_words, words_refused};
 pub use simulation::simulate;

@@ -41,9 +41,24 @@ pub trait Target: Write {
     // What it has once it is emptied, where that is known.
     ghost emptied: { Self → Option (List ℕ) } = { λ _. None };
 
+    // What a loss of power leaves of it, where that is known.
+    ghost settled: { Self → Option (List ℕ) } = { λ _. None };
+
     /// Takes from it what it has. Where nothing can be taken, as from a pipe, nothing is done.
     fn empty(&mut self) -> io::Result<()>
         ensures { OnOk result (Keeps (emptied self.old) (Self.contents self.new)) };
+
+    /// Returns once the disk has been asked to keep all that it has, and its name where that is new. Of a pipe nothing
+    /// can be kept.
+    fn settle(&mut self) -> io::Result<()>
+        ensures kept { OnOk result (Keeps (Self.contents self.old) (Self.contents self.new)) }
+        ensures settled { OnOk result (Keeps (Self.contents self.new) (settled self.new)) };
+}
+
+/// What lies beneath a writer through which a text is written, and perhaps other lines.
+pub trait Beneath {
+    /// Returns once the disk has been asked to keep what was written. Of a pipe nothing can be kept.
+    fn settle(&self) -> io::Result<()>;
 }
 
 // Prints a word and a number on a line.
@@ -218,7 +233,20 @@ fn emptied<T: Target + Drop>(target: T) -> Option<T>
     }
 }
 
-// Writes the held frames from a number to another into a target, as `export_text`. The target is emptied before.
+// A target that was settled, if it could be.
+fn settled<T: Target + Drop>(target: T) -> Option<T>
+    ensures kept { IfSome result (λ t. Keeps (T.contents target) (T.contents t)) }
+    ensures settled { IfSome result (λ t. Keeps (T.contents t) (T.settled t)) }
+{
+    let mut target = target;
+    match target.settle() {
+        Ok(()) => Some(target),
+        Err(_) => None,
+    }
+}
+
+// Writes the held frames from a number to another into a target, as `export_text`, and settles it. The target is
+// emptied before.
 fn export_into<D: Disk + Drop, A: Allocator + Copy, T: Target + Drop>(
     alloc: A,
     store: &mut Store<D, A>,
@@ -229,6 +257,7 @@ fn export_into<D: Disk + Drop, A: Allocator + Copy, T: Target + Drop>(
     ensures text { (r : Recording) → StandsFor D.medium store.old r
         → IfOk result (λ done. IsText (D.medium store.old.disk).honest store.old.geometry
         (frames_between from to r.frames) (T.emptied target) (T.contents done.1) done.0) }
+    ensures settled { IfOk result (λ done. Keeps (T.contents done.1) (T.settled done.1)) }
     ensures kept { HoldsNone store.old.numbers from to → IsUntouched target result }
     ensures store { OnlyRead D.medium store.old store.new (failed_export (fault_of result)) }
 {
@@ -244,17 +273,26 @@ fn export_into<D: Disk + Drop, A: Allocator + Copy, T: Target + Drop>(
             target: None,
         });
     };
-    match export_text(alloc, store, from, to, target) {
-        Ok(done) => Ok(done),
-        Err(fault) => Err(NotExported {
-            fault,
+    let (count, target) = match export_text(alloc, store, from, to, target) {
+        Ok(done) => done,
+        Err(fault) => {
+            return Err(NotExported {
+                fault,
+                target: None,
+            });
+        }
+    };
+    match settled(target) {
+        Some(target) => Ok((count, target)),
+        None => Err(NotExported {
+            fault: ExportFault::Write,
             target: None,
         }),
     }
 }
 
-/// Writes the held frames from a number to another into a target, as `export_text`, and prints how many. The target is
-/// emptied before; it comes back as it was where no frame has such a number.
+/// Writes the held frames from a number to another into a target, as `export_text`, and prints how many once the disk
+/// was asked to keep them. The target is emptied before; it comes back as it was where no frame has such a number.
 pub fn export_apart<D: Disk + Drop, A: Allocator + Copy, T: Target + Drop, W: Write>(
     alloc: A,
     store: &mut Store<D, A>,
@@ -266,6 +304,7 @@ pub fn export_apart<D: Disk + Drop, A: Allocator + Copy, T: Target + Drop, W: Wr
     ensures text { (r : Recording) → StandsFor D.medium store.old r
         → IfOk result.answer (λ done. IsText (D.medium store.old.disk).honest store.old.geometry
         (frames_between from to r.frames) (T.emptied target) (T.contents done.1) done.0) }
+    ensures settled { IfOk result.answer (λ done. Keeps (T.contents done.1) (T.settled done.1)) }
     ensures kept { HoldsNone store.old.numbers from to → IsUntouched target result.answer }
     ensures store { OnlyRead D.medium store.old store.new (failed_export (fault_of result.answer)) }
     ensures told { IsPrinted W.contents out.old out.new (λ done. line_of (codes "exported") done.0)
@@ -284,13 +323,14 @@ pub fn export_apart<D: Disk + Drop, A: Allocator + Copy, T: Target + Drop, W: Wr
 }
 
 /// Writes the held frames from a number to another, as `export_text`, through the writer that then tells how many: the
-/// line stands behind the text.
-pub fn export_along<D: Disk + Drop, A: Allocator + Copy, W: Write + Drop>(
+/// line stands after the text. It is written once what lies beneath the writer has settled.
+pub fn export_along<D: Disk + Drop, A: Allocator + Copy, W: Write + Drop, B: Beneath>(
     alloc: A,
     store: &mut Store<D, A>,
     from: u64,
     to: u64,
     out: W,
+    beneath: &B,
 ) -> Told<(u64, W), ExportFault>
     ensures text { (r : Recording) → StandsFor D.medium store.old r → (D.medium store.old.disk).honest
         → IfOk result.answer (λ done. OnOk result.printed (Appends (W.contents out) (W.contents done.1)
@@ -299,6 +339,12 @@ pub fn export_along<D: Disk + Drop, A: Allocator + Copy, W: Write + Drop>(
 {
     match export_text(alloc, store, from, to, out) {
         Ok((count, out)) => {
+            if beneath.settle().is_err() {
+                return Told {
+                    answer: Err(ExportFault::Write),
+                    printed: Ok(()),
+                };
+            }
             let mut out = out;
             let printed = print_number(&mut out, "exported", count);
             Told {

@@ -4,16 +4,20 @@ ghost use Rattle.std.specs.Prelude.{◌≡◌, ⊤, IfOk, length, vec_len};
 use crate::cameras::{Unrecorded, record_stores};
 use loop_capture::{Device, FrameSource, Next, Pattern, Y4mSource};
 use loop_disk::Disk;
-use loop_file::FileDisk;
+use loop_file::{FileDisk, open_to_read};
 use loop_plane::{MmapPlane, PlaneMemory};
+use loop_record::Geometry;
 use loop_recorder::Ended;
-use loop_script::{Recording, print_line, print_parts, print_refusal};
+use loop_script::{
+    Likeness, Recording, compare_frames, print_line, print_other_geometry, print_other_rate,
+    print_parts, print_refusal,
+};
 use loop_store::{OpenRefused, Store, StoreFault};
 use loop_y4m::Y4mReader;
 use std::alloc::{AllocError, AllocGlobal, Global};
 use std::fs::File;
 use std::io;
-use std::io::{BufReader, BufWriter, Error, Write};
+use std::io::{BufReader, BufWriter, Error, Read, Write};
 use std::rt::Files;
 use std::sync::Wait;
 use std::thread::Threads;
@@ -59,8 +63,8 @@ impl From<Error> for Undone<'_> {
 enum Source {
     /// The pattern.
     Pattern(Pattern),
-    /// A file or pipe.
-    Footage(Y4mSource<BufReader<File>>),
+    /// A file or pipe, and what its header says its frames are, with a ring of any size.
+    Footage(Y4mSource<BufReader<File>>, Geometry),
 }
 
 impl FrameSource for Source {
@@ -69,7 +73,7 @@ impl FrameSource for Source {
     fn next(&mut self, out: &mut [u8]) -> Next {
         match self {
             Source::Pattern(pattern) => pattern.next(out),
-            Source::Footage(footage) => footage.next(out),
+            Source::Footage(footage, _) => footage.next(out),
         }
     }
 }
@@ -82,7 +86,7 @@ pub(crate) fn run_record<
     W: Write,
     E: Write,
 >(rt: &R, recording: Recording<'_>, out: &mut W, err: &mut E) -> u8 {
-    match perform(rt, &recording, out) {
+    match perform(rt, &recording, out, err) {
         Ok(()) => 0,
         Err(undone) => tell(undone, err),
     }
@@ -114,12 +118,14 @@ fn print_path<E: Write>(err: &mut E, what: &str, path: &str) -> io::Result<()> {
     print_line(err, path, &[])
 }
 
-// Opens each file in the order of the words, records, and prints what came of it. Memory to print comes first.
-fn perform<'a, R: AllocGlobal + Files<File = File> + Threads + Wait + Clock + Sync, W: Write>(
-    rt: &R,
-    recording: &Recording<'a>,
-    out: &mut W,
-) -> Result<(), Undone<'a>> {
+// Opens each file in the order of the words, records, and prints what came of it. Memory to print comes first. A source
+// that has other frames than a store is told before it is recorded from; where that can't be told, the run has failed.
+fn perform<
+    'a,
+    R: AllocGlobal + Files<File = File> + Threads + Wait + Clock + Sync,
+    W: Write,
+    E: Write,
+>(rt: &R, recording: &Recording<'a>, out: &mut W, err: &mut E) -> Result<(), Undone<'a>> {
     let paths = recording.paths.words();
     let Ok(mut out) = BufWriter::new(rt.alloc(), &mut *out) else {
         return Err(Undone::Refused(StoreFault::NoMemory));
@@ -127,13 +133,39 @@ fn perform<'a, R: AllocGlobal + Files<File = File> + Threads + Wait + Clock + Sy
     let sources = open_sources(rt, recording.source, paths.len())?;
     let disks = open_disks(rt, paths)?;
     let stores = find_stores(rt.alloc(), disks, recording.keep)?;
+    let told = tell_others(recording.source, &sources, &stores, err);
     let ended = match record_from(rt, sources, stores, recording.frames) {
         Ok(ended) => ended,
         Err(unrecorded) => return Err(blame(unrecorded, paths)),
     };
     print_next(&ended, &mut out)?;
     out.flush()?;
+    told?;
     Ok(())
+}
+
+// Says that the source has frames of another size or format than one of the stores, or of another rate, once.
+fn tell_others<D: Disk + Drop, E: Write>(
+    name: &str,
+    sources: &[Source],
+    stores: &[Store<D>],
+    err: &mut E,
+) -> io::Result<()> {
+    let mut other_rate = None;
+    for (source, store) in sources.iter().zip(stores) {
+        let Source::Footage(_, footage) = source else {
+            continue;
+        };
+        match compare_frames(footage, &store.geometry()) {
+            Likeness::OtherGeometry => return print_other_geometry(err, name, footage),
+            Likeness::OtherRate => other_rate = Some(footage),
+            Likeness::Alike => {}
+        }
+    }
+    match other_rate {
+        Some(footage) if footage.rate_den > 0 => print_other_rate(err, name, footage),
+        _ => Ok(()),
+    }
 }
 
 // Why nothing was recorded, with the path of the camera that is to blame.
@@ -172,15 +204,32 @@ fn open_source<'a, R: AllocGlobal + Files<File = File>>(
     if source == PATTERN {
         return Ok(Source::Pattern(Pattern::new()));
     }
-    let Ok(file) = File::open(rt, source) else {
+    let Ok(file) = open_to_read(rt, source) else {
         return Err(Undone::CannotOpen(source));
     };
     let Ok(input) = BufReader::with_capacity(rt.alloc(), SOURCE_AT_ONCE, file) else {
         return Err(Undone::Refused(StoreFault::NoMemory));
     };
     match Y4mReader::open(input) {
-        Ok(reader) => Ok(Source::Footage(Y4mSource::new(reader))),
+        Ok(reader) => {
+            let geometry = geometry_of(&reader);
+            Ok(Source::Footage(Y4mSource::new(reader), geometry))
+        }
         Err(_) => Err(Undone::CannotOpen(source)),
+    }
+}
+
+// What the header of a source says its frames are, with a ring of any size. A rate that it doesn't say is 0:0.
+fn geometry_of<I: Read + Drop>(reader: &Y4mReader<I>) -> Geometry {
+    let (rate_num, rate_den) = reader.rate();
+    Geometry {
+        width: reader.width(),
+        height: reader.height(),
+        format: reader.format(),
+        rate_num,
+        rate_den,
+        segments: 2,
+        slots: 1,
     }
 }
 

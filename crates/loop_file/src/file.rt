@@ -6,6 +6,7 @@ ghost use Rattle.loop_file.specs.Outcomes.{failing_as};
 
 use crate::fault::FileFault;
 use crate::fresh::make_fresh;
+use crate::opened::open_file;
 use crate::place::{FilePlace, take};
 use loop_disk::{Disk, DiskFault, Failures};
 use std::alloc::AllocGlobal;
@@ -13,6 +14,7 @@ use std::fs::{File, OpenFile, OpenOptions};
 use std::io;
 use std::io::ErrorKind;
 use std::os::unix::fs::FileExt;
+use std::path::AsPath;
 use std::rt::Files;
 
 /// A disk over a file: as many bytes as the file had when it was opened.
@@ -41,10 +43,10 @@ impl FileDisk {
     }
 
     /// Opens a file that is there, for reading and writing. Its length is the disk's size.
-    pub fn open<R: Files<File = File>>(rt: &R, path: &str) -> Result<Self, FileFault>
+    pub fn open<R: Files<File = File>, P: AsPath>(rt: &R, path: P) -> Result<Self, FileFault>
         ensures { IfOk result (λ disk. (⟦<FileDisk<File> as Disk>⟧.medium disk).failures ≡ no_failures) }
     {
-        let file = OpenOptions::new().read(true).write(true).open(rt, path)?;
+        let file = open_file(rt, OpenOptions::new().read(true).write(true), path)?;
         take(&file)?;
         Ok(FileDisk::over(file)?)
     }
@@ -127,8 +129,8 @@ impl<F: OpenFile + FileExt + Drop> Disk for FileDisk<F> {
     }
 }
 
-// Syncs a file's bytes, and tries again where a signal interrupts it.
-fn sync_through<F: OpenFile>(file: &F) -> io::Result<()> {
+/// Syncs a file's bytes, and tries again where a signal interrupts it.
+pub(crate) fn sync_through<F: OpenFile>(file: &F) -> io::Result<()> {
     for _ in 0..u64::MAX {
         match file.sync_data() {
             Err(error) if error.kind() == ErrorKind::Interrupted => (),

@@ -5,6 +5,7 @@ ghost use Rattle.loop_disk.specs.Calls.{no_failures};
 use crate::fault::FileFault;
 use crate::file::FileDisk;
 use crate::fresh::{close, make_fresh};
+use crate::opened::{open_file, open_to_read};
 use loop_disk::Disk;
 use std::alloc::AllocGlobal;
 use std::fs::{File, OpenOptions, TryLockError};
@@ -16,6 +17,9 @@ use std::{fs, io};
 
 /// The most links, one behind the other, that are followed from a path to a file.
 const MAX_LINKS: u32 = 40;
+
+/// What is added to a file's name, after a dot, while the file is being made.
+const UNFINISHED: &str = "new";
 
 /// Where the file of a path stands, or is to stand: what a link at the path's end names, and not the link. Its folder
 /// is held open.
@@ -35,7 +39,7 @@ impl FilePlace {
             match target_of(rt, path.as_path())? {
                 Some(target) => path = target,
                 None => {
-                    let folder = File::open(rt, folder_of(path.as_path()))?;
+                    let folder = open_to_read(rt, folder_of(path.as_path()))?;
                     return Ok(FilePlace {
                         path,
                         folder,
@@ -87,6 +91,40 @@ impl FilePlace {
         }
     }
 
+    /// The place of a file that is to get this place's name once it is finished: NAME.new, in the same folder. What an
+    /// earlier try left may stand there.
+    pub fn unfinished<R: AllocGlobal + Files<File = File>>(
+        &self,
+        rt: &R,
+    ) -> Result<Self, FileFault> {
+        let path = self.path.as_path();
+        Ok(FilePlace {
+            path: path.with_added_extension(rt.alloc(), UNFINISHED)?,
+            folder: self.folder.try_clone()?,
+            is_new: false,
+        })
+    }
+
+    /// Opens the file of this place, for reading and writing, as `FileDisk::open` does.
+    pub fn open<R: Files<File = File>>(&self, rt: &R) -> Result<FileDisk, FileFault>
+        ensures { IfOk result (λ disk. (⟦<FileDisk<File> as Disk>⟧.medium disk).failures ≡ no_failures) }
+    {
+        FileDisk::open(rt, self.path.as_path())
+    }
+
+    /// Gives a finished file of another place this place's name. At Ok that is on the disk. `Busy` where this place has
+    /// a file: nothing is changed then.
+    pub fn finish<R: Files<File = File>>(&self, rt: &R, made: &FilePlace) -> Result<(), FileFault> {
+        match fs::symlink_metadata(rt, self.path.as_path()) {
+            Ok(_) => return Err(FileFault::Busy),
+            Err(error) if error.kind() == ErrorKind::NotFound => {}
+            Err(error) => return Err(FileFault::from(error)),
+        }
+        fs::rename(rt, made.path.as_path(), self.path.as_path())?;
+        self.folder.sync_all()?;
+        Ok(())
+    }
+
     // Takes the lock of an open file, and gives it so many bytes of zero. Two programs may make one path at a time, and
     // the one that is refused removes its file: so the path has to name this file once the lock is had.
     fn make<R: Files<File = File>>(&self, rt: &R, file: &File, size: u64) -> Result<(), FileFault> {
@@ -117,6 +155,11 @@ pub(crate) fn take(file: &File) -> Result<(), FileFault> {
     if !data.is_file() {
         return Err(FileFault::NotRegular);
     }
+    lock(file)
+}
+
+/// Takes the lock of an open file, and never waits for it.
+pub(crate) fn lock(file: &File) -> Result<(), FileFault> {
     match file.try_lock() {
         Ok(()) => Ok(()),
         Err(TryLockError::WouldBlock) => Err(FileFault::Busy),
@@ -128,11 +171,11 @@ pub(crate) fn take(file: &File) -> Result<(), FileFault> {
 fn open_or_make<R: Files<File = File>>(rt: &R, path: Path<'_>) -> Result<(File, bool), FileFault> {
     let mut options = OpenOptions::new();
     options.read(true).write(true);
-    match options.open(rt, path) {
+    match open_file(rt, &options, path) {
         Ok(file) => Ok((file, false)),
         Err(error) if error.kind() == ErrorKind::NotFound => {
             options.create_new(true);
-            Ok((options.open(rt, path)?, true))
+            Ok((open_file(rt, &options, path)?, true))
         }
         Err(error) => Err(FileFault::from(error)),
     }
@@ -154,8 +197,8 @@ fn target_of<R: AllocGlobal + Files<File = File>>(
     }
 }
 
-// The folder in which a path's file stands.
-fn folder_of(path: Path<'_>) -> Path<'_> {
+/// The folder in which a path's file stands.
+pub(crate) fn folder_of(path: Path<'_>) -> Path<'_> {
     match path.parent() {
         Some(folder) if !folder.as_os_str().is_empty() => folder,
         _ => Path::new("."),

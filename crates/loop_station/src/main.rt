@@ -16,7 +16,7 @@ use std::thread::Threads;
 use std::time::Clock;
 use std::{env, fs, io};
 
-/// The status of a run whose configuration can't be had, or that can't begin.
+/// The status of a run whose configuration can't be had, that can't begin, or whose lines couldn't be printed.
 const FAILED: u8 = 1;
 
 /// The status of a run with other words than one path.
@@ -68,7 +68,8 @@ fn run_file<
         }
     };
     match run_station(rt, config, input, out, watched) {
-        Ok(()) => 0,
+        Ok(true) => 0,
+        Ok(false) => FAILED,
         Err(NotBegun::NoMemory) => say(err, "out of memory", FAILED),
         Err(NotBegun::NoClock) => say(err, "the clock can't be read", FAILED),
     }

@@ -1,12 +1,11 @@
 // The lines that are printed.
 
-use loop_record::Geometry;
 use loop_script::{Listing, print_line, print_parts};
 use loop_store::{Clip, StoreFault};
 use std::alloc::Allocator;
 use std::fmt::Display;
+use std::io;
 use std::io::Write;
-use std::{io, str};
 
 /// How a camera stands.
 #[derive(Clone, Copy, Debug, PartialEq, Eq)]
@@ -122,28 +121,27 @@ pub fn print_absent<W: Write>(out: &mut W, camera: &str, why: &str) -> io::Resul
     writeln!(out, "absent {camera} {why}")
 }
 
-/// `other geometry NAME WxH FORMAT N:D`: what the frames of a camera's source are, where they aren't as its store has
-/// them.
-pub fn print_other_geometry<W: Write>(
-    out: &mut W,
-    camera: &str,
-    geometry: &Geometry,
-) -> io::Result<()> {
-    let Geometry {
-        width,
-        height,
-        format,
-        rate_num,
-        rate_den,
-        segments: _,
-        slots: _,
-    } = geometry;
-    let name = format.name();
-    let format = str::from_utf8(&name).unwrap_or("");
+/// `not a store NAME PATH: ..`: what stands where a camera's store is to be isn't one, and what to do.
+pub fn print_not_a_store<W: Write>(out: &mut W, camera: &str, path: &str) -> io::Result<()> {
     writeln!(
         out,
-        "other geometry {camera} {width}x{height} {format} {rate_num}:{rate_den}"
+        "not a store {camera} {path}: move it away, and a store is made"
     )
+}
+
+/// `tie broken NAME: ..`: a session's history isn't that of what its callers were answered.
+pub fn print_broken_tie<W: Write>(out: &mut W, camera: &str) -> io::Result<()> {
+    writeln!(out, "tie broken {camera}: its store is opened again")
+}
+
+/// `refused NAME saving`: a clip that is being saved isn't unlocked.
+pub fn print_saving<W: Write>(out: &mut W, camera: &str) -> io::Result<()> {
+    writeln!(out, "refused {camera} saving")
+}
+
+/// `refused NAME too many saves`: as many clips are being saved as may be at once.
+pub fn print_too_many_saves<W: Write>(out: &mut W, camera: &str) -> io::Result<()> {
+    writeln!(out, "refused {camera} too many saves")
 }
 
 /// `no camera NAME`.

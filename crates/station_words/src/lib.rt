@@ -21,9 +21,9 @@ mod ring;
 mod shape;
 
 pub use answers::{
-    CameraStatus, print_absent, print_bad_order, print_camera, print_kept, print_no_camera,
-    print_not_saved, print_other_geometry, print_refused, print_released, print_saved,
-    print_status,
+    CameraStatus, print_absent, print_bad_order, print_broken_tie, print_camera, print_kept,
+    print_no_camera, print_not_a_store, print_not_saved, print_refused, print_released,
+    print_saved, print_saving, print_status, print_too_many_saves,
 };
 pub use config::{CameraConfig, Config, MAX_CAMERAS, Room, Source, read_config};
 pub use fault::{CameraFault, ConfigFault};

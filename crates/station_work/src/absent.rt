@@ -16,8 +16,16 @@ pub enum Absent {
     NoGeometry,
     /// Four buffers of its frames need more pages than there are, or there is no memory for them.
     NoBuffers,
+    /// The last session's history isn't that of what its callers were answered.
+    TieBroken,
     /// The program comes to its end.
     Stopped,
+}
+
+impl From<FileFault> for Absent {
+    fn from(fault: FileFault) -> Self {
+        Absent::File(fault)
+    }
 }
 
 impl Absent {
@@ -29,6 +37,7 @@ impl Absent {
             Absent::Store(fault) => fault.name(),
             Absent::NoGeometry => "NoGeometry",
             Absent::NoBuffers => "NoBuffers",
+            Absent::TieBroken => "TieBroken",
             Absent::Stopped => "Stopped",
         }
     }

@@ -6,7 +6,8 @@
 //! each other, `counts` what is counted, `absent` why a store isn't there, `clock` the time of frames, `size` their bytes.
 //!
 //! `run` starts all that; `orders` reads orders and does them: it asks a camera through its `inbox`, where a visitor of the
-//! recording answers (`clerk`). `save` writes a clip meanwhile, `places` opens files, `told` makes lines of answers, and `outlet` prints them.
+//! recording answers (`clerk`). `save` writes clips meanwhile, `places` opens files and makes stores, `told` makes lines of
+//! answers, and `outlet` prints them.
 //!
 //! What an order means, and the choice of a store's size, is station_words', and proved there; that a keep locks just the
 //! held frames of its time is `Recorder::keep`, and what a session leaves to the next one `sessions_join`, both of

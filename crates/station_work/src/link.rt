@@ -1,6 +1,7 @@
 //! What a camera's source and its store know of each other.
 
 use loop_record::Geometry;
+use loop_script::{Likeness, compare_frames};
 use std::sync::{Condvar, Mutex, Wait};
 use std::time::{Clock, Duration};
 
@@ -110,20 +111,11 @@ impl Link {
 
 // What comes of an offer, where the source stood so before.
 fn judged(before: SourceState, wanted: &Geometry, geometry: &Geometry) -> Offered {
-    if is_alike(wanted, geometry) {
+    if compare_frames(wanted, geometry) == Likeness::Alike {
         return Offered::Fits;
     }
     match before {
         SourceState::OtherGeometry => Offered::StillRefused,
         SourceState::On | SourceState::Missing => Offered::Refused,
     }
-}
-
-// Whether frames of two geometries are alike.
-fn is_alike(one: &Geometry, other: &Geometry) -> bool {
-    one.width == other.width
-        && one.height == other.height
-        && one.format == other.format
-        && u64::from(one.rate_num) * u64::from(other.rate_den)
-            == u64::from(other.rate_num) * u64::from(one.rate_den)
 }

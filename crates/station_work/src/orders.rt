@@ -4,26 +4,28 @@ use crate::clerk::Request;
 use crate::clock::micros;
 use crate::outlet::Outlet;
 use crate::places::Places;
-use crate::save::run_save;
+use crate::save::{NotSaved, Saves, begin_save};
 use crate::state::CameraState;
 use crate::told::{tell_kept, tell_listed, tell_released, tell_status};
 use loop_recorder::Times;
 use loop_script::{MAX_LINE, next_line};
-use station_words::{Order, print_bad_order, print_no_camera, print_not_saved, read_order};
+use station_words::{
+    Order, print_bad_order, print_no_camera, print_not_saved, print_saving, print_too_many_saves,
+    read_order,
+};
 use std::alloc::AllocGlobal;
 use std::io::{BufRead, Write};
-use std::sync::atomic::{AtomicU64, Ordering};
 use std::sync::{Arc, Wait};
 use std::thread::Threads;
 use std::time::Clock;
-use std::{io, str, thread};
+use std::{io, str};
 
-/// The cameras, where lines are printed, and how many clips are being written.
+/// The cameras, where lines are printed, and the clips that are being saved.
 #[derive(Drop)]
 pub(crate) struct Station<W: Write + Drop> {
     pub cameras: Vec<Arc<CameraState>>,
     pub outlet: Arc<Outlet<W>>,
-    pub saves: Arc<AtomicU64>,
+    pub saves: Arc<Saves>,
 }
 
 /// Does the orders of an input until it ends, or one says so; whether one did.
@@ -167,7 +169,7 @@ fn camera_named<'a, W: Write + Drop>(
     None
 }
 
-// Unlocks a clip.
+// Unlocks a clip, unless it is being saved.
 fn release<R: Wait, W: Write + Drop, L: Write>(
     rt: &R,
     station: &Station<W>,
@@ -178,6 +180,9 @@ fn release<R: Wait, W: Write + Drop, L: Write>(
     let Some(state) = camera_named(station, name) else {
         return print_no_camera(lines, name);
     };
+    if station.saves.holds(rt, name, id) {
+        return print_saving(lines, name);
+    }
     state.clerk.ask(rt, Request::Release(id));
     tell_released(state, id, state.clerk.answer(rt), lines)
 }
@@ -209,7 +214,7 @@ pub(crate) fn status<R: Wait, W: Write + Drop, L: Write>(
     Ok(())
 }
 
-// Begins to write a clip, in a thread of its own, which prints what comes of it.
+// Begins to write a clip. What comes of it is printed once it has ended.
 fn save<
     R: AllocGlobal + Places + Threads + Wait + Clone + Drop + Send + Sync + 'static,
     W: Write + Drop + Send + 'static,
@@ -218,26 +223,9 @@ fn save<
     let Some(state) = camera_named(station, name) else {
         return print_no_camera(lines, name);
     };
-    let (Ok(state), Ok(outlet), Ok(saves), Ok(path)) = (
-        Arc::try_clone(state),
-        Arc::try_clone(&station.outlet),
-        Arc::try_clone(&station.saves),
-        String::from_str(rt.alloc(), out),
-    ) else {
-        return print_not_saved(lines, name, id, out, &"NoMemory");
-    };
-    let Ok(theirs) = rt.clone() else {
-        return print_not_saved(lines, name, id, out, &"NoMemory");
-    };
-    saves.fetch_add(1, Ordering::SeqCst);
-    match thread::spawn(rt, move || {
-        run_save(&theirs, &state, &outlet, id, path.as_str());
-        saves.fetch_sub(1, Ordering::SeqCst);
-    }) {
-        Ok(_) => Ok(()),
-        Err(_) => {
-            station.saves.fetch_sub(1, Ordering::SeqCst);
-            print_not_saved(lines, name, id, out, &"NoMemory")
-        }
+    match begin_save(rt, &station.saves, &station.outlet, state, id, out) {
+        Ok(()) => Ok(()),
+        Err(NotSaved::TooMany) => print_too_many_saves(lines, name),
+        Err(why) => print_not_saved(lines, name, id, out, &why.name()),
     }
 }

@@ -1,12 +1,13 @@
 //! The files and pipes of a station.
 
-use loop_commands::run_on_file;
-use loop_file::{FileDisk, FileFault};
+use crate::absent::Absent;
+use loop_file::{FileDisk, FileFault, FilePlace, TextFile, open_to_read};
 use loop_record::Geometry;
-use loop_script::FileCommand;
+use loop_store::{OpenRefused, Store, StoreFault, format};
 use std::alloc::AllocGlobal;
-use std::fs::{File, OpenFile, OpenOptions};
+use std::fs::File;
 use std::io;
+use std::rt::Files;
 
 /// What opens the files and pipes of a station, in whichever thread. It is a trait of its own, since a bound on all that
 /// files can do isn't taken along into a thread.
@@ -15,44 +16,86 @@ pub trait Places {
     fn open_input(&self, path: &str) -> io::Result<File>;
 
     /// Opens a file or pipe that a clip is written to. A file that is in use, as a store that is recorded into, is left
-    /// alone (`WouldBlock`); another one is emptied, and its lock held.
-    fn open_output(&self, path: &str) -> io::Result<File>;
+    /// alone (`Busy`).
+    fn open_output(&self, path: &str) -> Result<TextFile, FileFault>;
 
     /// Opens the file of a store.
     fn open_store(&self, path: &str) -> Result<FileDisk, FileFault>;
 
-    /// Makes the file of a store, and formats it; whether that was done.
-    fn make_store(&self, path: &str, geometry: Geometry) -> bool;
+    /// Makes a store where there is no file, and opens it. It is made as NAME.new in the same folder, and has its own
+    /// name once it is whole. A NAME.new that a stop left is made anew, or gets its name where it is a store already.
+    fn make_store(&self, path: &str, geometry: Geometry) -> Result<Store<FileDisk>, Absent>;
 }
 
 impl Places for HostRuntime {
     fn open_input(&self, path: &str) -> io::Result<File> {
-        File::open(self, path)
+        open_to_read(self, path)
     }
 
-    fn open_output(&self, path: &str) -> io::Result<File> {
-        let file = OpenOptions::new()
-            .write(true)
-            .create(true)
-            .open(self, path)?;
-        let metadata = file.metadata()?;
-        if metadata.is_file() {
-            file.try_lock()?;
-            if metadata.len() > 0 {
-                file.set_len(0)?;
-            }
-        }
-        Ok(file)
+    fn open_output(&self, path: &str) -> Result<TextFile, FileFault> {
+        TextFile::open(self, path)
     }
 
     fn open_store(&self, path: &str) -> Result<FileDisk, FileFault> {
         FileDisk::open(self, path)
     }
 
-    fn make_store(&self, path: &str, geometry: Geometry) -> bool {
-        let alloc = self.alloc();
-        let (mut told, mut refused) = (Vec::new(alloc), Vec::new(alloc));
-        let command = FileCommand::Format(geometry);
-        run_on_file(self, path, command, &mut told, &mut refused) == 0
+    fn make_store(&self, path: &str, geometry: Geometry) -> Result<Store<FileDisk>, Absent> {
+        make_at(self, path, geometry)
+    }
+}
+
+/// Makes a store where there is no file, under another name first, and opens it.
+fn make_at<R: AllocGlobal + Files<File = File>>(
+    rt: &R,
+    path: &str,
+    geometry: Geometry,
+) -> Result<Store<FileDisk>, Absent> {
+    let place = FilePlace::of(rt, path)?;
+    let mut made = place.unfinished(rt)?;
+    let store = match left_at(rt, &made)? {
+        Some(store) => store,
+        None => format_at(rt, &mut made, geometry)?,
+    };
+    place.finish(rt, &made)?;
+    Ok(store)
+}
+
+/// The store at a place, as a stop left it; None where there is no file, or one that isn't a store yet.
+fn left_at<R: AllocGlobal + Files<File = File>>(
+    rt: &R,
+    place: &FilePlace,
+) -> Result<Option<Store<FileDisk>>, Absent> {
+    let disk = match place.open(rt) {
+        Ok(disk) => disk,
+        Err(FileFault::Missing) => return Ok(None),
+        Err(fault) => return Err(Absent::File(fault)),
+    };
+    match Store::open(rt.alloc(), disk) {
+        Ok(store) => Ok(Some(store)),
+        Err(
+            OpenRefused {
+                fault: StoreFault::NotFormatted,
+                disk: _,
+            },
+        ) => Ok(None),
+        Err(OpenRefused { fault, disk: _ }) => Err(Absent::Store(fault)),
+    }
+}
+
+/// Makes the file of a place anew, with a store in it. What a refusal leaves there isn't a store.
+fn format_at<R: AllocGlobal + Files<File = File>>(
+    rt: &R,
+    place: &mut FilePlace,
+    geometry: Geometry,
+) -> Result<Store<FileDisk>, Absent> {
+    match geometry.check() {
+        Ok(()) => {}
+        Err(_) => return Err(Absent::NoGeometry),
+    }
+    let disk = place.create(rt, geometry.disk_size())?;
+    match format(rt.alloc(), disk, geometry) {
+        Ok(store) => Ok(store),
+        Err(OpenRefused { fault, disk: _ }) => Err(Absent::Store(fault)),
     }
 }

@@ -4,6 +4,7 @@ use crate::clock::Timeline;
 use crate::orders::{Station, status, take_orders};
 use crate::outlet::Outlet;
 use crate::places::Places;
+use crate::save::Saves;
 use crate::sessions::run_camera;
 use crate::source::run_source;
 use crate::state::CameraState;
@@ -11,7 +12,6 @@ use loop_script::MAX_LINE;
 use station_words::Config;
 use std::alloc::{AllocError, AllocGlobal, Global};
 use std::io::{BufReader, Read, Write};
-use std::sync::atomic::{AtomicU64, Ordering};
 use std::sync::{Arc, Wait};
 use std::thread;
 use std::thread::{JoinHandle, Scope, Threads};
@@ -19,9 +19,6 @@ use std::time::{Clock, Duration};
 
 /// How often it is looked whether a status is due.
 const STATUS_STEPS: u32 = 10;
-
-/// How often a stop waits ten milliseconds for clips that are being written.
-const SAVE_STEPS: u32 = 3_000;
 
 /// Why the program couldn't begin.
 #[derive(Drop)]
@@ -40,12 +37,13 @@ impl From<AllocError> for NotBegun {
 
 /// Records from each camera of a configuration into its store, and does the orders that come from the input, or from
 /// the pipe or file that the configuration names, until one says `stop`. Each answer is printed to `out`; where someone
-/// watches, a line for each camera tells every second how it stands. Where the input ends, it goes on.
+/// watches, a line for each camera tells every second how it stands. Where the input ends, it goes on. It answers whether
+/// all could be printed.
 pub fn run_station<
     R: AllocGlobal + Places + Threads + Wait + Clock + Clone + Drop + Send + Sync + 'static,
     I: Read + Drop,
     W: Write + Drop + Send + 'static,
->(rt: &R, config: Config, input: I, out: W, watched: bool) -> Result<(), NotBegun> {
+>(rt: &R, config: Config, input: I, out: W, watched: bool) -> Result<bool, NotBegun> {
     let alloc = rt.alloc();
     let Config { orders, cameras } = config;
     let Ok(timeline) = Timeline::new(rt) else {
@@ -61,7 +59,7 @@ pub fn run_station<
     let station = Station {
         cameras: states,
         outlet: shared(alloc, Outlet::new(out))?,
-        saves: shared(alloc, AtomicU64::new(0))?,
+        saves: shared(alloc, Saves::new(alloc)?)?,
     };
     start_sources(rt, &station)?;
     let line = Vec::with_capacity(alloc, MAX_LINE + 1)?;
@@ -73,7 +71,7 @@ pub fn run_station<
         return Err(NotBegun::NoMemory);
     }
     station.outlet.put(rt, b"stopped\n");
-    Ok(())
+    Ok(!station.outlet.has_failed())
 }
 
 // A value that threads share.
@@ -143,7 +141,7 @@ fn run_in<
     let mut handles = handles;
     let all = start_cameras(rt, scope, station, &mut handles, watched);
     if !all || serve(rt, station, orders, input, line) {
-        wait_saves(rt, station);
+        station.saves.stop(rt, &station.outlet);
         for state in station.cameras.as_slice() {
             state.stop();
         }
@@ -169,7 +167,7 @@ fn start_cameras<
     watched: bool,
 ) -> bool {
     for state in station.cameras.as_slice() {
-        let Ok(handle) = scope.spawn(move || run_camera(rt, state)) else {
+        let Ok(handle) = scope.spawn(move || run_camera(rt, state, &station.outlet)) else {
             return false;
         };
         if handles.push(handle).is_err() {
@@ -183,16 +181,6 @@ fn start_cameras<
         return handles.push(handle).is_ok();
     }
     true
-}
-
-// Waits until no clip is being written any more, for a while.
-fn wait_saves<R: Clock, W: Write + Drop>(rt: &R, station: &Station<W>) {
-    for _ in 0..SAVE_STEPS {
-        if station.saves.load(Ordering::SeqCst) == 0 {
-            break;
-        }
-        thread::sleep(rt, Duration::from_millis(10));
-    }
 }
 
 // Tells every second how each camera stands, until the program comes to its end.

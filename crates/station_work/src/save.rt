@@ -1,37 +1,55 @@
-//! A clip, written as YUV4MPEG2 while its camera records.
+//! Clips that are written as YUV4MPEG2 while their cameras record.
+//!
+//! There are places for so many saves at once, and a thread for each that was ever taken, which stays. A save has its
+//! place from when its order is read until what came of it is told. Whoever tells that gives the place back, under one
+//! lock: the save's own thread, or a stop of the program where that thread hangs in a pipe that nobody reads.
 
 use crate::absent::Absent;
-use crate::clerk::{Answer, Request};
+use crate::clerk::{Answer, FoundClip, Request};
 use crate::outlet::Outlet;
 use crate::places::Places;
 use crate::state::CameraState;
+use loop_file::TextFile;
 use loop_record::Geometry;
 use loop_recorder::SessionFault;
-use loop_store::Clip;
 use loop_y4m::{write_frame, write_header};
 use station_words::{print_not_saved, print_saved};
-use std::alloc::AllocGlobal;
+use std::alloc::{AllocError, AllocGlobal, Global};
 use std::io::{BufWriter, Write};
-use std::sync::Wait;
+use std::sync::atomic::{AtomicBool, Ordering};
+use std::sync::{Arc, Condvar, Mutex, Wait};
+use std::thread;
+use std::thread::Threads;
+use std::time::{Clock, Duration};
+
+/// How many clips may be saved at once.
+const MOST_SAVES: usize = 16;
 
 /// How many bytes of a text are gathered before they are written.
 const AT_ONCE: usize = 262_144;
 
+/// How often a stop waits ten milliseconds for saves that are about to end.
+const STOP_STEPS: u32 = 70;
+
 /// Why a clip wasn't written, or not to its end.
 #[derive(Clone, Copy)]
-pub enum NotSaved {
+pub(crate) enum NotSaved {
     /// There is no clip of that id.
     NoSuchClip,
+    /// So many clips are being saved that this one can't be.
+    TooMany,
     /// The camera's store isn't there.
     Absent(Absent),
     /// The store refused a read.
     Refused(SessionFault),
     /// The file can't be opened, or is in use.
     CannotOpen,
-    /// The file can't be written to its end.
+    /// The file can't be written to its end, or the disk can't be asked to keep it.
     CannotWrite,
-    /// Memory was refused.
+    /// Memory or a thread was refused.
     NoMemory,
+    /// The program comes to its end.
+    Stopped,
 }
 
 impl NotSaved {
@@ -39,6 +57,7 @@ impl NotSaved {
     pub fn name(&self) -> &'static str {
         match self {
             NotSaved::NoSuchClip => "NoSuchClip",
+            NotSaved::TooMany => "TooMany",
             NotSaved::Absent(why) => why.name(),
             NotSaved::Refused(SessionFault::Desk(fault)) => fault.name(),
             NotSaved::Refused(SessionFault::SessionFull) => "SessionFull",
@@ -46,85 +65,293 @@ impl NotSaved {
             NotSaved::CannotOpen => "CannotOpen",
             NotSaved::CannotWrite => "CannotWrite",
             NotSaved::NoMemory => "NoMemory",
+            NotSaved::Stopped => "Stopped",
         }
     }
 }
 
-/// Writes a camera's clip into a file or pipe, and prints how many frames that were, or why they weren't.
-pub(crate) fn run_save<R: AllocGlobal + Places + Wait, W: Write + Drop>(
-    rt: &R,
-    state: &CameraState,
-    outlet: &Outlet<W>,
-    id: u32,
-    path: &str,
-) {
-    let mut line = Vec::new(rt.alloc());
-    let name = state.config.name.as_str();
-    let printed = match save(rt, state, id, path) {
-        Ok(count) => print_saved(&mut line, name, id, path, count),
-        Err(why) => print_not_saved(&mut line, name, id, path, &why.name()),
-    };
-    if printed.is_ok() {
-        outlet.put(rt, &line);
+impl From<AllocError> for NotSaved {
+    fn from(_: AllocError) -> Self {
+        NotSaved::NoMemory
     }
 }
 
-// Writes a camera's clip, and answers how many frames it has.
-fn save<R: AllocGlobal + Places + Wait>(
+/// A clip that is saved: what it was when its order was read, and where it is written to.
+#[derive(Drop)]
+struct Save {
+    state: Arc<CameraState>,
+    geometry: Geometry,
+    found: FoundClip,
+    path: String,
+}
+
+impl Save {
+    // Prints what came of it.
+    fn print<R: AllocGlobal + Wait, W: Write + Drop>(
+        &self,
+        rt: &R,
+        outlet: &Outlet<W>,
+        came: Result<u64, NotSaved>,
+    ) {
+        let mut line = Vec::new(rt.alloc());
+        let (name, id) = (self.state.config.name.as_str(), self.found.clip.id);
+        let printed = match came {
+            Ok(count) => print_saved(&mut line, name, id, self.path.as_str(), count),
+            Err(why) => print_not_saved(&mut line, name, id, self.path.as_str(), &why.name()),
+        };
+        if printed.is_ok() {
+            outlet.put(rt, &line);
+        }
+    }
+}
+
+/// A place for a save.
+#[derive(Drop)]
+struct Place {
+    /// The save that has it.
+    save: Option<Arc<Save>>,
+    /// Its thread hasn't seen that save yet.
+    is_new: bool,
+    /// It has a thread.
+    has_thread: bool,
+}
+
+/// The saves that are under way.
+#[derive(Drop)]
+pub(crate) struct Saves {
+    places: Mutex<Vec<Place>>,
+    changed: Condvar,
+    stopped: AtomicBool,
+}
+
+impl Saves {
+    /// None yet.
+    pub fn new(alloc: Global) -> Result<Saves, AllocError> {
+        let mut places = Vec::with_capacity(alloc, MOST_SAVES)?;
+        for _ in 0..MOST_SAVES {
+            places.push_reserved(Place {
+                save: None,
+                is_new: false,
+                has_thread: false,
+            });
+        }
+        Ok(Saves {
+            places: Mutex::new(places),
+            changed: Condvar::new(),
+            stopped: AtomicBool::new(false),
+        })
+    }
+
+    /// Whether the clip of an id of a camera is being saved.
+    pub fn holds<R: Wait>(&self, rt: &R, camera: &str, id: u32) -> bool {
+        let places = self.places.lock(rt);
+        for place in places.as_slice() {
+            if let Some(save) = &place.save {
+                if save.found.clip.id == id && save.state.config.name.as_str() == camera {
+                    return true;
+                }
+            }
+        }
+        false
+    }
+
+    // Gives a save a place: which, and whether that wants a thread. None where there is none.
+    fn take_place<R: Wait>(&self, rt: &R, save: Arc<Save>) -> Option<(usize, bool)> {
+        let mut places = self.places.lock(rt);
+        let mut at = 0usize;
+        for place in places.as_mut_slice() {
+            if place.save.is_none() {
+                place.save = Some(save);
+                place.is_new = true;
+                let wants = !place.has_thread;
+                place.has_thread = true;
+                self.changed.notify_all();
+                return Some((at, wants));
+            }
+            at = at.saturating_add(1);
+        }
+        None
+    }
+
+    // Takes a place back whose thread can't be started.
+    fn lose_thread<R: Wait>(&self, rt: &R, at: usize) {
+        let mut places = self.places.lock(rt);
+        if let Some(place) = places.get_mut(at) {
+            place.save = None;
+            place.is_new = false;
+            place.has_thread = false;
+        }
+    }
+
+    // Waits for the next save of a place.
+    fn next<R: Wait>(&self, rt: &R, at: usize) -> Option<Arc<Save>> {
+        let mut places = self
+            .changed
+            .wait_while(rt, self.places.lock(rt), |places| match places.get(at) {
+                Some(place) => !place.is_new,
+                None => false,
+            });
+        let place = places.get_mut(at)?;
+        place.is_new = false;
+        Arc::try_clone(place.save.as_ref()?).ok()
+    }
+
+    // Tells what came of the save of a place, and gives the place back, unless a stop did.
+    fn end<R: AllocGlobal + Wait, W: Write + Drop>(
+        &self,
+        rt: &R,
+        outlet: &Outlet<W>,
+        at: usize,
+        came: Result<u64, NotSaved>,
+    ) {
+        let mut places = self.places.lock(rt);
+        let Some(place) = places.get_mut(at) else {
+            return;
+        };
+        if let Some(save) = place.save.take() {
+            save.print(rt, outlet, came);
+        }
+    }
+
+    // Whether a save is under way.
+    fn is_busy<R: Wait>(&self, rt: &R) -> bool {
+        self.places
+            .lock(rt)
+            .iter()
+            .any(|place| place.save.is_some())
+    }
+
+    /// Ends all saves, within a second: what hasn't ended by itself shortly is told as stopped, and never again.
+    pub fn stop<R: AllocGlobal + Wait + Clock, W: Write + Drop>(&self, rt: &R, outlet: &Outlet<W>) {
+        for _ in 0..STOP_STEPS {
+            if !self.is_busy(rt) {
+                break;
+            }
+            thread::sleep(rt, Duration::from_millis(10));
+        }
+        self.stopped.store(true, Ordering::SeqCst);
+        let mut places = self.places.lock(rt);
+        for place in places.as_mut_slice() {
+            if let Some(save) = place.save.take() {
+                save.print(rt, outlet, Err(NotSaved::Stopped));
+            }
+        }
+    }
+}
+
+/// Begins to write a clip as its camera has it now. What comes of it is printed by a thread of the save's place; `TooMany`,
+/// `NoSuchClip` and what else ends it before are answered.
+pub(crate) fn begin_save<
+    R: AllocGlobal + Places + Threads + Wait + Clone + Drop + Send + Sync + 'static,
+    W: Write + Drop + Send + 'static,
+>(
     rt: &R,
-    state: &CameraState,
+    saves: &Arc<Saves>,
+    outlet: &Arc<Outlet<W>>,
+    state: &Arc<CameraState>,
     id: u32,
     path: &str,
-) -> Result<u64, NotSaved> {
-    let clip = clip_of(rt, state, id)?;
+) -> Result<(), NotSaved> {
+    let found = find(rt, state, id)?;
     let Some(geometry) = state.link.store(rt) else {
         return Err(NotSaved::Absent(Absent::NoStore));
     };
-    let Ok(file) = rt.open_output(path) else {
+    let save = Save {
+        state: Arc::try_clone(state)?,
+        geometry,
+        found,
+        path: String::from_str(rt.alloc(), path)?,
+    };
+    let Ok(save) = Arc::new(rt.alloc(), save) else {
+        return Err(NotSaved::NoMemory);
+    };
+    let (ours, outlet) = (Arc::try_clone(saves)?, Arc::try_clone(outlet)?);
+    let Ok(theirs) = rt.clone() else {
+        return Err(NotSaved::NoMemory);
+    };
+    let Some((at, wants)) = saves.take_place(rt, save) else {
+        return Err(NotSaved::TooMany);
+    };
+    if wants && thread::spawn(rt, move || run_saves(&theirs, &ours, &outlet, at)).is_err() {
+        saves.lose_thread(rt, at);
+        return Err(NotSaved::NoMemory);
+    }
+    Ok(())
+}
+
+// The clip of an id, as its camera has it now.
+fn find<R: Wait>(rt: &R, state: &CameraState, id: u32) -> Result<FoundClip, NotSaved> {
+    state.clerk.ask(rt, Request::Find(id));
+    match state.clerk.answer(rt) {
+        Some(Ok(Answer::Found(Ok(Some(found))))) => Ok(found),
+        Some(Ok(Answer::Found(Err(fault)))) => Err(NotSaved::Refused(fault)),
+        Some(Err(why)) => Err(NotSaved::Absent(why)),
+        _ => Err(NotSaved::NoSuchClip),
+    }
+}
+
+// A place's thread: it writes the clips that come to the place, one after the other.
+fn run_saves<R: AllocGlobal + Places + Wait, W: Write + Drop>(
+    rt: &R,
+    saves: &Saves,
+    outlet: &Outlet<W>,
+    at: usize,
+) {
+    for _ in rt.forever() {
+        let came = match saves.next(rt, at) {
+            Some(save) => write(rt, saves, &save),
+            None => Err(NotSaved::NoMemory),
+        };
+        saves.end(rt, outlet, at, came);
+        if saves.stopped.load(Ordering::SeqCst) {
+            break;
+        }
+    }
+}
+
+// Writes a clip, and answers how many frames it has, once a file that they went to stays through a loss of power.
+fn write<R: AllocGlobal + Places + Wait>(
+    rt: &R,
+    saves: &Saves,
+    save: &Save,
+) -> Result<u64, NotSaved> {
+    let Ok(mut file) = rt.open_output(save.path.as_str()) else {
         return Err(NotSaved::CannotOpen);
     };
+    if file.empty().is_err() {
+        return Err(NotSaved::CannotWrite);
+    }
+    let count = write_clip(rt, saves, save, &mut file)?;
+    match file.settle() {
+        Ok(()) => Ok(count),
+        Err(_) => Err(NotSaved::CannotWrite),
+    }
+}
+
+// Writes a header, and then the frames of a clip.
+fn write_clip<R: AllocGlobal + Wait>(
+    rt: &R,
+    saves: &Saves,
+    save: &Save,
+    file: &mut TextFile,
+) -> Result<u64, NotSaved> {
     let Ok(mut out) = BufWriter::with_capacity(rt.alloc(), AT_ONCE, file) else {
         return Err(NotSaved::NoMemory);
     };
-    write_clip(rt, state, &geometry, clip, &mut out)
-}
-
-// The clip of an id.
-fn clip_of<R: AllocGlobal + Wait>(rt: &R, state: &CameraState, id: u32) -> Result<Clip, NotSaved> {
-    state.clerk.ask(rt, Request::Look);
-    match state.clerk.answer(rt) {
-        Some(Ok(Answer::Looked(Ok(outline)))) => {
-            for clip in outline.clips.as_slice() {
-                if clip.id == id {
-                    return Ok(*clip);
-                }
-            }
-            Err(NotSaved::NoSuchClip)
-        }
-        Some(Ok(Answer::Looked(Err(fault)))) => Err(NotSaved::Refused(SessionFault::Desk(fault))),
-        Some(Err(why)) => Err(NotSaved::Absent(why)),
-        Some(Ok(_)) | None => Err(NotSaved::NoSuchClip),
-    }
-}
-
-// Writes the frames of a clip behind a header.
-fn write_clip<R: AllocGlobal + Wait, W: Write>(
-    rt: &R,
-    state: &CameraState,
-    geometry: &Geometry,
-    clip: Clip,
-    out: &mut W,
-) -> Result<u64, NotSaved> {
-    if write_header(geometry, out).is_err() {
+    if write_header(&save.geometry, &mut out).is_err() {
         return Err(NotSaved::CannotWrite);
     }
+    let clip = save.found.clip;
     let mut count = 0u64;
     let mut number = clip.from;
     for _ in 0..u64::MAX {
         if number > clip.to {
             break;
         }
-        write_one(rt, state, number, out)?;
+        if saves.stopped.load(Ordering::SeqCst) {
+            return Err(NotSaved::Stopped);
+        }
+        write_one(rt, save, number, &mut out)?;
         count = count.saturating_add(1);
         number = number.saturating_add(1);
     }
@@ -137,16 +364,22 @@ fn write_clip<R: AllocGlobal + Wait, W: Write>(
 // Reads a frame, and writes it.
 fn write_one<R: Wait, W: Write>(
     rt: &R,
-    state: &CameraState,
+    save: &Save,
     number: u64,
     out: &mut W,
 ) -> Result<(), NotSaved> {
+    let state = &save.state;
     state.reader.ask(rt, number);
     match state.reader.answer(rt) {
-        Some(Ok(Ok(frame))) => match write_frame(&frame.bytes, out) {
-            Ok(()) => Ok(()),
-            Err(_) => Err(NotSaved::CannotWrite),
-        },
+        Some(Ok(Ok(frame))) => {
+            if !save.found.fits(number, frame.head.timestamp) {
+                return Err(NotSaved::NoSuchClip);
+            }
+            match write_frame(&frame.bytes, out) {
+                Ok(()) => Ok(()),
+                Err(_) => Err(NotSaved::CannotWrite),
+            }
+        }
         Some(Ok(Err(fault))) => Err(NotSaved::Refused(fault)),
         Some(Err(why)) => Err(NotSaved::Absent(why)),
         None => Err(NotSaved::NoMemory),

@@ -5,21 +5,25 @@ ghost use Rattle.loop_recorder.specs.Opened.{IsReady};
 
 use crate::absent::Absent;
 use crate::feed::FeedSource;
+use crate::outlet::Outlet;
 use crate::places::Places;
 use crate::size::size_of;
 use crate::state::CameraState;
-use loop_capture::{Device, FrameSource};
+use loop_capture::Device;
 use loop_commands::{Start, Unrecorded, camera_before, start_of, start_queue};
 use loop_disk::Disk;
 use loop_file::{FileDisk, FileFault};
 use loop_plane::{MmapPlane, PlaneMemory};
 use loop_record::Geometry;
 use loop_recorder::{
-    Camera, EndRefused, Ended, NewRefused, Pass, Recorder, camera_again, record_led,
+    Camera, EndRefused, Ended, NewRefused, Pass, Pool, Recorder, Unended, camera_again, start_pool,
 };
 use loop_store::{OpenRefused, Store, StoreFault};
-use station_words::{RingSize, Room, frames_in, ring_for, ring_within};
+use station_words::{
+    RingSize, Room, frames_in, print_broken_tie, print_not_a_store, ring_for, ring_within,
+};
 use std::alloc::{AllocGlobal, Global};
+use std::io::Write;
 use std::sync::atomic::Ordering;
 use std::sync::{Arc, Wait};
 use std::thread;
@@ -39,27 +43,99 @@ const PASSES: u32 = 5;
 /// A camera over a file.
 type FileCamera = Camera<FileDisk, MmapPlane>;
 
-/// Opens a camera's store, or makes it, and records into it, until the camera is stopped. Where the store can't be had
-/// or its disk fails, it is opened again.
-pub(crate) fn run_camera<R: AllocGlobal + Places + Threads + Wait + Clock + Sync>(
+/// The threads of a camera's sessions.
+type FilePool = Pool<FileDisk, MmapPlane>;
+
+/// Opens a camera's store, or makes it, and records into it, until the camera is stopped. Where its threads can't be
+/// started, the store can't be had or its disk fails, that is tried again.
+pub(crate) fn run_camera<
+    R: AllocGlobal + Places + Threads + Wait + Clock + Sync,
+    W: Write + Drop + Send,
+>(rt: &R, state: &CameraState, outlet: &Outlet<W>) {
+    for _ in rt.forever() {
+        if state.is_stopped() {
+            break;
+        }
+        let began = match Pool::new(rt.alloc(), PASSES as usize) {
+            Ok(pool) => run_behind(rt, state, outlet, &pool),
+            Err(_) => false,
+        };
+        if !began {
+            rest(rt, state, Absent::NoBuffers);
+        }
+    }
+    state.leave(rt, Absent::Stopped);
+}
+
+/// The scope that a camera's threads run in, all its sessions long; whether they could be started.
+fn run_behind<R: AllocGlobal + Places + Threads + Wait + Clock + Sync, W: Write + Drop + Send>(
     rt: &R,
     state: &CameraState,
+    outlet: &Outlet<W>,
+    pool: &FilePool,
+) -> bool {
+    let (rt, state, outlet, pool) = (&*rt, &*state, &*outlet, &*pool);
+    thread::scope(thread::scope_env(), rt, move |scope| -> bool {
+        let began = start_pool(rt, rt.alloc(), scope, state, pool);
+        if began {
+            run_stores(rt, state, outlet, pool);
+        }
+        pool.close(rt);
+        began
+    })
+}
+
+/// Opens a camera's store, or makes it, and records into it, again and again until the camera is stopped.
+fn run_stores<R: AllocGlobal + Places + Wait + Clock, W: Write + Drop>(
+    rt: &R,
+    state: &CameraState,
+    outlet: &Outlet<W>,
+    pool: &FilePool,
 ) {
+    let mut told = false;
     for _ in rt.forever() {
         if state.is_stopped() {
             break;
         }
         let why = match open_store(rt, state) {
-            Ok(store) => record_into(rt, state, store),
+            Ok(store) => record_into(rt, state, pool, store),
             Err(why) => why,
         };
-        state.leave(rt, why);
-        if !state.is_stopped() {
-            state.counts.faults.fetch_add(1, Ordering::SeqCst);
-            thread::sleep(rt, Duration::from_millis(OPEN_AGAIN));
-        }
+        told = tell_absence(rt, state, outlet, why, told);
+        rest(rt, state, why);
     }
-    state.leave(rt, Absent::Stopped);
+}
+
+/// The store isn't there, and is left alone for a while.
+fn rest<R: Wait + Clock>(rt: &R, state: &CameraState, why: Absent) {
+    state.leave(rt, why);
+    if !state.is_stopped() {
+        state.counts.faults.fetch_add(1, Ordering::SeqCst);
+        thread::sleep(rt, Duration::from_millis(OPEN_AGAIN));
+    }
+}
+
+/// Prints why a store isn't there where someone has to know at once: a broken tie each time, and once that what stands
+/// there isn't a store. Whether it isn't one.
+fn tell_absence<R: AllocGlobal + Wait, W: Write + Drop>(
+    rt: &R,
+    state: &CameraState,
+    outlet: &Outlet<W>,
+    why: Absent,
+    told: bool,
+) -> bool {
+    let mut line = Vec::new(rt.alloc());
+    let (name, path) = (state.config.name.as_str(), state.config.store.as_str());
+    let is_other = matches!(why, Absent::Store(StoreFault::NotFormatted));
+    let printed = match why {
+        Absent::TieBroken => print_broken_tie(&mut line, name),
+        _ if is_other && !told => print_not_a_store(&mut line, name, path),
+        _ => Ok(()),
+    };
+    if printed.is_ok() && !line.is_empty() {
+        outlet.put(rt, &line);
+    }
+    is_other
 }
 
 /// The store of a camera, made for its source where it isn't there.
@@ -67,10 +143,9 @@ fn open_store<R: AllocGlobal + Places + Wait + Clock>(
     rt: &R,
     state: &CameraState,
 ) -> Result<Store<FileDisk>, Absent> {
-    let path = state.config.store.as_str();
-    let disk = match rt.open_store(path) {
+    let disk = match rt.open_store(state.config.store.as_str()) {
         Ok(disk) => disk,
-        Err(FileFault::Missing) => make_store(rt, state, path)?,
+        Err(FileFault::Missing) => return make_store(rt, state),
         Err(fault) => return Err(Absent::File(fault)),
     };
     match Store::open(rt.alloc(), disk) {
@@ -79,12 +154,11 @@ fn open_store<R: AllocGlobal + Places + Wait + Clock>(
     }
 }
 
-/// Makes the store of a camera for what its source's header says, once that is there, and opens its file.
+/// Makes the store of a camera for what its source's header says, once that is there.
 fn make_store<R: AllocGlobal + Places + Wait + Clock>(
     rt: &R,
     state: &CameraState,
-    path: &str,
-) -> Result<FileDisk, Absent> {
+) -> Result<Store<FileDisk>, Absent> {
     state.leave(rt, Absent::NoStore);
     let Some(header) = wait_header(rt, state) else {
         return Err(Absent::Stopped);
@@ -92,13 +166,7 @@ fn make_store<R: AllocGlobal + Places + Wait + Clock>(
     let Some(geometry) = geometry_for(&header, &state.config.room) else {
         return Err(Absent::NoGeometry);
     };
-    if !rt.make_store(path, geometry) {
-        return Err(Absent::File(FileFault::Failed));
-    }
-    match rt.open_store(path) {
-        Ok(disk) => Ok(disk),
-        Err(fault) => Err(Absent::File(fault)),
-    }
+    rt.make_store(state.config.store.as_str(), geometry)
 }
 
 /// What the source's header says, once it is there; None where the camera is stopped before.
@@ -137,14 +205,15 @@ fn geometry_for(header: &Geometry, room: &Room) -> Option<Geometry> {
 
 /// Records into a store, a session behind the other, until the camera is stopped or the store must be reopened; why it
 /// ended.
-fn record_into<R: AllocGlobal + Threads + Wait + Clock + Sync>(
+fn record_into<R: AllocGlobal + Wait + Clock>(
     rt: &R,
     state: &CameraState,
+    pool: &FilePool,
     store: Store<FileDisk>,
 ) -> Absent {
     state.link.set_store(rt, store.geometry());
     match camera_for(rt.alloc(), store) {
-        Ok((camera, start)) => run_sessions(rt, state, camera, start),
+        Ok((camera, start)) => run_sessions(rt, state, pool, camera, start),
         Err(_) => Absent::NoBuffers,
     }
 }
@@ -158,72 +227,78 @@ fn camera_for(alloc: Global, store: Store<FileDisk>) -> Result<(FileCamera, Star
     Ok((camera, start))
 }
 
-/// The sessions of a camera, and why they ended.
-fn run_sessions<R: AllocGlobal + Threads + Wait + Clock + Sync>(
+/// The sessions of a camera, and why its store isn't there after them.
+fn run_sessions<R: AllocGlobal + Wait + Clock>(
     rt: &R,
     state: &CameraState,
+    pool: &FilePool,
     camera: FileCamera,
     start: Start,
 ) -> Absent
     requires { IsReady ⟦<MmapPlane as PlaneMemory>⟧.plane camera }
 {
     let alloc = rt.alloc();
-    let (Some(size), Some(source)) = (size_of(&camera.0.geometry()), source_of(alloc, state)) else {
+    let (Some(size), Some(source)) = (size_of(&camera.0.geometry()), source_of(state)) else {
         return Absent::NoBuffers;
     };
-    let source: Box<dyn FrameSource + Send> = source;
-    let (Ok(device), Ok(mut devices)) = (
-        Device::new(alloc, source, size),
-        Vec::with_capacity(alloc, 1),
-    ) else {
+    let Ok(mut device) = Device::new(alloc, source, size) else {
         return Absent::NoBuffers;
     };
-    devices.push_reserved(device);
-    let mut next = run_session(rt, alloc, state, camera, Some(start), &mut devices);
+    let mut next = run_session(rt, alloc, state, pool, camera, Some(start), &mut device);
     'sessions: for _ in rt.forever() {
-        let Some(camera) = next else {
-            break;
+        let camera = match next {
+            Ok(camera) => camera,
+            Err(why) => return why,
         };
         if state.is_stopped() {
             break;
         }
-        next = run_session(rt, alloc, state, camera, None, &mut devices);
+        next = run_session(rt, alloc, state, pool, camera, None, &mut device);
     }
-    Absent::Store(StoreFault::MustReopen)
+    Absent::Stopped
 }
 
 /// What gives a camera's frames to its device; None where memory was refused.
-fn source_of(alloc: Global, state: &CameraState) -> Option<Box<FeedSource>> {
+fn source_of(state: &CameraState) -> Option<FeedSource> {
     let feed = Arc::try_clone(&state.feed).ok()?;
-    Box::new(alloc, FeedSource { feed }).ok()
+    Some(FeedSource { feed })
 }
 
-/// A session: a recorder of the camera is recorded until it is over, and ended. The camera for the next one; None where
-/// its store must be reopened, or memory was refused.
-fn run_session<R: Threads + Wait + Clock + Sync>(
+/// A session: a recorder of the camera is recorded until it is over, and ended. The camera for the next one; or why there
+/// is none: its store must be reopened, memory was refused, or the history isn't that of what its callers were answered.
+fn run_session<R: Wait + Clock>(
     rt: &R,
     alloc: Global,
     state: &CameraState,
+    pool: &FilePool,
     camera: FileCamera,
     start: Option<Start>,
-    devices: &mut [Device],
-) -> Option<FileCamera>
+    device: &mut Device<FeedSource>,
+) -> Result<FileCamera, Absent>
     requires { IsReady ⟦<MmapPlane as PlaneMemory>⟧.plane camera }
-    ensures { IfSome result (IsReady ⟦<MmapPlane as PlaneMemory>⟧.plane) }
+    ensures { IfOk result (IsReady ⟦<MmapPlane as PlaneMemory>⟧.plane) }
 {
-    if devices.len() != 1 {
-        return None;
-    }
-    let (recorder, passes) = recorder_of(alloc, camera)?;
+    let Some((recorder, passes)) = recorder_of(alloc, camera) else {
+        return Err(Absent::NoBuffers);
+    };
     if let Some(start) = start {
-        start_queue(rt, &recorder, 0, start).ok()?;
+        if start_queue(rt, &recorder, 0, start).is_err() {
+            return Err(Absent::NoBuffers);
+        }
     }
     state.begin_session(rt);
-    match record_led(rt, alloc, recorder, passes, devices, state) {
-        Ok(ended) => camera_of(state, ended),
-        Err(EndRefused::TieBroken(_, ended)) => camera_of(state, ended),
-        Err(EndRefused::PassesMissing(_, _, _, _)) => None,
-        Err(EndRefused::NoMemory(_, _)) => None,
+    match pool.record(rt, alloc, recorder, passes, device, state) {
+        Ok(ended) => match camera_of(state, ended) {
+            Some(camera) => Ok(camera),
+            None => Err(Absent::Store(StoreFault::MustReopen)),
+        },
+        Err(Unended::Refused(EndRefused::TieBroken(_, ended))) => {
+            if let Some((desk, _, _)) = camera_of(state, ended) {
+                lose(state, desk.status().pending);
+            }
+            Err(Absent::TieBroken)
+        }
+        Err(_) => Err(Absent::Store(StoreFault::MustReopen)),
     }
 }
 
@@ -267,11 +342,16 @@ fn camera_of(state: &CameraState, ended: Ended<FileDisk, MmapPlane>) -> Option<F
     let (camera, port) = (cameras.pop()?, ports.pop()?);
     let status = camera.desk.status();
     if status.must_reopen {
-        state
-            .counts
-            .given_up
-            .fetch_add(u64::from(status.pending), Ordering::SeqCst);
+        lose(state, status.pending);
         return None;
     }
     Some(camera_again(camera, port))
+}
+
+/// Counts frames that waited at a desk that is given up.
+fn lose(state: &CameraState, pending: u32) {
+    state
+        .counts
+        .given_up
+        .fetch_add(u64::from(pending), Ordering::SeqCst);
 }

@@ -30,8 +30,8 @@ const LOOK_AGAIN: u64 = 50;
 const FLUSH_AGAIN: u64 = 100;
 
 /// With so many entries in its history a session ends, and the next one begins: far below the most calls that a history
-/// may have, so that what is under way finds room.
-const MOST_ENTRIES: u64 = 60_000;
+/// may have, so that what is under way finds room, and few enough that a session's memory is small from the first on.
+const MOST_ENTRIES: u64 = 8_000;
 
 /// What the threads of one camera share.
 #[derive(Drop)]

@@ -21,6 +21,10 @@ const FOOTAGE: &[u8; 75] =
 // Footage of frames of another size.
 const OTHER: &[u8] = b"YUV4MPEG2 W4 H4 F25:1 Ip A0:0 Cmono\nFRAME\nabcdefghijklmnop";
 
+// Headers of the same frames at another rate, and at one that is the same.
+const SLOW: &[u8] = b"YUV4MPEG2 W4 H2 F5:1 Ip A0:0 C420jpeg\n";
+const SAME: &[u8] = b"YUV4MPEG2 W4 H2 F50:2 Ip A0:0 C420jpeg\n";
+
 // What footage is recorded into: two stores of 3 segments of 2 frames.
 static FORMATS: [Step; 2] = [
     ("format taken.img 4 2 YM12 25:1 3 2", "formatted\n", "", 0),
@@ -29,15 +33,33 @@ static FORMATS: [Step; 2] = [
 
 // Recordings from footage, each behind the one before it. Four buffers are filled before one is queued again, so a
 // recording of four frames or fewer stores each of them.
-static FOOTAGES: [Step; 9] = [
+static FOOTAGES: [Step; 12] = [
     ("record 4 two.y4m taken.img", "camera 0 next 2\n", "", 0),
     ("export taken.img 0 1 again.y4m", "exported 2\n", "", 0),
     // A source that ends at once.
     ("record 4 none.y4m taken.img", "camera 0 next 2\n", "", 0),
     // A source that can't be read on in its second frame.
     ("record 4 cut.y4m taken.img", "camera 0 next 3\n", "", 0),
-    // A source of frames of another size.
-    ("record 4 other.y4m taken.img", "camera 0 next 3\n", "", 0),
+    // A source of frames of another size, which is told once, and of another rate.
+    (
+        "record 4 other.y4m taken.img",
+        "camera 0 next 3\n",
+        "other geometry other.y4m 4x4 GREY 25:1\n",
+        0,
+    ),
+    (
+        "record 0 other.y4m taken.img other.img",
+        "camera 0 next 3\ncamera 1 next 0\n",
+        "other geometry other.y4m 4x4 GREY 25:1\n",
+        0,
+    ),
+    (
+        "record 0 slow.y4m taken.img other.img",
+        "camera 0 next 3\ncamera 1 next 0\n",
+        "other rate slow.y4m 5:1\n",
+        0,
+    ),
+    ("record 0 same.y4m taken.img", "camera 0 next 3\n", "", 0),
     ("record 0 two.y4m taken.img", "camera 0 next 3\n", "", 0),
     ("record 1 two.y4m taken.img", "camera 0 next 4\n", "", 0),
     // Each camera reads the source from its beginning.
@@ -51,8 +73,10 @@ static FOOTAGES: [Step; 9] = [
 ];
 
 // The files of these recordings.
-static FOOTAGE_FILES: [&str; 7] = [
+static FOOTAGE_FILES: [&str; 9] = [
     "two.y4m",
+    "slow.y4m",
+    "same.y4m",
     "cut.y4m",
     "none.y4m",
     "other.y4m",
@@ -67,6 +91,8 @@ fn footage_is_recorded_and_comes_out_as_it_went_in(rt: HostRuntime) {
     write_file(&rt, "cut.y4m", &FOOTAGE[..74]);
     write_file(&rt, "none.y4m", &FOOTAGE[..39]);
     write_file(&rt, "other.y4m", OTHER);
+    write_file(&rt, "slow.y4m", SLOW);
+    write_file(&rt, "same.y4m", SAME);
     each_does(&rt, &FORMATS);
     each_does(&rt, &FOOTAGES);
     has(&rt, "again.y4m", FOOTAGE);

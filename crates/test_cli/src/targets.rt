@@ -4,7 +4,7 @@ use crate::files::ring;
 use crate::ran::text;
 use crate::told::same;
 use loop_budget::Budget;
-use loop_commands::{NotExported, Target, export_along, export_apart, export_text, list};
+use loop_commands::{Beneath, NotExported, Target, export_along, export_apart, export_text, list};
 use loop_disk::MemDisk;
 use loop_store::{Store, StoreFault};
 use loop_y4m::ExportFault;
@@ -21,6 +21,7 @@ enum Fails {
     Empty,
     Write,
     Flush,
+    Settle,
 }
 
 // Counts the bytes that it has.
@@ -57,11 +58,24 @@ impl Target for Fake<'_> {
         self.bytes.set(0);
         Ok(())
     }
+
+    fn settle(&mut self) -> io::Result<()> {
+        self.call(Fails::Settle)
+    }
+}
+
+impl Beneath for Fails {
+    fn settle(&self) -> io::Result<()> {
+        match self {
+            Fails::Settle => Err(Error::from(ErrorKind::StorageFull)),
+            _ => Ok(()),
+        }
+    }
 }
 
 // A range of numbers of the ring, which holds 2 to 6, and which call fails; why there is no text, what is printed, and
 // how many bytes a target has then that had a hundred: a header of 39, and 18 a frame.
-static ROWS: [((u64, u64), Fails, Option<ExportFault>, &str, usize); 6] = [
+static ROWS: [((u64, u64), Fails, Option<ExportFault>, &str, usize); 7] = [
     ((2, 3), Fails::Nothing, None, "exported 2\n", 75),
     ((0, u64::MAX), Fails::Nothing, None, "exported 5\n", 129),
     (
@@ -74,6 +88,7 @@ static ROWS: [((u64, u64), Fails, Option<ExportFault>, &str, usize); 6] = [
     ((2, 3), Fails::Empty, Some(ExportFault::Write), "", 100),
     ((2, 3), Fails::Write, Some(ExportFault::Write), "", 0),
     ((2, 3), Fails::Flush, Some(ExportFault::Write), "", 75),
+    ((2, 3), Fails::Settle, Some(ExportFault::Write), "", 75),
 ];
 
 // A store on a disk in memory that has the ring.
@@ -135,7 +150,7 @@ fn each_exports(
 }
 
 #[test]
-fn an_export_is_told_only_where_its_last_flush_was_done(rt: HostRuntime) {
+fn an_export_is_told_only_where_its_last_flush_and_its_sync_were_done(rt: HostRuntime) {
     let mut store = store_of(&rt, rt.alloc(), rt.alloc());
     each_exports(&rt, rt.alloc(), &mut store, &ROWS);
 }
@@ -165,8 +180,9 @@ fn writes_along<A: Allocator + Copy>(
     alloc: A,
     store: &mut Store<MemDisk, A>,
     target: Fake<'_>,
+    beneath: &Fails,
 ) -> Option<ExportFault> {
-    export_along(alloc, store, 2, 3, target).answer.err()
+    export_along(alloc, store, 2, 3, target, beneath).answer.err()
 }
 
 // Exports them in a way.
@@ -179,7 +195,7 @@ fn writes<A: Allocator + Copy>(
     match way {
         Way::Text => writes_text(alloc, store, target),
         Way::Apart => writes_apart(alloc, store, (2, 3), target, &mut io::sink()),
-        Way::Along => writes_along(alloc, store, target),
+        Way::Along => writes_along(alloc, store, target, &Fails::Nothing),
     }
 }
 
@@ -253,6 +269,18 @@ fn lists<A: Allocator + Copy>(
     out: &mut Vec<u8>,
 ) -> Option<StoreFault> {
     list(store, alloc, out).answer.err()
+}
+
+#[test]
+fn no_line_stands_after_a_text_whose_file_cannot_be_synced(rt: HostRuntime) {
+    let mut store = store_of(&rt, rt.alloc(), rt.alloc());
+    let bytes = Cell::new(0);
+    let target = Fake {
+        bytes: &bytes,
+        fails: Fails::Nothing,
+    };
+    let got = writes_along(rt.alloc(), &mut store, target, &Fails::Settle);
+    same!(rt; (got, bytes.get()), (Some(ExportFault::Write), 75));
 }
 
 // How many blocks are granted to a list, all of which are needed. Then why there is none, and what is printed.

@@ -2,11 +2,11 @@
 use crate::calls::{Call, does};
 use crate::paths::{creates, has, is_done, links, removes, writes};
 use crate::told::{holds, same};
-use loop_file::{FileDisk, FileFault, FilePlace};
+use loop_file::{FileDisk, FileFault, FilePlace, TextFile};
 use std::alloc::{AllocGlobal, Allocator};
 use std::cell::Cell;
 use std::fs::{File, Metadata, OpenOptions};
-use std::io::ErrorKind;
+use std::io::{ErrorKind, Write};
 use std::path::PathBuf;
 use std::process::Abort;
 use std::rt::Files;
@@ -127,7 +127,7 @@ fn makes(
 
 // Whether there was a file, the trouble and the call of the system at which it comes; the refusal, and the file that
 // there is afterwards. The path is looked at, its folder is opened, it is opened, made if it isn't there, and looked
-// at again once the lock is had.
+// at again once the lock is had. Before each that is opened, the root folder is, in case a standard stream is closed.
 type Row = (
     Option<&'static [u8]>,
     (Trouble, u32),
@@ -135,12 +135,15 @@ type Row = (
     Option<&'static [u8]>,
 );
 
-static REFUSED: [Row; 14] = [
+static REFUSED: [Row; 19] = [
     (None, (Trouble::Fails, 0), FileFault::Failed, None),
     (None, (Trouble::Fails, 1), FileFault::Failed, None),
     (None, (Trouble::Fails, 2), FileFault::Failed, None),
     (None, (Trouble::Fails, 3), FileFault::Failed, None),
     (None, (Trouble::Fails, 4), FileFault::Failed, None),
+    (None, (Trouble::Fails, 5), FileFault::Failed, None),
+    (None, (Trouble::Fails, 6), FileFault::Failed, None),
+    (None, (Trouble::Fails, 7), FileFault::Failed, None),
     (
         Some(b"old"),
         (Trouble::Fails, 0),
@@ -165,24 +168,36 @@ static REFUSED: [Row; 14] = [
         FileFault::Failed,
         Some(b"old"),
     ),
+    (
+        Some(b"old"),
+        (Trouble::Fails, 4),
+        FileFault::Failed,
+        Some(b"old"),
+    ),
+    (
+        Some(b"old"),
+        (Trouble::Fails, 5),
+        FileFault::Failed,
+        Some(b"old"),
+    ),
     // Another program makes the path between the two looks at it, or has removed or replaced it once the lock is had.
     (
         None,
-        (Trouble::Replaces, 3),
+        (Trouble::Replaces, 6),
         FileFault::Busy,
         Some(b"other"),
     ),
-    (None, (Trouble::Removes, 4), FileFault::Busy, None),
+    (None, (Trouble::Removes, 7), FileFault::Busy, None),
     (
         None,
-        (Trouble::Replaces, 4),
+        (Trouble::Replaces, 7),
         FileFault::Busy,
         Some(b"other"),
     ),
-    (Some(b"old"), (Trouble::Removes, 3), FileFault::Busy, None),
+    (Some(b"old"), (Trouble::Removes, 5), FileFault::Busy, None),
     (
         Some(b"old"),
-        (Trouble::Replaces, 3),
+        (Trouble::Replaces, 5),
         FileFault::Busy,
         Some(b"other"),
     ),
@@ -223,7 +238,7 @@ fn a_refused_file_leaves_what_there_was(rt: HostRuntime) {
     let path = "troubled.img";
     are_refused(&rt, path, &REFUSED);
     // The next call behind the last one never comes.
-    makes(&rt, path, (Trouble::Fails, 5), None, 14);
+    makes(&rt, path, (Trouble::Fails, 8), None, 19);
     removes(&rt, path);
 }
 
@@ -331,5 +346,58 @@ fn a_disk_that_is_given_up_leaves_no_new_file_and_no_old_store(rt: HostRuntime) 
     writes(&rt, path, b"old");
     same!(rt; is_given_up(&rt, path), Ok(()));
     has(&rt, path, Some(b"\0abc"), 1);
+    removes(&rt, path);
+}
+
+// A file of four zeros is made beside a place, and gets its name.
+fn is_finished(
+    rt: &(impl Abort + AllocGlobal + Files<File = File> + Drop),
+    path: &str,
+) -> Result<(), FileFault> {
+    let place = FilePlace::of(rt, path)?;
+    let mut made = place.unfinished(rt)?;
+    let _disk = made.create(rt, 4)?;
+    place.finish(rt, &made)
+}
+
+#[test]
+fn a_file_gets_its_name_once_it_is_whole_and_takes_no_others(rt: HostRuntime) {
+    let (path, unfinished) = ("whole.img", "whole.img.new");
+    writes(&rt, unfinished, b"what a stop left");
+    same!(rt; is_finished(&rt, path), Ok(()));
+    has(&rt, path, Some(b"\0\0\0\0"), 0);
+    has(&rt, unfinished, None, 1);
+    writes(&rt, path, b"old");
+    same!(rt; is_finished(&rt, path), Err(FileFault::Busy));
+    has(&rt, path, Some(b"old"), 2);
+    removes(&rt, path);
+    removes(&rt, unfinished);
+}
+
+// A text is written to a path, in the place of what is there.
+fn is_written(
+    rt: &(impl Abort + AllocGlobal + Files<File = File> + Drop),
+    path: &str,
+    text: &[u8],
+) -> Result<(), FileFault> {
+    let mut file = TextFile::open(rt, path)?;
+    file.empty()?;
+    file.write_all(text)?;
+    file.settle()?;
+    Ok(())
+}
+
+#[test]
+fn a_text_goes_to_a_file_that_nobody_has(rt: HostRuntime) {
+    let path = "text.y4m";
+    same!(rt; is_written(&rt, path, b"a long text"), Ok(()));
+    has(&rt, path, Some(b"a long text"), 0);
+    same!(rt; is_written(&rt, path, b"a text"), Ok(()));
+    has(&rt, path, Some(b"a text"), 1);
+    let held = FileDisk::open(&rt, path);
+    same!(rt; is_written(&rt, path, b"another text"), Err(FileFault::Busy));
+    has(&rt, path, Some(b"a text"), 2);
+    holds!(rt; held.is_ok());
+    same!(rt; is_written(&rt, "gone/text.y4m", b"a text"), Err(FileFault::Missing));
     removes(&rt, path);
 }

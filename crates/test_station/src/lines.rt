@@ -2,11 +2,12 @@
 
 use crate::told::{holds, same};
 use loop_record::{Geometry, PixelFormat};
+use loop_script::{Likeness, compare_frames, print_other_geometry, print_other_rate};
 use loop_store::{Clip, StoreFault};
 use station_words::{
-    CameraStatus, RingSize, print_absent, print_bad_order, print_kept, print_no_camera,
-    print_not_saved, print_other_geometry, print_refused, print_released, print_saved,
-    print_status, ring_for, ring_within,
+    CameraStatus, RingSize, print_absent, print_bad_order, print_broken_tie, print_kept,
+    print_no_camera, print_not_a_store, print_not_saved, print_refused, print_released,
+    print_saved, print_saving, print_status, print_too_many_saves, ring_for, ring_within,
 };
 use std::alloc::Global;
 use std::process::Abort;
@@ -20,8 +21,13 @@ refused left 6 AllLocked\n\
 released left 3\n\
 saved left 3 a clip.y4m 7\n\
 not saved left 3 a clip.y4m CannotOpen\n\
+refused left saving\n\
+refused left too many saves\n\
 status left stored 1 given up 2 waiting 3 room 4 faults 5 source on\n\
 other geometry left 320x240 GREY 30000:1001\n\
+other rate left 30000:1001\n\
+not a store left a store.loop: move it away, and a store is made\n\
+tie broken left: its store is opened again\n\
 no camera left\n\
 absent left NoStore\n\
 bad order\n";
@@ -65,6 +71,9 @@ fn prints(out: &mut Vec<u8>) -> bool {
         && prints_saves(out)
         && print_status(out, "left", &status).is_ok()
         && print_other_geometry(out, "left", &OTHER).is_ok()
+        && print_other_rate(out, "left", &OTHER).is_ok()
+        && print_not_a_store(out, "left", "a store.loop").is_ok()
+        && print_broken_tie(out, "left").is_ok()
         && print_no_camera(out, "left").is_ok()
         && print_absent(out, "left", "NoStore").is_ok()
         && print_bad_order(out).is_ok()
@@ -74,6 +83,8 @@ fn prints(out: &mut Vec<u8>) -> bool {
 fn prints_saves(out: &mut Vec<u8>) -> bool {
     print_saved(out, "left", 3, "a clip.y4m", 7).is_ok()
         && print_not_saved(out, "left", 3, "a clip.y4m", &"CannotOpen").is_ok()
+        && print_saving(out, "left").is_ok()
+        && print_too_many_saves(out, "left").is_ok()
 }
 
 #[test]
@@ -81,6 +92,33 @@ fn lines_are_printed_so(rt: HostRuntime) {
     let mut out = Vec::new(rt.alloc());
     holds!(rt; prints(&mut out));
     same!(rt; out.as_slice(), PRINTED);
+}
+
+// Frames that come at the same rate, written otherwise.
+const SAME: Geometry = Geometry {
+    rate_num: 60_000,
+    rate_den: 2002,
+    segments: 64,
+    ..OTHER
+};
+
+// Frames at another rate, and taller ones.
+const SLOW: Geometry = Geometry {
+    rate_num: 5,
+    rate_den: 1,
+    ..OTHER
+};
+
+const TALL: Geometry = Geometry {
+    height: 241,
+    ..SLOW
+};
+
+#[test]
+fn frames_are_alike_whatever_their_rings(rt: HostRuntime) {
+    same!(rt; compare_frames(&OTHER, &SAME), Likeness::Alike);
+    same!(rt; compare_frames(&OTHER, &SLOW), Likeness::OtherRate);
+    same!(rt; compare_frames(&OTHER, &TALL), Likeness::OtherGeometry);
 }
 
 // So many frames, and the segments and slots for them; none where there are no such.
