@@ -224,7 +224,7 @@ fn end_run<D: Disk + Drop, P: PlaneMemory>(
     passes: Vec<Pass>,
 ) -> Result<Ended<D, P>, Unended<D, P>>
     ensures ended { IfOk result (IsEnd D.medium (arc_value run).recorder.outlines) }
-    ensures passes { IfOk result (λ e. map pass_number e.passes.items ≡ map pass_number passes.items) }
+    ensures passes { IfOk result (λ e. e.passes ≡ passes) }
     ensures refused { IfErr result (RefusesPool D.medium (arc_value run).recorder) }
 {
     let Ok(Run { recorder, crew }) = Arc::try_unwrap(run) else {
