@@ -49,3 +49,11 @@ kept_first None now new bytes kept then = tt
 kept_first (Some x) None new bytes kept then = absurd kept
 kept_first (Some x) (Some y) None bytes kept then = absurd then
 kept_first (Some x) (Some y) (Some z) bytes kept then = then ∙ ap (λ l. l ++ bytes) kept
+
+-- what was appended, and then kept
+pub kept_last : (old now new : Option (List ℕ)) (bytes : List ℕ) → Appends old now bytes → Keeps now new
+    → Appends old new bytes
+kept_last None now new bytes first kept = tt
+kept_last (Some x) None new bytes first kept = absurd first
+kept_last (Some x) (Some y) None bytes first kept = absurd kept
+kept_last (Some x) (Some y) (Some z) bytes first kept = kept ∙ first

@@ -252,18 +252,9 @@ pub fn start_pool<
     D: Disk + Drop + Send + Sync,
     P: PlaneMemory + Send,
     L: Lead,
->(
-    rt: &'s R,
-    alloc: Global,
-    scope: &Scope<'s, E>,
-    lead: &'s L,
-    pool: &'s Pool<D, P>,
-) -> bool {
+>(rt: &'s R, alloc: Global, scope: &Scope<'s, E>, lead: &'s L, pool: &'s Pool<D, P>) -> bool {
     for seat in pool.seats.as_slice() {
-        if scope
-            .spawn(move || serve(rt, alloc, lead, seat))
-            .is_err()
-        {
+        if scope.spawn(move || serve(rt, alloc, lead, seat)).is_err() {
             return false;
         }
     }
