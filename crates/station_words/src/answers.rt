@@ -121,11 +121,17 @@ pub fn print_absent<W: Write>(out: &mut W, camera: &str, why: &str) -> io::Resul
     writeln!(out, "absent {camera} {why}")
 }
 
-/// `not a store NAME PATH: ..`: what stands where a camera's store is to be isn't one, and what to do.
-pub fn print_not_a_store<W: Write>(out: &mut W, camera: &str, path: &str) -> io::Result<()> {
+/// `not a store NAME PATH: ..`: what stands where a camera's store is to be isn't one, and what to do. The path is given
+/// in two parts.
+pub fn print_not_a_store<W: Write>(
+    out: &mut W,
+    camera: &str,
+    path: &str,
+    end: &str,
+) -> io::Result<()> {
     writeln!(
         out,
-        "not a store {camera} {path}: move it away, and a store is made"
+        "not a store {camera} {path}{end}: move it away, and a store is made"
     )
 }
 

@@ -12,6 +12,8 @@ pub enum Absent {
     File(FileFault),
     /// It can't be opened.
     Store(StoreFault),
+    /// What stands under the name of an unfinished store can't be opened as one.
+    Unfinished,
     /// No store holds as much as it is to keep, or its source says no rate.
     NoGeometry,
     /// Four buffers of its frames need more pages than there are, or there is no memory for them.
@@ -35,6 +37,7 @@ impl Absent {
             Absent::NoStore => "NoStore",
             Absent::File(_) => "CannotOpen",
             Absent::Store(fault) => fault.name(),
+            Absent::Unfinished => "Unfinished",
             Absent::NoGeometry => "NoGeometry",
             Absent::NoBuffers => "NoBuffers",
             Absent::TieBroken => "TieBroken",

@@ -53,7 +53,7 @@ fn make_at<R: AllocGlobal + Files<File = File>>(
 ) -> Result<Store<FileDisk>, Absent> {
     let place = FilePlace::of(rt, path)?;
     let mut made = place.unfinished(rt)?;
-    let store = match left_at(rt, &made)? {
+    let store = match left_at(rt, &made, &geometry)? {
         Some(store) => store,
         None => format_at(rt, &mut made, geometry)?,
     };
@@ -61,10 +61,12 @@ fn make_at<R: AllocGlobal + Files<File = File>>(
     Ok(store)
 }
 
-/// The store at a place, as a stop left it; None where there is no file, or one that isn't a store yet.
+/// The store at a place, as a stop left it; None where there is no file, one that isn't a store yet, or a store without
+/// a frame that is for other frames than these. `Unfinished` where it can't be told what is there.
 fn left_at<R: AllocGlobal + Files<File = File>>(
     rt: &R,
     place: &FilePlace,
+    geometry: &Geometry,
 ) -> Result<Option<Store<FileDisk>>, Absent> {
     let disk = match place.open(rt) {
         Ok(disk) => disk,
@@ -72,14 +74,15 @@ fn left_at<R: AllocGlobal + Files<File = File>>(
         Err(fault) => return Err(Absent::File(fault)),
     };
     match Store::open(rt.alloc(), disk) {
-        Ok(store) => Ok(Some(store)),
+        Ok(store) if store.next() > 0 || store.geometry() == *geometry => Ok(Some(store)),
+        Ok(_) => Ok(None),
         Err(
             OpenRefused {
                 fault: StoreFault::NotFormatted,
                 disk: _,
             },
         ) => Ok(None),
-        Err(OpenRefused { fault, disk: _ }) => Err(Absent::Store(fault)),
+        Err(_) => Err(Absent::Unfinished),
     }
 }
 

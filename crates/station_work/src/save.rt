@@ -129,11 +129,11 @@ impl Saves {
     pub fn new(alloc: Global) -> Result<Saves, AllocError> {
         let mut places = Vec::with_capacity(alloc, MOST_SAVES)?;
         for _ in 0..MOST_SAVES {
-            places.push_reserved(Place {
+            places.push(Place {
                 save: None,
                 is_new: false,
                 has_thread: false,
-            });
+            })?;
         }
         Ok(Saves {
             places: Mutex::new(places),

@@ -116,7 +116,7 @@ fn rest<R: Wait + Clock>(rt: &R, state: &CameraState, why: Absent) {
 }
 
 /// Prints why a store isn't there where someone has to know at once: a broken tie each time, and once that what stands
-/// there isn't a store. Whether it isn't one.
+/// there, or where it is made, isn't a store. Whether it isn't one.
 fn tell_absence<R: AllocGlobal + Wait, W: Write + Drop>(
     rt: &R,
     state: &CameraState,
@@ -126,16 +126,20 @@ fn tell_absence<R: AllocGlobal + Wait, W: Write + Drop>(
 ) -> bool {
     let mut line = Vec::new(rt.alloc());
     let (name, path) = (state.config.name.as_str(), state.config.store.as_str());
-    let is_other = matches!(why, Absent::Store(StoreFault::NotFormatted));
-    let printed = match why {
-        Absent::TieBroken => print_broken_tie(&mut line, name),
-        _ if is_other && !told => print_not_a_store(&mut line, name, path),
+    let unfinished = match why {
+        Absent::Store(StoreFault::NotFormatted) => Some(""),
+        Absent::Unfinished => Some(".new"),
+        _ => None,
+    };
+    let printed = match unfinished {
+        Some(end) if !told => print_not_a_store(&mut line, name, path, end),
+        None if matches!(why, Absent::TieBroken) => print_broken_tie(&mut line, name),
         _ => Ok(()),
     };
     if printed.is_ok() && !line.is_empty() {
         outlet.put(rt, &line);
     }
-    is_other
+    unfinished.is_some()
 }
 
 /// The store of a camera, made for its source where it isn't there.

@@ -27,6 +27,7 @@ status left stored 1 given up 2 waiting 3 room 4 faults 5 source on\n\
 other geometry left 320x240 GREY 30000:1001\n\
 other rate left 30000:1001\n\
 not a store left a store.loop: move it away, and a store is made\n\
+not a store left a store.loop.new: move it away, and a store is made\n\
 tie broken left: its store is opened again\n\
 no camera left\n\
 absent left NoStore\n\
@@ -72,7 +73,8 @@ fn prints(out: &mut Vec<u8>) -> bool {
         && print_status(out, "left", &status).is_ok()
         && print_other_geometry(out, "left", &OTHER).is_ok()
         && print_other_rate(out, "left", &OTHER).is_ok()
-        && print_not_a_store(out, "left", "a store.loop").is_ok()
+        && print_not_a_store(out, "left", "a store.loop", "").is_ok()
+        && print_not_a_store(out, "left", "a store.loop", ".new").is_ok()
         && print_broken_tie(out, "left").is_ok()
         && print_no_camera(out, "left").is_ok()
         && print_absent(out, "left", "NoStore").is_ok()
