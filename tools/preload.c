@@ -1,15 +1,21 @@
-/* Stands between a program and one of its files, for kill_check, power_check, format_check and start_check: built by them as a shared library
+/* Stands between a program and its files, for kill_check, power_check, format_check, start_check and save_check: built by them as a shared library
  * and preloaded.
  *
  *   LOOP_FILE   the file: calls on descriptors that were opened by this name
  *   LOOP_LOG    a file to which each change of it is appended before it is made, and each sync and answer once it was made: a byte W, T, S or A,
  *               two numbers of 8 bytes (place or length, and count of bytes), and the bytes of a write or an answer
+ *   LOOP_TEXT   a second file, whatever it is opened as: that of an export or a save, or of a store that gets its name later. The log has it made (c), its
+ *               writes (w), lengths (t), syncs (s), the syncs of its folder (f), and that it is renamed (r)
  *   LOOP_MODE   a device or a program that breaks its word:
  *                 no_sync      a sync does nothing
  *                 late_sync    a sync is made only before the next write: what is answered in between isn't on the disk
  *                 gate_first   a frame's slot is written and synced only behind its gate
+ *                 no_text_sync, no_folder_sync       a sync of LOOP_TEXT, or of its folder, does nothing
+ *                 fail_text_sync, fail_folder_sync   it fails (EIO)
  *   LOOP_FAIL   COUNT:ERRNO, or COUNT:ERRNO:on   the call of that number on any file, from 0, fails so, or all from there on; calls are open,
- *               flock, statx, readlink, pread, pwrite, ftruncate, fsync, fdatasync and unlink. ERRNO 0: the read or write is of one byte alone
+ *               flock, statx, readlink, pread, pwrite, ftruncate, fsync, fdatasync, rename and unlink. ERRNO 0: the read or write is of one byte alone
+ *   LOOP_KILL   COUNT   the program is killed (SIGKILL) before its call of that number, from 0, that writes, cuts, syncs or renames LOOP_FILE or LOOP_TEXT, or
+ *               syncs their folder
  *   LOOP_THREADS   COUNT   the thread of that number, from 0, can't be started (EAGAIN)
  */
 #define _GNU_SOURCE
@@ -17,8 +23,10 @@
 #include <errno.h>
 #include <fcntl.h>
 #include <pthread.h>
+#include <signal.h>
 #include <stdarg.h>
 #include <stdint.h>
+#include <stdio.h>
 #include <stdlib.h>
 #include <string.h>
 #include <sys/stat.h>
@@ -31,7 +39,8 @@
 static int log_fd = -2;
 static int file_fd = -1;
 static long calls = 0;
-static enum { HONEST, NO_SYNC, LATE_SYNC, GATE_FIRST } mode;
+static enum { HONEST, NO_SYNC, LATE_SYNC, GATE_FIRST, NO_TEXT_SYNC, NO_FOLDER_SYNC, FAIL_TEXT_SYNC, FAIL_FOLDER_SYNC } mode;
+static const char *const MODES[] = {"", "no_sync", "late_sync", "gate_first", "no_text_sync", "no_folder_sync", "fail_text_sync", "fail_folder_sync"};
 static long fail_at = -1;
 static int fail_with, fail_on;
 /* gate_first: the slot that is kept back, and whether its gate was written */
@@ -46,9 +55,8 @@ static void begin(void) {
     if (log_fd != -2) return;
     const char *log = getenv("LOOP_LOG"), *named = getenv("LOOP_MODE"), *fail = getenv("LOOP_FAIL");
     log_fd = log ? syscall(SYS_openat, AT_FDCWD, log, O_WRONLY | O_CREAT | O_APPEND | O_CLOEXEC, 0600) : -1;
-    if (named && !strcmp(named, "no_sync")) mode = NO_SYNC;
-    if (named && !strcmp(named, "late_sync")) mode = LATE_SYNC;
-    if (named && !strcmp(named, "gate_first")) mode = GATE_FIRST;
+    for (int it = NO_SYNC; it <= FAIL_FOLDER_SYNC; it++)
+        if (named && !strcmp(named, MODES[it])) mode = it;
     if (fail) {
         char *rest;
         fail_at = strtol(fail, &rest, 10);
@@ -86,10 +94,47 @@ static void note(char kind, uint64_t at, uint64_t count, const void *bytes) {
     free(record);
 }
 
+/* Whether a path is there, and whether it is that of an open file. */
+static int stands(const char *path, struct stat *found) {
+    return path && *path && stat(path, found) == 0;
+}
+
+static int is_open_as(int fd, const char *path) {
+    struct stat here, there;
+    return stands(path, &there) && fstat(fd, &here) == 0 && here.st_dev == there.st_dev && here.st_ino == there.st_ino;
+}
+
+static int is_text(int fd) {
+    return is_open_as(fd, getenv("LOOP_TEXT"));
+}
+
+/* Whether an open file is the folder of a path. */
+static int is_folder_of(int fd, const char *path) {
+    char folder[4096];
+    if (!path || !*path || snprintf(folder, sizeof folder, "%s", path) >= (int)sizeof folder) return 0;
+    char *end = strrchr(folder, '/');
+    if (end) *end = 0;
+    return is_open_as(fd, end ? (end == folder ? "/" : folder) : ".");
+}
+
+/* A call that changes one of the files is about to be made. */
+static void reached(void) {
+    static long changes = 0;
+    const char *kill_at = getenv("LOOP_KILL");
+    if (kill_at && __atomic_fetch_add(&changes, 1, __ATOMIC_SEQ_CST) == atol(kill_at)) kill(getpid(), SIGKILL);
+}
+
+static int is_watched(int fd) {
+    return fd == file_fd || is_text(fd) || is_open_as(fd, getenv("LOOP_FILE"));
+}
+
 static int opened(const char *path, int flags, int mode_bits) {
-    const char *file = getenv("LOOP_FILE");
+    const char *file = getenv("LOOP_FILE"), *text = getenv("LOOP_TEXT");
+    struct stat found;
+    int was_there = stands(text, &found);
     int fd = syscall(SYS_openat, AT_FDCWD, path, flags, mode_bits);
     if (fd >= 0 && file && !strcmp(path, file)) file_fd = fd;
+    if (fd >= 0 && text && !was_there && is_text(fd)) note('c', 0, 0, NULL);
     return fd;
 }
 
@@ -121,6 +166,17 @@ int statx(int fd, const char *path, int flags, unsigned mask, struct statx *out)
 
 int unlink(const char *path) {
     return fails_if(0) ? -1 : (int)syscall(SYS_unlink, path);
+}
+
+int rename(const char *from, const char *to) {
+    const char *text = getenv("LOOP_TEXT");
+    struct stat moved, named;
+    if (fails_if(0)) return -1;
+    int is_texts = stands(text, &named) && stat(from, &moved) == 0 && moved.st_dev == named.st_dev && moved.st_ino == named.st_ino;
+    if (is_texts) reached();
+    int answer = (int)syscall(SYS_rename, from, to);
+    if (answer == 0 && is_texts) note('r', 0, 0, NULL);
+    return answer;
 }
 
 ssize_t readlink(const char *path, char *out, size_t count) {
@@ -158,7 +214,11 @@ static void give_back(int fd) {
 ssize_t pwrite(int fd, const void *bytes, size_t count, off_t at) {
     if (fails()) return -1;
     count = shortened(count);
-    if (fd != file_fd) return syscall(SYS_pwrite64, fd, bytes, count, at);
+    if (is_watched(fd)) reached();
+    if (fd != file_fd) {
+        if (is_text(fd)) note('w', at, count, bytes);
+        return syscall(SYS_pwrite64, fd, bytes, count, at);
+    }
     if (is_late) {
         is_late = 0;
         synced(fd, SYS_fdatasync);
@@ -187,7 +247,9 @@ ssize_t pread64(int fd, void *bytes, size_t count, off_t at) {
 
 int ftruncate(int fd, off_t size) {
     if (fails()) return -1;
+    if (is_watched(fd)) reached();
     if (fd == file_fd) note('T', size, 0, NULL);
+    else if (is_text(fd)) note('t', size, 0, NULL);
     return syscall(SYS_ftruncate, fd, size);
 }
 
@@ -195,8 +257,24 @@ int ftruncate64(int fd, off_t size) {
     return ftruncate(fd, size);
 }
 
+/* A sync of the text or of its folder. */
+static int sync_beside(int fd, long number, char kind, int swallows, int refuses) {
+    if (mode == swallows) return 0;
+    if (mode == refuses) {
+        errno = EIO;
+        return -1;
+    }
+    int answer = (int)syscall(number, fd);
+    if (answer == 0) note(kind, 0, 0, NULL);
+    return answer;
+}
+
 static int sync_of(int fd, long number) {
     if (fails()) return -1;
+    const char *text = getenv("LOOP_TEXT"), *file = getenv("LOOP_FILE");
+    if (is_watched(fd) || is_folder_of(fd, text) || is_folder_of(fd, file)) reached();
+    if (fd != file_fd && is_text(fd)) return sync_beside(fd, number, 's', NO_TEXT_SYNC, FAIL_TEXT_SYNC);
+    if (is_folder_of(fd, text)) return sync_beside(fd, number, 'f', NO_FOLDER_SYNC, FAIL_FOLDER_SYNC);
     if (fd != file_fd) return syscall(number, fd);
     if (mode == NO_SYNC) return 0;
     if (mode == LATE_SYNC) {
@@ -219,6 +297,7 @@ int fsync(int fd) {
 
 ssize_t write(int fd, const void *bytes, size_t count) {
     begin();
+    if (getenv("LOOP_TEXT") && is_text(fd)) note('w', lseek(fd, 0, SEEK_CUR), count, bytes);
     ssize_t answer = syscall(SYS_write, fd, bytes, count);
     if (fd == 1 && answer > 0) note('A', 0, answer, bytes);
     return answer;

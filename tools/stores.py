@@ -1,10 +1,11 @@
-"""What kill_check, power_check, format_check, start_check and output_check share: the programs, the preloaded library and its log, what a loss of power may leave of a
-file, and the plain recorder that says what may stand in it."""
+"""What kill_check, power_check, format_check, start_check, output_check, descriptor_check and save_check share: the programs, the preloaded library
+and its log, what a loss of power may leave of a file, and the plain recorder that says what may stand in it."""
 import os
 import random
 import struct
 import subprocess
 import sys
+import tempfile
 
 import recovery
 
@@ -20,15 +21,30 @@ class Violation(Exception):
 
 
 def built(name):
-    """A program's path. One that is named by the variable NAME_PROGRAM is taken as it is; else it is built, and proved where something changed."""
-    given = os.environ.get(f"{name.upper()}_PROGRAM")
+    """A program's path. One that the variable LOOP_CLI, LOOP_STATION, BENCH or FILL names is taken as it is; else it is built, and proved where
+    something changed."""
+    given = os.environ.get(name.upper())
     if given:
-        return given
+        return os.path.abspath(given)
     crate = os.path.join(CRATES, name)
     print(f"proving and building {name} where something has changed: up to an hour, silently", file=sys.stderr, flush=True)
-    if subprocess.run(["rt", "run", "--jobs", "1"], cwd=crate, stdin=subprocess.DEVNULL, capture_output=True).returncode != 0:
-        sys.exit(f"rt run made no {name}")
+    with tempfile.TemporaryDirectory() as folder:
+        words = ["rt", "run", "--jobs", "1", *words_of(name, folder)]
+        if subprocess.run(words, cwd=crate, stdin=subprocess.DEVNULL, capture_output=True).returncode != 0:
+            sys.exit(f"rt run made no {name}")
     return os.path.join(crate, "out", name)
+
+
+def words_of(name, folder):
+    """What makes a program end at once, with status 0, as it is run once it was built: loop_station wants a configuration, whose orders end it."""
+    if name != "loop_station":
+        return []
+    orders, config = os.path.join(folder, "orders"), os.path.join(folder, "station.toml")
+    with open(orders, "w") as file:
+        file.write("stop\n")
+    with open(config, "w") as file:
+        file.write(f'orders = "{orders}"\n[[camera]]\nname = "one"\nsource = "pattern"\nstore = "{folder}/one.loop"\nbytes = 100000000\n')
+    return ["--", config]
 
 
 def library(folder):
@@ -38,10 +54,10 @@ def library(folder):
     return path
 
 
-def under(preload, path, log=None, mode=None, fail=None, threads=None):
+def under(preload, path, log=None, mode=None, fail=None, threads=None, text=None, kill=None):
     """The environment of a program with the library before it."""
     env = dict(os.environ, LD_PRELOAD=preload, LOOP_FILE=path)
-    given = (("LOOP_LOG", log), ("LOOP_MODE", mode), ("LOOP_FAIL", fail), ("LOOP_THREADS", threads))
+    given = (("LOOP_LOG", log), ("LOOP_MODE", mode), ("LOOP_FAIL", fail), ("LOOP_THREADS", threads), ("LOOP_TEXT", text), ("LOOP_KILL", kill))
     env.update({name: value for name, value in given if value})
     return env
 
@@ -56,7 +72,7 @@ def log_of(path):
     while at + 17 <= len(data):
         kind = chr(data[at])
         place, count = struct.unpack_from("<QQ", data, at + 1)
-        size = count if kind in "WA" else 0
+        size = count if kind in "WAw" else 0
         if at + 17 + size > len(data):
             break
         records.append((kind, place, data[at + 17: at + 17 + size]))
