@@ -23,6 +23,7 @@ const OTHER: &[u8] = b"YUV4MPEG2 W4 H4 F25:1 Ip A0:0 Cmono\nFRAME\nabcdefghijklm
 
 // Headers of the same frames at another rate, and at one that is the same.
 const SLOW: &[u8] = b"YUV4MPEG2 W4 H2 F5:1 Ip A0:0 C420jpeg\n";
+
 const SAME: &[u8] = b"YUV4MPEG2 W4 H2 F50:2 Ip A0:0 C420jpeg\n";
 
 // What footage is recorded into: two stores of 3 segments of 2 frames.

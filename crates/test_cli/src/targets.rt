@@ -182,7 +182,9 @@ fn writes_along<A: Allocator + Copy>(
     target: Fake<'_>,
     beneath: &Fails,
 ) -> Option<ExportFault> {
-    export_along(alloc, store, 2, 3, target, beneath).answer.err()
+    export_along(alloc, store, 2, 3, target, beneath)
+        .answer
+        .err()
 }
 
 // Exports them in a way.
