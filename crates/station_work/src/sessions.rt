@@ -1,6 +1,6 @@
 //! A camera's thread: its store is opened or made, and recorded into, a session behind the other.
 
-ghost use Rattle.std.specs.Prelude.{◌≡◌, ◌∷◌, [], IfOk, IfSome, length, vec_len};
+ghost use Rattle.std.specs.Prelude.{◌≡◌, ◌<◌, ◌∷◌, [], IfOk, IfSome, length, vec_len};
 ghost use Rattle.loop_recorder.specs.Opened.{IsReady};
 
 use crate::absent::Absent;
@@ -282,9 +282,10 @@ fn run_session<R: Wait + Clock>(
     requires { IsReady ⟦<MmapPlane as PlaneMemory>⟧.plane camera }
     ensures { IfOk result (IsReady ⟦<MmapPlane as PlaneMemory>⟧.plane) }
 {
-    let Some((recorder, passes)) = recorder_of(alloc, camera) else {
+    let Some((recorder, mut passes)) = recorder_of(alloc, camera) else {
         return Err(Absent::NoBuffers);
     };
+    begin_history(rt, &recorder, passes.as_mut_slice());
     if let Some(start) = start {
         if start_queue(rt, &recorder, 0, start).is_err() {
             return Err(Absent::NoBuffers);
@@ -303,6 +304,20 @@ fn run_session<R: Wait + Clock>(
             Err(Absent::TieBroken)
         }
         Err(_) => Err(Absent::Store(StoreFault::MustReopen)),
+    }
+}
+
+/// Notes how the desk stands, once with each pass: history and receipts then begin on this thread, the same in each
+/// session. The C library lets memory grow where it began, so no other thread's part of it ever holds a history.
+fn begin_history<R: Wait, D: Disk + Drop>(
+    rt: &R,
+    recorder: &Recorder<D, MmapPlane>,
+    passes: &mut [Pass],
+)
+    requires { 0 < length recorder.now.outlines }
+{
+    for pass in passes {
+        let _ = recorder.status(rt, 0, pass);
     }
 }
 
