@@ -93,5 +93,7 @@ def compare(where, part, told, loose=False):
         one, other = without_numbers(wanted), without_numbers(told)
     if one != other:
         wrong = Wrong(f"{where}: {part.text}\nprints\n{told}and the page says\n{wanted}")
-        wrong.numbers = without_numbers(wanted) == without_numbers(told)
+        # A frame that is given up changes numbers, and parts a run of a clip in two.
+        lines = (set(without_numbers(text).splitlines()) for text in (wanted, told))
+        wrong.numbers = next(lines) == next(lines)
         raise wrong
