@@ -3,9 +3,11 @@ that they print, and where a program prints something else."""
 import re
 import shutil
 
-# Commands whose numbers differ from run to run, and why. Each number counts as any other.
+# Commands of which some numbers differ from run to run, which they are, and why. In their place
+# any number may stand.
 VARYING = (
-    ("loop_station", "a station's numbers are those of the moment"),
+    ("loop_station", r"\d+\.\.\d+|(next|stored|waiting|\.y4m) \d+",
+     "how many frames there are, and wait, depends on the moment"),
 )
 
 # Commands that can't be typed on a machine as the checks have it, and why; a program that is named
@@ -37,7 +39,7 @@ class Part:
 
 def parts_of(page):
     """The parts of a page in their order. In a block, which is indented by four spaces, `$ ` begins
-    a command, `> ` continues it, and what it prints follows; all after a `>` belongs to a block."""
+    a command, and what it prints follows."""
     found, section, typed = [], "", None
     for place, line in enumerate(page.splitlines(), 1):
         if not line.startswith("    "):
@@ -48,8 +50,6 @@ def parts_of(page):
         elif line.startswith("    $ "):
             typed = Part("typed", section, place, line[6:])
             found.append(typed)
-        elif typed and not typed.shown and line.startswith("    > "):
-            typed.text += "\n" + line[6:]
         elif typed:
             typed.shown.append(line[4:])
         else:
@@ -74,14 +74,14 @@ def elsewhere(command):
     return None
 
 
-def varies(command):
-    """Why the numbers that a command prints differ from run to run, or nothing."""
-    return next((why for word, why in VARYING if word in command), None)
+def varying(command):
+    """Which numbers that a command prints differ from run to run, and why; or nothing."""
+    return next(((numbers, why) for word, numbers, why in VARYING if word in command), None)
 
 
-def without_numbers(text):
-    """A text in which each number stands for any other."""
-    return re.sub(r"\d+", "N", text)
+def without_numbers(text, which=r"\d+"):
+    """A text in which each of these numbers stands for any other."""
+    return re.sub(which, lambda found: re.sub(r"\b\d+\b", "N", found.group()), text)
 
 
 def compare(where, part, told, loose=False):
@@ -89,8 +89,10 @@ def compare(where, part, told, loose=False):
     any other; with `loose` all do."""
     wanted = "".join(line + "\n" for line in part.shown)
     one, other = wanted, told
-    if loose or varies(part.text):
+    if loose:
         one, other = without_numbers(wanted), without_numbers(told)
+    elif which := varying(part.text):
+        one, other = without_numbers(wanted, which[0]), without_numbers(told, which[0])
     if one != other:
         wrong = Wrong(f"{where}: {part.text}\nprints\n{told}and the page says\n{wanted}")
         # A frame that is given up changes numbers, and parts a run of a clip in two.
