@@ -25,7 +25,7 @@ STORE, DESK = "crates/loop_store/src/", "crates/loop_desk/src/"
 WHOLE = {STORE + file: None for file in ["make.rt", "reopen.rt", "store.rt", "command.rt"]}
 WRITES = {STORE + "store.rt": ["append", "lock"], STORE + "command.rt": ["run"]}
 WRITES |= {STORE + "make.rt": ["format"], STORE + "reopen.rt": ["open"]}
-KEEPS = ["submit", "flush", "lock_clip", "unlock_clip", "upgrade", "read_frame", "read_head"]
+KEEPS = ["submit", "flush", "lock_clip", "unlock_clip", "upgrade", "read_frame", "read_head", "sought"]
 LANE = {DESK + "lane.rt": ["lane_run"]}
 QUESTIONS = {
     "the store's public calls and the trait Disk": (WHOLE, False),

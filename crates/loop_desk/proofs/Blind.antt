@@ -7,16 +7,18 @@ use Rattle.std.specs.Option.{option_map}
 use Rattle.loop_clips.specs.Table.{clip_list}
 use Rattle.loop_disk.specs.Medium.{Medium}
 use Rattle.loop_record.specs.declared.geometry.Geometry.{Geometry}
+use Rattle.loop_record.specs.declared.times.Times.{Times}
+use Rattle.loop_record.specs.Times.{AreRuns, is_in}
 use Rattle.loop_record.specs.Geometry.{frame_bytes}
 use Rattle.loop_record.specs.Layout.{has_tag_place}
 use Rattle.loop_record.specs.Recording.{Picture, Recording, Ring, Step, after_step as stepped, block, blocks_of, frame_under, free_id, holds, is_locked, last_number, lock, needs_recycling, plain, recycle, recycling_first, ring_of, steps, store, stores_after, unlock, victim, with_block}
 use Rattle.loop_store.specs.declared.fault.StoreFault.{StoreFault}
-use Rattle.loop_store.specs.Calls.{AnswersDue, AreAnswered, Call, IsAnswered, AnswersOtherwise, StoreState, after_store_call as stored, after_calls, appended, steps_asked, checks, due, fault_answered, first_of, has_failed, lacks_victim, locked, made_by, steps_of, unlocked, upgraded, version_after, was_read, was_read_part}
+use Rattle.loop_store.specs.Calls.{AnswersDue, AreAnswered, Call, IsAnswered, AnswersOtherwise, StoreState, after_store_call as stored, after_calls, appended, steps_asked, checks, due, fault_answered, first_of, has_failed, lacks_victim, locked, made_by, steps_of, unlocked, upgraded, version_after, was_read, was_read_part, sought}
 use Rattle.loop_store.specs.Steps.{if_answered, steps_or_none}
 use Rattle.loop_desk.specs.declared.limits.Flushed.{Flushed}
 use Rattle.loop_desk.specs.declared.limits.Outline.{Outline}
 use Rattle.loop_desk.specs.Bare.{IsBlind, IsOutlineOf, bare, bare_call, bare_frame, bare_read, bare_recording, bare_state, bare_store}
-use Rattle.loop_desk.specs.Desk.{AreDeskAnswers, DeskCall, DeskState, IsDeskAnswer, IsDeskTold, IsFlush, Rules, append_of, clip_locked, clip_unlocked, desk_after, desk_after_calls, flushed, frame_read, group_of, layout_upgraded, pending_after, status_told, store_calls, submitted}
+use Rattle.loop_desk.specs.Desk.{AreDeskAnswers, DeskCall, DeskState, IsDeskAnswer, IsDeskTold, IsFlush, Rules, append_of, clip_locked, clip_unlocked, desk_after, desk_after_calls, flushed, frame_read, group_of, layout_upgraded, pending_after, status_told, store_calls, submitted, times_sought}
 use Rattle.loop_desk.specs.Seen.{SeenDesk, StandsAt, TellsOutline}
 
 abbrev bare_step : Step → Step
@@ -37,6 +39,7 @@ bare_stored (unlocked id result) = unlocked id result
 bare_stored (was_read number result) = was_read number (bare_read result)
 bare_stored (was_read_part number at result) = was_read_part number at (bare_part result)
 bare_stored (upgraded result) = upgraded result
+bare_stored (sought times result) = sought times result
 
 -- ---- the recording
 
@@ -140,6 +143,7 @@ checks-bare g s (locked span result) =
     ∷ due (not (has_tag_place s.version span)) StoreFault.OldLayout ∷ []
 checks-bare g s (unlocked id result) = refl
 checks-bare g s (upgraded result) = refl
+checks-bare g s (sought times result) = refl
 checks-bare g s (was_read number result) = λ i. due s.must_reopen StoreFault.MustReopen ∷ due (not (holds-bare s.recording number i)) StoreFault.NotHeld ∷ []
 checks-bare g s (was_read_part number at result) = λ i. due s.must_reopen StoreFault.MustReopen
     ∷ due (not (holds-bare s.recording number i)) StoreFault.NotHeld ∷ []
@@ -153,6 +157,21 @@ fault-bare (was_read number (Err fault)) = refl
 fault-bare (was_read_part number at (Ok bytes)) = refl
 fault-bare (was_read_part number at (Err fault)) = refl
 fault-bare (upgraded result) = refl
+fault-bare (sought times result) = refl
+
+-- the held frames of a time
+sought-bare : (times : Times) (fs : List (ℕ × Picture))
+    → map (λ f. f.0) (filter (λ f. is_in times f.1.timestamp) (map bare_frame fs))
+    ≡ map (λ f. f.0) (filter (λ f. is_in times f.1.timestamp) fs)
+sought-bare times [] = refl
+sought-bare times (f ∷ fs) = go (is_in times f.1.timestamp) (sought-bare times fs)
+  where
+    go : (b : Bool) → map (λ f. f.0) (filter (λ f. is_in times f.1.timestamp) (map bare_frame fs))
+        ≡ map (λ f. f.0) (filter (λ f. is_in times f.1.timestamp) fs)
+        → map (λ f. f.0) (if b then bare_frame f ∷ filter (λ f. is_in times f.1.timestamp) (map bare_frame fs) else filter (λ f. is_in times f.1.timestamp) (map bare_frame fs))
+        ≡ map (λ f. f.0) (if b then f ∷ filter (λ f. is_in times f.1.timestamp) fs else filter (λ f. is_in times f.1.timestamp) fs)
+    go true more = ap (λ (ns : List ℕ). f.0 ∷ ns) more
+    go false more = more
 
 given-bare : (s : StoreState) (c : Call) → AnswersOtherwise (Unit {0}) s c
     → AnswersOtherwise (Unit {0}) (bare_store s) (bare_stored c)
@@ -180,6 +199,8 @@ given-bare s (was_read_part number at (Ok bytes)) given = λ now. let is = given
 given-bare s (was_read_part number at (Err fault)) is = is
 given-bare s (upgraded (Ok made)) is = is
 given-bare s (upgraded (Err fault)) is = is
+given-bare s (sought times (Ok runs)) is = subst (λ (ns : List ℕ). AreRuns ns runs) (sym (sought-bare times s.recording.frames)) is
+given-bare s (sought times (Err fault)) is = is
 
 stored-answer : (g : Geometry) (s : StoreState) (c : Call) → IsAnswered (Unit {0}) (ring_of g) s c
     → IsAnswered (Unit {0}) (ring_of g) (bare_store s) (bare_stored c)
@@ -209,6 +230,7 @@ steps-of-bare g s (unlocked id result) = refl
 steps-of-bare g s (was_read number result) = refl
 steps-of-bare g s (was_read_part number at result) = refl
 steps-of-bare g s (upgraded result) = refl
+steps-of-bare g s (sought times result) = refl
 
 made-bare : (g : Geometry) (s : StoreState) (c : Call) → made_by (ring_of g) (bare_store s)
     (bare_stored c) ≡ map bare_step
@@ -225,6 +247,7 @@ failed-bare (unlocked id result) = refl
 failed-bare (was_read number result) = refl
 failed-bare (was_read_part number at result) = refl
 failed-bare (upgraded result) = refl
+failed-bare (sought times result) = refl
 
 version-bare : (v : ℕ) (c : Call) → version_after v (bare_stored c) ≡ version_after v c
 version-bare v (appended ps result) = refl
@@ -233,6 +256,7 @@ version-bare v (unlocked id result) = refl
 version-bare v (was_read number result) = refl
 version-bare v (was_read_part number at result) = refl
 version-bare v (upgraded result) = refl
+version-bare v (sought times result) = refl
 
 stored-bare : (g : Geometry) (s : StoreState) (c : Call) → stored (ring_of g) (bare_store s)
     (bare_stored c) ≡ bare_store
@@ -283,6 +307,7 @@ calls-bare k s (clip_unlocked id result) = refl
 calls-bare k s (frame_read number result) = refl
 calls-bare k s (status_told status) = refl
 calls-bare k s (layout_upgraded result) = refl
+calls-bare k s (times_sought times result) = refl
 
 flush-bare : (s : DeskState) (group : List Picture) (result : Result Flushed StoreFault) → IsFlush s group result
     → IsFlush (bare_state s) (map bare group) result
@@ -313,6 +338,7 @@ call-bare k s c said = (
     told (clip_unlocked id result) is = tt
     told (frame_read number result) is = tt
     told (layout_upgraded result) is = tt
+    told (times_sought times result) is = tt
     told (status_told status) is =
         record {
           next = is.next;
@@ -333,6 +359,7 @@ pending-bare waiting (clip_unlocked id result) = refl
 pending-bare waiting (frame_read number result) = refl
 pending-bare waiting (status_told status) = refl
 pending-bare waiting (layout_upgraded result) = refl
+pending-bare waiting (times_sought times result) = refl
 
 after-bare : (k : Rules) (s : DeskState) (c : DeskCall) → desk_after k (bare_state s) (bare_call c) ≡ bare_state
     (desk_after k s c)

@@ -6,18 +6,19 @@ use Rattle.std.specs.Prelude.{◌%◌, ◌==◌}
 use Rattle.loop_disk.specs.Medium.{Medium, IsSound}
 use Rattle.loop_record.specs.declared.clip.Span.{Span}
 use Rattle.loop_record.specs.declared.frame.FrameHead.{FrameHead}
+use Rattle.loop_record.specs.declared.times.Times.{Times}
 use Rattle.loop_record.specs.Geometry.{frame_bytes}
 use Rattle.loop_record.specs.Recording.{Picture, last_number, ring_of}
 use Rattle.loop_store.specs.declared.fault.StoreFault.{StoreFault}
 use Rattle.loop_store.specs.declared.fault.StoreFault.TheVariants.{MustReopen, NumbersSpent, PendingFull, WrongSize}
-use Rattle.loop_store.specs.Calls.{Call, after_calls, appended, locked, unlocked, upgraded, was_read}
+use Rattle.loop_store.specs.Calls.{Call, after_calls, appended, locked, unlocked, upgraded, was_read, sought}
 use Rattle.loop_store.specs.Goes.{Goes, Stands, TellsState}
 use Rattle.loop_store.specs.Reopen.{TellsOne}
 use Rattle.loop_store.specs.Seen.{Seen}
 use Rattle.loop_store.proofs.Gone.{goes-none}
 use Rattle.loop_store.proofs.Putting.{answered-fine, answered-number}
 use Rattle.loop_desk.specs.declared.limits.Flushed.{Flushed}
-use Rattle.loop_desk.specs.Desk.{DeskCall, DeskState, IsFlush, IsDeskTold, append_of, appended_as, clip_locked, clip_unlocked, flushed, frame_read, group_of, layout_upgraded, pending_after, status_told, store_calls, submit_answer, submitted}
+use Rattle.loop_desk.specs.Desk.{DeskCall, DeskState, IsFlush, IsDeskTold, append_of, appended_as, clip_locked, clip_unlocked, flushed, frame_read, group_of, layout_upgraded, pending_after, status_told, store_calls, submit_answer, submitted, times_sought}
 use Rattle.loop_desk.specs.declared.limits.Status.{Status}
 use Rattle.loop_desk.specs.Seen.{DeskGoes, SeenDesk, TellsDesk, TellsStatus, rules_of}
 
@@ -75,6 +76,10 @@ module _ {D : Type 0} (medium : D → Medium) (d : SeenDesk D) where
       → Goes medium d.store new (was_read number result ∷ []) → DeskGoes medium d (with_store d new d.pending)
       (frame_read number result ∷ [])
   goes-read new number result goes = called new d.pending (frame_read number result) (was_read number result ∷ []) goes (λ s at. (refl, tt)) refl
+
+  pub goes-sought : (times : Times) (result : Result (List Span) StoreFault)
+      → Goes medium d.store d.store (sought times result ∷ []) → DeskGoes medium d d (times_sought times result ∷ [])
+  goes-sought times result goes = called d.store d.pending (times_sought times result) (sought times result ∷ []) goes (λ s at. (refl, tt)) refl
 
   -- ---- a status
 

@@ -6,10 +6,11 @@ use Rattle.loop_disk.specs.declared.fault.DiskFault.{DiskFault}
 use Rattle.loop_record.specs.declared.clip.Span.{Span}
 use Rattle.loop_record.specs.declared.frame.FrameHead.{FrameHead}
 use Rattle.loop_record.specs.declared.geometry.Geometry.{Geometry}
+use Rattle.loop_record.specs.declared.times.Times.{Times}
 use Rattle.loop_record.specs.Geometry.{frame_bytes}
 use Rattle.loop_record.specs.Recording.{Picture, Step, last_number, lock, recycle, ring_of, store, unlock}
 use Rattle.loop_record.specs.Turns.{after_all, told_in, EachIn, Machine}
-use Rattle.loop_store.specs.Calls.{AreAnswered, Call, StoreState, after_calls, appended, locked, unlocked, upgraded, was_read}
+use Rattle.loop_store.specs.Calls.{AreAnswered, Call, StoreState, after_calls, appended, locked, unlocked, upgraded, was_read, sought}
 use Rattle.loop_store.specs.Faults.{failed_in}
 use Rattle.loop_store.specs.declared.fault.StoreFault.{StoreFault}
 use Rattle.loop_store.specs.declared.fault.StoreFault.TheVariants.{MustReopen, NumbersSpent, PendingFull, WrongSize}
@@ -32,6 +33,7 @@ pub data DeskCall : Type 0 where
   frame_read : ℕ → Result (FrameHead × List ℕ) StoreFault → DeskCall
   status_told : Status → DeskCall
   layout_upgraded : Result Bool StoreFault → DeskCall
+  times_sought : Times → Result (List Span) StoreFault → DeskCall
 
 -- what is recorded and in which version of the layout, how many of the newest blocks are kept, whether a call that
 -- writes has failed, and what waits
@@ -66,6 +68,7 @@ store_calls k s (clip_unlocked id result) = unlocked id result ∷ []
 store_calls k s (frame_read number result) = was_read number result ∷ []
 store_calls k s (status_told status) = []
 store_calls k s (layout_upgraded result) = upgraded result ∷ []
+store_calls k s (times_sought times result) = sought times result ∷ []
 
 -- the call of the disk that failed, if the answer says that one did
 abbrev pub desk_failed_for : DeskCall → Option DiskFault
@@ -76,6 +79,7 @@ desk_failed_for (clip_unlocked id result) = failed_in result
 desk_failed_for (frame_read number result) = failed_in result
 desk_failed_for (status_told status) = None
 desk_failed_for (layout_upgraded result) = failed_in result
+desk_failed_for (times_sought times result) = failed_in result
 
 -- ---- a desk after a call
 

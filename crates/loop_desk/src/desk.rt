@@ -5,9 +5,9 @@ ghost use Rattle.circular_buffer.specs.Buffer.{buffer};
 ghost use Rattle.loop_record.specs.Geometry.{frame_bytes};
 ghost use Rattle.loop_record.specs.Plain.{pictures};
 ghost use Rattle.loop_record.specs.Recording.{last_number, picture, ring_of};
-ghost use Rattle.loop_desk.specs.Desk.{DeskState, clip_locked, clip_unlocked, flushed, frame_read, layout_upgraded, submit_answer, submitted};
+ghost use Rattle.loop_desk.specs.Desk.{DeskState, clip_locked, clip_unlocked, flushed, frame_read, layout_upgraded, submit_answer, submitted, times_sought};
 ghost use Rattle.loop_desk.specs.Seen.{DeskGoes, IsDesk, Opens, OutlineRefuses, SeenDesk, TellsDesk, TellsOutline, TellsStatus, answer_of, rules_of};
-ghost use Rattle.loop_store.specs.Calls.{read_with};
+ghost use Rattle.loop_store.specs.Calls.{read_with, runs_with};
 ghost use Rattle.loop_store.specs.Reopen.{TellsOne};
 ghost use Rattle.loop_store.specs.Runs.{read_of};
 ghost use Rattle.loop_store.specs.Seen.{Refused};
@@ -16,7 +16,7 @@ use crate::group::append_first;
 use crate::{DeskLimits, Flushed, Outline, Status};
 use circular_buffer::HeapCircularBuffer;
 use loop_disk::Disk;
-use loop_record::{Frame, FrameHead, Geometry};
+use loop_record::{Frame, FrameHead, Geometry, Span, Times};
 use loop_store::laws::{a_store_is_opened, a_store_tells};
 use loop_store::{ReadFrame, Store, StoreFault};
 use std::alloc::{Allocator, Global};
@@ -302,6 +302,15 @@ impl<D: Disk + Drop, A: Allocator + Copy> Desk<D, A> {
     {
         let spare = self.spare_for(number);
         self.store.read_frame_in(alloc, spare, number)
+    }
+
+    /// The held frames whose times are among these, as runs of their numbers, from memory, as `Store::sought`. A frame
+    /// that waits isn't held yet.
+    pub fn sought(&self, alloc: A, times: Times) -> Result<Vec<Span, A>, StoreFault>
+        ensures { DeskGoes D.medium self.now self.now
+            (times_sought times (runs_with (λ runs. runs.items) result) ∷ []) }
+    {
+        self.store.sought(alloc, times)
     }
 
     /// What the desk holds: the version of the layout, how many of the newest blocks never go, the next number, the

@@ -21,8 +21,9 @@ use Rattle.loop_recorder.specs.declared.entry.Pass.{Pass}
 use Rattle.loop_recorder.specs.declared.fault.SessionFault.{SessionFault}
 use Rattle.loop_recorder.specs.declared.keep.Kept.{Kept}
 use Rattle.loop_recorder.specs.declared.keep.Run.{Run}
-use Rattle.loop_recorder.specs.declared.keep.Times.{Times}
-use Rattle.loop_recorder.specs.Keeps.{KeepsHeld, KeepsNumbers, Locks, Notes, Seeks, head_note, is_in, lock_noted, numbers_of_run, numbers_of_runs, read_noted, run_in, runs_in}
+use Rattle.loop_record.specs.declared.times.Times.{Times}
+use Rattle.loop_record.specs.Times.{is_in}
+use Rattle.loop_recorder.specs.Keeps.{KeepsHeld, KeepsNumbers, Locks, Notes, Seeks, head_note, lock_noted, numbers_of_run, numbers_of_runs, read_noted, run_in, runs_in}
 use Rattle.loop_recorder.specs.Receipts.{lock_note}
 use Rattle.loop_recorder.proofs.Noting.{notes-joined, notes-none}
 use Rattle.loop_recorder.proofs.Sought.{sought}

@@ -18,9 +18,10 @@ use Rattle.loop_desk.proofs.Blind.{blind}
 use Rattle.loop_desk.proofs.Frames.{each-parts}
 use Rattle.loop_desk.proofs.Modelling.{answers-are}
 use Rattle.loop_recorder.specs.declared.entry.Noted.{Noted}
-use Rattle.loop_recorder.specs.declared.keep.Times.{Times}
+use Rattle.loop_record.specs.declared.times.Times.{Times}
+use Rattle.loop_record.specs.Times.{is_in, numbers_in_time}
 use Rattle.loop_recorder.specs.Histories.{noted_call}
-use Rattle.loop_recorder.specs.Keeps.{is_in, numbers_in_time, read_noted}
+use Rattle.loop_recorder.specs.Keeps.{read_noted}
 
 -- a head is that of the frame under its number
 abbrev IsTold : List (ℕ × Picture) → ℕ × FrameHead → Type 0

@@ -1,12 +1,13 @@
 -- What a keep locks: the held frames of a time, by their numbers.
-use Rattle.std.specs.Prelude.{◌≡◌, ℕ, ◌+◌, ◌-◌, Bool, ◌&&◌, nat_le, Option, None, Result, Ok, List, [], ◌∷◌, ◌++◌, All, OnOk, length, map}
+use Rattle.std.specs.Prelude.{◌≡◌, ℕ, ◌+◌, ◌-◌, Option, None, Result, Ok, List, [], ◌∷◌, ◌++◌, All, OnOk, length, map}
 use Rattle.std.specs.List.{filter, flat_map, range_with_len}
 use Rattle.std.specs.Option.{option_map}
 use Rattle.loop_clips.specs.declared.clip.Clip.{Clip}
 use Rattle.loop_disk.specs.Medium.{Medium}
 use Rattle.loop_record.specs.declared.clip.Span.{Span}
 use Rattle.loop_record.specs.declared.frame.FrameHead.{FrameHead}
-use Rattle.loop_record.specs.Recording.{Recording}
+use Rattle.loop_record.specs.declared.times.Times.{Times}
+use Rattle.loop_record.specs.Times.{is_in, numbers_in_time}
 use Rattle.loop_desk.specs.Bare.{bare_call}
 use Rattle.loop_desk.specs.Desk.{DeskCall, DeskState}
 use Rattle.loop_desk.specs.Seen.{DeskGoes, SeenDesk, StandsAt}
@@ -18,20 +19,11 @@ use Rattle.loop_recorder.specs.declared.entry.Receipt.{Receipt}
 use Rattle.loop_recorder.specs.declared.fault.SessionFault.{SessionFault}
 use Rattle.loop_recorder.specs.declared.keep.Kept.{Kept}
 use Rattle.loop_recorder.specs.declared.keep.Run.{Run}
-use Rattle.loop_recorder.specs.declared.keep.Times.{Times}
 use Rattle.loop_recorder.specs.Histories.{noted_call}
 use Rattle.loop_recorder.specs.Receipts.{entry, heard, pass_number, receipt, receipts_of}
 use Rattle.loop_recorder.specs.Sessions.{SeenSession}
 
 -- ---- what is kept
-
--- a moment is among the times
-abbrev pub is_in : Times → ℕ → Bool
-is_in times moment = nat_le times.since moment && nat_le moment times.until
-
--- the numbers of the held frames whose time is among these, in their order
-abbrev pub numbers_in_time : Times → Recording → List ℕ
-numbers_in_time times r = map (λ f. f.0) (filter (λ f. is_in times f.1.timestamp) r.frames)
 
 -- the numbers from the first of a run to its last
 abbrev pub numbers_of_run : Run → List ℕ

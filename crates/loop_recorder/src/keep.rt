@@ -3,34 +3,16 @@
 ghost use Rattle.std.specs.Prelude.{◌≡◌, ◌∷◌, ◌++◌, ◌≤◌, OnOk, Some, [], length, vec_len};
 ghost use Rattle.std.specs.Option.{option_to_list};
 ghost use Rattle.std.specs.Vec.{vec_capacity};
-ghost use Rattle.loop_recorder.specs.Keeps.{KeepsHeld, KeepsNumbers, Locks, Notes, Seeks, head_note, is_in, numbers_of_run, numbers_of_runs};
+ghost use Rattle.loop_recorder.specs.Keeps.{KeepsHeld, KeepsNumbers, Locks, Notes, Seeks, head_note, numbers_of_run, numbers_of_runs};
 ghost use Rattle.loop_recorder.specs.Receipts.{lock_note};
 
 use crate::session::{note, reserve};
 use crate::{Entry, Noted, Pass, SessionFault};
 use loop_desk::Desk;
 use loop_disk::Disk;
-use loop_record::{FrameHead, Span};
+use loop_record::{FrameHead, Span, Times};
 use loop_store::Clip;
 use std::alloc::{AllocError, Allocator, Global};
-
-/// The time from one moment to another, both among it, in microseconds.
-#[derive(Clone, Copy, Debug, PartialEq, Eq)]
-pub struct Times {
-    /// The first moment.
-    pub since: u64,
-    /// The last moment.
-    pub until: u64,
-}
-
-impl Times {
-    /// Whether a moment is among them.
-    pub fn has(&self, moment: u64) -> bool
-        ensures { result ≡ is_in self.now moment }
-    {
-        self.since <= moment && moment <= self.until
-    }
-}
 
 /// What a keep locked.
 #[derive(Drop)]

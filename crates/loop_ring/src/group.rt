@@ -1,16 +1,19 @@
 // A group of frames, put together before it is written.
-ghost use Rattle.std.specs.Prelude.{◌≡◌, ◌+◌, ◌*◌, ◌<◌, ◌≤◌, ◌^◌, ◌∷◌, ◌++◌, [], All, IfOk, IsTrue, length, min, vec_capacity, vec_len};
+ghost use Rattle.std.specs.Prelude.{◌≡◌, ◌+◌, ◌*◌, ◌<◌, ◌≤◌, ◌^◌, ◌∷◌, ◌++◌, [], All, IfOk, IsTrue, length, min, slice_index_or, vec_capacity, vec_len};
 ghost use Rattle.loop_record.specs.Geometry.{frame_bytes, is_good};
 ghost use Rattle.loop_record.specs.Laws.{FitsSlot};
 ghost use Rattle.loop_record.specs.Layout.{slot_bytes};
 ghost use Rattle.loop_record.specs.Plain.{pictures};
-ghost use Rattle.loop_record.specs.Recording.{picture};
+ghost use Rattle.loop_record.specs.Recording.{Picture, picture};
 ghost use Rattle.loop_ring.specs.Groups.{Grouped, IsGrouped, frames_in};
 ghost use Rattle.loop_ring.specs.Writes.{slots_in, slots_of};
 
-use loop_record::{Frame, Geometry, HEAD_SIZE, encode_head};
+use loop_record::{Frame, Geometry, HEAD_SIZE, encode_head, u64_at};
 use std::alloc::{AllocError, Allocator, Global};
 use std::marker::Model;
+
+// Where a slot has the time of its frame.
+const TIME_AT: usize = 16;
 
 /// The most frames that one commit takes.
 pub const MAX_GROUP: usize = 8;
@@ -112,6 +115,17 @@ impl<A: Allocator> Group<A> {
         ensures { result ≡ self.now.first }
     {
         self.first
+    }
+
+    /// The time of a frame, by its place in the group.
+    pub fn time(&self, place: usize) -> u64
+        requires { place < length self.now.frames }
+        ensures { (d : Picture) → result ≡ (slice_index_or self.now.frames place d).timestamp }
+    {
+        u64_at(
+            &self.slots,
+            place * (HEAD_SIZE + self.frame_bytes) + TIME_AT,
+        )
     }
 
     // The slots, one behind the other.

@@ -14,7 +14,7 @@ use Rattle.loop_record.specs.Geometry.{frame_bytes, is_good}
 use Rattle.loop_record.specs.Recording.{Picture, last_number, ring_of}
 use Rattle.loop_store.specs.declared.fault.StoreFault.{StoreFault}
 use Rattle.loop_store.specs.declared.fault.StoreFault.TheVariants.{AllLocked, Damaged, Disk, MustReopen, NoMemory, NotHeld, NumbersSpent, PendingFull, WrongSize}
-use Rattle.loop_store.specs.Calls.{AnswersDue, AnswersOtherwise, Call, StoreState, appended, due, failed_for, first_of, has_failed, locked, unlocked, upgraded, was_read, was_read_part}
+use Rattle.loop_store.specs.Calls.{AnswersDue, AnswersOtherwise, Call, StoreState, appended, due, failed_for, first_of, has_failed, locked, unlocked, upgraded, was_read, was_read_part, sought}
 use Rattle.loop_store.specs.Faults.{answers_disk, failed_by, failed_in, is_disk}
 use Rattle.loop_store.specs.Goes.{Goes, Stands}
 use Rattle.loop_store.specs.Reopen.{TellsOne}
@@ -58,6 +58,7 @@ fine-call (unlocked id result) e = fine-answer result e
 fine-call (upgraded result) e = fine-answer result e
 fine-call (was_read number result) e = refl
 fine-call (was_read_part number at result) e = refl
+fine-call (sought times result) e = refl
 
 or-false : (a b : Bool) → a ≡ false → b ≡ false → (a || b) ≡ false
 or-false a b x y = rw (x, y) refl

@@ -10,7 +10,7 @@ use Rattle.loop_record.specs.declared.segment.SegmentHead.{SegmentHead}
 use Rattle.loop_record.specs.Geometry.{disk_size}
 use Rattle.loop_record.specs.Layout.{is_too_high}
 use Rattle.loop_record.specs.Reading.{Holds}
-use Rattle.loop_record.specs.Recording.{Picture, Recording, Ring, Step, last_number, needs_recycling, plain, recycling_first, ring_of, steps, store, stores_after, victim}
+use Rattle.loop_record.specs.Recording.{IsWellFormed, Picture, Recording, Ring, Step, last_number, needs_recycling, plain, recycling_first, ring_of, steps, store, stores_after, victim}
 use Rattle.loop_record.proofs.Decided.{differ_test, equal_test, not_below_test}
 use Rattle.loop_record.proofs.Steps.{plain-append, plain-stores}
 use Rattle.loop_ring.specs.Heads.{clip_counts, heads_of}
@@ -29,7 +29,12 @@ use Rattle.loop_store.specs.Seen.{StandsFor, Tells, seen_with}
 use Rattle.loop_store.specs.Steps.{steps_or_none}
 use Rattle.loop_record.proofs.Bounds.{limits}
 use Rattle.loop_store.proofs.Alike.{appended-same, place-same}
-use Rattle.loop_store.proofs.Looks.{alike-by, known-by, same-tells, told-by}
+use Rattle.loop_store.specs.Times.{AreTimes, HasTimes, time_under}
+use Rattle.loop_store.proofs.Looks.{alike-by, known-by, times-in, times-known, told-as}
+use Rattle.loop_store.proofs.Room.{one-recording}
+use Rattle.loop_store.proofs.Same.{IsSame, itself}
+use Rattle.loop_store.proofs.Timed.{grown-times}
+use Rattle.loop_record.proofs.Form.{reading-well_formed}
 use Rattle.loop_store.proofs.Regrown.{Regrown, known-drawn, regrown}
 
 -- ---- the steps
@@ -191,6 +196,13 @@ pub record Grew {D : Type 0} (medium : D → Medium) (g : Geometry) (keep : ℕ)
 pub noted-at : {A : Type 0} (old new : Index A) (i j n : ℕ) → i ≡ j → IsNoted old new i n → IsNoted old new j n
 noted-at old new i j n at noted = subst (λ (k : ℕ). IsNoted old new k n) at noted
 
+-- the times of the group are those in the slots from the next number on
+abbrev pub IsPut : {A : Type 0} → Index A → Index A → ℕ → List Picture → Type 0
+IsPut was now j ps = HasTimes was.times.items now.times.items (j * was.ring.geometry.slots + was.next % was.ring.geometry.slots) ps
+
+pub put-at : {A : Type 0} (old new : Index A) (i j : ℕ) (ps : List Picture) → i ≡ j → IsPut old new i ps → IsPut old new j ps
+put-at old new i j ps at put = subst (λ (k : ℕ). IsPut old new k ps) at put
+
 -- it says all of the recording with the steps of the append
 grown-known : {D A : Type 0} (medium : D → Medium) (old new : D) (was now : Index A) (n j : ℕ) (ps : List Picture)
     (r : Recording) → IsNoted was now j n → Grew medium was.ring.geometry was.table.keep old new was.next n j ps
@@ -211,8 +223,9 @@ grown-known medium old new was now n j ps r noted grew honest known =
 
 grown-index : {A : Type 0} (was now : Index A) (n j : ℕ) → IsNoted was now j n → IsIndex was
     → 1 ≤ was.ring.geometry.slots → was.next ≢ last_number (ring_of was.ring.geometry)
-    → was.next % was.ring.geometry.slots + n ≤ was.ring.geometry.slots → IsIndex now
-grown-index was now n j noted whole some unspent room =
+    → was.next % was.ring.geometry.slots + n ≤ was.ring.geometry.slots → length now.times.items ≡ length was.times.items
+    → IsIndex now
+grown-index was now n j noted whole some unspent room long =
     let g = was.ring.geometry in
     let keep = was.table.keep in
     let same : now.ring.geometry ≡ g = ap (λ (x : LoopRing). x.geometry) noted.ring in
@@ -225,6 +238,7 @@ grown-index was now n j noted whole some unspent room =
       within = subst (λ (h : Geometry). All (IsHeadIn h) now.table.heads) (sym same) (subst (All (IsHeadIn g)) (sym noted.heads) within);
       few = subst (λ (h : Geometry). now.next ≤ last_number (ring_of h)) (sym same) (subst (λ (k : ℕ). k ≤ last_number (ring_of g)) (sym noted.next) few);
       counted = noted.counted ∙ (λ i. clip_counts (ring_of (sym same i)) (sym noted.clips i) now.table.heads);
+      places = long ∙ whole.places ∙ (λ i. (sym same i).segments * (sym same i).slots);
     }
 
 -- what is known of the place of an append, whatever the disk
@@ -269,14 +283,42 @@ has-grown was now place n known whole noted placed =
     (noted.next ∙ (λ i. next i + sym back.size i) ∙ sym (appended-next g keep r back.pictures)) (known.known.clips_are ∙ sym (appended-clips g keep r back.pictures)) in
     record { pictures = back.pictures; size = back.size; known = all }
 
+times-grown : {A : Type 0} (was now : Index A) (r0 r1 r : Recording) (image image' : List ℕ) (ps : List Picture) (n j : ℕ)
+    → IsIndexOf was r0 image → IsIndexOf now r1 image' → IsNoted was now j n → n ≡ length ps
+    → j < was.ring.geometry.segments → was.next % was.ring.geometry.slots + n ≤ was.ring.geometry.slots → IsSame r0 r
+    → IsSame r1 (plain (ring_of was.ring.geometry) r (steps_before was.ring.geometry was.table.keep r ++ map store ps))
+    → IsWellFormed r → was.next ≡ r.next → IsPut was now j ps → AreTimes (times-in was) r
+    → AreTimes (times-in now) (plain (ring_of was.ring.geometry) r (steps_before was.ring.geometry was.table.keep r ++ map store ps))
+times-grown was now r0 r1 r image image' ps n j known known' noted count low room same same' formed next put times =
+    let g = was.ring.geometry in
+    let keep = was.table.keep in
+    let t = plain (ring_of g) r (steps_before g keep r ++ map store ps) in
+    let geometry : now.ring.geometry ≡ g = ap (λ (x : LoopRing). x.geometry) noted.ring in
+    subst (λ (h : Geometry). AreTimes (time_under h.slots now.table.heads now.times.items) t) (sym geometry)
+    (grown-times g keep was.table.heads now.table.heads was.times.items now.times.items j r0 r1 r image image' ps (record {
+      some = (limits g was.ring.good).slots.0;
+      low = low;
+      room = subst (λ (k : ℕ). k % g.slots + length ps ≤ g.slots) next (subst (λ (k : ℕ). was.next % g.slots + k ≤ g.slots) count room);
+      formed = formed;
+      held = known.held;
+      heads_are = known.heads_are;
+      held' = subst (λ (h : Geometry). Holds h r1 image') geometry known'.held;
+      heads_are' = known'.heads_are ∙ ap (λ (h : Geometry). heads_of h image') geometry;
+      noted = noted.heads ∙ (λ i. set was.table.heads j (Some (head_after g (next i) (count i))));
+      same = same;
+      same' = same';
+      put = subst (λ (k : ℕ). HasTimes was.times.items now.times.items (j * g.slots + k % g.slots) ps) next put;
+      known = times;
+    }))
+
 pub kept-grown : {D A : Type 0} (medium : D → Medium) (old new : D) (was now : Index A) (place : Place) (n j : ℕ)
     (ps : List Picture) (must : Bool) → IsKept medium old was must → must ≡ false → j ≡ place_segment place
     → IsPlaced was place n → IsNoted was now j n → (medium new).size ≡ (medium old).size
-    → Grew medium was.ring.geometry was.table.keep old new was.next n j ps → IsKept medium new now must
-kept-grown medium old new was now place n j ps must kept fine at placed noted size grew = record {
+    → Grew medium was.ring.geometry was.table.keep old new was.next n j ps → IsPut was now j ps → IsKept medium new now must
+kept-grown medium old new was now place n j ps must kept fine at placed noted size grew put = record {
   fits = record {
     size_is = size ∙ kept.fits.size_is ∙ ap disk_size (sym (ap (λ (x : LoopRing). x.geometry) noted.ring));
-    whole = grown-index was now n j noted kept.fits.whole (limits was.ring.geometry was.ring.good).slots.0 placed.unspent placed.room;
+    whole = grown-index was now n j noted kept.fits.whole (limits was.ring.geometry was.ring.good).slots.0 placed.unspent placed.room put.long;
   };
   known =
       let grown = has-grown was now place n kept.known kept.fits.whole (noted-at was now j (place_segment place) n at noted) placed in record {
@@ -289,6 +331,7 @@ kept-grown medium old new was now place n j ps must kept fine at placed noted si
         version = (grew.grown back).version ∙ (kept.present fine back).version ∙ sym noted.version;
         settled = grew.settled back;
         unstray = subst (λ (h : Geometry). HasNoneStray h (medium new).bytes) (sym (ap (λ (x : LoopRing). x.geometry) noted.ring)) (grew.grown back).unstray;
+        timed = record { each = λ r held. timed honest r held };
       };
 }
   where
@@ -301,13 +344,25 @@ kept-grown medium old new was now place n j ps must kept fine at placed noted si
           known = grown-known medium old new was now n j ps there.recording noted grew back there.known;
         }
 
+    timed : (medium new).honest → (r : Recording) → Holds now.ring.geometry r (medium new).bytes → AreTimes (times-in now) r
+    timed honest r held =
+        let back = grew.back honest in
+        let there = (kept.present fine back).recorded in
+        let g = was.ring.geometry in
+        let t = plain (ring_of g) there.recording (steps_before g was.table.keep there.recording ++ map store ps) in
+        subst (AreTimes (times-in now)) (one-recording now.ring.geometry t r (medium new).bytes (recorded honest).known.held held)
+        (times-grown was now there.recording t there.recording (medium old).bytes (medium new).bytes ps n j there.known
+        (recorded honest).known noted grew.count (subst (λ (k : ℕ). k < g.segments) (sym at) placed.within) placed.room
+        (itself there.recording) (itself t) (reading-well_formed g there.recording (medium old).bytes there.known.held) there.known.next_is put
+        ((kept.present fine back).timed.each there.recording there.known.held))
+
 -- each recording that the store told of before, with the steps of the append
 pub told-grown : {D A : Type 0} (medium : D → Medium) (old new : D) (was now : Index A) (place : Place) (n j : ℕ)
     (ps : List Picture) (must : Bool) (r : Recording) → (kept : IsKept medium old was must)
     → Tells (seen_with old was must) r → j ≡ place_segment place
-    → IsPlaced was place n → IsNoted was now j n → n ≡ length ps → Tells (seen_with new now must)
+    → IsPlaced was place n → IsNoted was now j n → n ≡ length ps → IsPut was now j ps → Tells (seen_with new now must)
     (plain (ring_of was.ring.geometry) r (steps_or_none (steps (ring_of was.ring.geometry) was.table.keep r ps)))
-told-grown medium old new was now place n j ps must r kept told_before at placed noted count =
+told-grown medium old new was now place n j ps must r kept told_before at placed noted count put =
     let g = was.ring.geometry in
     let keep = was.table.keep in
     let some = (limits g was.ring.good).slots.0 in
@@ -321,25 +376,27 @@ told-grown medium old new was now place n j ps must r kept told_before at placed
     in
     let slots : 1 ≤ now.ring.geometry.slots = subst (λ (h : Geometry). 1 ≤ h.slots) (sym (ap (λ (x : LoopRing). x.geometry) noted.ring)) some in
     let t0 = plain (ring_of g) r0 (steps_before g keep r0 ++ map store grown.pictures) in
-    let told : Tells (seen_with new now must) t0 =
-    told-by new now must t0 (drawn_image now.ring.geometry now.table.heads now.clips) slots
-    (grown-index was now n j noted kept.fits.whole some placed.unspent placed.room).within grown.known in
+    let t = plain (ring_of g) r (steps_before g keep r ++ map store ps) in
+    let numbers = appended-same g keep r0 r grown.pictures ps same (grown.size ∙ count) in
     subst (λ (l : List Step). Tells (seen_with new now must) (plain (ring_of g) r l)) steps_are
-    (same-tells (seen_with new now must) t0 (plain (ring_of g) r (steps_before g keep r ++ map store ps)) told
-    (appended-same g keep r0 r grown.pictures ps same (grown.size ∙ count)))
+    (told-as new now must t0 t (drawn_image now.ring.geometry now.table.heads now.clips) slots
+    (grown-index was now n j noted kept.fits.whole some placed.unspent placed.room put.long).within grown.known numbers
+    (times-grown was now r0 t0 r (drawn_image g was.table.heads was.clips) (drawn_image now.ring.geometry now.table.heads now.clips)
+    ps n j kept.known.known grown.known noted count (subst (λ (k : ℕ). k < g.segments) (sym at) placed.within) placed.room same numbers
+    told_before.formed told_before.next_is put (times-known old was must r told_before)))
 
 -- it stands for that one, and where the disk is honest the disk holds it
 pub stands-grown : {D A : Type 0} (medium : D → Medium) (old new : D) (was now : Index A) (place : Place) (n j : ℕ)
     (ps : List Picture) (must : Bool) (r : Recording) → (kept : IsKept medium old was must) → must ≡ false
     → StandsFor medium (seen_with old was must) r → j ≡ place_segment place
     → IsPlaced was place n → IsNoted was now j n → Grew medium was.ring.geometry was.table.keep old new was.next n j ps
-    → StandsFor medium (seen_with new now must)
+    → IsPut was now j ps → StandsFor medium (seen_with new now must)
     (plain (ring_of was.ring.geometry) r (steps_or_none (steps (ring_of was.ring.geometry) was.table.keep r ps)))
-stands-grown medium old new was now place n j ps must r kept fine stands at placed noted grew =
+stands-grown medium old new was now place n j ps must r kept fine stands at placed noted grew put =
     let g = was.ring.geometry in
     let keep = was.table.keep in
     let t : Recording = plain (ring_of g) r (steps_or_none (steps (ring_of g) keep r ps)) in record {
-      told = told-grown medium old new was now place n j ps must r kept stands.told at placed noted grew.count;
+      told = told-grown medium old new was now place n j ps must r kept stands.told at placed noted grew.count put;
       settled = λ still there. grew.settled (grew.back there);
       held = λ still there.
           let back = grew.back there in

@@ -6,7 +6,7 @@ use Rattle.loop_store.specs.declared.fault.StoreFault.TheVariants as kind
 use Rattle.loop_store.specs.Faults.{is_disk, is_write_fault}
 use Rattle.loop_store.specs.declared.fault.StoreFault.TheVariants.{MustReopen}
 use Rattle.loop_record.specs.Recording.{ring_of}
-use Rattle.loop_store.specs.Calls.{AnswersDue, AreAnswered, Call, IsAnswered, AnswersOtherwise, StoreState, after_store_call, appended, locked, unlocked, was_read, was_read_part, upgraded, checks, checks_on, due, fault_answered, first_of}
+use Rattle.loop_store.specs.Calls.{AnswersDue, AreAnswered, Call, IsAnswered, AnswersOtherwise, StoreState, after_store_call, appended, locked, unlocked, was_read, was_read_part, sought, upgraded, checks, checks_on, due, fault_answered, first_of}
 
 -- ---- which is the first
 
@@ -108,6 +108,8 @@ otherwise-as H K s (was_read number (Err fault)) f (inr (inl x)) = inr (inl x)
 otherwise-as H K s (was_read number (Err fault)) f (inr (inr x)) = inr (inr (x.0, λ k. x.1 (f k)))
 otherwise-as H K s (was_read_part number at (Err fault)) f (inl x) = inl x
 otherwise-as H K s (was_read_part number at (Err fault)) f (inr x) = inr (x.0, λ k. x.1 (f k))
+otherwise-as H K s (sought times (Ok runs)) f x = x
+otherwise-as H K s (sought times (Err fault)) f x = x
 otherwise-as H K s (appended group (Err fault)) f x = x
 otherwise-as H K s (locked span (Err fault)) f x = x
 otherwise-as H K s (unlocked id (Err fault)) f x = x

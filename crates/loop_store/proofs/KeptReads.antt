@@ -1,5 +1,5 @@
 -- A read of a frame by a store that needn't be reopened.
-use Rattle.std.proofs.Common.{◌≡◌, ℕ, ◌<◌, Bool, true, false, None, Option, Result, Err, List, [], ◌∷◌, get_or, refl, sym, ◌∙◌, subst}
+use Rattle.std.proofs.Common.{◌≡◌, ℕ, ◌<◌, Bool, true, false, None, Option, Result, Err, List, [], ◌∷◌, get_or, refl, sym, ◌∙◌, subst, Ok, map}
 use Rattle.loop_disk.specs.Medium.{Medium, IsSound}
 use Rattle.loop_record.specs.declared.frame.FrameHead.{FrameHead}
 use Rattle.loop_record.specs.declared.segment.SegmentHead.{SegmentHead}
@@ -7,18 +7,24 @@ use Rattle.loop_record.specs.Recording.{Recording, holds}
 use Rattle.loop_record.proofs.Decided.{clash}
 use Rattle.loop_ring.specs.Heads.{has_number}
 use Rattle.loop_store.specs.declared.fault.StoreFault.{StoreFault}
-use Rattle.loop_store.specs.declared.fault.StoreFault.TheVariants.{NotHeld}
+use Rattle.loop_store.specs.declared.fault.StoreFault.TheVariants.{NotHeld, NoMemory}
 use Rattle.loop_store.specs.declared.index.Index.{Index}
-use Rattle.loop_store.specs.Calls.{read_with, was_read}
+use Rattle.loop_store.specs.Calls.{read_with, was_read, sought}
 use Rattle.loop_store.specs.Drawn.{drawn_image}
 use Rattle.loop_store.specs.Goes.{Goes, Stands}
 use Rattle.loop_store.specs.Index.{IsIndexOf}
 use Rattle.loop_store.specs.Look.{AnswersFrame, ReadsHeld}
 use Rattle.loop_store.specs.Seen.{seen_with}
 use Rattle.loop_store.specs.Store.{IsKept}
-use Rattle.loop_store.proofs.Looks.{alike-by, known-by, one-kept, there-alike}
-use Rattle.loop_store.proofs.Reading.{goes-looked, goes-unread, look-read, read-answered, read-failed, read-late, read-missing}
+use Rattle.loop_store.proofs.Looks.{alike-by, known-by, one-kept, there-alike, times-in, times-known}
+use Rattle.loop_store.proofs.Reading.{goes-looked, goes-unread, look-read, look-sought, read-answered, read-failed, read-late, read-missing}
+use Rattle.std.specs.List.{filter}
+use Rattle.loop_record.specs.declared.clip.Span.{Span}
+use Rattle.loop_record.specs.declared.times.Times.{Times}
+use Rattle.loop_record.specs.Times.{AreRuns, is_in}
+use Rattle.loop_store.proofs.Checked.{answer-given}
 use Rattle.loop_store.proofs.Same.{holds-same}
+use Rattle.loop_store.proofs.Seeking.{sought-numbers}
 
 module _ {D A : Type 0} (medium : D → Medium) (disk : D) (index : Index A) (must : Bool)
     (kept : IsKept medium disk index must) (fine : must ≡ false)
@@ -59,3 +65,27 @@ module _ {D A : Type 0} (medium : D → Medium) (disk : D) (index : Index A) (mu
       read-missing H index.ring.geometry t number (sym told.must_reopen ∙ fine)
       (sym (holds-same known.recording t.recording number same) ∙ missing known.recording
       (drawn_image index.ring.geometry index.table.heads index.clips) known.known))
+
+  -- of the frames of a time
+  pub goes-sought : (times : Times) (runs : List Span)
+      → ((r : Recording) (image : List ℕ) → IsIndexOf index r image
+      → AreRuns (filter (λ n. is_in times (times-in index n)) (map (λ f. f.0) r.frames)) runs)
+      → Goes medium (seen_with disk index must) (seen_with disk index must) (sought times (Ok runs) ∷ [])
+  goes-sought times runs are =
+      goes-unread medium (seen_with disk index must) (sought times (Ok runs)) (look-sought times (Ok runs))
+      (one-kept medium disk index must kept) sound refl (λ H t told.
+      let known = kept.known in
+      let same = alike-by medium disk index must t.recording kept told.recording in
+      let found = are known.recording (drawn_image index.ring.geometry index.table.heads index.clips) known.known in
+      answer-given H index.ring.geometry t (sought times (Ok runs)) (sym told.must_reopen ∙ fine) refl
+      (subst (λ (ns : List ℕ). AreRuns ns runs)
+      (sought-numbers times (times-in index) t.recording told.recording.formed (times-known disk index must t.recording told.recording))
+      (subst (λ (ns : List ℕ). AreRuns (filter (λ n. is_in times (times-in index n)) ns) runs) same.numbers found)))
+
+  -- and where memory was refused
+  pub goes-crammed : (times : Times)
+      → Goes medium (seen_with disk index must) (seen_with disk index must) (sought times (Err NoMemory) ∷ [])
+  goes-crammed times =
+      goes-unread medium (seen_with disk index must) (sought times (Err NoMemory)) (look-sought times (Err NoMemory))
+      (one-kept medium disk index must kept) sound refl (λ H t told.
+      answer-given H index.ring.geometry t (sought times (Err NoMemory)) (sym told.must_reopen ∙ fine) refl refl)

@@ -1,4 +1,7 @@
 pub mod Answered
+pub mod Timing
+pub mod Timed
+pub mod Seeking
 pub mod Formatting
 pub mod Formatted
 pub mod NewStore

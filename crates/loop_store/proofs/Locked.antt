@@ -1,6 +1,6 @@
 -- What a lock and an unlock make of an image, of what is known of it, and of a store.
 use Rattle.std.proofs.Common.{◌≡◌, ◌≢◌, ◌⊎◌, inl, inr, ℕ, suc, ◌+◌, ◌-◌, ◌*◌, ◌^◌, ◌/◌, ◌%◌, ◌<◌, ◌≤◌, Bool, true, false, not, ◌&&◌, eqb, leb, ltb, if◌then◌else◌, is_some, Option, None, Some, Result, Ok, Err, List, [], ◌∷◌, length, get_or, set, map, refl, sym, ap, ◌∙◌, subst, arith}
-use Rattle.std.proofs.Math.Nat.{add-mul, mul-div-le}
+use Rattle.std.proofs.Math.Nat.{add-mul, div-add-mod', mul-div-le}
 use Rattle.std.proofs.lemmas.Bool.{cases_lt}
 use Rattle.std.proofs.lemmas.List.{length-map, set-get_or}
 use Rattle.std.proofs.lemmas.Result.{on_ok_weaker}
@@ -18,7 +18,7 @@ use Rattle.loop_record.specs.Change.{ShowsClip}
 use Rattle.loop_record.specs.Geometry.{clip_at, disk_size, gate_at, segment_at, segment_size}
 use Rattle.loop_record.specs.Layout.{clip_in}
 use Rattle.loop_record.specs.Reading.{Holds, Parts, parts_of, shown_by}
-use Rattle.loop_record.specs.Recording.{IsWellFormed, Recording, Step, after_step, holds_all, clip_of, first_free, free_id, holds, last_number, lock, plain, ring_of, unlock}
+use Rattle.loop_record.specs.Recording.{IsWellFormed, Picture, Recording, frame_under, Step, after_step, holds_all, clip_of, first_free, free_id, holds, last_number, lock, plain, ring_of, unlock}
 use Rattle.loop_record.proofs.Clips.{clip_of-entry, clips-are, parts-clip, reading-clip, reading-lock, reading-unlock}
 use Rattle.loop_record.proofs.Bounds.{limits}
 use Rattle.loop_record.proofs.Form.{reading-well_formed}
@@ -47,11 +47,13 @@ use Rattle.loop_store.specs.Found.{IsHeadIn}
 use Rattle.loop_store.specs.Store.{IsKept, IsPresent}
 use Rattle.loop_store.specs.Seen.{Seen, StandsFor, Tells, seen_with}
 use Rattle.loop_store.specs.Numbers.{is_among}
+use Rattle.loop_store.specs.Times.{AreTimes, time_under}
+use Rattle.loop_store.proofs.Room.{one-recording}
 use Rattle.loop_store.proofs.Grown.{held-some}
 use Rattle.loop_store.proofs.Looked.{missing-behind}
 use Rattle.loop_store.proofs.Alike.{clip-same, free-same, locked-same, span-same, unlocked-same}
 use Rattle.loop_store.proofs.Drawn.{FitsDrawn}
-use Rattle.loop_store.proofs.Looks.{alike-by, known-by, one-kept, same-tells, there-held, told-by}
+use Rattle.loop_store.proofs.Looks.{alike-by, known-by, one-kept, there-held, times-in, times-known, told-as}
 use Rattle.loop_store.proofs.Missing.{fits-legal}
 use Rattle.loop_store.proofs.Redrawn.{drawn-clip}
 use Rattle.loop_store.proofs.Regrown.{known-drawn}
@@ -186,6 +188,7 @@ pub record IsRedrawn (g : Geometry) (id : ℕ) (clip : Option Span) (IsOne : Rec
       → Holds g (after_step (ring_of g) r step) new
   pub alike : (r t : Recording) → IsSame r t → IsOne r → IsOne t
   pub stepped : (r t : Recording) → IsSame r t → IsSame (after_step (ring_of g) r step) (after_step (ring_of g) t step)
+  pub frames : (r : Recording) → (after_step (ring_of g) r step).frames ≡ r.frames
 
 -- what is known where a clip was noted
 pub record Noted {D A : Type 0} (medium : D → Medium) (old new : D) (was now : Index A) (id : ℕ) (clip : Option Span)
@@ -226,7 +229,15 @@ index-noted was now id clip noted whole =
       few = subst (λ (h : Geometry). now.next ≤ last_number (ring_of h)) (sym same)
           (subst (λ (k : ℕ). k ≤ last_number (ring_of was.ring.geometry)) (sym noted.next) whole.few);
       counted = noted.counted ∙ (λ i. clip_counts (ring_of (sym same i)) now.clips (sym noted.heads i));
+      places = ap (λ (ts : List ℕ). length ts) noted.times ∙ whole.places ∙ (λ i. (sym same i).segments * (sym same i).slots);
     }
+
+-- the times are those from before
+times-noted : {A : Type 0} (was now : Index A) (id : ℕ) (clip : Option Span) (r t : Recording)
+    → IsClipNoted was now id clip → t.frames ≡ r.frames → AreTimes (times-in was) r → AreTimes (times-in now) t
+times-noted was now id clip r t noted same times = λ n p there.
+    (λ i. time_under (geometry-same was now id clip noted i).slots (noted.heads i) (noted.times i) n)
+    ∙ times n p (ap (λ (fs : List (ℕ × Picture)). frame_under fs n) (sym same) ∙ there)
 
 -- with frames that are made up, the index says the recording with the step
 pub drawn-noted : {A : Type 0} (was now : Index A) (id : ℕ) (clip : Option Span) (IsOne : Recording → Type 0)
@@ -273,6 +284,7 @@ kept-noted {A = A} medium old new was now id clip IsOne step must kept fine one 
             version = (n.segments back).version ∙ (kept.present fine back).version ∙ sym n.noted.version;
             settled = n.settled back;
             unstray = subst (λ (h : Geometry). HasNoneStray h (medium new).bytes) (sym same) (n.segments back).unstray;
+            timed = record { each = λ r held. timed honest r held };
           };
     }
   where
@@ -283,6 +295,15 @@ kept-noted {A = A} medium old new was now id clip IsOne step must kept fine one 
           recording = after_step (ring_of was.ring.geometry) there.recording step;
           known = known-noted medium old new was now id clip IsOne step there.recording n (one there.recording (medium old).bytes there.known) back there.known;
         }
+
+    timed : (medium new).honest → (r : Recording) → Holds now.ring.geometry r (medium new).bytes → AreTimes (times-in now) r
+    timed honest r held =
+        let back = n.called.honest.1 honest in
+        let there = (kept.present fine back).recorded in
+        let t = after_step (ring_of was.ring.geometry) there.recording step in
+        subst (AreTimes (times-in now)) (one-recording now.ring.geometry t r (medium new).bytes (recorded honest).known.held held)
+        (times-noted was now id clip there.recording t n.noted (n.redrawn.frames there.recording)
+        ((kept.present fine back).timed.each there.recording there.known.held))
 
 -- each recording that the store told of before, with the step
 pub told-noted : {D A : Type 0} (medium : D → Medium) (old new : D) (was now : Index A) (id : ℕ) (clip : Option Span)
@@ -298,11 +319,11 @@ told-noted medium old new was now id clip IsOne step must r kept told one n =
     let some = (limits g was.ring.good).slots.0 in
     let slots : 1 ≤ now.ring.geometry.slots = subst (λ (h : Geometry). 1 ≤ h.slots) (sym (geometry-same was now id clip n.noted)) some in
     let drawn_on = drawn-noted was now id clip IsOne step kept.known kept.fits.whole one0 n.noted n.redrawn (n.next r0) (n.clips r0 one0) in
-    let told0 = told-by new now must (after_step (ring_of g) r0 step)
+    told-as new now must (after_step (ring_of g) r0 step) (after_step (ring_of g) r step)
     (drawn_image now.ring.geometry now.table.heads now.clips) slots
-    (index-noted was now id clip n.noted kept.fits.whole).within drawn_on in
-    same-tells (seen_with new now must) (after_step (ring_of g) r0 step) (after_step (ring_of g) r step) told0
+    (index-noted was now id clip n.noted kept.fits.whole).within drawn_on
     (n.redrawn.stepped r0 r (alike-by medium old was must r kept told))
+    (times-noted was now id clip r (after_step (ring_of g) r step) n.noted (n.redrawn.frames r) (times-known old was must r told))
 
 pub stands-noted : {D A : Type 0} (medium : D → Medium) (old new : D) (was now : Index A) (id : ℕ)
     (clip : Option Span) (IsOne : Recording → Type 0) (step : Step) (must : Bool) (r : Recording)
@@ -341,6 +362,7 @@ lock-redrawn v g id span low tag = record {
       let is = one.id_is ∙ free-same r t same in
       record { fits = first; legal = fits-legal v (ring_of g) t span first (subst (λ (n : ℕ). n < 64) is low); id_is = is };
   stepped = λ r t same. locked-same (ring_of g) r t span same;
+  frames = λ r. refl;
 }
 
 pub unlock-redrawn : (g : Geometry) (id : ℕ) → id < 64 → IsRedrawn g id None (λ r. clip_of r id ≢ None) (unlock id)
@@ -350,6 +372,7 @@ unlock-redrawn g id low = record {
   shown = λ r old new one held shows. unlock-held g r id old new held low shows;
   alike = λ r t same one none. one (clip-same r t id same ∙ none);
   stepped = λ r t same. unlocked-same (ring_of g) r t id same;
+  frames = λ r. refl;
 }
 
 -- ---- runs of held numbers
@@ -376,6 +399,15 @@ run-held g r image table j n m h held same within l some there has low high =
     first-le e = at_most (h.block * g.slots) n
         (both (leb (h.block * g.slots) n) (ltb n (h.block * g.slots + h.frames))
         (sym (among-range n (h.block * g.slots) h.frames) ∙ e)).0
+
+-- the number is at most the one behind the block's frames
+pub run-from : (slots n block frames : ℕ) (o : Option SegmentHead) → o ≡ Some (record { block = block; frames = frames })
+    → has_number slots n o ≡ true → n ≤ block * slots + frames
+run-from slots n block frames o is has =
+    let b = both (eqb block (n / slots)) (ltb (n % slots) frames) (sym (ap (has_number slots n) is) ∙ has) in
+    let product : block * slots ≡ n / slots * slots = ap (λ (k : ℕ). k * slots) (equal block (n / slots) b.0) in
+    let slot : suc (n % slots) ≤ frames = at_most (suc (n % slots)) frames b.1 in
+    omega (arith, product, slot, div-add-mod' n slots)
 
 -- the run ends behind the block's frames
 pub run-ends : (g : Geometry) (r : Recording) (image : List ℕ) (table : List (Option SegmentHead)) (j n end : ℕ)

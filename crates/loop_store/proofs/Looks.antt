@@ -1,5 +1,5 @@
 -- A call that only looks leaves the store as it was.
-use Rattle.std.proofs.Common.{◌≡◌, ℕ, ◌<◌, ◌≤◌, Bool, true, false, is_some, Option, None, List, get_or, length, refl, sym, ap, ◌∙◌, subst}
+use Rattle.std.proofs.Common.{◌≡◌, ℕ, ◌<◌, ◌≤◌, Bool, true, false, is_some, cond, eqb, Option, None, List, [], ◌∷◌, get_or, length, map, refl, sym, ap, ◌∙◌, subst}
 use Rattle.std.specs.List.{All, list_any}
 use Rattle.loop_disk.specs.Calls.{Stays}
 use Rattle.loop_disk.specs.Medium.{Medium, IsSettled}
@@ -9,7 +9,7 @@ use Rattle.loop_record.specs.Layout.{version_in}
 use Rattle.loop_record.specs.Reading.{Holds}
 use Rattle.loop_record.specs.Recording.{Picture, Recording, holds}
 use Rattle.loop_record.proofs.Bounds.{limits}
-use Rattle.loop_record.proofs.Decided.{clash}
+use Rattle.loop_record.proofs.Decided.{clash, equal}
 use Rattle.loop_record.proofs.Form.{reading-well_formed}
 use Rattle.loop_ring.specs.Heads.{has_number, heads_of}
 use Rattle.loop_ring.proofs.Held.{held-number}
@@ -17,17 +17,20 @@ pub use Rattle.loop_ring.proofs.SlotReads.{stays_on}
 use Rattle.loop_store.specs.Drawn.{drawn_image}
 use Rattle.loop_store.specs.Grow.{HasNoneStray}
 use Rattle.loop_store.specs.declared.index.Index.{Index}
-use Rattle.loop_store.specs.Index.{IsFitting, IsIndexOf, IsRecovered}
+use Rattle.loop_store.specs.Index.{IsFitting, IsIndexOf, IsRecovered, SaysRecording}
 use Rattle.loop_store.specs.Found.{IsHeadIn}
-use Rattle.loop_store.specs.Numbers.{numbers_under}
+use Rattle.loop_store.specs.Numbers.{is_among, numbers_under}
+use Rattle.std.specs.Prelude.{◌||◌}
 use Rattle.loop_store.specs.Reopen.{TellsOne}
+use Rattle.loop_store.specs.Times.{AreTimes, IsTimed, time_told, time_under}
 use Rattle.loop_store.specs.Store.{IsKept, IsPresent}
 use Rattle.loop_store.specs.Seen.{Seen, StandsFor, Tells, seen_with}
 use Rattle.loop_store.proofs.HeldCount.{count-held}
 use Rattle.loop_store.proofs.Looked.{held-slot}
 use Rattle.loop_store.proofs.Numbers.{among-under}
 use Rattle.loop_store.proofs.Room.{one-recording}
-use Rattle.loop_store.proofs.Same.{IsSame, count-same, formed-same, held-same, holds-same}
+use Rattle.loop_store.proofs.Same.{IsSame, count-same, formed-same, held-same, holds-same, itself, then}
+use Rattle.loop_store.proofs.Timed.{retimed, retimed-same, retimed-times}
 
 pub stays-settled : (old new : Medium) → Stays old new → IsSettled old → IsSettled new
 stays-settled old new stays settled = λ c left. settled c (stays.images c left) ∙ sym stays.bytes
@@ -39,6 +42,7 @@ looked-present index old new stays present = record {
   version = ap version_in stays.bytes ∙ present.version;
   settled = stays-settled old new stays present.settled;
   unstray = subst (λ (image : List ℕ). HasNoneStray index.ring.geometry image) (sym stays.bytes) present.unstray;
+  timed = subst (λ (image : List ℕ). IsTimed index.ring.geometry index.table.heads index.times.items image) (sym stays.bytes) present.timed;
 }
 
 pub looked-kept : {D A : Type 0} (medium : D → Medium) (old new : D) (index : Index A) (must_reopen : Bool)
@@ -57,6 +61,7 @@ looked-told old disk r told = record {
   next_is = told.next_is;
   numbers_are = told.numbers_are;
   count_is = told.count_is;
+  times_are = told.times_are;
   clips_are = told.clips_are;
 }
 
@@ -80,32 +85,76 @@ there-held g r image heads j n held same l has =
     subst (λ (hs : List (Option SegmentHead)). has_number g.slots n (get_or hs j None) ≡ true) same has in
     ap (λ (o : Option Picture). is_some o) (held-slot g r image j n held l at).held
 
--- what a store tells is what its index says of an image
-pub told-by : {D A : Type 0} (disk : D) (index : Index A) (must_reopen : Bool) (r : Recording) (image : List ℕ)
+-- the times that an index has, by number
+abbrev pub times-in : {A : Type 0} → Index A → ℕ → ℕ
+times-in index = time_under index.ring.geometry.slots index.table.heads index.times.items
+
+-- the time that is told beside a number
+time-beside : (f : ℕ → ℕ) (ns : List ℕ) (n : ℕ) → is_among ns n ≡ true → time_told ns (map f ns) n ≡ f n
+time-beside f [] n e = absurd cc
+time-beside f (m ∷ ms) n e = go (eqb m n) refl (λ r. time-beside f ms n r) e
+  where
+    go : (b : Bool) → eqb m n ≡ b → (is_among ms n ≡ true → time_told ms (map f ms) n ≡ f n) → (b || is_among ms n) ≡ true
+        → cond b (f m) (time_told ms (map f ms) n) ≡ f n
+    go true same ih e = ap f (equal m n same)
+    go false same ih e = ih e
+
+times-told : (f : ℕ → ℕ) (ns : List ℕ) (r : Recording) → AreTimes f r → ((n : ℕ) → is_among ns n ≡ holds r n)
+    → AreTimes (time_told ns (map f ns)) r
+times-told f ns r times are = λ n p there.
+    time-beside f ns n (are n ∙ ap (λ (o : Option Picture). is_some o) there) ∙ times n p there
+
+-- the times that a store told are those that its index has
+pub times-known : {D A : Type 0} (disk : D) (index : Index A) (must_reopen : Bool) (r : Recording)
+    → Tells (seen_with disk index must_reopen) r → AreTimes (times-in index) r
+times-known disk index must_reopen r told = λ n p there.
+    sym (time-beside (times-in index) (numbers_under index.ring.geometry.slots index.table.heads) n
+    (told.numbers_are n ∙ ap (λ (o : Option Picture). is_some o) there)) ∙ told.times_are n p there
+
+-- what a store tells is what its index says of an image, but for pictures: of these the times alone
+pub told-as : {D A : Type 0} (disk : D) (index : Index A) (must_reopen : Bool) (r t : Recording) (image : List ℕ)
     → 1 ≤ index.ring.geometry.slots → All (IsHeadIn index.ring.geometry) index.table.heads → IsIndexOf index r image
-    → Tells (seen_with disk index must_reopen) r
-told-by disk index must_reopen r image some within known = record {
-  formed = reading-well_formed index.ring.geometry r image known.held;
-  next_is = known.next_is;
+    → IsSame r t → AreTimes (times-in index) t → Tells (seen_with disk index must_reopen) t
+told-as disk index must_reopen r t image some within known same times = record {
+  formed = formed-same r t same (reading-well_formed index.ring.geometry r image known.held);
+  next_is = known.next_is ∙ same.next;
   numbers_are = λ n. among-under index.ring.geometry n index.table.heads some within
       ∙ ap (list_any (has_number index.ring.geometry.slots n)) known.heads_are
-      ∙ held-number index.ring.geometry r image n known.held;
+      ∙ held-number index.ring.geometry r image n known.held ∙ holds-same r t n same;
   count_is = ap (λ (hs : List (Option SegmentHead)). length (numbers_under index.ring.geometry.slots hs))
-      known.heads_are ∙ count-held index.ring.geometry r image known.held;
-  clips_are = known.clips_are;
+      known.heads_are ∙ count-held index.ring.geometry r image known.held ∙ count-same r t same;
+  times_are = times-told (times-in index) (numbers_under index.ring.geometry.slots index.table.heads) t times
+      (λ n. among-under index.ring.geometry n index.table.heads some within
+      ∙ ap (list_any (has_number index.ring.geometry.slots n)) known.heads_are
+      ∙ held-number index.ring.geometry r image n known.held ∙ holds-same r t n same);
+  clips_are = known.clips_are ∙ same.clips;
 }
 
--- what the store tells of the frames that are made up
-pub told-drawn : {D A : Type 0} (medium : D → Medium) (disk : D) (index : Index A) (must_reopen : Bool)
-    → (kept : IsKept medium disk index must_reopen) → Tells (seen_with disk index must_reopen) kept.known.recording
-told-drawn medium disk index must_reopen kept =
-    told-by disk index must_reopen kept.known.recording
+pub told-by : {D A : Type 0} (disk : D) (index : Index A) (must_reopen : Bool) (r : Recording) (image : List ℕ)
+    → 1 ≤ index.ring.geometry.slots → All (IsHeadIn index.ring.geometry) index.table.heads → IsIndexOf index r image
+    → AreTimes (times-in index) r → Tells (seen_with disk index must_reopen) r
+told-by disk index must_reopen r image some within known times = told-as disk index must_reopen r r image some within known (itself r) times
+
+-- the recording of the frames that are made up, with the times that the index has
+abbrev pub drawn-of : {A : Type 0} (index : Index A) → SaysRecording index → Recording
+drawn-of index says = retimed (times-in index) says.recording
+
+-- what the store tells of it
+pub tells-drawn : {D A : Type 0} (disk : D) (index : Index A) (must_reopen : Bool) (says : SaysRecording index)
+    → All (IsHeadIn index.ring.geometry) index.table.heads → Tells (seen_with disk index must_reopen) (drawn-of index says)
+tells-drawn disk index must_reopen says within =
+    told-as disk index must_reopen says.recording (drawn-of index says)
     (drawn_image index.ring.geometry index.table.heads index.clips)
-    (limits index.ring.geometry index.ring.good).slots.0 kept.fits.whole.within kept.known.known
+    (limits index.ring.geometry index.ring.good).slots.0 within says.known
+    (retimed-same (times-in index) says.recording) (retimed-times (times-in index) says.recording)
+
+pub told-drawn : {D A : Type 0} (medium : D → Medium) (disk : D) (index : Index A) (must_reopen : Bool)
+    → (kept : IsKept medium disk index must_reopen) → Tells (seen_with disk index must_reopen) (drawn-of index kept.known)
+told-drawn medium disk index must_reopen kept = tells-drawn disk index must_reopen kept.known kept.fits.whole.within
 
 pub one-kept : {D A : Type 0} (medium : D → Medium) (disk : D) (index : Index A) (must_reopen : Bool)
     → IsKept medium disk index must_reopen → TellsOne (seen_with disk index must_reopen)
-one-kept medium disk index must_reopen kept = (kept.known.recording, told-drawn medium disk index must_reopen kept)
+one-kept medium disk index must_reopen kept = (drawn-of index kept.known, told-drawn medium disk index must_reopen kept)
 
 pub one-seen : {D A : Type 0} (medium : D → Medium) (disk : D) (index : Index A) (must_reopen : Bool) {s : Seen D}
     → IsKept medium disk index must_reopen → seen_with disk index must_reopen ≡ s → TellsOne s
@@ -116,21 +165,19 @@ pub tells-same : {D : Type 0} (s : Seen D) (r t : Recording) → Tells s r → T
 tells-same s r t a b = held-same r t a.formed b.formed (λ n. sym (a.numbers_are n) ∙ b.numbers_are n)
     (sym a.next_is ∙ b.next_is) (sym a.clips_are ∙ b.clips_are)
 
-pub same-tells : {D : Type 0} (s : Seen D) (r t : Recording) → Tells s r → IsSame r t → Tells s t
-same-tells s r t a same = record {
-  formed = formed-same r t same a.formed;
-  next_is = a.next_is ∙ same.next;
-  numbers_are = λ n. a.numbers_are n ∙ holds-same r t n same;
-  count_is = a.count_is ∙ count-same r t same;
-  clips_are = a.clips_are ∙ same.clips;
-}
-
 pub alike-by : {D A : Type 0} (medium : D → Medium) (disk : D) (index : Index A) (must_reopen : Bool) (r : Recording)
     → (kept : IsKept medium disk index must_reopen) → Tells (seen_with disk index must_reopen) r
     → IsSame kept.known.recording r
 alike-by medium disk index must_reopen r kept told =
-    tells-same (seen_with disk index must_reopen) kept.known.recording r
-    (told-drawn medium disk index must_reopen kept) told
+    then kept.known.recording (drawn-of index kept.known) r (retimed-same (times-in index) kept.known.recording)
+    (tells-same (seen_with disk index must_reopen) (drawn-of index kept.known) r
+    (told-drawn medium disk index must_reopen kept) told)
+
+-- where the store needn't be reopened, the times of all that an honest disk holds are known
+pub timed-by : {D A : Type 0} (medium : D → Medium) (disk : D) (index : Index A) (must_reopen : Bool) (r : Recording)
+    → IsKept medium disk index must_reopen → must_reopen ≡ false → (medium disk).honest
+    → Holds index.ring.geometry r (medium disk).bytes → AreTimes (times-in index) r
+timed-by medium disk index must_reopen r kept fine now held = (kept.present fine now).timed.each r held
 
 -- a number whose frame a segment has is held by each of these
 pub there-alike : {D A : Type 0} (medium : D → Medium) (disk : D) (index : Index A) (must_reopen : Bool)

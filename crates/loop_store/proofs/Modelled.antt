@@ -7,7 +7,7 @@ use Rattle.loop_record.proofs.Decided.{neither}
 use Rattle.loop_record.proofs.Steps.{plain-append}
 use Rattle.loop_store.specs.declared.fault.StoreFault.{StoreFault}
 use Rattle.loop_store.specs.Faults.{answers_disk}
-use Rattle.loop_store.specs.Calls.{AreAnswered, Call, IsAnswered, StoreState, appended, locked, unlocked, was_read, after_store_call, after_calls, steps_asked, begun_by, begun_in, has_failed, made_by, made_in, steps_of, upgraded, was_read_part}
+use Rattle.loop_store.specs.Calls.{AreAnswered, Call, IsAnswered, StoreState, appended, locked, unlocked, was_read, after_store_call, after_calls, steps_asked, begun_by, begun_in, has_failed, sought, made_by, made_in, steps_of, upgraded, was_read_part}
 use Rattle.loop_store.specs.Steps.{if_answered, if_failed}
 use Rattle.loop_store.proofs.Checked.{must-answer}
 
@@ -34,6 +34,7 @@ begun-none g s (upgraded result) fine = none-either (answers_disk result)
 begun-none g s (locked span result) fine = ap (λ (b : Bool). if b then lock span ∷ [] else []) fine
 begun-none g s (unlocked id result) fine = ap (λ (b : Bool). if b then unlock id ∷ [] else []) fine
 begun-none g s (was_read_part number at result) fine = none-either (answers_disk result)
+begun-none g s (sought times result) fine = none-either (answers_disk result)
 begun-none g s (appended group result) fine = ap (λ (b : Bool). if b then steps_asked (ring_of g) s.keep s.recording group else []) fine
 
 -- nothing has failed before

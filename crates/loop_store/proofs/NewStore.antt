@@ -1,5 +1,5 @@
 -- A store that was just formatted.
-use Rattle.std.proofs.Common.{◌≡◌, ◌⊎◌, ⊎_elim, inl, inr, ℕ, eqb, Err, zero, suc, ◌+◌, ◌<◌, cond, false, IsTrue, Option, None, Some, List, [], ◌∷◌, length, map, replicate, refl, sym, ap, ◌∙◌, subst, arith}
+use Rattle.std.proofs.Common.{◌≡◌, ◌⊎◌, ⊎_elim, inl, inr, ℕ, eqb, Err, zero, suc, ◌+◌, ◌*◌, ◌<◌, cond, false, IsTrue, Option, None, Some, List, [], ◌∷◌, length, map, replicate, refl, sym, ap, ◌∙◌, subst, arith}
 use Rattle.std.proofs.lemmas.List.{get_or-replicate, length-replicate, take_at}
 use Rattle.std.proofs.lemmas.List.Elements.{All-replicate}
 use Rattle.std.specs.List.{All, range_with_len}
@@ -14,7 +14,7 @@ use Rattle.loop_record.specs.declared.superblock.SuperHead.{SuperHead}
 use Rattle.loop_record.specs.Geometry.{disk_size, is_good, segment_at}
 use Rattle.loop_record.specs.Layout.{IsVersion, header_at, open_gates, super_bytes}
 use Rattle.loop_record.specs.Reading.{Holds, IsFreshImage}
-use Rattle.loop_record.specs.Recording.{empty, ring_of}
+use Rattle.loop_record.specs.Recording.{Picture, Recording, empty, frame_under, ring_of}
 use Rattle.loop_record.proofs.Fresh.{reading-fresh}
 use Rattle.loop_record.proofs.Written.{length-super_bytes}
 use Rattle.loop_record.proofs.WellFormed.{empty-well_formed}
@@ -37,6 +37,7 @@ use Rattle.loop_store.specs.Seen.{StandsFor, Tells, seen_with}
 use Rattle.loop_record.specs.declared.segment.SegmentHead.{SegmentHead}
 use Rattle.loop_store.proofs.Drawn.{closed-entry, closed-header, drawn-length}
 use Rattle.loop_store.proofs.Regrown.{known-drawn}
+use Rattle.loop_store.proofs.Room.{one-recording}
 
 all-none : {X : Type 0} (f : ℕ → Option X) (lo n : ℕ) → ((j : ℕ) → j < lo + n → f j ≡ None)
     → map f (range_with_len lo n) ≡ replicate n None
@@ -64,6 +65,7 @@ pub record IsNew {A : Type 0} (index : Index A) (s : SuperHead) : Type 0 where
   pub closed : index.table.heads ≡ replicate s.geometry.segments None
   pub none : index.clips ≡ replicate 64 None
   pub counts : index.table.clips ≡ replicate s.geometry.segments 0
+  pub places : length index.times.items ≡ s.geometry.segments * s.geometry.slots
 
 fresh-known : {A : Type 0} (index : Index A) (s : SuperHead) (image : List ℕ) → IsNew index s
     → IsVersion s.version → IsTrue (is_good s.geometry) → IsFreshImage s image → IsIndexOf index empty image
@@ -93,6 +95,9 @@ drawn-new index s new good =
     (reading-fresh (drawn_super g) _ (inr refl) good (drawn-fresh g good)).held
     new.geometry new.closed new.none new.next refl
 
+nothing : (p : Picture) → let x : Option Picture = None in x ≡ Some p → ⊥
+nothing p e = cc
+
 -- the image of a disk that was formatted, with the memory of its store
 pub fresh-kept : {D A : Type 0} (medium : D → Medium) (s : SuperHead) (disk : D) (index : Index A)
     → IsNew index s → IsVersion s.version → IsTrue (is_good s.geometry)
@@ -107,6 +112,7 @@ fresh-kept medium s disk index new version good size fresh = record {
       few = omega (arith, new.next);
       counted = new.counts ∙ counts-closed (ring_of index.ring.geometry) index.clips s.geometry.segments
           ∙ ap (clip_counts (ring_of index.ring.geometry) index.clips) (sym new.closed);
+      places = new.places ∙ (λ i. (sym new.geometry i).segments * (sym new.geometry i).slots);
     };
   };
   known = record { recording = empty; known = drawn-new index s new good };
@@ -116,6 +122,12 @@ fresh-kept medium s disk index new version good size fresh = record {
     settled = (fresh now).1;
     unstray = subst (λ (h : Geometry). HasNoneStray h (medium disk).bytes) (sym new.geometry)
         (λ j l there. absurd (there (closed_none s.geometry (medium disk).bytes j ((fresh now).0.segments j l))));
+    timed = record {
+      each = λ r there n p held.
+          let is = one-recording index.ring.geometry r empty (medium disk).bytes there
+          (fresh-known index s (medium disk).bytes new version good (fresh now).0).held in
+          absurd (nothing p (ap (λ (t : Recording). frame_under t.frames n) (sym is) ∙ held));
+    };
   };
 }
 
@@ -133,6 +145,7 @@ fresh-tells s disk index new = record {
   numbers_are = λ n. ap (λ (ns : List ℕ). is_among ns n) (ap (numbers_under index.ring.geometry.slots) new.closed
       ∙ none-under index.ring.geometry.slots s.geometry.segments);
   count_is = ap length (ap (numbers_under index.ring.geometry.slots) new.closed ∙ none-under index.ring.geometry.slots s.geometry.segments);
+  times_are = λ n p there. absurd (nothing p there);
   clips_are = new.none;
 }
 

@@ -5,7 +5,7 @@ use Rattle.loop_disk.specs.Medium.{Medium}
 use Rattle.loop_record.specs.declared.geometry.Geometry.{Geometry}
 use Rattle.loop_record.specs.Recording.{Picture, Recording, Ring, after_step as stepped, last_number, needs_recycling, plain, recycle, recycling_first, ring_of, steps, store, stores_after, victim}
 use Rattle.loop_record.proofs.Steps.{plain-stores}
-use Rattle.loop_store.specs.Calls.{Call, IsAnswered, StoreState, after_store_call, appended, locked, unlocked, upgraded, was_read, was_read_part}
+use Rattle.loop_store.specs.Calls.{Call, IsAnswered, StoreState, after_store_call, appended, locked, unlocked, upgraded, was_read, was_read_part, sought}
 use Rattle.loop_store.specs.Goes.{Goes}
 use Rattle.loop_store.specs.Seen.{Seen}
 use Rattle.loop_store.specs.Steps.{steps_or_none}
@@ -51,6 +51,8 @@ after-next H g s (was_read number (Ok x)) said = none-more s.recording.next
 after-next H g s (was_read number (Err fault)) said = none-more s.recording.next
 after-next H g s (was_read_part number at (Ok bytes)) said = none-more s.recording.next
 after-next H g s (was_read_part number at (Err fault)) said = none-more s.recording.next
+after-next H g s (sought times (Ok runs)) said = none-more s.recording.next
+after-next H g s (sought times (Err fault)) said = none-more s.recording.next
 
 pub next-one : {D : Type 0} {medium : D → Medium} (old new : Seen D) (c : Call) → Goes medium old new (c ∷ [])
     → new.next ≡ old.next + count_stored c

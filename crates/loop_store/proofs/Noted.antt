@@ -1,5 +1,5 @@
 -- What an index notes of a segment and of a clip.
-use Rattle.std.proofs.Common.{◌≡◌, ℕ, ◌≤◌, true, ◌&&◌, eqb, ltb, Option, Some, None, List, length, get_or, set, sym, ap, ◌∙◌, subst}
+use Rattle.std.proofs.Common.{◌≡◌, ℕ, ◌*◌, ◌≤◌, true, ◌&&◌, eqb, ltb, Option, Some, None, List, length, get_or, set, sym, ap, ◌∙◌, subst}
 use Rattle.std.proofs.lemmas.List.{set-get_or}
 use Rattle.loop_record.specs.declared.clip.Span.{Span}
 use Rattle.loop_record.specs.declared.geometry.Geometry.{Geometry}
@@ -35,4 +35,5 @@ clip-noted was now id clip noted whole =
       few = subst (λ (h : Geometry). now.next ≤ last_number (ring_of h)) same
           (subst (λ (k : ℕ). k ≤ last_number (ring_of was.ring.geometry)) (sym noted.next) whole.few);
       counted = noted.counted ∙ (λ i. clip_counts (ring_of (same i)) now.clips (sym noted.heads i));
+      places = ap (λ (ts : List ℕ). length ts) noted.times ∙ whole.places ∙ (λ i. (same i).segments * (same i).slots);
     }

@@ -7,11 +7,13 @@ use Rattle.loop_disk.specs.Medium.{Medium, IsSound}
 use Rattle.loop_record.specs.declared.damage.Damage.TheVariants.{SlotHead}
 use Rattle.loop_record.specs.declared.geometry.Geometry.{Geometry}
 use Rattle.loop_record.specs.declared.frame.FrameHead.{FrameHead}
+use Rattle.loop_record.specs.declared.clip.Span.{Span}
+use Rattle.loop_record.specs.declared.times.Times.{Times}
 use Rattle.loop_record.specs.Recording.{Step, holds, plain, ring_of}
 use Rattle.loop_record.proofs.Decided.{clash}
 use Rattle.loop_store.specs.declared.fault.StoreFault.{StoreFault}
 use Rattle.loop_store.specs.declared.fault.StoreFault.TheVariants.{Damaged, MustReopen, NoMemory, NotHeld}
-use Rattle.loop_store.specs.Calls.{AnswersDue, Call, ReadFails, IsAnswered, StoreState, begun_by, checks_on, due, failed_for, first_of, has_failed, made_by, part_with, read_with, was_read, was_read_part, version_after, was_refused}
+use Rattle.loop_store.specs.Calls.{AnswersDue, Call, ReadFails, IsAnswered, StoreState, begun_by, checks_on, due, failed_for, first_of, has_failed, made_by, part_with, read_with, sought, was_read, was_read_part, version_after, was_refused}
 use Rattle.loop_store.specs.Faults.{answers_disk, failed_in, fault_in, is_damage, is_disk, is_early}
 use Rattle.loop_store.specs.Goes.{Goes, Stands, TellsState}
 use Rattle.loop_store.specs.Reopen.{TellsOne}
@@ -49,6 +51,14 @@ look-read number result = record {
 
 pub look-part : (number at : ℕ) (result : Result (List ℕ) StoreFault) → IsLook (was_read_part number at result)
 look-part number at result = record {
+  steps = λ g s. made-either (fault_in result);
+  begins = λ g s. none-either (answers_disk result);
+  version = λ v. refl;
+  fine = refl;
+}
+
+pub look-sought : (times : Times) (result : Result (List Span) StoreFault) → IsLook (sought times result)
+look-sought times result = record {
   steps = λ g s. made-either (fault_in result);
   begins = λ g s. none-either (answers_disk result);
   version = λ v. refl;

@@ -1,5 +1,5 @@
 -- What the parts of a disk, read one after the other, say of its image.
-use Rattle.std.proofs.Common.{◌≡◌, ℕ, ◌≤◌, Bool, true, false, Option, Ok, Err, List, length, refl, sym, ap, ◌∙◌, subst}
+use Rattle.std.proofs.Common.{◌≡◌, ℕ, ◌*◌, ◌≤◌, Bool, true, false, Option, Ok, Err, List, length, refl, sym, ap, ◌∙◌, subst}
 use Rattle.std.specs.List.{All, list_any}
 use Rattle.loop_record.specs.declared.clip.Span.{Span}
 use Rattle.loop_record.specs.declared.damage.Damage.{Damage}
@@ -83,8 +83,8 @@ recovered index g image mid last fs xs heads clips next is a same right same' q 
 pub fitting : {A : Type 0} (index : Index A) (g : Geometry) (heads : List (Option SegmentHead))
     (clips : List (Option Span)) (next size : ℕ) → IsOf index g heads clips next → size ≡ disk_size g
     → length heads ≡ g.segments → All (IsHeadIn g) heads → next ≤ last_number (ring_of g)
-    → IsFitting index size
-fitting index g heads clips next size is size_is count within few = record {
+    → length index.times.items ≡ g.segments * g.slots → IsFitting index size
+fitting index g heads clips next size is size_is count within few places = record {
   size_is = size_is ∙ ap disk_size (sym is.geometry);
   whole = record {
     count = ap length is.heads_are ∙ count ∙ ap (λ (h : Geometry). h.segments) (sym is.geometry);
@@ -92,5 +92,6 @@ fitting index g heads clips next size is size_is count within few = record {
     few = subst (λ (h : Geometry). index.next ≤ last_number (ring_of h)) (sym is.geometry)
         (subst (λ (n : ℕ). n ≤ last_number (ring_of g)) (sym is.next_is) few);
     counted = is.counted ∙ (λ i. clip_counts (ring_of (sym is.geometry i)) (sym is.clips_are i) (sym is.heads_are i));
+    places = places ∙ (λ i. (sym is.geometry i).segments * (sym is.geometry i).slots);
   };
 }

@@ -38,6 +38,7 @@ use Rattle.loop_store.specs.Reopen.{IsBadKeep, IsOpened, IsRefusedOpen, ReadsAli
 use Rattle.loop_store.specs.Found.{IsHeadIn, Recovers}
 use Rattle.loop_store.specs.Index.{IsFitting, IsRecovered, keeping}
 use Rattle.loop_store.specs.Store.{IsPresent}
+use Rattle.loop_store.specs.Times.{IsTimed}
 use Rattle.loop_store.specs.Seen.{seen_with}
 use Rattle.loop_store.proofs.Looks.{told-by}
 use Rattle.loop_store.proofs.Placing.{found-of}
@@ -235,8 +236,9 @@ pub found-present : {A : Type 0} (index : Index A) (j : ℕ) (old : List ℕ) (n
     (told : IsRecovered index old) → version_in old ≡ index.version → position (is_of (told.recording.next / index.ring.geometry.slots))
     (heads_of index.ring.geometry old) ≡ Some j
     → ShowsSegment index.ring.geometry j (segment_in index.ring.geometry old j) old now.bytes
-    → HasNoStray index.ring.geometry j now.bytes → IsSettled now → IsPresent index now
-found-present index j old now told version found shows clean settled =
+    → HasNoStray index.ring.geometry j now.bytes → IsSettled now
+    → IsTimed index.ring.geometry index.table.heads index.times.items old → IsPresent index now
+found-present index j old now told version found shows clean settled timed =
     let g = index.ring.geometry in
     let r = told.recording in
     let within = (newest-found g r old j told.known.held found).within in
@@ -250,6 +252,7 @@ found-present index j old now told version found shows clean settled =
       version = version-outside (segment_at g j) (segment_size g) old now.bytes (omega arith) shows.outside ∙ version;
       settled = settled;
       unstray = unstray-found g r now.bytes j held (ap (λ (hs : List (Option SegmentHead)). position (is_of (r.next / g.slots)) hs) same ∙ found) clean;
+      timed = record { each = λ t there. timed.each t (sym (alike-same g r j old now.bytes told.known.held within shows).0 ∙ there) };
     }
 
 -- ---- the store
@@ -266,7 +269,7 @@ present-opened medium disk index before some within present alike =
       held = sym alike.0 ∙ known.held;
       version_is = sym alike.1 ∙ present.version;
       stands = record {
-        told = told-by disk index false r (medium disk).bytes some within known;
+        told = told-by disk index false r (medium disk).bytes some within known (present.timed.each r known.held);
         settled = λ fine now. present.settled;
         held = λ fine now. known.held;
         version_is = λ fine now. present.version;
@@ -280,7 +283,7 @@ pub keeping-fits : {A : Type 0} (keep : ℕ) (index : Index A) (size : ℕ) → 
 keeping-fits keep index size fits =
     let whole = fits.whole in record {
       size_is = fits.size_is;
-      whole = record { count = whole.count; within = whole.within; few = whole.few; counted = whole.counted };
+      whole = record { count = whole.count; within = whole.within; few = whole.few; counted = whole.counted; places = whole.places };
     }
 
 pub keeping-recovered : {A : Type 0} (keep : ℕ) (index : Index A) (image : List ℕ) → IsRecovered index image

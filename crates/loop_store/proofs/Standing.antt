@@ -6,7 +6,7 @@ use Rattle.loop_record.proofs.Bounds.{limits}
 use Rattle.loop_store.specs.declared.index.Index.{Index}
 use Rattle.loop_store.specs.Store.{IsKept}
 use Rattle.loop_store.specs.Seen.{StandsFor, seen_with}
-use Rattle.loop_store.proofs.Looks.{told-drawn}
+use Rattle.loop_store.proofs.Looks.{drawn-of, told-drawn}
 use Rattle.loop_store.proofs.Reopened.{present-opened}
 
 -- whether its disk is honest or not, the store stands for some recording, where that is known
@@ -14,7 +14,7 @@ pub stands-known : {D A : Type 0} (medium : D → Medium) (disk : D) (index : In
     → IsKept medium disk index b → (medium disk).honest ⊎ ((medium disk).honest → ⊥) → (r : Recording)
     × StandsFor medium (seen_with disk index b) r
 stands-known medium disk index b kept (inr not_so) = (
-  kept.known.recording,
+  drawn-of index kept.known,
   record {
     told = told-drawn medium disk index b kept;
     settled = λ fine now. absurd (not_so now);
@@ -23,7 +23,7 @@ stands-known medium disk index b kept (inr not_so) = (
   },
 )
 stands-known medium disk index true kept (inl now) = (
-  kept.known.recording,
+  drawn-of index kept.known,
   record {
     told = told-drawn medium disk index true kept;
     settled = λ fine now. absurd cc;

@@ -1,5 +1,5 @@
 -- What an upgrade of the layout leaves.
-use Rattle.std.proofs.Common.{◌≡◌, ◌≢◌, ℕ, ◌+◌, ◌≤◌, Bool, true, false, not, eqb, None, Some, Ok, Err, List, [], ◌∷◌, map, refl, sym, ap, ◌∙◌, arith}
+use Rattle.std.proofs.Common.{◌≡◌, ◌≢◌, ℕ, ◌+◌, ◌≤◌, Bool, true, false, not, eqb, None, Some, Ok, Err, List, [], ◌∷◌, map, refl, sym, ap, subst, ◌∙◌, arith}
 use Rattle.loop_disk.specs.declared.fault.DiskFault.{DiskFault}
 use Rattle.loop_disk.specs.Calls.{Called, is_write_or_sync}
 use Rattle.loop_disk.specs.Medium.{Medium, IsSettled, IsSound, LeavesOnly}
@@ -25,9 +25,11 @@ use Rattle.loop_store.specs.Grow.{HasNoneStray}
 use Rattle.loop_store.specs.Seen.{StandsFor, Tells, seen_with}
 use Rattle.loop_store.specs.Steps.{HoldsSome}
 use Rattle.loop_store.specs.Store.{IsKept}
+use Rattle.loop_store.specs.Times.{AreTimes}
+use Rattle.loop_store.proofs.Room.{one-recording}
 use Rattle.loop_store.proofs.Checked.{answer-given}
 use Rattle.loop_store.proofs.Grown.{held-some}
-use Rattle.loop_store.proofs.Looks.{one-kept}
+use Rattle.loop_store.proofs.Looks.{one-kept, times-in}
 use Rattle.loop_store.proofs.Once.{goes-done, goes-failed, goes-refused}
 
 -- ---- an image whose clips are kept
@@ -79,7 +81,7 @@ kept-upgraded medium old new index must kept fine up =
     let whole = kept.fits.whole in record {
       fits = record {
         size_is = up.called.size ∙ kept.fits.size_is;
-        whole = record { count = whole.count; within = whole.within; few = whole.few; counted = whole.counted };
+        whole = record { count = whole.count; within = whole.within; few = whole.few; counted = whole.counted; places = whole.places };
       };
       known =
           let known = kept.known.known in record {
@@ -103,6 +105,12 @@ kept-upgraded medium old new index must kept fine up =
             version = (up.such back).version;
             settled = up.settled back;
             unstray = kept-unstray g (medium old).bytes (medium new).bytes few k present.unstray;
+            timed = record {
+              each = λ r held. subst (AreTimes (times-in index))
+                  (one-recording g present.recorded.recording r (medium new).bytes
+                  (kept-held g present.recorded.recording (medium old).bytes (medium new).bytes known.held k) held)
+                  (present.timed.each present.recorded.recording known.held);
+            };
           };
     }
 
@@ -158,6 +166,7 @@ goes-upgraded medium old new index must kept fine differs up =
       next_is = told.next_is;
       numbers_are = told.numbers_are;
       count_is = told.count_is;
+      times_are = told.times_are;
       clips_are = told.clips_are;
     }
 

@@ -6,6 +6,8 @@ use Rattle.loop_disk.specs.Medium.{piece}
 use Rattle.loop_record.specs.declared.clip.Span.{Span}
 use Rattle.loop_record.specs.declared.damage.Damage.TheVariants.{SlotHead}
 use Rattle.loop_record.specs.declared.frame.FrameHead.{FrameHead}
+use Rattle.loop_record.specs.declared.times.Times.{Times}
+use Rattle.loop_record.specs.Times.{AreRuns, numbers_in_time}
 use Rattle.loop_record.specs.Layout.{has_tag_place}
 use Rattle.loop_record.specs.Recording.{Picture, Recording, Ring, Step, clip_of, frame_under, free_id, head, holds, last_number, lock, needs_recycling, plain, steps, unlock, victim}
 use Rattle.loop_record.specs.Turns.{after_all, told_in, EachIn}
@@ -16,13 +18,15 @@ use Rattle.loop_store.specs.Steps.{if_answered, if_failed, steps_or_none}
 
 -- a call and its answer: an append of a group, a lock of a span with the clip's id, an unlock of an id, a read of a
 -- number with the head and the bytes that it gave, a read of a part of a number's frame, from a byte on, with the
--- bytes that it gave, and an upgrade of the layout with whether it was made
+-- bytes that it gave, a look for the held frames of a time with the runs of their numbers, and an upgrade of the layout
+-- with whether it was made
 pub data Call : Type 0 where
   appended : List Picture → Result ℕ StoreFault → Call
   locked : Span → Result ℕ StoreFault → Call
   unlocked : ℕ → Result (Unit {0}) StoreFault → Call
   was_read : ℕ → Result (FrameHead × List ℕ) StoreFault → Call
   was_read_part : ℕ → ℕ → Result (List ℕ) StoreFault → Call
+  sought : Times → Result (List Span) StoreFault → Call
   upgraded : Result Bool StoreFault → Call
 
 -- what a read into lent memory answers
@@ -34,6 +38,11 @@ read_with (Err fault) out = Err fault
 abbrev pub part_with : Result (Unit {0}) StoreFault → List ℕ → Result (List ℕ) StoreFault
 part_with (Ok done) out = Ok out
 part_with (Err fault) out = Err fault
+
+-- what a look for a time answers, where this is what stands in the memory of its runs
+abbrev pub runs_with : {V : Type 0} → (V → List Span) → Result V StoreFault → Result (List Span) StoreFault
+runs_with items (Ok runs) = Ok (items runs)
+runs_with items (Err fault) = Err fault
 
 -- what is recorded, in which version of the layout, how many of the newest blocks are kept, and whether a call that
 -- writes has failed
@@ -52,12 +61,14 @@ fault_answered (locked span result) = fault_in result
 fault_answered (unlocked id result) = fault_in result
 fault_answered (was_read number result) = fault_in result
 fault_answered (was_read_part number at result) = fault_in result
+fault_answered (sought times result) = fault_in result
 fault_answered (upgraded result) = fault_in result
 
 -- it writes nothing
 abbrev pub is_look : Call → Bool
 is_look (was_read number result) = true
 is_look (was_read_part number at result) = true
+is_look (sought times result) = true
 is_look _ = false
 
 -- the steps that an append is asked for
@@ -144,6 +155,7 @@ checks_on ring s (locked span result) = span_checks s.version s.recording span
 checks_on ring s (unlocked id result) = due (not (is_some (clip_of s.recording id))) NoSuchClip ∷ []
 checks_on ring s (was_read number result) = due (not (holds s.recording number)) NotHeld ∷ []
 checks_on ring s (was_read_part number at result) = due (not (holds s.recording number)) NotHeld ∷ []
+checks_on ring s (sought times result) = []
 checks_on ring s (upgraded result) = []
 
 -- the checks of a call, in their order
@@ -168,7 +180,7 @@ pub record IsPart (r : Recording) (number at : ℕ) (bytes : List ℕ) : Type 0 
 abbrev pub ReadFails : Type 0 → StoreFault → Type 0
 ReadFails Honest fault = (is_disk fault ≡ true) ⊎ ((fault ≡ Damaged SlotHead) × (Honest → ⊥))
 
--- What a call answers where no check is due: it is done, a read lacks memory, or the disk failed, which for a call that
+-- What a call answers where no check is due: it is done, a look lacks memory, or the disk failed, which for a call that
 -- writes is a write or a sync. An upgrade is made where the version isn't 2, and otherwise can't fail. Only what a read
 -- gives is known of honest disks alone.
 abbrev pub AnswersOtherwise : Type 0 → StoreState → Call → Type 0
@@ -179,6 +191,8 @@ AnswersOtherwise Honest s (was_read number (Ok x)) = Honest → IsHeldFrame s.re
 AnswersOtherwise Honest s (was_read_part number at (Ok bytes)) = Honest → IsPart s.recording number at bytes
 AnswersOtherwise Honest s (was_read number (Err fault)) = (fault ≡ NoMemory) ⊎ ReadFails Honest fault
 AnswersOtherwise Honest s (was_read_part number at (Err fault)) = ReadFails Honest fault
+AnswersOtherwise Honest s (sought times (Ok runs)) = AreRuns (numbers_in_time times s.recording) runs
+AnswersOtherwise Honest s (sought times (Err fault)) = fault ≡ NoMemory
 AnswersOtherwise Honest s (appended group (Err fault)) = is_write_fault fault ≡ true
 AnswersOtherwise Honest s (locked span (Err fault)) = is_write_fault fault ≡ true
 AnswersOtherwise Honest s (unlocked id (Err fault)) = is_write_fault fault ≡ true

@@ -1,5 +1,6 @@
 pub mod Faults
 pub mod Numbers
+pub mod Times
 pub mod Runs
 pub mod Calls
 pub mod Goes

@@ -1,5 +1,5 @@
 -- A store as its callers see it, and the recording that it stands for.
-use Rattle.std.specs.Prelude.{◌≡◌, ℕ, Result, Ok, Err, Bool, true, false, Option, List, length}
+use Rattle.std.specs.Prelude.{◌≡◌, ℕ, Result, Ok, Err, Bool, true, false, Option, List, length, map}
 use Rattle.loop_disk.specs.Medium.{Medium, IsSettled}
 use Rattle.loop_record.specs.declared.clip.Span.{Span}
 use Rattle.loop_record.specs.declared.geometry.Geometry.{Geometry}
@@ -10,10 +10,11 @@ use Rattle.loop_store.specs.declared.fault.StoreFault.{StoreFault}
 use Rattle.loop_store.specs.declared.fault.StoreFault.TheVariants.{Disk}
 use Rattle.loop_store.specs.declared.index.Index.{Index}
 use Rattle.loop_store.specs.Numbers.{is_among, numbers_under}
+use Rattle.loop_store.specs.Times.{AreTimes, time_told, time_under}
 
 -- the disk, the geometry and the version of the layout, how many of the newest blocks are kept, and what a store tells
--- of its recording: the number that comes next, the numbers that are held, the clip of each id; and whether a call that
--- writes has failed
+-- of its recording: the number that comes next, the numbers that are held, the time of each, the clip of each id; and
+-- whether a call that writes has failed
 pub record Seen (D : Type 0) : Type 0 where
   pub disk : D
   pub geometry : Geometry
@@ -21,6 +22,7 @@ pub record Seen (D : Type 0) : Type 0 where
   pub keep : ℕ
   pub next : ℕ
   pub numbers : List ℕ
+  pub times : List ℕ
   pub clips : List (Option Span)
   pub must_reopen : Bool
 
@@ -37,6 +39,8 @@ seen_with disk index must_reopen = record {
   keep = index.table.keep;
   next = index.next;
   numbers = numbers_under index.ring.geometry.slots index.table.heads;
+  times = map (time_under index.ring.geometry.slots index.table.heads index.times.items)
+      (numbers_under index.ring.geometry.slots index.table.heads);
   clips = index.clips;
   must_reopen = must_reopen;
 }
@@ -47,6 +51,7 @@ pub record Tells {D : Type 0} (s : Seen D) (r : Recording) : Type 0 where
   pub next_is : s.next ≡ r.next
   pub numbers_are : (n : ℕ) → is_among s.numbers n ≡ holds r n
   pub count_is : length s.numbers ≡ length r.frames
+  pub times_are : AreTimes (time_told s.numbers s.times) r
   pub clips_are : s.clips ≡ r.clips
 
 -- The store stands for a recording: it tells of that recording, after a failed call too; and where it needn't be

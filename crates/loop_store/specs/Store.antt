@@ -7,14 +7,16 @@ use Rattle.loop_ring.specs.Groups.{Grouped}
 use Rattle.loop_store.specs.declared.index.Index.{Index}
 use Rattle.loop_store.specs.Grow.{HasNoneStray}
 use Rattle.loop_store.specs.Index.{IsFitting, IsRecovered, SaysRecording}
+use Rattle.loop_store.specs.Times.{IsTimed}
 
--- the disk holds a recording, of which the index says all, its version too, with no stray gate, and a crash leaves
--- nothing else
+-- the disk holds a recording, of which the index says all, its version and the times too, with no stray gate, and a
+-- crash leaves nothing else
 pub record IsPresent {A : Type 0} (index : Index A) (m : Medium) : Type 0 where
   pub recorded : IsRecovered index m.bytes
   pub version : version_in m.bytes ≡ index.version
   pub settled : IsSettled m
   pub unstray : HasNoneStray index.ring.geometry m.bytes
+  pub timed : IsTimed index.ring.geometry index.table.heads index.times.items m.bytes
 
 -- the index fits the disk; with frames that are made up it says a whole recording; and where the store needn't be
 -- reopened, it says what an honest disk holds

@@ -3,11 +3,12 @@
 //!
 //! Each call reads and never writes; after a refusal the disk is as it was.
 
-ghost use Rattle.std.specs.Prelude.{◌≡◌, ◌+◌, ◌<◌, ◌≤◌, ℕ, List, Ok, Err, IfOk, None, OnOk, All, true, false, length, slice_index_or};
+ghost use Rattle.std.specs.Prelude.{◌≡◌, ◌+◌, ◌*◌, ◌<◌, ◌≤◌, ℕ, List, Ok, Err, IfOk, IfSome, None, OnOk, All, true, false, length, slice_index_or};
 ghost use Rattle.std.specs.List.{list_any};
 ghost use Rattle.loop_record.specs.declared.damage.Damage.{Damage};
 ghost use Rattle.loop_record.specs.declared.damage.LayoutFault.{LayoutFault};
 ghost use Rattle.loop_record.specs.declared.geometry.Geometry.{Geometry};
+ghost use Rattle.loop_record.specs.declared.image.Found.{Found};
 ghost use Rattle.loop_record.specs.Geometry.{frame_bytes, segment_at, slot_at};
 ghost use Rattle.loop_record.specs.Layout.{header_at, is_slot_of, is_too_high, segment_in, slot_in, super_in, version_in};
 ghost use Rattle.loop_record.specs.Plain.{AreIn, IsSomeHigh, IsTagFit, lacks_number, segment_of, segments_of, with_segment};
@@ -15,6 +16,7 @@ ghost use Rattle.loop_record.specs.Reading.{by_block, is_bad_slot, is_high, open
 ghost use Rattle.loop_ring.specs.Heads.{heads_of};
 ghost use Rattle.loop_store.specs.Fresh.{FitsDisk};
 ghost use Rattle.loop_store.specs.Found.{Finds, IsHeadIn, clips_of, refusal, segment_said, some_bad_clip};
+ghost use Rattle.loop_store.specs.Times.{AllStamped, AreStamped, HasEach, IsAmong, KeepsStamps, found_at};
 
 use crate::StoreFault;
 use loop_disk::Disk;
@@ -110,6 +112,8 @@ fn add_head<A: Allocator>(
     ensures placed { OnOk result ((g : Geometry) (image : List ℕ)
         → segments_of g image open.new.items
         ≡ with_segment (segment_said g image segment head) (segments_of g image open.old.items)) }
+    ensures has { OnOk result (IfSome head (λ h. IsAmong (found_at segment h) open.new.items)) }
+    ensures keeps { OnOk result ((f : Found) → IsAmong f open.old.items → IsAmong f open.new.items) }
 {
     if let Some(SegmentHead { block, frames }) = head {
         put_in_place(
@@ -137,6 +141,7 @@ pub(crate) fn in_order<A: Allocator>(
     ensures order { (image : List ℕ) → heads.now ≡ heads_of geometry.now image
         → IfOk result (λ found.
         segments_of geometry.now image found.items ≡ by_block (open_segments (parts_of geometry.now image).segments)) }
+    ensures each { IfOk result (λ found. HasEach 0 heads.now found.items) }
 {
     let mut open = Vec::with_capacity(alloc, geometry.segments as usize)?;
     for done in 0..geometry.segments {
@@ -146,64 +151,82 @@ pub(crate) fn in_order<A: Allocator>(
     Ok(open)
 }
 
-/// Whether a slot holds frame `number`, or `SlotHead`: one read of its first `HEAD_SIZE` bytes.
+/// The time of frame `number`, where a slot holds it, or `SlotHead`: one read of its first `HEAD_SIZE` bytes.
 fn check_slot<D: Disk>(
     disk: &mut D,
     geometry: &Geometry,
     segment: u32,
     slot: u32,
     number: u64,
-) -> Result<(), StoreFault>
+) -> Result<u64, StoreFault>
     requires fits { FitsDisk geometry.now (D.medium disk.old).size }
     requires segment { segment < geometry.now.segments }
     requires slot { slot < geometry.now.slots }
     ensures { let n = frame_bytes geometry.now in let old = D.medium disk.old in
-        let said = is_slot_of n number (slot_in n old.bytes (slot_at geometry.now segment slot)) in
-        Finds (λ _. said ≡ true) (λ fault. (fault ≡ LayoutFault.Damaged Damage.SlotHead) × (said ≡ false)) old
+        let there = slot_in n old.bytes (slot_at geometry.now segment slot) in
+        let said = is_slot_of n number there in
+        Finds (λ time. (said ≡ true) × (time ≡ there.picture.timestamp)) (λ fault. (fault ≡ LayoutFault.Damaged Damage.SlotHead) × (said ≡ false)) old
         (D.medium disk.new) result }
 {
     let mut head = [0; HEAD_SIZE];
     disk.read(geometry.slot_at(segment, slot), &mut head)?;
-    decode_head(&head, number, geometry.frame_bytes())?;
-    Ok(())
+    let head = decode_head(&head, number, geometry.frame_bytes())?;
+    Ok(head.timestamp)
 }
 
-/// Whether the slots of a segment's whole frames hold these frames, or `SlotHead`: a read each.
-fn check_segment<D: Disk>(disk: &mut D, geometry: &Geometry, found: Found) -> Result<(), StoreFault>
+/// Whether the slots of a segment's whole frames hold these frames, or `SlotHead`: a read each. Notes their times.
+fn check_segment<D: Disk>(
+    disk: &mut D,
+    geometry: &Geometry,
+    found: Found,
+    times: &mut [u64],
+) -> Result<(), StoreFault>
+    requires room { length times.old ≡ geometry.now.segments * geometry.now.slots }
     requires fits { FitsDisk geometry.now (D.medium disk.old).size }
     requires segment { found.segment < geometry.now.segments }
     requires few { found.frames ≤ geometry.now.slots }
     requires low { is_too_high geometry.now found.block ≡ false }
-    ensures { let old = D.medium disk.old in
-        let bad = is_bad_slot geometry.now (segment_of geometry.now old.bytes found) in
-        Finds (λ _. bad ≡ false) (λ fault. (fault ≡ LayoutFault.Damaged Damage.SlotHead) × (bad ≡ true)) old
+    ensures finds { let g = geometry.now in let old = D.medium disk.old in
+        let bad = is_bad_slot g (segment_of g old.bytes found) in
+        Finds (λ _. (bad ≡ false) × (AreStamped g old.bytes times.new found.segment found.frames
+        × KeepsStamps g old.bytes times.old times.new))
+        (λ fault. (fault ≡ LayoutFault.Damaged Damage.SlotHead) × (bad ≡ true)) old
         (D.medium disk.new) result }
+    ensures room { length times.new ≡ length times.old }
 {
     let first = found.block * u64::from(geometry.slots);
+    let at = found.segment as usize * geometry.slots as usize;
     for slot in 0..found.frames {
-        check_slot(disk, geometry, found.segment, slot, first + u64::from(slot))?;
+        let number = first + u64::from(slot);
+        let time = check_slot(disk, geometry, found.segment, slot, number)?;
+        times[at + slot as usize] = time;
     }
     Ok(())
 }
 
-/// Whether the slots of all segments' whole frames hold these frames, or `SlotHead`: a read each.
+/// Whether the slots of all segments' whole frames hold these frames, or `SlotHead`: a read each. Notes their times.
 pub(crate) fn check_slots<D: Disk>(
     disk: &mut D,
     geometry: &Geometry,
     open: &[Found],
+    times: &mut [u64],
 ) -> Result<(), StoreFault>
+    requires room { length times.old ≡ geometry.now.segments * geometry.now.slots }
     requires fits { FitsDisk geometry.now (D.medium disk.old).size }
     requires within { AreIn geometry.now open.now }
-    ensures { let old = D.medium disk.old in
-        let bad = list_any (is_bad_slot geometry.now) (segments_of geometry.now old.bytes open.now) in
-        Finds (λ _. bad ≡ false) (λ fault. (fault ≡ LayoutFault.Damaged Damage.SlotHead) × (bad ≡ true)) old
+    ensures finds { let g = geometry.now in let old = D.medium disk.old in
+        let bad = list_any (is_bad_slot g) (segments_of g old.bytes open.now) in
+        Finds (λ _. (bad ≡ false) × (AllStamped g old.bytes times.new open.now
+        × KeepsStamps g old.bytes times.old times.new))
+        (λ fault. (fault ≡ LayoutFault.Damaged Damage.SlotHead) × (bad ≡ true)) old
         (D.medium disk.new) result }
+    ensures room { length times.new ≡ length times.old }
 {
     let Some((first, others)) = open.split_first() else {
         return Ok(());
     };
-    check_segment(disk, geometry, *first)?;
-    check_slots(disk, geometry, others)
+    check_segment(disk, geometry, *first, times)?;
+    check_slots(disk, geometry, others, times)
 }
 
 /// The clip of each id, in this version, or `ClipRange` where one is empty or has a number of which no segment has the

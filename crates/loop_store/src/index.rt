@@ -1,22 +1,23 @@
 //! What is known in memory of the recording on a disk.
 
-ghost use Rattle.std.specs.Prelude.{◌≡◌, ◌≢◌, ◌⊎◌, ◌&&◌, ◌+◌, ◌/◌, ◌%◌, ◌<◌, ◌≤◌, ◌↔◌, ℕ, Err, IfErr, IfOk, IfSome, IsTrue, List, None, Some, length, slice_index_or, slice_set};
+ghost use Rattle.std.specs.Prelude.{◌≡◌, ◌≢◌, ◌⊎◌, ◌&&◌, ◌+◌, ◌*◌, ◌/◌, ◌%◌, ◌<◌, ◌≤◌, ◌↔◌, ℕ, Err, IfErr, IfOk, IfSome, IsTrue, List, None, Some, length, slice_index_or, slice_set};
 ghost use Rattle.std.specs.List.{position};
 ghost use Rattle.loop_record.specs.Geometry.{is_good};
 ghost use Rattle.loop_record.specs.Recording.{Recording, last_number, ring_of, victim};
 ghost use Rattle.loop_ring.specs.Heads.{IsPlaceOf, clip_counts, has_frame, heads_of, is_of};
 ghost use Rattle.loop_store.specs.Place.{AnswersPlace, IsPlace, place_segment};
 ghost use Rattle.loop_store.specs.Index.{IsClipNoted, IsIndex, IsIndexOf, IsNoted, IsOf};
+ghost use Rattle.loop_store.specs.Times.{HasTimes};
 
 use crate::StoreFault;
 use crate::place::Place;
 use loop_clips::ClipTable;
 use loop_record::{Geometry, NUMBERS_END, SegmentHead, Span, SuperHead};
-use loop_ring::{Ring, SegmentIndex, clips_on};
+use loop_ring::{Group, Ring, SegmentIndex, clips_on};
 use std::alloc::{AllocError, Allocator};
 
 /// The geometry and the version of the layout, what the header of each segment says with the count of the clips that
-/// meet its block, the clip of each id, and the number that the next frame gets.
+/// meet its block, the clip of each id, the number that the next frame gets, and the time at each slot of the ring.
 #[derive(Drop)]
 pub(crate) struct Index<A: Allocator> {
     pub(crate) ring: Ring,
@@ -24,6 +25,19 @@ pub(crate) struct Index<A: Allocator> {
     pub(crate) table: SegmentIndex<A>,
     pub(crate) clips: ClipTable,
     pub(crate) next: u64,
+    /// Segment by segment. Where a slot has no whole frame, what stands here means nothing.
+    pub(crate) times: Vec<u64, A>,
+}
+
+/// Memory for the time at each slot of a ring.
+pub(crate) fn times_for<A: Allocator>(
+    alloc: A,
+    geometry: &Geometry,
+) -> Result<Vec<u64, A>, AllocError>
+    requires { IsTrue (is_good geometry.now) }
+    ensures { IfOk result (λ times. length times.items ≡ geometry.now.segments * geometry.now.slots) }
+{
+    vec![in alloc; 0u64; geometry.segments as usize * geometry.slots as usize]
 }
 
 /// The number that no frame gets: the first of a block that would reach 2^62.
@@ -49,11 +63,13 @@ pub(crate) fn index_of<A: Allocator + Copy>(
     heads: Vec<Option<SegmentHead>, A>,
     clips: [Option<Span>; 64],
     next: u64,
+    times: Vec<u64, A>,
 ) -> Result<Index<A>, AllocError>
     requires good { IsTrue (is_good head.geometry) }
     requires count { length heads.items ≡ head.geometry.segments }
     ensures of { IfOk result (λ index. IsOf index head.geometry heads.items clips next) }
     ensures version { IfOk result (λ index. index.version ≡ head.version) }
+    ensures times { IfOk result (λ index. index.times ≡ times) }
 {
     let clips = ClipTable::of(clips);
     let table = SegmentIndex::of(alloc, &head.geometry, heads, clips.as_slice())?;
@@ -63,6 +79,7 @@ pub(crate) fn index_of<A: Allocator + Copy>(
         table,
         clips,
         next,
+        times,
     })
 }
 
@@ -143,17 +160,25 @@ impl<A: Allocator> Index<A> {
         }
     }
 
-    /// Notes that a segment has the block of the next number, the frames before it and so many from it on.
-    pub(crate) fn note(&mut self, segment: u32, count: u32)
+    /// Notes that a segment has the block of the next number, the frames before it and those of a group from it on.
+    pub(crate) fn note(&mut self, segment: u32, group: &Group<A>)
         requires index { IsIndex self.old }
         requires segment { segment < length self.old.table.heads }
-        requires some { 1 ≤ count }
-        requires room { self.old.next % self.old.ring.geometry.slots + count ≤ self.old.ring.geometry.slots }
-        ensures { IsNoted self.old self.new segment count }
+        requires some { 1 ≤ length group.now.frames }
+        requires room { self.old.next % self.old.ring.geometry.slots + length group.now.frames
+            ≤ self.old.ring.geometry.slots }
+        ensures noted { IsNoted self.old self.new segment (length group.now.frames) }
+        ensures times { let slots = self.old.ring.geometry.slots in
+            HasTimes self.old.times.items self.new.times.items (segment * slots + self.old.next % slots)
+            group.now.frames }
     {
         let slots = u64::from(self.ring.geometry.slots);
         let block = self.next / slots;
-        let frames = (self.next % slots) as u32 + count;
+        let slot = (self.next % slots) as u32;
+        let at = segment as usize * self.ring.geometry.slots as usize + slot as usize;
+        put_times(self.times.as_mut_slice(), at, group);
+        let count = group.len() as u32;
+        let frames = slot + count;
         let head = SegmentHead { block, frames };
         set_head(
             &mut self.table,
@@ -175,6 +200,16 @@ impl<A: Allocator> Index<A> {
         self.clips.set(id, None);
         count_clip(&mut self.table, &self.ring, self.clips.as_slice(), id, clip);
         self.clips.set(id, clip);
+    }
+}
+
+/// Puts the times of a group's frames among others, from a place on.
+fn put_times<A: Allocator>(times: &mut [u64], at: usize, group: &Group<A>)
+    requires { at + length group.now.frames ≤ length times.old }
+    ensures { HasTimes times.old times.new at group.now.frames }
+{
+    for place in 0..group.len() {
+        times[at + place] = group.time(place);
     }
 }
 

@@ -8,14 +8,14 @@
 //! - `reopen`: finds the recording on a disk again; `recover` and `found`: what a disk's image reads as;
 //! - `store`: the store and its calls; `index`: what it knows in memory; `put`: the append of a group, `place`:
 //!   where it goes, `grow`: what it writes there; `lock`: locks and unlocks of clips; `upgrade`: version 2 of the
-//!   layout made of version 1; `look`: what is read;
+//!   layout made of version 1; `look`: what is read; `seek`: the held frames of a time;
 //! - `command`: lists of commands, and the replies; `memory`: memory for a frame;
 //! - `laws`: what calls leave, one after the other; `chain`: calls in a row, across a crash;
 //! - `fault`: the refusals, with their numbers and names.
 //!
 //! Of `specs`, contracts of public calls name `Calls`, `Steps`, `Seen`, `Goes`, `Runs`, `Faults`, `Numbers`, `Make`,
-//! `Reopen` and `Chain`. The others are for this crate alone: `Drawn`, and those named after the files in `src` of
-//! which they speak.
+//! `Reopen` and `Chain`, and the first words of `Times`. The others are for this crate alone: `Drawn`, and those named
+//! after the files in `src` of which they speak.
 #![tactic(auto)]
 
 pub mod chain;
@@ -34,6 +34,7 @@ mod place;
 mod put;
 mod recover;
 mod reopen;
+mod seek;
 mod store;
 mod upgrade;
 

@@ -6,7 +6,7 @@ ghost use Rattle.loop_record.specs.Layout.{IsVersion};
 ghost use Rattle.loop_store.specs.Make.{Formats};
 
 use crate::fresh::lay_out;
-use crate::index::Index;
+use crate::index::{Index, times_for};
 use crate::{OpenRefused, Store, StoreFault};
 use loop_clips::ClipTable;
 use loop_disk::Disk;
@@ -52,6 +52,12 @@ fn format_as<D: Disk + Drop, A: Allocator + Copy>(
             disk,
         });
     };
+    let Ok(times) = times_for(alloc, &head.geometry) else {
+        return Err(OpenRefused {
+            fault: StoreFault::NoMemory,
+            disk,
+        });
+    };
     match lay_out(&mut disk, &head) {
         Ok(()) => Ok(Store {
             disk,
@@ -61,6 +67,7 @@ fn format_as<D: Disk + Drop, A: Allocator + Copy>(
                 table,
                 clips: ClipTable::empty(),
                 next: 0,
+                times,
             },
             group,
             must_reopen: false,

@@ -45,7 +45,7 @@ pub(crate) fn put<D: Disk, A: Allocator>(
     match append_group(disk, index, place, group) {
         Ok(()) => {
             let number = index.next;
-            index.note(place.segment(), group.len() as u32);
+            index.note(place.segment(), group);
             Ok(number)
         }
         Err(fault) => {

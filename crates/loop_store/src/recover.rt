@@ -9,7 +9,7 @@ ghost use Rattle.loop_store.specs.Index.{IsFitting, IsRecoveredIn, SaysRecording
 
 use crate::StoreFault;
 use crate::found::{check_slots, in_order, read_heads, read_super, read_table};
-use crate::index::{Index, index_of};
+use crate::index::{Index, index_of, times_for};
 use loop_disk::Disk;
 use loop_record::{Damage, SuperHead, lacks_frame, next_after, repeats};
 use std::alloc::Allocator;
@@ -37,18 +37,19 @@ fn recover_parts<D: Disk, A: Allocator + Copy>(
     if lacks_frame(&geometry, open) {
         return Err(StoreFault::Damaged(Damage::ClosedGate));
     }
-    check_slots(disk, &geometry, open)?;
+    let mut times = times_for(alloc, &geometry)?;
+    check_slots(disk, &geometry, open, times.as_mut_slice())?;
     let clips = read_table(disk, &geometry, head.version, open)?;
     let next = next_after(&geometry, open);
-    Ok(index_of(alloc, head, heads, clips, next)?)
+    Ok(index_of(alloc, head, heads, clips, next, times)?)
 }
 
 /// The index of what a disk's image reads as: the geometry, the header of each segment, the clips and the
 /// number that comes next.
 ///
 /// It reads the superblock, each header, the first `HEAD_SIZE` bytes of each slot before the first closed gate
-/// of an open segment, and the clip table. It writes nothing. Memory is taken three times: a list of the
-/// headers, one of the open segments, and one for the index.
+/// of an open segment, and the clip table. It writes nothing. Memory is taken four times: a list of the
+/// headers, one of the open segments, one for the times, and one for the index.
 ///
 /// `NotFormatted` where the disk has no open superblock; `Damaged` with the first damage in the layout's order;
 /// `Disk` where a read failed; `NoMemory`. After each of these the disk is as it was.

@@ -6,7 +6,7 @@ ghost use Rattle.loop_disk.specs.Calls.{Stays};
 ghost use Rattle.loop_record.specs.Geometry.{frame_bytes, is_good};
 ghost use Rattle.loop_record.specs.Plain.{pictures};
 ghost use Rattle.loop_record.specs.Recording.{Recording, last_number, picture, room, victim, numbers_end};
-ghost use Rattle.loop_store.specs.Calls.{appended, locked, read_with, unlocked, upgraded, was_read, part_with, was_read_part};
+ghost use Rattle.loop_store.specs.Calls.{appended, locked, read_with, runs_with, sought, unlocked, upgraded, was_read, part_with, was_read_part};
 ghost use Rattle.loop_store.specs.Goes.{Goes};
 ghost use Rattle.loop_store.specs.Numbers.{IsLeastFrom, is_among};
 ghost use Rattle.loop_store.specs.Store.{IsGroupFor, IsKept};
@@ -20,10 +20,11 @@ use crate::look::{
     count_held, next_held, numbers_of, read_held, read_held_head, read_held_part, segment_with,
 };
 use crate::put::put;
+use crate::seek::seek;
 use crate::upgrade::upgrade_layout;
 use loop_clips::Clip;
 use loop_disk::Disk;
-use loop_record::{Frame, FrameHead, Geometry, Span};
+use loop_record::{Frame, FrameHead, Geometry, Span, Times};
 use loop_ring::Group;
 use std::alloc::{Allocator, Global};
 use std::marker::Model;
@@ -333,6 +334,26 @@ impl<D: Disk + Drop, A: Allocator> Store<D, A> {
         let segments = in_order(alloc, geometry, self.index.table.heads())?;
         let numbers = numbers_of(alloc, geometry, segments.as_slice())?;
         Ok(numbers)
+    }
+
+    /// The held frames whose times are among these, from memory, as runs of their numbers: they rise, have no tag, and
+    /// each is as long as it can be.
+    ///
+    /// `MustReopen` where a call that writes has failed; otherwise `NoMemory`. It doesn't call the disk.
+    pub fn sought<B: Allocator + Copy>(
+        &self,
+        alloc: B,
+        times: Times,
+    ) -> Result<Vec<Span, B>, StoreFault>
+        ensures { Goes D.medium self.now self.now (sought times (runs_with (λ runs. runs.items) result) ∷ []) }
+    {
+        if self.must_reopen {
+            return Err(StoreFault::MustReopen);
+        }
+        match seek(alloc, &self.index, times) {
+            Ok(runs) => Ok(runs),
+            Err(_) => Err(StoreFault::NoMemory),
+        }
     }
 
     /// The clips that stand, by rising id. `MustReopen` where a call that writes has failed; otherwise `NoMemory`.

@@ -8,7 +8,7 @@ use crate::common::*;
 use crate::told::{holds as so, same};
 use loop_budget::Budget;
 use loop_disk::{Disk, FuseDisk, MemDisk};
-use loop_record::Geometry;
+use loop_record::{Geometry, Span, Times};
 use loop_store::{Command, Reply, Store, StoreFault, format, format_v1};
 use std::alloc::{Allocator, Global};
 use std::process::Abort;
@@ -127,7 +127,7 @@ fn refuses_to_keep(rt: &impl Abort, alloc: Global, memory: &Budget, image: &[u8]
 
 // Upgrades a store of version 1 where no memory is granted, and then again.
 fn upgrades_without_growth(rt: &impl Abort, alloc: Global, memory: &Budget) {
-    memory.allow(4);
+    memory.allow(5);
     let Ok(mut store) = format_v1(memory, zeros(rt, alloc), SMALL) else {
         panic!(rt; "these growths are enough")
     };
@@ -159,6 +159,29 @@ fn grows_in_frames<'a>(
     for (allowed, count) in &[(0, None), (1, None), (2, Some(5usize))] {
         memory.allow(*allowed);
         same!(rt; store.frames(memory).ok().map(|numbers| numbers.len()), *count);
+        same!(rt; memory.left(), 0);
+    }
+}
+
+// The held frames of a time, where each growth is refused in turn: the frames are 40 ms apart.
+fn grows_in_sought<'a>(
+    rt: &impl Abort,
+    memory: &'a Budget,
+    store: &mut Store<MemDisk, &'a Budget>,
+) {
+    let times = Times {
+        since: 200_000,
+        until: 299_999,
+    };
+    let run = Span {
+        from: 5,
+        to: 7,
+        tag: 0,
+    };
+    for (allowed, first) in &[(0, None), (1, None), (2, None), (3, Some(run))] {
+        memory.allow(*allowed);
+        let runs = store.sought(memory, times).ok();
+        same!(rt; runs.and_then(|runs| runs.first().copied()), *first);
         same!(rt; memory.left(), 0);
     }
 }
@@ -229,6 +252,7 @@ fn grows_on<'a>(
     stores_without_growth(rt, alloc, memory, store);
     holds(rt, alloc, store, &[(4, 8)])?;
     grows_in_frames(rt, memory, store);
+    grows_in_sought(rt, memory, store);
     grows_in_clips(rt, memory, store, 5);
     grows_in_reads(rt, memory, store, 5);
     grows_in_commands(rt, memory, store, 5);
@@ -239,11 +263,11 @@ fn grows_on<'a>(
 fn each_growth_is_refused_in_turn(rt: HostRuntime) -> Result<(), Fail> {
     let alloc = rt.alloc();
     let memory = Budget::new(alloc);
-    grows_in_format(&rt, alloc, &memory, 4);
+    grows_in_format(&rt, alloc, &memory, 5);
     upgrades_without_growth(&rt, alloc, &memory);
     let seven = image_of(&rt, alloc, 7);
-    refuses_to_keep(&rt, alloc, &memory, &seven, 4);
-    let mut store = grows_in_open(&rt, alloc, &memory, &seven, (2, 5));
+    refuses_to_keep(&rt, alloc, &memory, &seven, 5);
+    let mut store = grows_in_open(&rt, alloc, &memory, &seven, (2, 6));
     same!(rt; store.keep(), 2);
     Ok(grows_on(&rt, alloc, &memory, &mut store)?)
 }

@@ -1,15 +1,22 @@
-use Rattle.std.proofs.Common.{None, ℕ, ◌*◌, ◌+◌, ap, arith}
+use Rattle.std.proofs.Common.{◌≡◌, None, ℕ, ◌*◌, ◌+◌, ◌<◌, ◌∙◌, List, length, ap, not, refl, subst, sym, arith}
+use Rattle.std.proofs.lemmas.List.{length-set}
 use Rattle.loop_disk.proofs.Moments.{called_on}
 use Rattle.loop_ring.proofs.SlotReads.{stays_on}
 use Rattle.loop_store.proofs.RecoveredParts.{finds-on, slots-wrong, slots-right}
+use Rattle.loop_record.specs.Geometry.{frame_bytes}
+use Rattle.loop_record.specs.Reading.{hold_from}
+use Rattle.loop_record.proofs.FoundSegments.{read_slots}
+use Rattle.loop_store.specs.Times.{AreStamped, stamp_in}
+use Rattle.loop_store.proofs.Timing.{keeps-on, keeps-stamped, place-within, stamped-more}
+use Rattle.loop_store.proofs.found.check_segment.Given.{Over}
 use Rattle.loop_store.proofs.found.check_segment.Goals as goal
 
-pub returns-in_err-check_slot : goal.returns-in_err-check_slot
-returns-in_err-check_slot g c =
+pub returns-in_err-time-clause-finds : goal.returns-in_err-time-clause-finds
+returns-in_err-time-clause-finds g c =
     let h = c.args.geometry.now in
     let here = c.loop-slot.invariant in
     let first = ap (λ (k : ℕ). c.args.found.block * k) c.from.ensures in
-    finds-on _ c.in_err-check_slot.field-0.0 _ _ _ _ _ _ _
+    finds-on _ c.in_err-time.field-0.0 _ _ _ _ _ _ _
     (λ honest fault q. (
       q.0,
       slots-wrong h (g.D.Disk.medium c.args.disk.now).bytes
@@ -17,18 +24,57 @@ returns-in_err-check_slot g c =
           (c.args.found.block * c.from.result + c.from-in-loop-slot.result) (here.stays honest).bytes
           (omega (arith, first, c.from-in-loop-slot.ensures)) (omega arith) q.1,
     ))
-    here.stays here.called c.from_residual.ensures.1 c.in_err-check_slot.ensures
+    here.stays here.called c.from_residual.ensures.1 c.in_err-time.ensures
+
+low : (g : Over) (c : goal.In_ok-time g) → c.loop-slot.slot < c.args.geometry.now.slots
+low g c = omega (arith, c.requires.few)
+
+inside : (g : Over) (c : goal.In_ok-time g)
+    → c.args.found.segment * c.args.geometry.now.slots + c.loop-slot.slot < length c.loop-slot.times
+inside g c =
+    let h = c.args.geometry.now in
+    omega (arith, place-within h.segments h.slots c.args.found.segment c.loop-slot.slot c.requires.segment (low g c), c.requires.room, c.loop-slot.invariant.room)
+
+is : (g : Over) (c : goal.In_ok-time g) → (g.D.Disk.medium c.args.disk.now).honest
+    → c.in_ok-time.time ≡ stamp_in c.args.geometry.now (g.D.Disk.medium c.args.disk.now).bytes c.args.found.segment c.loop-slot.slot
+is g c honest =
+    let here = c.loop-slot.invariant in
+    (c.in_ok-time.ensures.found (here.called.honest.0 honest)).1
+    ∙ ap (λ (image : List ℕ). stamp_in c.args.geometry.now image c.args.found.segment c.loop-slot.slot) (here.stays honest).bytes
 
 pub loop-slot-preserved : goal.loop-slot-preserved
 loop-slot-preserved g c =
     let h = c.args.geometry.now in
     let here = c.loop-slot.invariant in
     let first = ap (λ (k : ℕ). c.args.found.block * k) c.from.ensures in record {
-      called = called_on _ _ _ None here.called c.in_ok-check_slot.ensures.called;
-      stays = λ honest. stays_on _ _ _ (here.stays honest) (c.in_ok-check_slot.ensures.stays (here.called.honest.0 honest));
+      called = called_on _ _ _ None here.called c.in_ok-time.ensures.called;
+      stays = λ honest. stays_on _ _ _ (here.stays honest) (c.in_ok-time.ensures.stays (here.called.honest.0 honest));
       hold = λ honest. slots-right h (g.D.Disk.medium c.args.disk.now).bytes (g.D.Disk.medium c.loop-slot.disk).bytes
           c.args.found.segment c.loop-slot.slot (c.args.found.block * h.slots)
           (c.args.found.block * c.from.result + c.from-in-loop-slot.result)
           (here.stays honest).bytes (omega (arith, first, c.from-in-loop-slot.ensures)) (here.hold honest)
-          (c.in_ok-check_slot.ensures.found (here.called.honest.0 honest));
+          (c.in_ok-time.ensures.found (here.called.honest.0 honest)).0;
+      room = length-set c.loop-slot.times (c.args.found.segment * h.slots + c.loop-slot.slot) c.in_ok-time.time ∙ here.room;
+      stamped = λ honest. stamped-more h (g.D.Disk.medium c.args.disk.now).bytes c.args.found.segment c.loop-slot.slot _ c.in_ok-time.time
+          c.loop-slot.times _ (inside g c) (low g c) refl (is g c honest) refl (here.stamped honest);
+      keeps = λ honest. keeps-on h (g.D.Disk.medium c.args.disk.now).bytes c.args.times.now c.loop-slot.times _ (here.keeps honest)
+          (keeps-stamped h (g.D.Disk.medium c.args.disk.now).bytes c.args.found.segment c.loop-slot.slot _ c.in_ok-time.time
+          c.loop-slot.times _ (inside g c) (low g c) refl (is g c honest) refl);
+    }
+
+pub returns-clause-finds : goal.returns-clause-finds
+returns-clause-finds g c =
+    let h = c.args.geometry.now in
+    let f = c.args.found in
+    let image = (g.D.Disk.medium c.args.disk.now).bytes in
+    let here = c.loop-slot.invariant in
+    let end : c.loop-slot.slot ≡ f.frames = omega arith in
+    record {
+      found = λ honest. (
+        ap (λ (k : ℕ). not (hold_from (frame_bytes h) (f.block * h.slots) (read_slots h image f.segment k))) (sym end)
+            ∙ ap not (here.hold honest),
+        (subst (AreStamped h image c.loop-slot.times f.segment) end (here.stamped honest), here.keeps honest),
+      );
+      stays = here.stays;
+      called = here.called;
     }

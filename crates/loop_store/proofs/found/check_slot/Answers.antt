@@ -2,28 +2,31 @@ use Rattle.loop_record.specs.Geometry.{frame_bytes, slot_at}
 use Rattle.loop_record.specs.Layout.{slot_in}
 use Rattle.loop_record.proofs.FoundSegments.{slot-wrong}
 use Rattle.loop_store.proofs.RecoveredParts.{finds-err, slot-read, slot-right}
+use Rattle.loop_store.proofs.Timing.{slot-time}
 use Rattle.loop_store.specs.declared.fault.StoreFault.{StoreFault}
 use Rattle.loop_store.proofs.found.check_slot.Goals as goal
 
-pub returns-in_err-decode_head : goal.returns-in_err-decode_head
-returns-in_err-decode_head g c =
+pub returns-in_err-head : goal.returns-in_err-head
+returns-in_err-head g c =
     let h = c.args.geometry.now in
     let image = (g.D.Disk.medium c.args.disk.now).bytes in
-    finds-err _ (StoreFault.Damaged c.in_err-decode_head.field-0.0) _ _ _ _
-    (λ honest. slot-wrong (frame_bytes h) c.args.number (slot_in (frame_bytes h) image (slot_at h c.args.segment c.args.slot)) c.in_err-decode_head.field-0.0
+    finds-err _ (StoreFault.Damaged c.in_err-head.field-0.0) _ _ _ _
+    (λ honest. slot-wrong (frame_bytes h) c.args.number (slot_in (frame_bytes h) image (slot_at h c.args.segment c.args.slot)) c.in_err-head.field-0.0
     (slot-read h c.args.segment c.args.slot c.args.number c.slot_at.result c.frame_bytes.result image c.read.new.buf _
-    c.slot_at.ensures c.frame_bytes.ensures (c.in_ok-read.ensures.read honest) c.in_err-decode_head.ensures.head))
-    c.in_ok-read.ensures.disk c.in_ok-read.ensures.called c.from_residual-in_err-decode_head.ensures.1
+    c.slot_at.ensures c.frame_bytes.ensures (c.in_ok-read.ensures.read honest) c.in_err-head.ensures.head))
+    c.in_ok-read.ensures.disk c.in_ok-read.ensures.called c.from_residual-in_err-head.ensures.1
 
 pub returns : goal.returns
 returns g c =
     let h = c.args.geometry.now in
     let image = (g.D.Disk.medium c.args.disk.now).bytes in
     record {
-      found = λ honest. slot-right (frame_bytes h) c.args.number (slot_in (frame_bytes h) image (slot_at h c.args.segment c.args.slot)) _
-          (slot-read h c.args.segment c.args.slot c.args.number c.slot_at.result c.frame_bytes.result image
+      found = λ honest.
+          let there = slot_in (frame_bytes h) image (slot_at h c.args.segment c.args.slot) in
+          let is = slot-read h c.args.segment c.args.slot c.args.number c.slot_at.result c.frame_bytes.result image
           c.read.new.buf _ c.slot_at.ensures c.frame_bytes.ensures (c.in_ok-read.ensures.read honest)
-          c.in_ok-decode_head.ensures.head);
+          c.in_ok-head.ensures.head in
+          (slot-right (frame_bytes h) c.args.number there _ is, slot-time (frame_bytes h) c.args.number there _ is);
       stays = c.in_ok-read.ensures.disk;
       called = c.in_ok-read.ensures.called;
     }

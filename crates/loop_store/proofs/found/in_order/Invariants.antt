@@ -4,6 +4,7 @@ use Rattle.loop_record.specs.Layout.{segment_in}
 use Rattle.loop_record.specs.Plain.{AreIn, segments_of}
 use Rattle.loop_record.specs.Reading.{by_block, open_segments}
 use Rattle.loop_ring.specs.Heads.{heads_of}
+use Rattle.loop_store.specs.Times.{HasEach}
 use Rattle.loop_store.proofs.found.in_order.Given as goal
 
 -- the open ones of the last segments so far
@@ -14,4 +15,5 @@ invariant-loop-done g l = record {
   order : (image : List ℕ) → l.heads ≡ heads_of l.geometry image
       → segments_of l.geometry image l.«open».items ≡ by_block
       (open_segments (map (segment_in l.geometry image) (range_with_len (l.geometry.segments - l.done) l.done)));
+  each : HasEach (l.geometry.segments - l.done) l.heads l.«open».items;
 }

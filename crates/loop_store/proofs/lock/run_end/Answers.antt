@@ -1,6 +1,6 @@
-use Rattle.std.proofs.Common.{inl, ◌+◌, ◌*◌, ◌<◌, ℕ, sym, ◌∙◌, subst}
+use Rattle.std.proofs.Common.{inl, ◌+◌, ◌*◌, ◌<◌, ℕ, sym, ap, ◌∙◌, subst, arith}
 use Rattle.loop_record.proofs.Bounds.{limits}
-use Rattle.loop_store.proofs.Locked.{run-ends, run-held}
+use Rattle.loop_store.proofs.Locked.{run-ends, run-from, run-held}
 use Rattle.loop_store.proofs.lock.run_end.Goals as goal
 
 pub returns-in-Some-get-clause-held : goal.returns-in-Some-get-clause-held
@@ -13,6 +13,14 @@ returns-in-Some-get-clause-held g c = λ r image known m low high.
     run-held h r image c.args.index.now.table.heads c.in-Some.segment c.args.number m head known.held known.heads_are
     c.requires.within c.in-Some.ensures.within (limits h c.args.index.now.ring.good).slots.0
     (sym c.get.ensures ∙ c.in-Some-get.is) c.in-Some.ensures.there low end
+
+pub returns-in-Some-get-clause-from : goal.returns-in-Some-get-clause-from
+returns-in-Some-get-clause-from g c =
+    let h = c.args.index.now.ring.geometry in
+    let head = c.in-Some-get.head in
+    let there = run-from h.slots c.args.number head.block head.frames _ (sym c.get.ensures ∙ c.in-Some-get.is) c.in-Some.ensures.there in
+    let first = ap (λ (k : ℕ). head.block * k) c.from.ensures in
+    omega (arith, there, first, c.from-in-Some-get.ensures)
 
 pub returns-in-None-clause-missing : goal.returns-in-None-clause-missing
 returns-in-None-clause-missing g c = λ r image known same. c.in-None.ensures.missing r image known

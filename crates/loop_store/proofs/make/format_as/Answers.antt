@@ -23,6 +23,7 @@ index g c = record {
   table = c.in-Ok.table;
   clips = c.empty.result;
   next = 0;
+  times = c.in-Ok-times_for.times;
 }
 
 new : (g : Over) (c : goal.After-empty g) → IsNew (index g c) c.args.head
@@ -33,6 +34,7 @@ new g c = record {
   closed = ap (λ (s : Segments). s.heads) c.in-Ok.ensures;
   none = c.empty.ensures;
   counts = ap (λ (s : Segments). s.clips) c.in-Ok.ensures;
+  places = c.in-Ok-times_for.ensures;
 }
 
 pub invariant_of-result : goal.invariant_of-result

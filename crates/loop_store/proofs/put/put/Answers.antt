@@ -1,4 +1,4 @@
-use Rattle.std.proofs.Common.{◌≡◌, ℕ, Result, Ok, Err, List, length, refl, sym, ap, ◌∙◌, subst, arith}
+use Rattle.std.proofs.Common.{◌≡◌, ℕ, Result, Ok, Err, List, length, refl, sym, ap, ◌∙◌, subst}
 use Rattle.std.proofs.lemmas.Result.{err_from_is_err_and}
 use Rattle.loop_disk.specs.Medium.{LeavesOnly, Medium}
 use Rattle.loop_record.specs.declared.geometry.Geometry.{Geometry}
@@ -13,7 +13,7 @@ use Rattle.loop_store.specs.Place.{IsKnown, place_segment}
 use Rattle.loop_store.specs.Seen.{seen_with}
 use Rattle.loop_store.specs.Drawn.{drawn_image}
 use Rattle.loop_store.proofs.Alike.{refuses-same}
-use Rattle.loop_store.proofs.Appended.{Grew, IsPlaced, kept-grown, noted-at, place-known, place-some, stands-grown, steps-are, told-grown}
+use Rattle.loop_store.proofs.Appended.{Grew, IsPlaced, kept-grown, noted-at, put-at, place-known, place-some, stands-grown, steps-are, told-grown}
 use Rattle.loop_store.proofs.Looks.{alike-by, failed-kept, known-by, one-kept}
 use Rattle.loop_store.proofs.Once.{goes-must}
 use Rattle.loop_store.proofs.Putting.{place-alike, place-refused, put-failed, put-stored}
@@ -67,7 +67,7 @@ returns-in-Ok-clause-kept g c =
     let h = i.ring.geometry in
     let ps = c.args.group.now.frames in
     let j = place_segment c.in_ok-place.place in
-    let n = c.len.result in
+    let n = length ps in
     let medium = g.D.Disk.medium in
     let first : Grew medium h i.table.keep c.args.disk.now c.append_group.new.disk c.args.group.now.first (length ps) j ps = record {
       back = c.append_group.ensures.called.honest.1;
@@ -76,17 +76,18 @@ returns-in-Ok-clause-kept g c =
       settled = c.in-Ok.ensures.settled;
       stored = c.in-Ok.ensures.held;
     } in
-    let grew = grew-by medium h i.table.keep c.args.disk.now c.append_group.new.disk c.args.group.now.first i.next n j ps c.requires.first c.len.ensures.count first in
-    let noted = noted-at i c.note.new.self c.segment.result j n c.segment.ensures c.note.ensures in
+    let grew = grew-by medium h i.table.keep c.args.disk.now c.append_group.new.disk c.args.group.now.first i.next n j ps c.requires.first refl first in
+    let noted = noted-at i c.note.new.self c.segment.result j n c.segment.ensures c.note.ensures.noted in
+    let put = put-at i c.note.new.self c.segment.result j ps c.segment.ensures c.note.ensures.times in
     let placed : IsPlaced i c.in_ok-place.place n = record {
       within = c.in_ok-place.ensures.within;
       at = c.in_ok-place.ensures.answers;
       unspent = λ same. not-refused c.in_ok-place.place (c.in_ok-place.ensures.spent.1 same);
-      room = omega (arith, c.requires.room, c.len.ensures.count);
+      room = c.requires.room;
     } in
     kept-grown medium c.args.disk.now c.append_group.new.disk i c.note.new.self c.in_ok-place.place n j ps
     c.args.must_reopen.now c.requires.kept c.if-must_reopen.false refl placed noted
-    c.append_group.ensures.called.size grew
+    c.append_group.ensures.called.size grew put
 
 pub returns-in-Ok-clause-goes : goal.returns-in-Ok-clause-goes
 returns-in-Ok-clause-goes g c =
@@ -94,7 +95,7 @@ returns-in-Ok-clause-goes g c =
     let h = i.ring.geometry in
     let ps = c.args.group.now.frames in
     let j = place_segment c.in_ok-place.place in
-    let n = c.len.result in
+    let n = length ps in
     let medium = g.D.Disk.medium in
     let must = c.args.must_reopen.now in
     let fine = c.if-must_reopen.false in
@@ -105,13 +106,14 @@ returns-in-Ok-clause-goes g c =
       settled = c.in-Ok.ensures.settled;
       stored = c.in-Ok.ensures.held;
     } in
-    let grew = grew-by medium h i.table.keep c.args.disk.now c.append_group.new.disk c.args.group.now.first i.next n j ps c.requires.first c.len.ensures.count first in
-    let noted = noted-at i c.note.new.self c.segment.result j n c.segment.ensures c.note.ensures in
+    let grew = grew-by medium h i.table.keep c.args.disk.now c.append_group.new.disk c.args.group.now.first i.next n j ps c.requires.first refl first in
+    let noted = noted-at i c.note.new.self c.segment.result j n c.segment.ensures c.note.ensures.noted in
+    let put = put-at i c.note.new.self c.segment.result j ps c.segment.ensures c.note.ensures.times in
     let placed : IsPlaced i c.in_ok-place.place n = record {
       within = c.in_ok-place.ensures.within;
       at = c.in_ok-place.ensures.answers;
       unspent = λ same. not-refused c.in_ok-place.place (c.in_ok-place.ensures.spent.1 same);
-      room = omega (arith, c.requires.room, c.len.ensures.count);
+      room = c.requires.room;
     } in
     put-stored medium (seen_with c.args.disk.now i must) (seen_with c.append_group.new.disk c.note.new.self must) ps (record {
       fine = fine;
@@ -122,7 +124,7 @@ returns-in-Ok-clause-goes g c =
       keep = noted.keep;
       called = c.in-Ok.ensures.called;
       tells = λ r told. told-grown medium c.args.disk.now c.append_group.new.disk i c.note.new.self
-          c.in_ok-place.place n j ps must r c.requires.kept told refl placed noted grew.count;
+          c.in_ok-place.place n j ps must r c.requires.kept told refl placed noted grew.count put;
       place = λ r told.
           let known = c.requires.kept.known in
           let image = drawn_image h i.table.heads i.clips in
@@ -137,7 +139,7 @@ returns-in-Ok-clause-goes g c =
           (place-some h i.table.keep r (medium c.args.disk.now).bytes c.in_ok-place.place at.1))
           (c.append_group.ensures.moments r (sym known.next_is ∙ sym c.requires.first) honest known.held);
       stands = λ r stands. stands-grown medium c.args.disk.now c.append_group.new.disk i c.note.new.self
-          c.in_ok-place.place n j ps must r c.requires.kept fine stands refl placed noted grew;
+          c.in_ok-place.place n j ps must r c.requires.kept fine stands refl placed noted grew put;
     })
 
 pub returns-in-Err-clause-kept : goal.returns-in-Err-clause-kept

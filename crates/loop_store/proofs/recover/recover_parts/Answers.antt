@@ -1,4 +1,5 @@
-use Rattle.std.proofs.Common.{None, ℕ, ◌≤◌, [], sym, ap, ◌∙◌, subst}
+use Rattle.std.proofs.Common.{◌≡◌, None, Option, ℕ, ◌≤◌, List, [], length, sym, ap, ◌∙◌, subst, arith}
+use Rattle.std.proofs.lemmas.List.{with_items_is}
 use Rattle.loop_record.specs.Plain.{AreIn}
 use Rattle.loop_record.specs.Layout.{version_in}
 use Rattle.loop_record.specs.Recording.{last_number, ring_of}
@@ -8,12 +9,16 @@ use Rattle.loop_record.proofs.FoundSegments.{AreFull, read-lacks, read-repeats}
 use Rattle.loop_disk.proofs.Moments.{called_on}
 use Rattle.loop_ring.proofs.SlotReads.{stays_on}
 use Rattle.loop_store.specs.declared.fault.StoreFault.{StoreFault}
+use Rattle.loop_record.specs.declared.segment.SegmentHead.{SegmentHead}
+use Rattle.loop_store.specs.Times.{HasEach}
+use Rattle.loop_store.proofs.Timing.{timed-index}
 use Rattle.loop_store.proofs.Opening.{says-recording}
 use Rattle.loop_store.proofs.Answered.{called-none}
 use Rattle.loop_store.proofs.Gone.{stays-still}
 use Rattle.loop_store.proofs.RecoveredParts.{finds-err, finds-on}
 use Rattle.loop_store.proofs.RecoveredWhole.{fitting, found-by, full, recovered, refused-clip, refused-head, refused-slot}
 use Rattle.loop_store.proofs.Reopened.{next-few}
+use Rattle.loop_store.proofs.recover.recover_parts.Given.{Over}
 use Rattle.loop_store.proofs.recover.recover_parts.Goals as goal
 
 pub returns-in_err-heads-clause-finds : goal.returns-in_err-heads-clause-finds
@@ -73,14 +78,14 @@ returns-in_err-check_slots-clause-finds g c = finds-on _ c.in_err-check_slots.fi
     let all : AreFull h image fs xs = full h image fs xs c.repeats.result c.lacks_frame.result found
     (c.repeats.ensures h image) c.if-repeats.false (c.lacks_frame.ensures image) c.if-lacks_frame.false in
     refused-slot h image _ fs xs fault all first.bytes q) c.in_ok-heads.ensures.finds.stays
-    c.in_ok-heads.ensures.finds.called c.from_residual-in_err-check_slots.ensures.1 c.in_err-check_slots.ensures
+    c.in_ok-heads.ensures.finds.called c.from_residual-in_err-check_slots.ensures.1 c.in_err-check_slots.ensures.finds
 
 pub read_table-requires-clause-version : goal.read_table-requires-clause-version
 read_table-requires-clause-version g c = λ third.
-    let second = c.in_ok-check_slots.ensures.called.honest.1 third in
+    let second = c.in_ok-check_slots.ensures.finds.called.honest.1 third in
     let honest = c.in_ok-heads.ensures.finds.called.honest.1 second in
     let image = (g.D.Disk.medium c.args.disk.now).bytes in
-    ap version_in ((c.in_ok-check_slots.ensures.stays second).bytes
+    ap version_in ((c.in_ok-check_slots.ensures.finds.stays second).bytes
     ∙ (c.in_ok-heads.ensures.finds.stays honest).bytes) ∙ (super-parts c.args.head image (c.requires.head honest)).1
 
 pub returns-in_err-clips-clause-finds : goal.returns-in_err-clips-clause-finds
@@ -97,12 +102,19 @@ returns-in_err-clips-clause-finds g c = finds-on _ c.in_err-clips.field-0.0 _ _ 
     let all : AreFull h image fs xs = full h image fs xs c.repeats.result c.lacks_frame.result found
     (c.repeats.ensures h image) c.if-repeats.false (c.lacks_frame.ensures image) c.if-lacks_frame.false in
     let second = c.in_ok-heads.ensures.finds.called.honest.0 honest in
-    let checked = c.in_ok-check_slots.ensures.stays second in
-    refused-clip h image _ _ fs xs fault all first.bytes (c.in_ok-check_slots.ensures.found second) (checked.bytes ∙ first.bytes) q)
+    let checked = c.in_ok-check_slots.ensures.finds.stays second in
+    refused-clip h image _ _ fs xs fault all first.bytes (c.in_ok-check_slots.ensures.finds.found second).0 (checked.bytes ∙ first.bytes) q)
     (λ honest. stays_on _ _ _ (c.in_ok-heads.ensures.finds.stays honest)
-    (c.in_ok-check_slots.ensures.stays (c.in_ok-heads.ensures.finds.called.honest.0 honest)))
-    (called_on _ _ _ None c.in_ok-heads.ensures.finds.called c.in_ok-check_slots.ensures.called)
+    (c.in_ok-check_slots.ensures.finds.stays (c.in_ok-heads.ensures.finds.called.honest.0 honest)))
+    (called_on _ _ _ None c.in_ok-heads.ensures.finds.called c.in_ok-check_slots.ensures.finds.called)
     c.from_residual-in_err-clips.ensures.1 c.in_err-clips.ensures.finds
+
+times-are : (g : Over) (c : goal.After-drop-segments-2 g) → c.in_ok-index_of.field-0.times.items ≡ c.check_slots.new.times
+times-are g c =
+    let room = c.in_ok-check_slots.ensures.room in
+    let long = ap (λ (ts : List ℕ). length ts) c.as_mut_slice.ensures.value in
+    ap (λ v. v.items) c.in_ok-index_of.ensures.times
+    ∙ with_items_is c.in_ok-times.times c.check_slots.new.times (omega (arith, room, long, c.in_ok-times.times.ok.0))
 
 pub returns-clause-finds : goal.returns-clause-finds
 returns-clause-finds g c = record {
@@ -119,20 +131,26 @@ returns-clause-finds g c = record {
       let all : AreFull h image fs xs = full h image fs xs c.repeats.result c.lacks_frame.result found
       (c.repeats.ensures h image) c.if-repeats.false (c.lacks_frame.ensures image) c.if-lacks_frame.false in
       let second = c.in_ok-heads.ensures.finds.called.honest.0 honest in
-      let checked = c.in_ok-check_slots.ensures.stays second in
-      let third = c.in_ok-check_slots.ensures.called.honest.0 second in (
+      let checked = c.in_ok-check_slots.ensures.finds.stays second in
+      let third = c.in_ok-check_slots.ensures.finds.called.honest.0 second in (
         recovered c.in_ok-index_of.field-0 h image _ _ fs xs c.in_ok-heads.heads.items c.in_ok-clips.clips
-            c.next_after-next.result c.in_ok-index_of.ensures.of all first.bytes (c.in_ok-check_slots.ensures.found second)
+            c.next_after-next.result c.in_ok-index_of.ensures.of all first.bytes (c.in_ok-check_slots.ensures.finds.found second).0
             (checked.bytes ∙ first.bytes) (c.in_ok-clips.ensures.finds.found third) (c.next_after-next.ensures image)
             (c.in_ok-heads.ensures.finds.found honest),
-        (super-parts c.args.head image (c.requires.head honest)).1 ∙ sym c.in_ok-index_of.ensures.version,
+        (
+          (super-parts c.args.head image (c.requires.head honest)).1 ∙ sym c.in_ok-index_of.ensures.version,
+          timed-index c.in_ok-index_of.field-0 h c.in_ok-heads.heads.items c.in_ok-clips.clips c.next_after-next.result c.check_slots.new.times image
+              _ fs xs c.in_ok-index_of.ensures.of (times-are g c) (c.in_ok-heads.ensures.finds.found honest)
+              (subst (λ (hs : List (Option SegmentHead)). HasEach 0 hs fs) c.as_slice.ensures.value c.in_ok-segments.ensures.each)
+              c.as_slice-open.ensures.value first.bytes (c.in_ok-check_slots.ensures.finds.found second).1.0,
+        ),
       );
   stays = λ honest.
       let second = c.in_ok-heads.ensures.finds.called.honest.0 honest in
       stays_on _ _ _ (stays_on _ _ _ (c.in_ok-heads.ensures.finds.stays honest)
-      (c.in_ok-check_slots.ensures.stays second))
-      (c.in_ok-clips.ensures.finds.stays (c.in_ok-check_slots.ensures.called.honest.0 second));
-  called = called_on _ _ _ None (called_on _ _ _ None c.in_ok-heads.ensures.finds.called c.in_ok-check_slots.ensures.called) c.in_ok-clips.ensures.finds.called;
+      (c.in_ok-check_slots.ensures.finds.stays second))
+      (c.in_ok-clips.ensures.finds.stays (c.in_ok-check_slots.ensures.finds.called.honest.0 second));
+  called = called_on _ _ _ None (called_on _ _ _ None c.in_ok-heads.ensures.finds.called c.in_ok-check_slots.ensures.finds.called) c.in_ok-clips.ensures.finds.called;
 }
 
 pub returns-clause-known : goal.returns-clause-known
@@ -142,7 +160,7 @@ returns-clause-known g c =
     let within = subst (AreIn h) (sym c.as_slice-open.ensures.value) c.in_ok-segments.ensures.within in (
       fitting c.in_ok-index_of.field-0 h c.in_ok-heads.heads.items c.in_ok-clips.clips c.next_after-next.result (g.D.Disk.medium c.args.disk.now).size
           c.in_ok-index_of.ensures.of c.requires.fits.1 c.in_ok-heads.ensures.count c.in_ok-heads.ensures.within
-          (subst (λ (n : ℕ). n ≤ last_number (ring_of h)) (sym (c.next_after-next.ensures [])) (next-few h [] xs (limits h c.requires.fits.0).slots.0 within)),
+          (subst (λ (n : ℕ). n ≤ last_number (ring_of h)) (sym (c.next_after-next.ensures [])) (next-few h [] xs (limits h c.requires.fits.0).slots.0 within)) (ap (λ (ts : List ℕ). length ts) (times-are g c) ∙ c.in_ok-check_slots.ensures.room ∙ ap (λ (ts : List ℕ). length ts) c.as_mut_slice.ensures.value ∙ c.in_ok-times.ensures),
       says-recording c.in_ok-index_of.field-0 h c.in_ok-heads.heads.items c.in_ok-clips.clips
           c.in_ok-segments.segments.items c.as_slice-open.result.now c.next_after-next.result c.in_ok-index_of.ensures.of
           (record {
@@ -167,7 +185,7 @@ returns-in_err-index_of-clause-finds g c =
     (λ honest.
     let second = c.in_ok-heads.ensures.finds.called.honest.0 honest in
     stays_on _ _ _ (stays_on _ _ _ (c.in_ok-heads.ensures.finds.stays honest)
-    (c.in_ok-check_slots.ensures.stays second))
-    (c.in_ok-clips.ensures.finds.stays (c.in_ok-check_slots.ensures.called.honest.0 second)))
-    (called_on _ _ _ None (called_on _ _ _ None c.in_ok-heads.ensures.finds.called c.in_ok-check_slots.ensures.called)
+    (c.in_ok-check_slots.ensures.finds.stays second))
+    (c.in_ok-clips.ensures.finds.stays (c.in_ok-check_slots.ensures.finds.called.honest.0 second)))
+    (called_on _ _ _ None (called_on _ _ _ None c.in_ok-heads.ensures.finds.called c.in_ok-check_slots.ensures.finds.called)
     c.in_ok-clips.ensures.finds.called) c.from_residual-in_err-index_of.ensures.1

@@ -29,7 +29,7 @@ returns-in-Some g c = record {
       let found = found-place c.args.index.now c.from-slots.result image c.find.result
       (Some c.in-Some.segment) told c.from-slots.ensures c.in-Some.is c.find.ensures.place in
       both_ok c.clear_stray.result (λ shows settled. found-present c.args.index.now c.in-Some.segment image
-      (g.D.Disk.medium c.clear_stray.new.disk) told (c.requires.told honest).1 found shows.0 shows.1 settled)
+      (g.D.Disk.medium c.clear_stray.new.disk) told (c.requires.told honest).1.0 found shows.0 shows.1 settled (c.requires.told honest).1.1)
       (c.clear_stray.ensures.such honest) (c.clear_stray.ensures.settled honest);
   called = c.clear_stray.ensures.called;
 }
@@ -45,11 +45,12 @@ returns-in-None g c = record {
       let image = (g.D.Disk.medium c.args.disk.now).bytes in
       let told = (c.requires.told honest).0 in record {
         recorded = told;
-        version = (c.requires.told honest).1;
+        version = (c.requires.told honest).1.0;
         settled = c.requires.settled honest;
         unstray = unstray-missing h told.recording image told.known.held
             (found-place c.args.index.now c.from-slots.result image c.find.result None told c.from-slots.ensures
             c.in-None.is c.find.ensures.place);
+        timed = (c.requires.told honest).1.1;
       };
   called = called-none _;
 }

@@ -29,6 +29,6 @@ returns-clause-found g c = λ honest.
     let image = (g.D.Disk.medium c.args.disk.now).bytes in
     let found = c.in_ok-index.ensures.finds.found honest in (
       subst (λ (i : Index g.row.A.Denot). IsRecoveredIn i image) (sym c.in_ok-keep_newest.ensures.kept.0)
-          (keeping-recovered c.args.keep index image found.0.0, found.0.1),
+          (keeping-recovered c.args.keep index image found.0.0, (found.0.1.0, found.0.1.1)),
       found.1,
     )

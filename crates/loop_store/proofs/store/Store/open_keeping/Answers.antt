@@ -1,8 +1,7 @@
 use Rattle.std.proofs.Common.{false, refl}
 use Rattle.loop_record.proofs.Bounds.{limits}
-use Rattle.loop_store.specs.Drawn.{drawn_image}
 use Rattle.loop_store.proofs.Reopened.{present-opened}
-use Rattle.loop_store.proofs.Looks.{told-by}
+use Rattle.loop_store.proofs.Looks.{drawn-of, tells-drawn}
 use Rattle.loop_store.proofs.store.Store.open_keeping.Goals as goal
 
 pub invariant_of-result : goal.invariant_of-result
@@ -23,12 +22,7 @@ returns-in-Ok g c =
       opened = λ honest. present-opened g.D.Disk.medium c.reopen.new.disk index (g.D.Disk.medium c.args.disk).bytes
           (limits index.ring.geometry index.ring.good).slots.0 c.in-Ok.ensures.known.0.0.whole.within
           (c.in-Ok.ensures.present honest) (c.reopen.ensures.alike honest);
-      tells = (
-        known.recording,
-        told-by c.reopen.new.disk index false known.recording
-            (drawn_image index.ring.geometry index.table.heads index.clips)
-            (limits index.ring.geometry index.ring.good).slots.0 c.in-Ok.ensures.known.0.0.whole.within known.known,
-      );
+      tells = (drawn-of index known, tells-drawn c.reopen.new.disk index false known c.in-Ok.ensures.known.0.0.whole.within);
       kept = c.in-Ok.ensures.kept;
       fine = refl;
       refused = λ honest. tt;

@@ -1,0 +1,103 @@
+//! The held frames of a time, as runs of their numbers.
+
+ghost use Rattle.std.specs.Prelude.{◌≡◌, ◌==◌, ◌+◌, ℕ, List, IfOk, OnOk, map};
+ghost use Rattle.std.specs.List.{filter};
+ghost use Rattle.loop_record.specs.Recording.{Recording};
+ghost use Rattle.loop_record.specs.Times.{AreRuns, is_in};
+ghost use Rattle.loop_store.specs.Index.{IsIndex, IsIndexOf};
+ghost use Rattle.loop_store.specs.Times.{Rise, added, time_under};
+
+use crate::found::in_order;
+use crate::index::Index;
+use crate::look::numbers_of;
+use loop_record::{Span, Times};
+use std::alloc::{AllocError, Allocator};
+
+/// The time at the slot of a number in the segment that has its block; 0 where none has it.
+fn time_of<A: Allocator>(index: &Index<A>, number: u64) -> u64
+    requires { IsIndex index.now }
+    ensures { result ≡ time_under index.now.ring.geometry.slots index.now.table.heads index.now.times.items number }
+{
+    let slots = u64::from(index.ring.geometry.slots);
+    match index.find(number / slots) {
+        Some(segment) => {
+            index.times[segment as usize * slots as usize + (number % slots) as usize]
+        }
+        None => 0,
+    }
+}
+
+/// Whether a number comes next after a run.
+fn is_next(run: Span, number: u64) -> bool
+    ensures { result ≡ (run.to + 1 == number) }
+{
+    run.to < number && number - run.to == 1
+}
+
+/// The run of one number.
+fn one(number: u64) -> Span
+    ensures { result ≡ record { from = number; to = number; tag = 0 } }
+{
+    Span {
+        from: number,
+        to: number,
+        tag: 0,
+    }
+}
+
+/// Puts a number after the last run, or as a run of its own.
+fn add_number<A: Allocator>(runs: &mut Vec<Span, A>, number: u64) -> Result<(), AllocError>
+    ensures { OnOk result (runs.new.items ≡ added runs.old.items number) }
+{
+    runs.reserve(1)?;
+    let Some(last) = runs.pop() else {
+        runs.push_reserved(one(number));
+        return Ok(());
+    };
+    if is_next(last, number) {
+        runs.push_reserved(Span { to: number, ..last });
+    } else {
+        runs.push_reserved(last);
+        runs.push_reserved(one(number));
+    }
+    Ok(())
+}
+
+/// The runs of those of these numbers, which rise, whose frames have their time among these.
+fn runs_of<A: Allocator, B: Allocator>(
+    alloc: B,
+    index: &Index<A>,
+    numbers: &[u64],
+    times: Times,
+) -> Result<Vec<Span, B>, AllocError>
+    requires { IsIndex index.now }
+    ensures { Rise numbers.now → IfOk result (λ runs. AreRuns (filter (λ n.
+        is_in times (time_under index.now.ring.geometry.slots index.now.table.heads index.now.times.items n))
+        numbers.now) runs.items) }
+{
+    let mut runs = Vec::new(alloc);
+    for number in numbers {
+        if times.has(time_of(index, *number)) {
+            add_number(&mut runs, *number)?;
+        }
+    }
+    Ok(runs)
+}
+
+/// The runs of the held frames whose times are among these.
+pub(crate) fn seek<A: Allocator, B: Allocator + Copy>(
+    alloc: B,
+    index: &Index<A>,
+    times: Times,
+) -> Result<Vec<Span, B>, AllocError>
+    requires { IsIndex index.now }
+    ensures { (r : Recording) (image : List ℕ) → IsIndexOf index.now r image
+        → IfOk result (λ runs. AreRuns (filter (λ n. is_in times
+        (time_under index.now.ring.geometry.slots index.now.table.heads index.now.times.items n))
+        (map (λ f. f.0) r.frames)) runs.items) }
+{
+    let geometry = &index.ring.geometry;
+    let segments = in_order(alloc, geometry, index.table.heads())?;
+    let numbers = numbers_of(alloc, geometry, segments.as_slice())?;
+    runs_of(alloc, index, numbers.as_slice(), times)
+}
