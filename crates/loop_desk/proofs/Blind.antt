@@ -18,7 +18,7 @@ use Rattle.loop_store.specs.Steps.{if_answered, steps_or_none}
 use Rattle.loop_desk.specs.declared.limits.Flushed.{Flushed}
 use Rattle.loop_desk.specs.declared.limits.Outline.{Outline}
 use Rattle.loop_desk.specs.Bare.{IsBlind, IsOutlineOf, bare, bare_call, bare_frame, bare_read, bare_recording, bare_state, bare_store}
-use Rattle.loop_desk.specs.Desk.{AreDeskAnswers, DeskCall, DeskState, IsDeskAnswer, IsDeskTold, IsFlush, Rules, append_of, clip_locked, clip_unlocked, desk_after, desk_after_calls, flushed, frame_read, group_of, layout_upgraded, pending_after, status_told, store_calls, submitted, times_sought}
+use Rattle.loop_desk.specs.Desk.{AreDeskAnswers, DeskCall, DeskState, IsDeskAnswer, IsDeskTold, IsFlush, Rules, append_of, clip_locked, clip_unlocked, desk_after, desk_after_calls, flushed, frame_read, group_of, layout_upgraded, pending_after, status_told, store_calls, run_told, submitted}
 use Rattle.loop_desk.specs.Seen.{SeenDesk, StandsAt, TellsOutline}
 
 abbrev bare_step : Step → Step
@@ -307,7 +307,7 @@ calls-bare k s (clip_unlocked id result) = refl
 calls-bare k s (frame_read number result) = refl
 calls-bare k s (status_told status) = refl
 calls-bare k s (layout_upgraded result) = refl
-calls-bare k s (times_sought times result) = refl
+calls-bare k s (run_told times place run) = refl
 
 flush-bare : (s : DeskState) (group : List Picture) (result : Result Flushed StoreFault) → IsFlush s group result
     → IsFlush (bare_state s) (map bare group) result
@@ -338,7 +338,8 @@ call-bare k s c said = (
     told (clip_unlocked id result) is = tt
     told (frame_read number result) is = tt
     told (layout_upgraded result) is = tt
-    told (times_sought times result) is = tt
+    told (run_told times place run) is =
+        (is.0, (subst (λ (ns : List ℕ). AreRuns ns is.0) (sym (sought-bare times s.store.recording.frames)) is.1.0, is.1.1))
     told (status_told status) is =
         record {
           next = is.next;
@@ -359,7 +360,7 @@ pending-bare waiting (clip_unlocked id result) = refl
 pending-bare waiting (frame_read number result) = refl
 pending-bare waiting (status_told status) = refl
 pending-bare waiting (layout_upgraded result) = refl
-pending-bare waiting (times_sought times result) = refl
+pending-bare waiting (run_told times place run) = refl
 
 after-bare : (k : Rules) (s : DeskState) (c : DeskCall) → desk_after k (bare_state s) (bare_call c) ≡ bare_state
     (desk_after k s c)

@@ -1,26 +1,31 @@
 -- One call of a desk, by what the store's own call says.
-use Rattle.std.proofs.Common.{◌≡◌, ℕ, ◌+◌, ◌-◌, ◌<◌, Bool, true, false, min, Result, Ok, Err, List, [], ◌∷◌, length, take, drop, refl, sym, ap, ◌∙◌, subst, arith}
-use Rattle.std.proofs.lemmas.List.{append-nil, length-take-le, take_min}
+use Rattle.std.proofs.Common.{◌≡◌, ℕ, ◌+◌, ◌-◌, ◌<◌, Bool, true, false, min, inl, inr, Some, None, Result, Ok, Err, List, [], ◌∷◌, ◌++◌, append_assoc, length, take, drop, refl, sym, ap, ◌∙◌, subst, arith}
+use Rattle.std.proofs.lemmas.List.{append-nil, length-append, length-take-le, take_min}
+use Rattle.std.proofs.lemmas.Option.{same_Some, slice_get_past}
+use Rattle.circular_buffer.proofs.Places.{slice_get-append_right}
 use Rattle.std.proofs.Math.Seq.{take-nil}
-use Rattle.std.specs.Prelude.{◌%◌, ◌==◌}
+use Rattle.std.specs.Prelude.{◌%◌, ◌==◌, IfErr, IfOk, slice_get}
 use Rattle.loop_disk.specs.Medium.{Medium, IsSound}
 use Rattle.loop_record.specs.declared.clip.Span.{Span}
 use Rattle.loop_record.specs.declared.frame.FrameHead.{FrameHead}
 use Rattle.loop_record.specs.declared.times.Times.{Times}
 use Rattle.loop_record.specs.Geometry.{frame_bytes}
 use Rattle.loop_record.specs.Recording.{Picture, last_number, ring_of}
+use Rattle.loop_record.specs.Times.{AreRuns, numbers_in_time}
+use Rattle.loop_record.specs.Turns.{EachIn, after_all}
 use Rattle.loop_store.specs.declared.fault.StoreFault.{StoreFault}
-use Rattle.loop_store.specs.declared.fault.StoreFault.TheVariants.{MustReopen, NumbersSpent, PendingFull, WrongSize}
-use Rattle.loop_store.specs.Calls.{Call, after_calls, appended, locked, unlocked, upgraded, was_read, sought}
+use Rattle.loop_store.specs.declared.fault.StoreFault.TheVariants.{MustReopen, NoMemory, NumbersSpent, PendingFull, WrongSize}
+use Rattle.loop_store.specs.Calls.{AnswersDue, AnswersOtherwise, Call, StoreState, after_calls, appended, checks, due, first_of, locked, runs_with, sought, unlocked, upgraded, was_read}
 use Rattle.loop_store.specs.Goes.{Goes, Stands, TellsState}
 use Rattle.loop_store.specs.Reopen.{TellsOne}
 use Rattle.loop_store.specs.Seen.{Seen}
+use Rattle.loop_store.proofs.Checked.{due-none}
 use Rattle.loop_store.proofs.Gone.{goes-none}
 use Rattle.loop_store.proofs.Putting.{answered-fine, answered-number}
 use Rattle.loop_desk.specs.declared.limits.Flushed.{Flushed}
-use Rattle.loop_desk.specs.Desk.{DeskCall, DeskState, IsFlush, IsDeskTold, append_of, appended_as, clip_locked, clip_unlocked, flushed, frame_read, group_of, layout_upgraded, pending_after, status_told, store_calls, submit_answer, submitted, times_sought}
+use Rattle.loop_desk.specs.Desk.{DeskCall, DeskState, IsFlush, IsDeskTold, append_of, appended_as, clip_locked, clip_unlocked, desk_after, flushed, frame_read, group_of, layout_upgraded, pending_after, status_told, store_calls, store_calls_in, submit_answer, run_told, runs_told, submitted}
 use Rattle.loop_desk.specs.declared.limits.Status.{Status}
-use Rattle.loop_desk.specs.Seen.{DeskGoes, SeenDesk, TellsDesk, TellsStatus, rules_of}
+use Rattle.loop_desk.specs.Seen.{DeskGoes, OutlineRefuses, SeenDesk, TellsDesk, TellsStatus, rules_of}
 
 -- the desk with this store and these frames
 abbrev pub with_store : {D : Type 0} → SeenDesk D → Seen D → List Picture → SeenDesk D
@@ -77,9 +82,79 @@ module _ {D : Type 0} (medium : D → Medium) (d : SeenDesk D) where
       (frame_read number result ∷ [])
   goes-read new number result goes = called new d.pending (frame_read number result) (was_read number result ∷ []) goes (λ s at. (refl, tt)) refl
 
-  pub goes-sought : (times : Times) (result : Result (List Span) StoreFault)
-      → Goes medium d.store d.store (sought times result ∷ []) → DeskGoes medium d d (times_sought times result ∷ [])
-  goes-sought times result goes = called d.store d.pending (times_sought times result) (sought times result ∷ []) goes (λ s at. (refl, tt)) refl
+  -- ---- the runs of a time
+
+  none-called : (s : DeskState) (times : Times) (place : ℕ) (runs : List Span)
+      → store_calls_in (rules_of d) s (runs_told times place runs) ≡ []
+  none-called s times place [] = refl
+  none-called s times place (r ∷ rs) = none-called (desk_after (rules_of d) s (run_told times place (Some r))) times (place + 1) rs
+
+  -- what a store told as runs, a desk tells one by one
+  runs-play : (times : Times) (all before runs : List Span) (place : ℕ) (s : DeskState) → TellsDesk d s
+      → ((s : DeskState) → TellsDesk d s → AreRuns (numbers_in_time times s.store.recording) all)
+      → before ++ runs ≡ all → place ≡ length before
+      → EachIn (desk_after (rules_of d)) (IsDeskTold (rules_of d)) s (runs_told times place runs)
+      × TellsDesk d (after_all (desk_after (rules_of d)) s (runs_told times place runs))
+  runs-play times all before [] place s at are parts is =
+      (((all, (are s at, end)), tt), record { store = at.store; pending = at.pending })
+    where
+      end : slice_get all place ≡ None
+      end = slice_get_past all place (omega (arith, is, ap length (sym parts ∙ append-nil before)))
+  runs-play times all before (r ∷ rs) place s at are parts is =
+      let next : DeskState = desk_after (rules_of d) s (run_told times place (Some r)) in
+      let more = runs-play times all (before ++ r ∷ []) rs (place + 1) next (record { store = at.store; pending = at.pending }) are
+          (append_assoc before (r ∷ []) rs ∙ parts) (omega (arith, is, length-append before (r ∷ []))) in
+      (((all, (are s at, there)), more.0), more.1)
+    where
+      there : slice_get all place ≡ Some r
+      there = ap (λ (l : List Span). slice_get l place) (sym parts)
+          ∙ slice_get-append_right before (r ∷ rs) place 0 (omega (arith, is))
+
+  goes-runs : (times : Times) (runs : List Span) → Goes medium d.store d.store (sought times (Ok runs) ∷ [])
+      → ((medium d.store.disk).honest → IsSound (medium d.store.disk))
+      → DeskGoes medium d d (runs_told times 0 runs)
+  goes-runs times runs goes sound = record {
+    one = goes.one;
+    store = λ s at. subst (λ (l : List Call). Goes medium d.store d.store l) (sym (none-called s times 0 runs)) (goes-none medium d.store goes.one sound);
+    plays = λ s at. runs-play times runs [] runs 0 s at are refl refl;
+    limits = refl;
+  }
+    where
+      are : (s : DeskState) → TellsDesk d s → AreRuns (numbers_in_time times s.store.recording) runs
+      are s at =
+          let H = (medium d.store.disk).honest × Stands medium d.store s.store in
+          (due-none (first_of (checks (ring_of d.store.geometry) s.store (sought times (Ok runs)))) (sought times (Ok runs))
+          (AnswersOtherwise H s.store (sought times (Ok runs))) (goes.answers s.store at.store).0 refl).1
+
+  pub goes-sought : {V : Type 0} (items : V → List Span) (times : Times) (result : Result V StoreFault)
+      → Goes medium d.store d.store (sought times (runs_with items result) ∷ [])
+      → ((medium d.store.disk).honest → IsSound (medium d.store.disk))
+      → IfOk result (λ runs. DeskGoes medium d d (runs_told times 0 (items runs)))
+  goes-sought items times (Ok runs) goes sound = goes-runs times (items runs) goes sound
+  goes-sought items times (Err fault) goes sound = tt
+
+  -- why a store told none
+  refused-one : (times : Times) (fault : StoreFault)
+      → Goes medium d.store d.store (sought times (Err fault) ∷ []) → OutlineRefuses d fault
+  refused-one times fault goes = go s.must_reopen refl (goes.answers s tells).0
+    where
+      s : StoreState
+      s = record { recording = goes.one.0; version = d.store.version; keep = d.store.keep; must_reopen = d.store.must_reopen }
+
+      tells : TellsState d.store s
+      tells = record { recording = goes.one.1; version = refl; keep = refl; must_reopen = refl }
+
+      go : (b : Bool) → d.store.must_reopen ≡ b
+          → AnswersDue (first_of (due b MustReopen ∷ [])) (sought times (Err fault)) (fault ≡ NoMemory)
+          → OutlineRefuses d fault
+      go true must said = inl (same_Some fault MustReopen said, must)
+      go false fine said = inr (said, fine)
+
+  pub sought-refused : {V : Type 0} (items : V → List Span) (times : Times) (result : Result V StoreFault)
+      → Goes medium d.store d.store (sought times (runs_with items result) ∷ [])
+      → IfErr result (λ fault. OutlineRefuses d fault)
+  sought-refused items times (Ok runs) goes = tt
+  sought-refused items times (Err fault) goes = refused-one times fault goes
 
   -- ---- a status
 

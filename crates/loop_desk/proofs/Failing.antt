@@ -14,7 +14,7 @@ use Rattle.loop_store.specs.Calls.{failed_for}
 use Rattle.loop_store.specs.Faults.{failed_by, failed_in}
 use Rattle.loop_store.specs.Goes.{with_each}
 use Rattle.loop_desk.specs.declared.limits.Flushed.{Flushed}
-use Rattle.loop_desk.specs.Desk.{AreTold, DeskCall, DeskState, IsDeskTold, IsFlush, Rules, append_of, clip_locked, clip_unlocked, desk_after, desk_failed_for, flushed, frame_read, group_of, layout_upgraded, status_told, store_calls, store_calls_in, submit_answer, submitted, times_sought}
+use Rattle.loop_desk.specs.Desk.{AreTold, DeskCall, DeskState, IsDeskTold, IsFlush, Rules, append_of, clip_locked, clip_unlocked, desk_after, desk_failed_for, flushed, frame_read, group_of, layout_upgraded, status_told, store_calls, store_calls_in, submit_answer, run_told, submitted}
 use Rattle.loop_desk.specs.Seen.{DeskGoes, SeenDesk, rules_of}
 use Rattle.loop_desk.proofs.Gone.{state-of, state-told, store-goes}
 
@@ -55,7 +55,7 @@ one-failed k w (clip_unlocked id result) before told = refl
 one-failed k w (frame_read number result) before told = refl
 one-failed k w (status_told status) before told = refl
 one-failed k w (layout_upgraded result) before told = refl
-one-failed k w (times_sought times result) before told = refl
+one-failed k w (run_told times place run) before told = refl
 
 each-failed : (k : Rules) (w : DeskState) (calls : List DeskCall) (before : Failures) → AreTold k w calls
     → with_each (map failed_for (store_calls_in k w calls)) before ≡ with_each (map desk_failed_for calls) before

@@ -12,7 +12,7 @@ use Rattle.loop_store.specs.Calls.{AreAnswered, IsAnswered, StoreState, after_st
 use Rattle.loop_store.specs.Steps.{steps_or_none}
 use Rattle.loop_store.proofs.Putting.{answered-some}
 use Rattle.loop_desk.specs.declared.limits.Flushed.{Flushed}
-use Rattle.loop_desk.specs.Desk.{AreTold, DeskCall, DeskState, IsFlush, IsDeskTold, Rules, frame_accepted, accepted_in, append_of, clip_locked, clip_unlocked, desk_after, desk_after_calls, flushed, frame_read, frames_stored, group_of, pending_after, layout_upgraded, status_told, store_calls, store_calls_in, stored_by, submitted, times_sought}
+use Rattle.loop_desk.specs.Desk.{AreTold, DeskCall, DeskState, IsFlush, IsDeskTold, Rules, frame_accepted, accepted_in, append_of, clip_locked, clip_unlocked, desk_after, desk_after_calls, flushed, frame_read, frames_stored, group_of, pending_after, layout_upgraded, status_told, store_calls, store_calls_in, stored_by, run_told, submitted}
 
 pub each-parts : {S X : Type 0} (next : S → X → S) (P : S → X → Type 0) (s : S) (xs ys : List X)
     → EachIn next P s (xs ++ ys) → EachIn next P s xs × EachIn next P (after_all next s xs) ys
@@ -83,8 +83,7 @@ call-frames k w (frame_read number (Err fault)) told said = append-nil w.pending
 call-frames k w (status_told status) told said = append-nil w.pending
 call-frames k w (layout_upgraded (Ok made)) told said = append-nil w.pending
 call-frames k w (layout_upgraded (Err fault)) told said = append-nil w.pending
-call-frames k w (times_sought times (Ok runs)) told said = append-nil w.pending
-call-frames k w (times_sought times (Err fault)) told said = append-nil w.pending
+call-frames k w (run_told times place run) told said = append-nil w.pending
 
 -- what waited, and then what was accepted, is what was stored, and then what waits
 pub none-lost : (k : Rules) (s : DeskState) (calls : List DeskCall) → AreTold k s calls

@@ -6,7 +6,7 @@ use Rattle.loop_record.specs.Recording.{Picture, Recording}
 use Rattle.loop_store.specs.declared.fault.StoreFault.{StoreFault}
 use Rattle.loop_store.specs.Calls.{StoreState}
 use Rattle.loop_desk.specs.declared.limits.Outline.{Outline}
-use Rattle.loop_desk.specs.Desk.{AreDeskAnswers, DeskCall, DeskState, Rules, clip_locked, clip_unlocked, desk_after_calls, flushed, frame_read, layout_upgraded, status_told, submitted, times_sought}
+use Rattle.loop_desk.specs.Desk.{AreDeskAnswers, DeskCall, DeskState, Rules, clip_locked, clip_unlocked, desk_after_calls, flushed, frame_read, layout_upgraded, run_told, status_told, submitted}
 
 -- a frame without its bytes
 abbrev pub bare : Picture → Picture
@@ -38,7 +38,7 @@ bare_call (clip_unlocked id result) = clip_unlocked id result
 bare_call (frame_read number result) = frame_read number (bare_read result)
 bare_call (status_told status) = status_told status
 bare_call (layout_upgraded result) = layout_upgraded result
-bare_call (times_sought times result) = times_sought times result
+bare_call (run_told times place run) = run_told times place run
 
 -- Calls that were answered so, were so without pixels too, and end in the same state without them.
 pub record IsBlind (k : Rules) (s : DeskState) (calls : List DeskCall) : Type 0 where

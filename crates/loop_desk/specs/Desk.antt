@@ -1,6 +1,6 @@
 -- The desk: frames that wait before a store, and what each call makes of them. What a call makes of the store is
 -- said by the store's own calls.
-use Rattle.std.specs.Prelude.{◌≡◌, ℕ, ◌+◌, ◌-◌, ◌%◌, ◌==◌, not, min, Bool, true, false, if◌then◌else◌, Option, None, Result, Ok, Err, List, [], ◌∷◌, ◌++◌, length, take, drop}
+use Rattle.std.specs.Prelude.{◌≡◌, ℕ, ◌+◌, ◌-◌, ◌%◌, ◌==◌, not, min, Bool, true, false, if◌then◌else◌, Option, Some, None, Result, Ok, Err, List, [], ◌∷◌, ◌++◌, length, slice_get, take, drop}
 use Rattle.std.specs.List.{flat_map}
 use Rattle.loop_disk.specs.declared.fault.DiskFault.{DiskFault}
 use Rattle.loop_record.specs.declared.clip.Span.{Span}
@@ -8,9 +8,10 @@ use Rattle.loop_record.specs.declared.frame.FrameHead.{FrameHead}
 use Rattle.loop_record.specs.declared.geometry.Geometry.{Geometry}
 use Rattle.loop_record.specs.declared.times.Times.{Times}
 use Rattle.loop_record.specs.Geometry.{frame_bytes}
+use Rattle.loop_record.specs.Times.{AreRuns, numbers_in_time}
 use Rattle.loop_record.specs.Recording.{Picture, Step, last_number, lock, recycle, ring_of, store, unlock}
 use Rattle.loop_record.specs.Turns.{after_all, told_in, EachIn, Machine}
-use Rattle.loop_store.specs.Calls.{AreAnswered, Call, StoreState, after_calls, appended, locked, unlocked, upgraded, was_read, sought}
+use Rattle.loop_store.specs.Calls.{AreAnswered, Call, StoreState, after_calls, appended, locked, unlocked, upgraded, was_read}
 use Rattle.loop_store.specs.Faults.{failed_in}
 use Rattle.loop_store.specs.declared.fault.StoreFault.{StoreFault}
 use Rattle.loop_store.specs.declared.fault.StoreFault.TheVariants.{MustReopen, NumbersSpent, PendingFull, WrongSize}
@@ -24,7 +25,7 @@ pub record Rules : Type 0 where
   pub limits : DeskLimits
 
 -- A call and its answer. A submitted frame comes with the count of its bytes, so that a history without pixels says
--- the same of it.
+-- the same of it. Of the held frames of a time each call tells one run, by its place, so that an answer has one size.
 pub data DeskCall : Type 0 where
   submitted : Picture → ℕ → Result ℕ StoreFault → DeskCall
   flushed : Result Flushed StoreFault → DeskCall
@@ -33,7 +34,7 @@ pub data DeskCall : Type 0 where
   frame_read : ℕ → Result (FrameHead × List ℕ) StoreFault → DeskCall
   status_told : Status → DeskCall
   layout_upgraded : Result Bool StoreFault → DeskCall
-  times_sought : Times → Result (List Span) StoreFault → DeskCall
+  run_told : Times → ℕ → Option Span → DeskCall
 
 -- what is recorded and in which version of the layout, how many of the newest blocks are kept, whether a call that
 -- writes has failed, and what waits
@@ -68,7 +69,7 @@ store_calls k s (clip_unlocked id result) = unlocked id result ∷ []
 store_calls k s (frame_read number result) = was_read number result ∷ []
 store_calls k s (status_told status) = []
 store_calls k s (layout_upgraded result) = upgraded result ∷ []
-store_calls k s (times_sought times result) = sought times result ∷ []
+store_calls k s (run_told times place run) = []
 
 -- the call of the disk that failed, if the answer says that one did
 abbrev pub desk_failed_for : DeskCall → Option DiskFault
@@ -79,7 +80,7 @@ desk_failed_for (clip_unlocked id result) = failed_in result
 desk_failed_for (frame_read number result) = failed_in result
 desk_failed_for (status_told status) = None
 desk_failed_for (layout_upgraded result) = failed_in result
-desk_failed_for (times_sought times result) = failed_in result
+desk_failed_for (run_told times place run) = None
 
 -- ---- a desk after a call
 
@@ -124,11 +125,16 @@ pub record IsStatus (s : DeskState) (status : Status) : Type 0 where
   pub pending : status.pending ≡ length s.pending
   pub must_reopen : status.must_reopen ≡ s.store.must_reopen
 
+-- the run of that place among the runs of numbers, from 0; none where they have no more
+abbrev pub IsRunAt : List ℕ → ℕ → Option Span → Type 0
+IsRunAt numbers place run = (runs : List Span) × (AreRuns numbers runs × (slice_get runs place ≡ run))
+
 -- the desk's own part of an answer; all else is the answer of the store's call
 abbrev pub IsDeskTold : Rules → DeskState → DeskCall → Type 0
 IsDeskTold k s (submitted p size result) = result ≡ submit_answer k s size
 IsDeskTold k s (flushed result) = IsFlush s (group_of k s) result
 IsDeskTold k s (status_told status) = IsStatus s status
+IsDeskTold k s (run_told times place run) = IsRunAt (numbers_in_time times s.store.recording) place run
 IsDeskTold k s _ = Unit {0}
 
 -- a desk by its states and its own part of the answers
@@ -156,6 +162,13 @@ desk_after_calls k s calls = after_all (desk_after k) s calls
 
 abbrev pub AreDeskAnswers : Rules → DeskState → List DeskCall → Type 0
 AreDeskAnswers k s calls = EachIn (desk_after k) (IsDeskAnswer k) s calls
+
+-- ---- the runs of a time
+
+-- runs are told one by one, from a place on, and then that there is no more
+abbrev pub runs_told : Times → ℕ → List Span → List DeskCall
+runs_told times place [] = run_told times place None ∷ []
+runs_told times place (run ∷ runs) = run_told times place (Some run) ∷ runs_told times (place + 1) runs
 
 -- ---- the frames of calls
 

@@ -5,9 +5,9 @@ ghost use Rattle.circular_buffer.specs.Buffer.{buffer};
 ghost use Rattle.loop_record.specs.Geometry.{frame_bytes};
 ghost use Rattle.loop_record.specs.Plain.{pictures};
 ghost use Rattle.loop_record.specs.Recording.{last_number, picture, ring_of};
-ghost use Rattle.loop_desk.specs.Desk.{DeskState, clip_locked, clip_unlocked, flushed, frame_read, layout_upgraded, submit_answer, submitted, times_sought};
+ghost use Rattle.loop_desk.specs.Desk.{DeskState, clip_locked, clip_unlocked, flushed, frame_read, layout_upgraded, runs_told, submit_answer, submitted};
 ghost use Rattle.loop_desk.specs.Seen.{DeskGoes, IsDesk, Opens, OutlineRefuses, SeenDesk, TellsDesk, TellsOutline, TellsStatus, answer_of, rules_of};
-ghost use Rattle.loop_store.specs.Calls.{read_with, runs_with};
+ghost use Rattle.loop_store.specs.Calls.{read_with};
 ghost use Rattle.loop_store.specs.Reopen.{TellsOne};
 ghost use Rattle.loop_store.specs.Runs.{read_of};
 ghost use Rattle.loop_store.specs.Seen.{Refused};
@@ -305,10 +305,10 @@ impl<D: Disk + Drop, A: Allocator + Copy> Desk<D, A> {
     }
 
     /// The held frames whose times are among these, as runs of their numbers, from memory, as `Store::sought`. A frame
-    /// that waits isn't held yet.
+    /// that waits isn't held yet. `MustReopen` where a call that writes has failed; otherwise `NoMemory`.
     pub fn sought(&self, alloc: A, times: Times) -> Result<Vec<Span, A>, StoreFault>
-        ensures { DeskGoes D.medium self.now self.now
-            (times_sought times (runs_with (λ runs. runs.items) result) ∷ []) }
+        ensures goes { IfOk result (λ runs. DeskGoes D.medium self.now self.now (runs_told times 0 runs.items)) }
+        ensures refused { IfErr result (λ fault. OutlineRefuses self.now fault) }
     {
         self.store.sought(alloc, times)
     }

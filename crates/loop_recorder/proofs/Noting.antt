@@ -13,7 +13,7 @@ use Rattle.loop_recorder.specs.declared.entry.Entry.{Entry}
 use Rattle.loop_recorder.specs.declared.entry.Noted.{Noted}
 use Rattle.loop_recorder.specs.declared.entry.Pass.{Pass}
 use Rattle.loop_recorder.specs.Histories.{calls_of, noted_call}
-use Rattle.loop_recorder.specs.Keeps.{Notes, receipts_from}
+use Rattle.loop_recorder.specs.Keeps.{Enters, Notes, receipts_from}
 use Rattle.loop_recorder.specs.Receipts.{entry, pass_number, receipt, receipts_of}
 use Rattle.loop_recorder.specs.Sessions.{HasGoneOn}
 
@@ -26,6 +26,46 @@ receipts-append camera place (x ∷ xs) ys =
     ap (λ l. receipt camera place x ∷ l) (receipts-append camera (place + 1) xs ys
     ∙ ap (λ n. receipts_from camera (place + 1) xs ++ receipts_from camera n ys) at)
 
+-- notes, and notes behind them
+pub enters-joined : {A : Type 0} (camera : ℕ) (xs ys : List Noted) (before between after : List Entry)
+    (given through back : Pass A) → Enters camera xs before between given through
+    → Enters camera ys between after through back → Enters camera (xs ++ ys) before after given back
+enters-joined camera xs ys before between after given through back first second = record {
+  entered = second.entered
+      ∙ (λ i. first.entered i ++ map (entry (first.received.number i)) ys)
+      ∙ append_assoc before (map (entry (pass_number given)) xs) (map (entry (pass_number given)) ys)
+      ∙ ap (λ l. before ++ l) (sym (map-append (entry (pass_number given)) xs ys));
+  received = record {
+    receipts = second.received.receipts
+        ∙ (λ i. first.received.receipts i ++ receipts_from camera (places i) ys)
+        ∙ append_assoc (receipts_of given) (receipts_from camera (length before) xs)
+        (receipts_from camera (length before + length xs) ys)
+        ∙ ap (λ l. receipts_of given ++ l) (sym (receipts-append camera (length before) xs ys));
+    number = second.received.number ∙ first.received.number;
+  };
+}
+  where
+    places : length between ≡ length before + length xs
+    places = ap length first.entered ∙ length-append before (map (entry (pass_number given)) xs)
+        ∙ ap (λ n. length before + n) (length-map xs (entry (pass_number given)))
+
+-- no note
+pub enters-none : {A : Type 0} (camera : ℕ) (before after : List Entry) (given back : Pass A) → after ≡ before
+    → receipts_of back ≡ receipts_of given → pass_number back ≡ pass_number given
+    → Enters camera [] before after given back
+enters-none camera before after given back history receipts number = record {
+  entered = history ∙ sym (append-nil before);
+  received = record { receipts = receipts ∙ sym (append-nil (receipts_of given)); number = number };
+}
+
+-- one note
+pub enters-one : {A : Type 0} (camera : ℕ) (note : Noted) (before after : List Entry) (given back : Pass A)
+    → after ≡ before ++ entry (pass_number given) note ∷ []
+    → receipts_of back ≡ receipts_of given ++ receipt camera (length before) note ∷ []
+    → pass_number back ≡ pass_number given → Enters camera (note ∷ []) before after given back
+enters-one camera note before after given back history receipts number =
+    record { entered = history; received = record { receipts = receipts; number = number } }
+
 module _ {D A : Type 0} (medium : D → Medium) (camera : ℕ) where
   -- no call
   pub notes-none : (desk : SeenDesk D) (before after : List Entry) (given back : Pass A) → TellsOne desk.store
@@ -36,8 +76,7 @@ module _ {D A : Type 0} (medium : D → Medium) (camera : ℕ) where
     calls = [];
     goes = desk-none medium desk one sound;
     noted = refl;
-    entered = history ∙ sym (append-nil before);
-    received = record { receipts = receipts ∙ sym (append-nil (receipts_of given)); number = number };
+    enters = enters-none camera before after given back history receipts number;
   }
 
   -- one call
@@ -50,8 +89,7 @@ module _ {D A : Type 0} (medium : D → Medium) (camera : ℕ) where
     calls = call ∷ [];
     goes = goes;
     noted = ap (λ (c : DeskCall). c ∷ []) same;
-    entered = history;
-    received = record { receipts = receipts; number = number };
+    enters = enters-one camera note before after given back history receipts number;
   }
 
   -- calls, and calls behind them
@@ -64,23 +102,8 @@ module _ {D A : Type 0} (medium : D → Medium) (camera : ℕ) where
     goes = desk-joined medium old mid new first.calls second.calls first.goes second.goes;
     noted = map-append noted_call xs ys ∙ (λ i. first.noted i ++ second.noted i)
         ∙ sym (map-append bare_call first.calls second.calls);
-    entered = second.entered
-        ∙ (λ i. first.entered i ++ map (entry (first.received.number i)) ys)
-        ∙ append_assoc before (map (entry (pass_number given)) xs) (map (entry (pass_number given)) ys)
-        ∙ ap (λ l. before ++ l) (sym (map-append (entry (pass_number given)) xs ys));
-    received = record {
-      receipts = second.received.receipts
-          ∙ (λ i. first.received.receipts i ++ receipts_from camera (places i) ys)
-          ∙ append_assoc (receipts_of given) (receipts_from camera (length before) xs)
-          (receipts_from camera (length before + length xs) ys)
-          ∙ ap (λ l. receipts_of given ++ l) (sym (receipts-append camera (length before) xs ys));
-      number = second.received.number ∙ first.received.number;
-    };
+    enters = enters-joined camera xs ys before between after given through back first.enters second.enters;
   }
-    where
-      places : length between ≡ length before + length xs
-      places = ap length first.entered ∙ length-append before (map (entry (pass_number given)) xs)
-          ∙ ap (λ n. length before + n) (length-map xs (entry (pass_number given)))
 
 -- what is kept is kept with all that was noted
 pub kept-all : {D A B : Type 0} (medium : D → Medium) (camera : ℕ) (opening : SeenDesk D) (outline : Outline A)
@@ -92,7 +115,7 @@ kept-all medium camera opening outline before after notes old new given back kep
   opens = kept.opens;
   outlined = kept.outlined;
   calls = kept.calls ++ n.calls;
-  noted = ap calls_of n.entered ∙ map-append (λ (e : Entry). noted_call e.call) before (map (entry (pass_number given)) notes)
+  noted = ap calls_of n.enters.entered ∙ map-append (λ (e : Entry). noted_call e.call) before (map (entry (pass_number given)) notes)
       ∙ ap (λ l. calls_of before ++ l) (map-map (λ (e : Entry). noted_call e.call) (entry (pass_number given)) notes ∙ n.noted)
       ∙ ap (λ l. l ++ map bare_call n.calls) kept.noted ∙ sym (map-append bare_call kept.calls n.calls);
   goes = desk-joined medium opening old new kept.calls n.calls kept.goes n.goes;

@@ -1,10 +1,11 @@
-//! What follows of one session behind another. The functions do nothing: their contracts are the laws.
+//! What follows of a keep, and of one session behind another. The functions do nothing: their contracts are the laws.
 
 ghost use Rattle.loop_desk.specs.Seen.{TellsOutline};
 ghost use Rattle.loop_recorder.specs.Follows.{Follows};
+ghost use Rattle.loop_recorder.specs.Keeps.{KeepsAreWhole};
 ghost use Rattle.loop_recorder.specs.Sessions.{IsFaithful};
 
-use crate::EndedCamera;
+use crate::{EndedCamera, Kept};
 use loop_desk::Outline;
 use loop_disk::Disk;
 use std::alloc::Allocator;
@@ -21,4 +22,10 @@ pub fn sessions_join<D: Disk + Drop, A: Allocator>(
         → TellsOutline D.medium first.now.desk between.now
         → IsFaithful D.medium between.now second.now.history.items second.now.desk
         → Follows D.medium first.now.desk between.now second.now.history.items second.now.desk }
+{}
+
+/// Where a keep tells no refusal, its clips have just the held frames of the time, whatever the disk: from each state
+/// of a desk that told what the keep notes.
+pub fn keeps_are_whole<A: Allocator>(kept: &Kept<A>)
+    ensures { KeepsAreWhole kept.now }
 {}

@@ -1,6 +1,6 @@
 use Rattle.std.proofs.Common.{arith}
 use Rattle.std.proofs.lemmas.Result.{err_from_is_err_and}
-use Rattle.loop_recorder.proofs.Keepings.{lock-more, lock-none, lock-refused}
+use Rattle.loop_recorder.proofs.Keepings.{lock-all, lock-more, lock-none, lock-refused}
 use Rattle.loop_recorder.proofs.keep.lock_runs.Goals as goal
 
 pub loop-run-init : goal.loop-run-init
@@ -13,7 +13,7 @@ loop-run-init g c = record {
 pub returns-in_err-id : goal.returns-in_err-id
 returns-in_err-id g c =
     let p = err_from_is_err_and c.from_residual.result c.from_residual.ensures.1 in
-    rw (p.1, p.2) (lock-refused g.D.Disk.medium _ _ c.loop-run.run-index _ c.args.runs.now _ _ _ _ _ _ _ _ _ _ _
+    rw (p.1, p.2) (lock-refused g.D.Disk.medium _ _ c.loop-run.run-index _ c.args.runs.now _ _ _ _ _ _ _ _ _ _ _ c.loop-run-test.true
     c.loop-run.invariant.first c.in_err-id.ensures)
 
 pub loop-run-preserved : goal.loop-run-preserved
