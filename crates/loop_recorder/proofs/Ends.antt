@@ -1,5 +1,5 @@
 -- The end of a camera, told of the outline that was kept beside its lock.
-use Rattle.std.proofs.Common.{ℕ, List, All, sym, ◌∙◌}
+use Rattle.std.proofs.Common.{◌≡◌, ℕ, List, All, length, subst, sym, ◌∙◌}
 use Rattle.loop_disk.specs.Medium.{Medium}
 use Rattle.loop_desk.specs.declared.limits.Outline.{Outline}
 use Rattle.loop_desk.specs.Seen.{SeenDesk, TellsOutline}
@@ -7,7 +7,10 @@ use Rattle.loop_recorder.specs.declared.ended.EndedCamera.{EndedCamera}
 use Rattle.loop_recorder.specs.declared.entry.Entry.{Entry}
 use Rattle.loop_recorder.specs.declared.entry.Pass.{Pass}
 use Rattle.loop_recorder.specs.Endings.{EndsTied, IsFaithfulCamera, SameOutline}
-use Rattle.loop_recorder.specs.Ends.{EndsAt}
+use Rattle.loop_recorder.specs.declared.recorder.Ended.{Ended}
+use Rattle.loop_recorder.specs.Ends.{EndsAt, IsEnd}
+use Rattle.loop_recorder.specs.Opened.{SeenRecorder}
+use Rattle.loop_recorder.specs.Refused.{BreaksTie}
 use Rattle.loop_recorder.specs.Sessions.{IsFaithful}
 use Rattle.loop_recorder.proofs.Apart.{all-read, tied-apart}
 
@@ -45,3 +48,29 @@ ends-at {D} {A} medium outlines cameras passes k all tied = λ e o at_e at_o.
       tied = here.tied;
       apart = tied-apart k e.history.items passes here.tied;
     }
+
+-- the counts may be others
+pub end-counted : {D P A : Type 0} (medium : D → Medium) (outlines : List (Outline A)) (e f : Ended D P A)
+    → f ≡ record e { given_up = f.given_up } → length f.given_up.items ≡ length e.given_up.items
+    → IsEnd medium outlines e → IsEnd medium outlines f
+end-counted {D} {P} {A} medium outlines e f is same end = subst (λ (x : Ended D P A). IsEnd medium outlines x) (sym is) (record {
+  count = end.count;
+  each = end.each;
+  there = end.there;
+  ports = end.ports;
+  counts = same ∙ end.counts;
+})
+
+pub broken-counted : {D P A : Type 0} (medium : D → Medium) (recorder : SeenRecorder A) (passes : List (Pass A)) (camera : ℕ)
+    (e f : Ended D P A) → f ≡ record e { given_up = f.given_up } → length f.given_up.items ≡ length e.given_up.items
+    → BreaksTie medium recorder passes camera e → BreaksTie medium recorder passes camera f
+broken-counted {D} {P} {A} medium recorder passes camera e f is same broken =
+    subst (λ (x : Ended D P A). BreaksTie medium recorder passes camera x) (sym is) (record {
+      same = broken.same;
+      enough = broken.enough;
+      count = broken.count;
+      faithful = broken.faithful;
+      ports = broken.ports;
+      counts = same ∙ broken.counts;
+      broken = broken.broken;
+    })

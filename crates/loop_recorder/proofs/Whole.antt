@@ -44,7 +44,7 @@ ranges-part a (suc n) (suc m) R S r s e =
     let more : a + suc n ≡ a + 1 + n = omega arith in
     let other : a + suc m ≡ a + 1 + m = omega arith in
     let parts = ranges-part (a + 1) n m R S (subst (λ (k : ℕ). slice_get R 0 ≡ Some k → ⊥) more r)
-        (subst (λ (k : ℕ). slice_get S 0 ≡ Some k → ⊥) other s) rest in
+    (subst (λ (k : ℕ). slice_get S 0 ≡ Some k → ⊥) other s) rest in
     (ap suc parts.0, parts.1)
 
 -- two runs, and others behind them
@@ -62,8 +62,8 @@ runs-part s t R S some more r q e = go (s.to + 1 - s.from) (t.to + 1 - t.from) r
         let last : s.to + 1 ≡ s.from + suc n = omega (arith, some, n_is) in
         let other : t.to + 1 ≡ s.from + suc m = omega (arith, more, m_is, first) in
         let parts = ranges-part s.from (suc n) (suc m) R S (subst (λ (k : ℕ). slice_get R 0 ≡ Some k → ⊥) last r)
-            (subst (λ (k : ℕ). slice_get S 0 ≡ Some k → ⊥) other q)
-            (e ∙ ap (λ (a : ℕ). range_with_len a (suc m) ++ S) (sym first)) in
+        (subst (λ (k : ℕ). slice_get S 0 ≡ Some k → ⊥) other q)
+        (e ∙ ap (λ (a : ℕ). range_with_len a (suc m) ++ S) (sym first)) in
         (first, (omega (arith, last, other, parts.0), parts.1))
 
 -- a run has a number
@@ -136,7 +136,7 @@ told-all k times runs s told =
     let some = some-runs k times runs s told in
     let at : length runs ≡ 0 + length runs = omega arith in
     let same = told-rest k times some.0 runs 0 s some.1
-        (subst (λ (n : ℕ). AreTold k s (map noted_call (found_noted times 0 runs ++ noted.Sought times n None ∷ []))) at told) in
+    (subst (λ (n : ℕ). AreTold k s (map noted_call (found_noted times 0 runs ++ noted.Sought times n None ∷ []))) at told) in
     ap numbers_of_spans (sym same) ∙ some.1.numbers_are
 
 -- ---- the clips

@@ -7,6 +7,7 @@ use Rattle.loop_recorder.specs.declared.entry.Pass.{Pass}
 use Rattle.loop_recorder.specs.declared.entry.Receipt.{Receipt}
 use Rattle.loop_recorder.specs.declared.recorder.Ended.{Ended}
 use Rattle.loop_recorder.specs.Endings.{AreThere, IsTied}
+use Rattle.loop_recorder.specs.Opened.{AreNumbered}
 use Rattle.loop_recorder.specs.Receipts.{pass_number, receipts_of}
 use Rattle.loop_recorder.specs.Sessions.{IsFaithful}
 
@@ -44,8 +45,11 @@ EndsAt {D} {A} medium outlines cameras passes k =
     (e : EndedCamera D A) (o : Outline A) → slice_get cameras k ≡ Some e → slice_get outlines k ≡ Some o
     → IsEndOf medium k e o passes
 
--- so it is of each camera that the recorder was made with, and no receipt names another
+-- So it is of each camera that the recorder was made with, and no receipt names another. The lock of each camera's queue
+-- comes back at its place, and a count of the frames that were given up.
 pub record IsEnd {D P A : Type 0} (medium : D → Medium) (outlines : List (Outline A)) (e : Ended D P A) : Type 0 where
   pub count : length e.cameras.items ≡ length outlines
   pub each : (k : ℕ) → k < length outlines → EndsAt medium outlines e.cameras.items e.passes.items k
   pub there : All (AreThere (length outlines)) e.passes.items
+  pub ports : AreNumbered (length outlines) e.ports.items
+  pub counts : length e.given_up.items ≡ length outlines

@@ -37,7 +37,12 @@ fn note_runs<A: Allocator>(
 {
     let mut place = 0u64;
     for run in runs {
-        note(history, camera, pass, Noted::Sought(times, place, Some(*run)));
+        note(
+            history,
+            camera,
+            pass,
+            Noted::Sought(times, place, Some(*run)),
+        );
         place += 1;
     }
     note(history, camera, pass, Noted::Sought(times, place, None));

@@ -9,7 +9,7 @@ ghost use Rattle.loop_recorder.specs.Receipts.{pass_number};
 ghost use Rattle.loop_recorder.specs.Recordings.{RefusesPool};
 
 use crate::crew::Crew;
-use crate::running::count_given_up;
+use crate::running::end_counted;
 use crate::workers::{run_device, work};
 use crate::{EndRefused, Ended, Lead, Pass, Recorder};
 use loop_capture::{Device, FrameSource};
@@ -230,15 +230,8 @@ fn end_run<D: Disk + Drop, P: PlaneMemory>(
     let Ok(Run { recorder, crew }) = Arc::try_unwrap(run) else {
         return Err(Unended::Lost);
     };
-    match recorder.end(passes) {
-        Ok(mut ended) => {
-            count_given_up(&crew, ended.given_up.as_mut_slice());
-            Ok(ended)
-        }
-        Err(EndRefused::TieBroken(camera, mut ended)) => {
-            count_given_up(&crew, ended.given_up.as_mut_slice());
-            Err(Unended::Refused(EndRefused::TieBroken(camera, ended)))
-        }
+    match end_counted(&crew, recorder, passes) {
+        Ok(ended) => Ok(ended),
         Err(refused) => Err(Unended::Refused(refused)),
     }
 }

@@ -84,7 +84,7 @@ pub(crate) fn tell_listed<L: Write>(
         Some(Ok(Answer::Looked(Ok(outline)))) => {
             print_camera(lines, name, &Listing::of_outline(outline))
         }
-        Some(Ok(Answer::Looked(Err(fault)))) => print_refused(lines, name, fault),
+        Some(Ok(Answer::Looked(Err(fault)))) => tell_fault(name, fault, lines),
         Some(Err(why)) => print_absent(lines, name, why.name()),
         _ => Ok(()),
     }
@@ -100,7 +100,7 @@ pub(crate) fn tell_status<R: Wait, L: Write>(
     let name = state.config.name.as_str();
     let outline = match answered {
         Some(Ok(Answer::Looked(Ok(outline)))) => outline,
-        Some(Ok(Answer::Looked(Err(fault)))) => return print_refused(lines, name, fault),
+        Some(Ok(Answer::Looked(Err(fault)))) => return tell_fault(name, fault, lines),
         Some(Err(why)) => return print_absent(lines, name, why.name()),
         _ => return Ok(()),
     };
