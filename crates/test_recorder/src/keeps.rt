@@ -5,6 +5,7 @@ ghost use Rattle.std.specs.Prelude.{◌<◌, length};
 use crate::calls::{SIZE, ends, last};
 use crate::common::{AtOnce, Rec, frame, limits, recorder};
 use crate::told::{holds, same};
+use loop_record::Span;
 use loop_recorder::{Noted, Pass, SessionFault, Stamp, Times};
 use loop_store::{Clip, StoreFault};
 use std::alloc::Global;
@@ -21,8 +22,8 @@ struct Case<'a> {
     /// The ids and numbers of the clips that the keep tells, and why no further one.
     clips: &'a [(u32, u64, u64)],
     fault: Option<SessionFault>,
-    /// How many heads it reads.
-    heads: u64,
+    /// How many looks it notes: one for each run of the time, and the one that finds no more.
+    looks: u64,
     /// How many calls the history may have.
     calls: u32,
 }
@@ -40,7 +41,7 @@ const CASES: [Case<'static>; 9] = [
         keep: (30, 50),
         clips: &[(0, 2, 4)],
         fault: None,
-        heads: 6,
+        looks: 2,
         calls: 1000,
     },
     // No frame is of that time, and none is held at all.
@@ -50,7 +51,7 @@ const CASES: [Case<'static>; 9] = [
         keep: (31, 39),
         clips: &[],
         fault: None,
-        heads: 3,
+        looks: 1,
         calls: 1000,
     },
     Case {
@@ -59,7 +60,7 @@ const CASES: [Case<'static>; 9] = [
         keep: (0, u64::MAX),
         clips: &[],
         fault: None,
-        heads: 0,
+        looks: 1,
         calls: 1000,
     },
     // Times that don't rise: a clip for each run.
@@ -69,7 +70,7 @@ const CASES: [Case<'static>; 9] = [
         keep: (50, 100),
         clips: &[(0, 1, 1), (1, 3, 4)],
         fault: None,
-        heads: 6,
+        looks: 3,
         calls: 1000,
     },
     // The block of 2 and 3 has gone, since 0 is locked.
@@ -79,7 +80,7 @@ const CASES: [Case<'static>; 9] = [
         keep: (0, 100),
         clips: &[(1, 0, 1), (2, 4, 6)],
         fault: None,
-        heads: 5,
+        looks: 3,
         calls: 1000,
     },
     // Frames that went aren't held, whatever their time was.
@@ -89,7 +90,7 @@ const CASES: [Case<'static>; 9] = [
         keep: (10, 35),
         clips: &[(0, 2, 2)],
         fault: None,
-        heads: 6,
+        looks: 2,
         calls: 1000,
     },
     // One id is left, and there are two runs: the first stays locked.
@@ -99,27 +100,27 @@ const CASES: [Case<'static>; 9] = [
         keep: (50, 100),
         clips: &[(63, 1, 1)],
         fault: Some(SessionFault::Desk(StoreFault::ClipTableFull)),
-        heads: 4,
+        looks: 3,
         calls: 1000,
     },
-    // The history has room for two calls more: no clip is locked.
+    // The history has room for one call more: nothing is noted.
     Case {
         times: &[10, 20, 30],
         lock: NO_LOCK,
         keep: (0, 100),
         clips: &[],
         fault: Some(SessionFault::SessionFull),
-        heads: 2,
-        calls: 8,
+        looks: 0,
+        calls: 7,
     },
-    // It has room for the heads alone.
+    // It has room for the looks alone.
     Case {
         times: &[10, 20],
         lock: NO_LOCK,
         keep: (0, 100),
         clips: &[],
         fault: Some(SessionFault::SessionFull),
-        heads: 2,
+        looks: 2,
         calls: 6,
     },
 ];
@@ -174,24 +175,41 @@ fn brings<R: Wait + Abort>(rt: &R, alloc: Global, recorder: &Rec, pass: &mut Pas
     }
 }
 
-// The receipts of a keep, behind those of before: the heads in the order of their numbers, and then the clips.
+// The receipts of a keep, after those of before: a look for each run, the look that finds no more, and then the locks of
+// these runs.
 fn are_noted(rt: &impl Abort, pass: &Pass, before: usize, case: &Case<'_>, at: usize) {
     let noted = pass.receipts().get(before..).unwrap_or(&[]);
-    let mut heads = 0u64;
+    let mut looks = 0u64;
     let mut clips = 0u64;
-    let mut last = None;
+    let (since, until) = case.keep;
     for receipt in noted {
         match receipt.call {
-            Noted::Read(number, Ok(head)) => {
-                holds!(*rt; clips == 0 && last < Some(number) && head.number == number, at);
-                last = Some(number);
-                heads = heads.wrapping_add(1);
+            Noted::Sought(times, place, run) => {
+                same!(*rt; (clips, times, place), (0, Times { since, until }, looks), at);
+                looks = looks.wrapping_add(1);
+                same!(*rt; run.is_none(), looks == case.looks, at);
             }
-            Noted::Lock(_, Ok(_)) => clips = clips.wrapping_add(1),
-            _ => {}
+            Noted::Lock(span, _) => {
+                let look = noted.get(usize::try_from(clips).unwrap_or(0));
+                let found = look.is_some_and(|look| is_run(look.call, span));
+                holds!(*rt; found && span.tag == TAG, at);
+                clips = clips.wrapping_add(1);
+            }
+            _ => holds!(*rt; false, at),
         }
     }
-    same!(*rt; (heads, clips), (case.heads, case.clips.len() as u64), at);
+    let refused = u64::from(matches!(case.fault, Some(SessionFault::Desk(_))));
+    same!(*rt; (looks, clips), (case.looks, case.clips.len() as u64 + refused), at);
+}
+
+// The look found a run of these numbers, which has no tag.
+fn is_run(look: Noted, span: Span) -> bool {
+    match look {
+        Noted::Sought(_, _, Some(run)) => {
+            (run.from, run.to, run.tag) == (span.from, span.to, 0)
+        }
+        _ => false,
+    }
 }
 
 // The clips have these ids and numbers, and the tag.
