@@ -171,6 +171,7 @@ pub(crate) fn asks<D: Disk + Drop>(
         Verb::Unlock => desk::unlock(&mut case.lane.desk, call, out)?,
         Verb::Upgrade => desk::upgrade(&mut case.lane.desk, out)?,
         Verb::Read => desk::read(alloc, &mut case.lane.desk, call, out)?,
+        Verb::Sought => desk::sought(alloc, &case.lane.desk, call, out)?,
         Verb::Status => desk::status(&case.lane.desk, out)?,
         Verb::Outline => desk::outline(alloc, &case.lane.desk, out)?,
         Verb::Share => desk::share(alloc, &mut case.lane.table, out)?,

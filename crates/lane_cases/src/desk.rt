@@ -7,7 +7,7 @@ use anyhow::Result;
 use loop_desk::Desk;
 use loop_disk::Disk;
 use loop_plane::FdTable;
-use loop_record::Frame;
+use loop_record::{Frame, Times};
 use loop_store::{Clip, StoreFault};
 use std::alloc::Global;
 use std::io::{self, Write};
@@ -82,6 +82,23 @@ pub(crate) fn read<D: Disk + Drop>(
     out: &mut Vec<u8>,
 ) -> io::Result<()> {
     told::read(out, &desk.read_frame(alloc, call.number(0)))
+}
+
+/// The held frames of a time, as runs of their numbers.
+pub(crate) fn sought<D: Disk + Drop>(
+    alloc: Global,
+    desk: &Desk<D>,
+    call: &Call,
+    out: &mut Vec<u8>,
+) -> io::Result<()> {
+    let times = Times {
+        since: call.number(0),
+        until: call.number(1),
+    };
+    match desk.sought(alloc, times) {
+        Ok(runs) => told::runs(out, &runs),
+        Err(fault) => told::fault(out, fault),
+    }
 }
 
 /// How the desk stands.

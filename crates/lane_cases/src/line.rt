@@ -65,6 +65,8 @@ pub(crate) enum Verb {
     /// Version 2 of the layout is made of version 1.
     Upgrade,
     Read,
+    /// The held frames of a time: its first moment, and its last.
+    Sought,
     Status,
     Outline,
     /// How many buffers a queue grants for so many.
@@ -74,7 +76,7 @@ pub(crate) enum Verb {
 }
 
 // Each call with its name, and how many numbers it needs.
-const VERBS: [Row; 43] = [
+const VERBS: [Row; 44] = [
     ("format", Verb::Format, 0),
     ("format1", Verb::FormatV1, 0),
     ("lane", Verb::Lane, 1),
@@ -114,6 +116,7 @@ const VERBS: [Row; 43] = [
     ("unlock", Verb::Unlock, 1),
     ("upgrade", Verb::Upgrade, 0),
     ("read", Verb::Read, 1),
+    ("sought", Verb::Sought, 2),
     ("status", Verb::Status, 0),
     ("outline", Verb::Outline, 0),
     ("grants", Verb::Grants, 1),

@@ -4,6 +4,7 @@ use crate::plane::AnyPlane;
 use bitflags::Flags;
 use loop_desk::{Flushed, LaneFault, LaneReply};
 use loop_ioctl::{IoctlReply, QueueReply};
+use loop_record::Span;
 use loop_store::{ReadFrame, StoreFault};
 use loop_vb2::{Errno, Refused};
 use std::io::{self, Write};
@@ -112,6 +113,21 @@ pub(crate) fn number(
         Ok(number) => named(out, name, number),
         Err(refusal) => fault(out, refusal),
     }
+}
+
+// The first and the last number of a run.
+fn run(out: &mut Vec<u8>, run: Span) -> io::Result<()> {
+    let (from, to) = (run.from, run.to);
+    write!(out, " {from}..{to}")
+}
+
+/// Runs of numbers, or that there is none.
+pub(crate) fn runs(out: &mut Vec<u8>, runs: &[Span]) -> io::Result<()> {
+    out.write_all(if runs.is_empty() { b"none" } else { b"runs" })?;
+    for each in runs {
+        run(out, *each)?;
+    }
+    Ok(())
 }
 
 /// A clip that was locked.

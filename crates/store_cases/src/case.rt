@@ -120,6 +120,7 @@ pub(crate) enum Verb {
     Victim,
     Newest,
     Victims,
+    Sought,
     Look,
     List,
     Format,
@@ -134,7 +135,7 @@ pub(crate) enum Verb {
     Act,
 }
 
-const VERBS: [(&str, Verb); 33] = [
+const VERBS: [(&str, Verb); 34] = [
     ("image", Verb::Image),
     ("image1", Verb::ImageV1),
     ("old", Verb::Old),
@@ -158,6 +159,7 @@ const VERBS: [(&str, Verb); 33] = [
     ("victim", Verb::Victim),
     ("newest", Verb::Newest),
     ("victims", Verb::Victims),
+    ("sought", Verb::Sought),
     ("look", Verb::Look),
     ("list", Verb::List),
     ("format", Verb::Format),
@@ -184,6 +186,7 @@ fn of_store(
             line::tells(case, verb, told)
         }
         Verb::Victims => keeping::victims(case, words, told),
+        Verb::Sought => line::sought(case, words, told),
         Verb::Look => line::look(case, words, told),
         Verb::List => list::list(case, words, told),
         Verb::Format => make::format(case, 2, words, told),

@@ -6,12 +6,14 @@ use crate::case::{self, Case, CaseStore, Moment, Verb};
 use crate::counted::Counted;
 use crate::frames::{held, opened_keeping, read, refused};
 use crate::image::bytes_of;
-use crate::text::{print_calls, print_clips, print_count, print_holds, print_part, say};
+use crate::text::{
+    print_calls, print_clips, print_count, print_fault, print_holds, print_part, print_runs, say,
+};
 use crate::words::{number, small, two_numbers};
 use crate::{acts, keeping};
 use anyhow::{Error, Result, anyhow};
 use loop_disk::{MemDisk, OnceDisk};
-use loop_record::FrameHead;
+use loop_record::{FrameHead, Times};
 use std::alloc::Global;
 use std::cell::Cell;
 use std::io::Write;
@@ -25,6 +27,7 @@ enum Ask {
     Victim,
     Newest,
     Version,
+    Sought(Times),
     Act(Act),
 }
 
@@ -100,6 +103,23 @@ fn tell_victim(calls: &Cell<u64>, store: &CaseStore, told: &mut Vec<u8>) -> Resu
     print_calls(told, calls)
 }
 
+// Prints the held frames of a time, and how many calls it takes to say so.
+fn tell_sought(
+    alloc: Global,
+    calls: &Cell<u64>,
+    store: &CaseStore,
+    times: Times,
+    told: &mut Vec<u8>,
+) -> Result<()> {
+    calls.set(0);
+    match store.sought(alloc, times) {
+        Ok(runs) => print_runs(told, &runs)?,
+        Err(fault) => print_fault(told, fault)?,
+    }
+    say(told, " ")?;
+    print_calls(told, calls)
+}
+
 // Answers what a line asks that is no act.
 fn tell_other(
     alloc: Global,
@@ -113,6 +133,7 @@ fn tell_other(
         Ask::Clips => tell_clips(alloc, store, told),
         Ask::Version => print_count(told, u64::from(store.version()), ""),
         Ask::Newest => print_count(told, u64::from(store.keep()), ""),
+        Ask::Sought(times) => tell_sought(alloc, calls, store, times, told),
         _ => tell_victim(calls, store, told),
     }
 }
@@ -264,6 +285,18 @@ fn ask_of(verb: Verb) -> Ask {
 /// `victim`: the block that would go next; `newest`: how many of the newest blocks are kept.
 pub(crate) fn tells(case: &mut Case, verb: Verb, told: &mut Vec<u8>) -> Result<()> {
     asks(case, ask_of(verb), told)?;
+    Ok(())
+}
+
+/// `sought SINCE UNTIL`: the held frames whose times are from one to the other, as runs of their numbers, and how many
+/// calls it takes to say so.
+pub(crate) fn sought(
+    case: &mut Case,
+    words: &mut SplitWhitespace,
+    told: &mut Vec<u8>,
+) -> Result<()> {
+    let (since, until) = two_numbers(words)?;
+    asks(case, Ask::Sought(Times { since, until }), told)?;
     Ok(())
 }
 

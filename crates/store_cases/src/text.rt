@@ -3,6 +3,7 @@
 
 use crate::words::{bad_line, word};
 use anyhow::Result;
+use loop_record::Span;
 use loop_store::{Clip, StoreFault};
 use std::alloc::Global;
 use std::cell::Cell;
@@ -184,6 +185,18 @@ pub(crate) fn print_numbers(out: &mut Vec<u8>, numbers: &[u64]) -> io::Result<()
 pub(crate) fn print_holds(out: &mut Vec<u8>, numbers: &[u64]) -> io::Result<()> {
     out.write_all(b"holds")?;
     print_numbers(out, numbers)
+}
+
+/// Prints runs of numbers, each behind a space: `finds 2..3 6..8`, or `finds none`.
+pub(crate) fn print_runs(out: &mut Vec<u8>, runs: &[Span]) -> io::Result<()> {
+    out.write_all(b"finds")?;
+    if runs.is_empty() {
+        return out.write_all(b" none");
+    }
+    for run in runs {
+        print_span(out, run.from, run.to)?;
+    }
+    Ok(())
 }
 
 // Prints a clip.

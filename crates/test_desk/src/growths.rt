@@ -8,6 +8,7 @@ use loop_budget::Budget;
 use loop_desk::{Desk, Lane, LaneEvent, lane_run};
 use loop_disk::Disk;
 use loop_plane::{MmapPlane, PlaneMemory};
+use loop_record::{Span, Times};
 use loop_store::{Store, StoreFault};
 use loop_vb2::{PlaneSet, Reason};
 use std::alloc::Allocator;
@@ -210,6 +211,51 @@ fn outlines_within<D: Disk + Drop, A: Allocator + Copy>(
     same!(rt; outline_fault(alloc, desk), None);
 }
 
+// The first run of the held frames of a moment.
+fn first_sought<D: Disk + Drop, A: Allocator + Copy>(
+    alloc: A,
+    desk: &Desk<D, A>,
+    moment: u64,
+) -> Result<Option<Span>, StoreFault> {
+    let times = Times {
+        since: moment,
+        until: moment,
+    };
+    match desk.sought(alloc, times) {
+        Ok(runs) => Ok(runs.first().copied()),
+        Err(fault) => Err(fault),
+    }
+}
+
+// The run of frame 0.
+const FIRST: Span = Span {
+    from: 0,
+    to: 0,
+    tag: 0,
+};
+
+// So many growths, a moment, and the first run of its frames. A run needs the third growth; where there is none, two do.
+const SOUGHT: [(u64, u64, Result<Option<Span>, StoreFault>); 5] = [
+    (0, 0, Err(StoreFault::NoMemory)),
+    (1, 0, Err(StoreFault::NoMemory)),
+    (2, 0, Err(StoreFault::NoMemory)),
+    (3, 0, Ok(Some(FIRST))),
+    (2, 1, Ok(None)),
+];
+
+// The held frames of a time, where each growth is refused in turn.
+fn seeks_within<D: Disk + Drop, A: Allocator + Copy>(
+    rt: &impl Abort,
+    (memory, alloc): (&Budget, A),
+    desk: &Desk<D, A>,
+) {
+    for (allowed, moment, answer) in &SOUGHT {
+        memory.allow(*allowed);
+        same!(rt; first_sought(alloc, desk, *moment), *answer, *allowed);
+        same!(rt; memory.left(), 0, *allowed);
+    }
+}
+
 // A desk needs more growths than these; its store comes back.
 fn refused_within<D: Disk + Drop, A: Allocator + Copy>(
     rt: &impl Abort,
@@ -257,6 +303,7 @@ fn needs_no_more<D: Disk + Drop, A: Allocator + Copy>(
     holds_one(rt, alloc, desk);
     same!(rt; (spare(desk), spare(desk)), (12, 0));
     outlines_within(rt, (memory, alloc), desk);
+    seeks_within(rt, (memory, alloc), desk);
     same!(rt; reads_within(0, (memory, alloc), desk), Err(StoreFault::NoMemory));
     same!(rt; reads_within(1, (memory, alloc), desk), Ok(true));
 }
