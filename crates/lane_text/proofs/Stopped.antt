@@ -42,6 +42,11 @@ module _ {D E P A : Type 0} (meaning : P → Plane) (medium : D → Medium) (oth
         left = whole;
         geometry = ap (λ c. c.geometry) one;
         stands = subst (λ (r : Recording). StandsFor other store r) (ap (λ c. c.recording) one) found.stands;
+        over = λ may.
+            let all = (keeps.footage s stands is.honest).now fine (other left).bytes may in
+            let last = plain (ring_of g) s.recording (take all.count (steps_made old.desk s keeps.ran.calls ++ steps_begun old.desk s keeps.ran.calls)) in
+            let same = one-reading store.geometry g found.recording last (other left).bytes found.held all.held in
+            (all, subst (λ (r : Recording). StandsFor other store r) (ap (λ c. c.recording) same) found.stands);
       }
 
   pub for-want : (keeps : LaneKeeps meaning medium old new events replies) (why : StoreFault)

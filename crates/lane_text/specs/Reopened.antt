@@ -1,11 +1,12 @@
 -- What is found on a disk after a power loss in a run of a lane.
-use Rattle.std.specs.Prelude.{◌≡◌, ℕ, Result, Ok, Err, List, Vec, ◌++◌, take}
+use Rattle.std.specs.Prelude.{◌≡◌, ℕ, Result, Ok, Err, List, Vec, ◌++◌, length, take}
 use Rattle.loop_disk.specs.Medium.{Medium}
 use Rattle.loop_plane.specs.Plane.{Plane}
 use Rattle.loop_record.specs.Recording.{plain, ring_of}
 use Rattle.loop_store.specs.declared.fault.StoreFault.{StoreFault}
 use Rattle.loop_store.specs.Calls.{StoreState}
 use Rattle.loop_store.specs.Seen.{Seen, StandsFor}
+use Rattle.loop_store.specs.Steps.{HoldsFrom}
 use Rattle.loop_desk.specs.declared.event.LaneEvent.{LaneEvent}
 use Rattle.loop_desk.specs.declared.event.LaneReply.{LaneReply}
 use Rattle.loop_desk.specs.declared.lane.Lane.{Lane}
@@ -26,6 +27,12 @@ pub record Reopens {D E P A : Type 0} (meaning : P → Plane) (medium : D → Me
   pub geometry : store.geometry ≡ old.desk.store.geometry
   pub stands : StandsFor other store (plain (ring_of old.desk.store.geometry) s.recording
       (take left.count (steps_made old.desk s ran.calls ++ steps_begun old.desk s ran.calls)))
+  -- where the power failed once the run was over, that beginning has all that were answered
+  pub over : (medium new.desk.store.disk).may_leave image
+      → (all : HoldsFrom old.desk.store.geometry s.recording (length (steps_made old.desk s ran.calls))
+      (steps_made old.desk s ran.calls ++ steps_begun old.desk s ran.calls) image)
+      × StandsFor other store (plain (ring_of old.desk.store.geometry) s.recording
+      (take all.count (steps_made old.desk s ran.calls ++ steps_begun old.desk s ran.calls)))
 
 -- there was no memory, or a call of the disk that was opened failed
 abbrev pub IsForWant : TextFault → Type 0

@@ -83,7 +83,7 @@ pub fn record_and_export<D: Disk + Drop, P: PlaneMemory, A: Allocator + Copy, W:
 /// Runs a lane through events, and opens a disk that has what a power loss may have left of the lane's: the image of
 /// any moment since the run began, before, between or within any writes. It opens, but for want of memory or a failed
 /// call of that disk; and what it holds is the recording after a beginning of the run's steps, in which each clip has
-/// all its frames.
+/// all its frames. Where the power failed once the run was over, that beginning has all steps that were answered.
 pub fn run_and_reopen<D: Disk + Drop, E: Disk + Drop, P: PlaneMemory, A: Allocator + Copy>(
     alloc: A,
     lane: &mut Lane<D, P, A>,
