@@ -46,21 +46,21 @@ class Station:
     def send(self, text):
         """Writes orders, all in one write."""
         if self.orders:
-            descriptor = self.opened(20)
+            descriptor = self.opened(self.orders)
             os.write(descriptor, text.encode())
             os.close(descriptor)
         else:
             os.write(self.run.stdin.fileno(), text.encode())
 
-    def opened(self, seconds):
-        """The pipe of the orders, once the station reads from it."""
+    def opened(self, path, seconds=20):
+        """A pipe, once the station reads from it."""
         end = time.monotonic() + seconds
         while True:
             try:
-                return os.open(self.orders, os.O_WRONLY | os.O_NONBLOCK)
+                return os.open(path, os.O_WRONLY | os.O_NONBLOCK)
             except OSError:
                 if time.monotonic() > end or self.run.poll() is not None:
-                    raise Silent(f"nobody takes orders, status {self.run.poll()}") from None
+                    raise Silent(f"nobody reads {path}, status {self.run.poll()}") from None
                 time.sleep(0.02)
 
     def wait(self, until, seconds=20):

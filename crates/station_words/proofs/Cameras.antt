@@ -8,16 +8,16 @@ use Rattle.std.proofs.lemmas.List.Elements.{All-push}
 use Rattle.std.proofs.lemmas.List.Folds.{list_any_at}
 use Rattle.std.proofs.lemmas.List.Quantifiers.{all_pairs_push}
 use Rattle.std.proofs.lemmas.Slice.Eq.{bytes_eq-Decides}
-use Rattle.station_words.specs.Config.{AreCameras}
+use Rattle.station_words.specs.Config.{AreCameras, HasBuffers}
 use Rattle.station_words.specs.Names.{is_name}
 use Rattle.station_words.specs.declared.config.CameraConfig.{CameraConfig}
 
--- a camera with another name and another store than those before it
+-- a camera with another name and another store than those before it, and a good number of buffers
 pub cameras-push : (cameras : List CameraConfig) (camera : CameraConfig) (name store : List ℕ) → AreCameras cameras
     → IsTrue (is_name name) → string_bytes camera.name ≡ name → string_bytes camera.store ≡ store
     → list_any (λ c. bytes_eq (string_bytes c.name) name) cameras ≡ false
-    → list_any (λ c. bytes_eq (string_bytes c.store) store) cameras ≡ false → AreCameras (cameras ++ camera ∷ [])
-cameras-push cameras camera name store are good called kept names stores = record {
+    → list_any (λ c. bytes_eq (string_bytes c.store) store) cameras ≡ false → HasBuffers camera.buffers → AreCameras (cameras ++ camera ∷ [])
+cameras-push cameras camera name store are good called kept names stores buffers = record {
   named = All-push (λ c. IsTrue (is_name (string_bytes c.name))) cameras camera are.named
       (subst (λ bytes. IsTrue (is_name bytes)) (sym called) good);
   names = all_pairs_push (λ a b. string_bytes a.name ≢ string_bytes b.name) cameras camera are.names (λ k d inside same.
@@ -28,4 +28,5 @@ cameras-push cameras camera name store are good called kept names stores = recor
       let here = list_any_at (λ c. bytes_eq (string_bytes c.store) store) cameras k d inside
       ((bytes_eq-Decides (string_bytes (get_or cameras k d).store) store).1 (same ∙ kept)) in
       false≢true (sym stores ∙ here));
+  buffers = All-push (λ c. HasBuffers c.buffers) cameras camera are.buffers buffers;
 }

@@ -2,7 +2,7 @@
 ghost use Rattle.std.specs.Prelude.{◌≡◌, ◌≤◌, ◌+◌, IfOk, IfSome, IsTrue, OnOk, length, string_bytes, vec_len};
 ghost use Rattle.std.specs.List.{list_any};
 ghost use Rattle.std.specs.Str.{bytes_eq};
-ghost use Rattle.station_words.specs.Config.{AreCameras, IsConfig};
+ghost use Rattle.station_words.specs.Config.{AreCameras, HasBuffers, IsConfig};
 ghost use Rattle.station_words.specs.Names.{is_name};
 
 use crate::fault::{CameraFault, ConfigFault};
@@ -16,9 +16,18 @@ use toml::{Table, Value};
 pub const MAX_CAMERAS: usize = 16;
 
 /// The keys of a camera.
-const KEYS: [&str; 8] = [
-    "name", "source", "store", "minutes", "bytes", "keep", "tag", "pattern",
+const KEYS: [&str; 9] = [
+    "name", "source", "store", "minutes", "bytes", "keep", "tag", "pattern", "buffers",
 ];
+
+/// The fewest buffers of a camera.
+const MIN_BUFFERS: u32 = 4;
+
+/// How many buffers a camera has where they are left out.
+const BUFFERS: u64 = 8;
+
+/// The most buffers of a camera: as many as a queue may have.
+const MAX_BUFFERS: u64 = 32;
 
 /// The pattern's shape where it is left out.
 const SHAPE: &str = "640x480 YM12 25:1";
@@ -47,6 +56,8 @@ pub struct CameraConfig {
     pub seconds: u32,
     /// The tag that `keep` gives.
     pub tag: u64,
+    /// How many buffers its frames come through, 4 to 32.
+    pub buffers: u32,
 }
 
 /// Where a camera's frames come from.
@@ -146,6 +157,7 @@ fn add_camera(
 ) -> Result<(), ConfigFault>
     requires cameras { AreCameras cameras.old.items }
     requires name { IsTrue (is_name draft.now.name.now) }
+    requires buffers { HasBuffers draft.now.buffers }
     ensures cameras { OnOk result (AreCameras cameras.new.items) }
     ensures count { OnOk result (vec_len cameras.new ≡ vec_len cameras.old + 1) }
 {
@@ -184,12 +196,14 @@ struct Draft<'a> {
     room: Room,
     seconds: u32,
     tag: u64,
+    buffers: u32,
 }
 
 // The camera of a draft.
 fn owned(alloc: Global, draft: &Draft<'_>) -> Result<CameraConfig, AllocError>
     ensures name { IfOk result (λ camera. string_bytes camera.name ≡ draft.now.name.now) }
     ensures store { IfOk result (λ camera. string_bytes camera.store ≡ draft.now.store.now) }
+    ensures buffers { IfOk result (λ camera. camera.buffers ≡ draft.now.buffers) }
 {
     let name = String::from_str(alloc, draft.name)?;
     let store = String::from_str(alloc, draft.store)?;
@@ -204,12 +218,14 @@ fn owned(alloc: Global, draft: &Draft<'_>) -> Result<CameraConfig, AllocError>
         room: draft.room,
         seconds: draft.seconds,
         tag: draft.tag,
+        buffers: draft.buffers,
     })
 }
 
 // What a table says of a camera.
 fn read_draft<'a>(entry: &'a Value) -> Result<Draft<'a>, CameraFault>
-    ensures { IfOk result (λ draft. IsTrue (is_name draft.name.now)) }
+    ensures name { IfOk result (λ draft. IsTrue (is_name draft.name.now)) }
+    ensures buffers { IfOk result (λ draft. HasBuffers draft.buffers) }
 {
     let table = match entry {
         Value::Table(table) => table,
@@ -231,6 +247,7 @@ fn read_draft<'a>(entry: &'a Value) -> Result<Draft<'a>, CameraFault>
         room: room_at(table)?,
         seconds: seconds as u32,
         tag: number_at(table, "tag", 0, u64::MAX).ok_or(CameraFault::BadTag)?,
+        buffers: buffers_at(table).ok_or(CameraFault::BadBuffers)?,
     })
 }
 
@@ -265,6 +282,17 @@ fn number_at(table: &Table, key: &str, other: u64, most: u64) -> Option<u64>
         },
         Some(_) => None,
     }
+}
+
+// How many buffers a camera has; `None` where that is no whole number from 4 to 32.
+fn buffers_at(table: &Table) -> Option<u32>
+    ensures { IfSome result HasBuffers }
+{
+    let buffers = number_at(table, "buffers", BUFFERS, MAX_BUFFERS)? as u32;
+    if buffers < MIN_BUFFERS {
+        return None;
+    }
+    Some(buffers)
 }
 
 // The pattern's shape, where that is the source.

@@ -74,6 +74,9 @@ pub enum CameraFault {
     /// `tag` is no whole number, or a negative one.
     #[error("tag is a whole number, not negative")]
     BadTag,
+    /// `buffers` is no whole number from 4 to 32.
+    #[error("buffers is a whole number from 4 to 32")]
+    BadBuffers,
     /// `pattern` can't be read, or no store may have such frames.
     #[error("pattern is a size, a format and a rate, as 640x480 YM12 25:1")]
     BadPattern,

@@ -16,7 +16,7 @@ pub enum Absent {
     Unfinished,
     /// No store holds as much as it is to keep, or its source says no rate.
     NoGeometry,
-    /// Four buffers of its frames need more pages than there are, or there is no memory for them.
+    /// There is no memory for the buffers of its frames.
     NoBuffers,
     /// The last session's history isn't that of what its callers were answered.
     TieBroken,

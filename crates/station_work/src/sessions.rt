@@ -10,10 +10,10 @@ use crate::places::Places;
 use crate::size::size_of;
 use crate::state::CameraState;
 use loop_capture::Device;
-use loop_commands::{Start, Unrecorded, camera_before, start_of, start_queue};
+use loop_commands::{Start, Unrecorded, camera_before, heap_start, start_queue};
 use loop_disk::Disk;
 use loop_file::{FileDisk, FileFault};
-use loop_plane::{MmapPlane, PlaneMemory};
+use loop_plane::{HeapPlane, PlaneMemory};
 use loop_record::Geometry;
 use loop_recorder::{
     Camera, EndRefused, Ended, NewRefused, Pass, Pool, Recorder, Unended, camera_again, start_pool,
@@ -41,10 +41,13 @@ const LOOK_AGAIN: u64 = 100;
 const PASSES: u32 = 5;
 
 /// A camera over a file.
-type FileCamera = Camera<FileDisk, MmapPlane>;
+type FileCamera = Camera<FileDisk, HeapPlane>;
+
+/// What its queue is started with.
+type FileStart = Start<HeapPlane>;
 
 /// The threads of a camera's sessions.
-type FilePool = Pool<FileDisk, MmapPlane>;
+type FilePool = Pool<FileDisk, HeapPlane>;
 
 /// Opens a camera's store, or makes it, and records into it, until the camera is stopped. Where its threads can't be
 /// started, the store can't be had or its disk fails, that is tried again.
@@ -216,18 +219,22 @@ fn record_into<R: AllocGlobal + Wait + Clock>(
     store: Store<FileDisk>,
 ) -> Absent {
     state.link.set_store(rt, store.geometry());
-    match camera_for(rt.alloc(), store) {
+    match camera_for(rt.alloc(), store, state.config.buffers) {
         Ok((camera, start)) => run_sessions(rt, state, pool, camera, start),
         Err(_) => Absent::NoBuffers,
     }
 }
 
-/// A camera before a store, and what its queue is started with.
-fn camera_for(alloc: Global, store: Store<FileDisk>) -> Result<(FileCamera, Start), Unrecorded>
-    ensures { IfOk result (λ made. IsReady ⟦<MmapPlane as PlaneMemory>⟧.plane made.0) }
+/// A camera before a store, and what its queue of so many buffers is started with.
+fn camera_for(
+    alloc: Global,
+    store: Store<FileDisk>,
+    buffers: u32,
+) -> Result<(FileCamera, FileStart), Unrecorded>
+    ensures { IfOk result (λ made. IsReady ⟦<HeapPlane as PlaneMemory>⟧.plane made.0) }
 {
     let camera = camera_before(alloc, store)?;
-    let start = start_of(alloc, &camera, 0)?;
+    let start = heap_start(alloc, &camera, buffers)?;
     Ok((camera, start))
 }
 
@@ -237,9 +244,9 @@ fn run_sessions<R: AllocGlobal + Wait + Clock>(
     state: &CameraState,
     pool: &FilePool,
     camera: FileCamera,
-    start: Start,
+    start: FileStart,
 ) -> Absent
-    requires { IsReady ⟦<MmapPlane as PlaneMemory>⟧.plane camera }
+    requires { IsReady ⟦<HeapPlane as PlaneMemory>⟧.plane camera }
 {
     let alloc = rt.alloc();
     let (Some(size), Some(source)) = (size_of(&camera.0.geometry()), source_of(state)) else {
@@ -276,11 +283,11 @@ fn run_session<R: Wait + Clock>(
     state: &CameraState,
     pool: &FilePool,
     camera: FileCamera,
-    start: Option<Start>,
+    start: Option<FileStart>,
     device: &mut Device<FeedSource>,
 ) -> Result<FileCamera, Absent>
-    requires { IsReady ⟦<MmapPlane as PlaneMemory>⟧.plane camera }
-    ensures { IfOk result (IsReady ⟦<MmapPlane as PlaneMemory>⟧.plane) }
+    requires { IsReady ⟦<HeapPlane as PlaneMemory>⟧.plane camera }
+    ensures { IfOk result (IsReady ⟦<HeapPlane as PlaneMemory>⟧.plane) }
 {
     let Some((recorder, mut passes)) = recorder_of(alloc, camera) else {
         return Err(Absent::NoBuffers);
@@ -311,7 +318,7 @@ fn run_session<R: Wait + Clock>(
 /// session. The C library lets memory grow where it began, so no other thread's part of it ever holds a history.
 fn begin_history<R: Wait, D: Disk + Drop>(
     rt: &R,
-    recorder: &Recorder<D, MmapPlane>,
+    recorder: &Recorder<D, HeapPlane>,
     passes: &mut [Pass],
 )
     requires { 0 < length recorder.now.outlines }
@@ -335,9 +342,9 @@ fn list_of<T: Drop>(alloc: Global, value: T) -> Option<Vec<T>>
 /// A recorder of one camera, and its passes; None where memory was refused.
 fn recorder_of<D: Disk + Drop>(
     alloc: Global,
-    camera: Camera<D, MmapPlane>,
-) -> Option<(Recorder<D, MmapPlane>, Vec<Pass>)>
-    requires { IsReady ⟦<MmapPlane as PlaneMemory>⟧.plane camera }
+    camera: Camera<D, HeapPlane>,
+) -> Option<(Recorder<D, HeapPlane>, Vec<Pass>)>
+    requires { IsReady ⟦<HeapPlane as PlaneMemory>⟧.plane camera }
     ensures one { IfSome result (λ made. length made.0.outlines ≡ 1) }
     ensures passes { IfSome result (λ made. vec_len made.1 ≡ 5) }
 {
@@ -349,8 +356,8 @@ fn recorder_of<D: Disk + Drop>(
 }
 
 /// The camera of an end, where its desk can be written. Where it can't, what waits there is lost.
-fn camera_of(state: &CameraState, ended: Ended<FileDisk, MmapPlane>) -> Option<FileCamera>
-    ensures { IfSome result (IsReady ⟦<MmapPlane as PlaneMemory>⟧.plane) }
+fn camera_of(state: &CameraState, ended: Ended<FileDisk, HeapPlane>) -> Option<FileCamera>
+    ensures { IfSome result (IsReady ⟦<HeapPlane as PlaneMemory>⟧.plane) }
 {
     let Ended {
         mut cameras,

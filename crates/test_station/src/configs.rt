@@ -6,13 +6,13 @@ use std::alloc::Global;
 use std::process::Abort;
 
 // A configuration, and why it is refused.
-const ROWS: [(&str, Option<ConfigFault>); 26] = [
+const ROWS: [(&str, Option<ConfigFault>); 30] = [
     (
         "[[camera]]\nname='a'\nsource='p'\nstore='s'\nminutes=5\n",
         None,
     ),
     (
-        "orders='o'\n[[camera]]\nname='a'\nsource='pattern'\nstore='s'\nbytes=9000\nkeep=1\ntag=2\npattern='4x2 GREY 1:1'\n",
+        "orders='o'\n[[camera]]\nname='a'\nsource='pattern'\nstore='s'\nbytes=9000\nkeep=1\ntag=2\nbuffers=4\npattern='4x2 GREY 1:1'\n",
         None,
     ),
     ("", Some(ConfigFault::NoCameras)),
@@ -74,6 +74,22 @@ const ROWS: [(&str, Option<ConfigFault>); 26] = [
     (
         "[[camera]]\nname='a'\nsource='p'\nstore='s'\nminutes=1\ntag=-1\n",
         Some(ConfigFault::Camera(1, CameraFault::BadTag)),
+    ),
+    (
+        "[[camera]]\nname='a'\nsource='p'\nstore='s'\nminutes=1\nbuffers=32\n",
+        None,
+    ),
+    (
+        "[[camera]]\nname='a'\nsource='p'\nstore='s'\nminutes=1\nbuffers=3\n",
+        Some(ConfigFault::Camera(1, CameraFault::BadBuffers)),
+    ),
+    (
+        "[[camera]]\nname='a'\nsource='p'\nstore='s'\nminutes=1\nbuffers=33\n",
+        Some(ConfigFault::Camera(1, CameraFault::BadBuffers)),
+    ),
+    (
+        "[[camera]]\nname='a'\nsource='p'\nstore='s'\nminutes=1\nbuffers='8'\n",
+        Some(ConfigFault::Camera(1, CameraFault::BadBuffers)),
     ),
     (
         "[[camera]]\nname='a'\nsource='p'\nstore='s'\nminutes=1\nfps=25\n",
@@ -162,13 +178,14 @@ fn a_camera_has_what_is_left_out(rt: HostRuntime) {
     holds!(rt; has_defaults(rt.alloc(), text));
 }
 
-// The first camera keeps 60 seconds without a tag, in so many bytes.
+// The first camera keeps 60 seconds without a tag, in so many bytes, through 8 buffers.
 fn has_defaults(alloc: Global, text: &str) -> bool {
     match read_config(alloc, text) {
         Ok(config) => match config.cameras.first() {
             Some(camera) => {
                 camera.seconds == 60
                     && camera.tag == 0
+                    && camera.buffers == 8
                     && matches!(camera.room, Room::Bytes(77))
                     && config.orders.is_none()
             }

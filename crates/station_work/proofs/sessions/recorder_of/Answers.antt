@@ -2,8 +2,8 @@ use Rattle.std.proofs.Common.{◌≡◌, [], ap, arith, length, map, ◌∙◌}
 use Rattle.std.proofs.lemmas.List.{length-map}
 use Rattle.std.proofs.lemmas.List.Elements.{All-push}
 use Rattle.std.specs.Global.{Global}
-use Rattle.loop_plane.specs.declared.mmap.MmapPlane.{MmapPlane}
-use Rattle.loop_plane.specs.Kinds.{mmap_plane}
+use Rattle.loop_plane.specs.declared.heap.HeapPlane.{HeapPlane}
+use Rattle.loop_plane.specs.Kinds.{heap_plane}
 use Rattle.loop_record.proofs.Readings.{length-range}
 use Rattle.loop_recorder.specs.Opened.{CameraOf, IsReady}
 use Rattle.loop_recorder.specs.Receipts.{pass_number}
@@ -17,7 +17,7 @@ new-requires-clause-few g c =
 
 pub new-requires-clause-ready : goal.new-requires-clause-ready
 new-requires-clause-ready g c =
-    let P : CameraOf g.row.D.Denot (MmapPlane Global) → Type 0 = IsReady mmap_plane in
+    let P : CameraOf g.row.D.Denot (HeapPlane Global) → Type 0 = IsReady heap_plane in
     rw c.in_ok-cameras.ensures (All-push P [] c.args.camera
     (λ k d below. let never : ⊥ = omega (arith, below) in absurd never) c.requires)
 
