@@ -8,13 +8,14 @@ here a second time, each frame's line, and that nothing follows; then ffmpeg and
 were changed in one thing each are given to the same judge, which has to refuse every one."""
 import os
 import random
-import struct
 import subprocess
 import sys
 import tempfile
 
-# A format's name in the store, that of its raw planes in ffmpeg, and how its chroma planes are divided, across and down.
-FORMATS = [("GREY", "gray", None), ("YM12", "yuv420p", (2, 2)), ("YM16", "yuv422p", (2, 1)), ("YM24", "yuv444p", (1, 1))]
+import layout
+
+# A format's name in the store, and that of its raw planes in ffmpeg.
+FORMATS = [(b"GREY", "gray"), (b"YM12", "yuv420p"), (b"YM16", "yuv422p"), (b"YM24", "yuv444p")]
 
 # Widths and heights: even, odd, one pixel, and frames that are moved in several pieces.
 SIZES = [(4, 2), (64, 48), (5, 3), (5, 4), (4, 3), (1, 1), (331, 198), (640, 480), (641, 481)]
@@ -25,37 +26,10 @@ SEGMENTS, SLOTS, STORED, FIRST, LAST = 3, 2, 5, 1, 3
 # Frames a second, as a ratio, for one store after the other.
 RATES = [(25, 1), (30000, 1001), (1, 1), (60, 1), (4294967295, 4294967294)]
 
-# The colour that a header names for each format.
-COLOURS = {"GREY": "mono", "YM12": "420jpeg", "YM16": "422", "YM24": "444"}
 
 
 class Wrong(Exception):
     """What is wrong with a text."""
-
-
-def planes(divided, width, height):
-    """The bytes of a frame's planes: the chroma planes round up."""
-    if divided is None:
-        return [width * height]
-    across, down = divided
-    return [width * height] + 2 * [-(-width // across) * -(-height // down)]
-
-
-def write_store(path, name, width, height, rate, frames):
-    """A store with these frames, as docs/layout.md has it."""
-    size = len(frames[0])
-    with open(path, "wb") as file:
-        file.truncate(2560 + SEGMENTS * (512 + SLOTS * (32 + size)))
-        file.write(b"\xa5LOOPREC" + struct.pack("<III4sIIIII", 1, width, height, name.encode(), *rate, SEGMENTS, SLOTS, size))
-        for number, frame in enumerate(frames):
-            block, slot = divmod(number, SLOTS)
-            at = 2560 + block * (512 + SLOTS * (32 + size))
-            file.seek(at)
-            file.write(b"\xa5" + bytes(7) + struct.pack("<Q", block))
-            file.seek(at + 256 + slot)
-            file.write(b"\xa5")
-            file.seek(at + 512 + slot * (32 + size))
-            file.write(struct.pack("<QIIQII", number, number, 0x2000, number * 40000, size, 0) + frame)
 
 
 def run(command, **given):
@@ -91,7 +65,7 @@ def told_by_ffprobe(text):
 
 def judge_header(line, name, width, height, rate):
     """Refuses a header that isn't the one of these, parameter by parameter."""
-    wanted = [("W", width), ("H", height), ("F", f"{rate[0]}:{rate[1]}"), ("I", "p"), ("A", "0:0"), ("C", COLOURS[name])]
+    wanted = [("W", width), ("H", height), ("F", f"{rate[0]}:{rate[1]}"), ("I", "p"), ("A", "0:0"), ("C", layout.COLOURS[name])]
     words = line.split(b" ")
     if words[0] != b"YUV4MPEG2":
         raise Wrong("the magic")
@@ -164,51 +138,53 @@ def check_judge(text, name, width, height, rate, frames):
         except Wrong:
             count += 1
             continue
-        sys.exit(f"{name} {width}x{height}: the judge takes a text with {what}")
+        sys.exit(f"{name.decode()} {width}x{height}: the judge takes a text with {what}")
     return count
 
 
-def check(program, folder, name, raw, divided, width, height, rate):
+def check(program, folder, name, raw, width, height, rate):
     """One store. Answers whether mjpegtools could be asked, and how many changed texts were refused."""
-    source = random.Random(f"{name} {width} {height}")
-    size = sum(planes(divided, width, height))
+    source = random.Random(f"{name.decode()} {width} {height}")
+    shape = layout.geometry_of(width, height, name, *rate, SEGMENTS, SLOTS)
+    size, divided = shape.size, layout.DIVIDED[name]
     frames = [source.randbytes(size) for _ in range(STORED)]
     store, out = os.path.join(folder, "store"), os.path.join(folder, "out.y4m")
-    write_store(store, name, width, height, rate, frames)
+    with open(store, "wb") as file:
+        layout.write_store(file, shape, STORED, lambda number: frames[number])
     told = run([program, "export", store, str(FIRST), str(LAST), out])
     if told != f"exported {LAST - FIRST + 1}\n".encode():
-        sys.exit(f"{name} {width}x{height}: it told {told}")
+        sys.exit(f"{name.decode()} {width}x{height}: it told {told}")
     with open(out, "rb") as file:
         text = file.read()
     exported = frames[FIRST:LAST + 1]
     try:
         judge(text, name, width, height, rate, exported)
     except Wrong as wrong:
-        sys.exit(f"{name} {width}x{height}: {wrong} is wrong")
+        sys.exit(f"{name.decode()} {width}x{height}: {wrong} is wrong")
     refused = check_judge(text, name, width, height, rate, exported)
     want = b"".join(exported)
     if by_ffmpeg(raw, text) != want:
-        sys.exit(f"{name} {width}x{height}: ffmpeg reads other pixels")
+        sys.exit(f"{name.decode()} {width}x{height}: ffmpeg reads other pixels")
     seen = told_by_ffprobe(text)
     if (seen["pix_fmt"], seen["width"], seen["height"], seen["field_order"]) != (raw, str(width), str(height), "progressive"):
-        sys.exit(f"{name} {width}x{height}: ffprobe takes it for {seen}")
+        sys.exit(f"{name.decode()} {width}x{height}: ffprobe takes it for {seen}")
     # ffmpeg keeps a rate of smaller numbers as it stands; another it rounds.
     if max(rate) < 100000 and seen["r_frame_rate"] != f"{rate[0]}/{rate[1]}":
-        sys.exit(f"{name} {width}x{height}: ffprobe takes the rate {rate} for {seen['r_frame_rate']}")
+        sys.exit(f"{name.decode()} {width}x{height}: ffprobe takes the rate {rate} for {seen['r_frame_rate']}")
     # mjpegtools round chroma planes down, so they read other frames where a side is odd and its chroma halved.
     if divided is not None and (width % divided[0] or height % divided[1]) or max(rate) >= 100000:
         return False, refused
     if by_mjpegtools(text, size, rate) != want:
-        sys.exit(f"{name} {width}x{height}: mjpegtools read other pixels")
+        sys.exit(f"{name.decode()} {width}x{height}: mjpegtools read other pixels")
     return True, refused
 
 
 def main():
     both = alone = refused = 0
     with tempfile.TemporaryDirectory() as folder:
-        for name, raw, divided in FORMATS:
+        for name, raw in FORMATS:
             for place, (width, height) in enumerate(SIZES):
-                asked, count = check(sys.argv[1], folder, name, raw, divided, width, height, RATES[place % len(RATES)])
+                asked, count = check(sys.argv[1], folder, name, raw, width, height, RATES[place % len(RATES)])
                 both, alone, refused = both + asked, alone + (not asked), refused + count
     print(f"{both + alone} exports are, parameter by parameter, the text of their frames, and ffmpeg reads each so")
     print(f"mjpegtools read {both} of them alike; they round down the chroma of the others, or don't take the rate")

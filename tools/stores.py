@@ -7,7 +7,7 @@ import subprocess
 import sys
 import tempfile
 
-import recovery
+import layout
 
 TOOLS = os.path.dirname(os.path.abspath(__file__))
 CRATES = os.path.join(TOOLS, "..", "crates")
@@ -170,13 +170,11 @@ class Plain:
         return Plain(self.geometry, self.frames, self.clips, self.next, self.version)
 
     def victim(self):
-        """The block that has to go before the next frame is stored, if one has to."""
+        """The block that is removed before the next frame is stored, if one is."""
         slots = self.geometry.slots
-        blocks = sorted({number // slots for number in self.frames})
-        if self.next % slots or len(blocks) < self.geometry.segments:
-            return None
-        free = [block for block in blocks[:-1] if not any(first // slots <= block <= last // slots for _, first, last, _ in self.clips)]
-        return free[0] if free else None
+        blocks = {number // slots for number in self.frames}
+        is_full = not self.next % slots and len(blocks) == self.geometry.segments
+        return layout.victim(blocks, [clip[1:3] for clip in self.clips], slots) if is_full else None
 
     def store(self, byte):
         """The states that the store of one more frame goes through."""
@@ -191,7 +189,7 @@ class Plain:
     def lock(self, first, last, tag=0):
         """The state behind a lock."""
         taken = {clip[0] for clip in self.clips}
-        self.clips = sorted(self.clips + [(min(set(range(64)) - taken), first, last, tag)])
+        self.clips = sorted(self.clips + [(min(set(range(layout.CLIPS)) - taken), first, last, tag)])
         return [self.copy()]
 
     def unlock(self, index):
@@ -207,7 +205,7 @@ class Plain:
     def reads_as(self):
         """What an image of this state reads as."""
         frames = {number: bytes([byte]) * self.geometry.size for number, byte in self.frames.items()}
-        return recovery.Recording(self.geometry, self.version, self.next, frames, self.clips)
+        return layout.Recording(self.geometry, self.version, self.next, frames, self.clips)
 
 
 def list_of(program, path):
@@ -220,12 +218,12 @@ def reads_the_same(program, path, image):
     """Writes an image into a file; `list` and `export` answer what the rules say, and a refused file keeps its bytes. Answers what it reads as."""
     with open(path, "wb") as file:
         file.write(image)
-    found = recovery.read(image)
-    wanted = recovery.answer(found)
+    found = layout.read(image)
+    wanted = layout.answer(found)
     answered = list_of(program, path)
     if answered != wanted:
         raise Violation(f"list answers {answered}, and by the rules {wanted}")
-    if isinstance(found, recovery.Refused):
+    if isinstance(found, layout.Refused):
         with open(path, "rb") as file:
             if file.read() != image:
                 raise Violation("a refused file was changed")
@@ -234,7 +232,7 @@ def reads_the_same(program, path, image):
         done = subprocess.run([program, "export", path, "0", ALL, text], capture_output=True, text=True)
         with open(text, "rb") as file:
             exported = file.read()
-        if (done.returncode, done.stdout) != (0, f"exported {len(found.frames)}\n") or exported != recovery.text_of(found, 0, 2 ** 64 - 1):
+        if (done.returncode, done.stdout) != (0, f"exported {len(found.frames)}\n") or exported != layout.text_of(found, 0, 2 ** 64 - 1):
             raise Violation(f"export answers {done.returncode} {done.stdout!r} {done.stderr!r}, or another text than the frames that are held")
     return found
 
@@ -242,6 +240,6 @@ def reads_the_same(program, path, image):
 def is_one_of(found, readings):
     """Sees that what an image reads as is one of these, pixels and all."""
     if found not in readings:
-        shown = found.text if isinstance(found, recovery.Refused) else recovery.listed(found).replace("\n", ", ")
-        wanted = " or ".join(recovery.listed(reading).replace("\n", ", ") for reading in readings)
+        shown = found.text if isinstance(found, layout.Refused) else layout.listed(found).replace("\n", ", ")
+        wanted = " or ".join(layout.listed(reading).replace("\n", ", ") for reading in readings)
         raise Violation(f"a file reads as {shown}; what may stand there is {wanted}(with the pixels of each number and run)")
