@@ -81,7 +81,7 @@ def log_of(path):
 
 
 def settle(log, path):
-    """Makes a log behind a kill one of what was done: a record that was cut goes, and a last write, which is told of before it is made, has the
+    """Makes a log after a kill one of what was done: a record that was cut is removed, and a last write, which is logged before it is made, has the
     bytes that the file has in its place, since the kill may have come in between."""
     if not os.path.exists(log):
         return
@@ -135,7 +135,7 @@ def torn(image, record, choose):
 
 
 def after_power_loss(base, records, choose):
-    """A file after the loss of power behind these records: what was synced, and of all else what was chosen."""
+    """A file after the loss of power after these records: what was synced, and of all else what was chosen."""
     image, pending = bytearray(base), []
     for record in records:
         if record[0] == "S":
@@ -187,18 +187,18 @@ class Plain:
         return states + [self.copy()]
 
     def lock(self, first, last, tag=0):
-        """The state behind a lock."""
+        """The state after a lock."""
         taken = {clip[0] for clip in self.clips}
         self.clips = sorted(self.clips + [(min(set(range(layout.CLIPS)) - taken), first, last, tag)])
         return [self.copy()]
 
     def unlock(self, index):
-        """The state behind an unlock."""
+        """The state after an unlock."""
         self.clips = [clip for clip in self.clips if clip[0] != index]
         return [self.copy()]
 
     def upgrade(self):
-        """The state behind an upgrade of version 1."""
+        """The state after an upgrade of version 1."""
         self.version = 2
         return [self.copy()]
 
