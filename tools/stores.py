@@ -35,13 +35,13 @@ def built(name):
     return os.path.join(crate, "out", name)
 
 
-def words_of(name, folder):
-    """What makes a program end at once, with status 0, as it is run once it was built: loop_station wants a configuration, whose orders end it."""
+def words_of(name, folder, stops=True):
+    """What makes a program end at once, with status 0, as it is run once it was built: loop_station wants a configuration, whose orders end it, or not."""
     if name != "loop_station":
         return []
     orders, config = os.path.join(folder, "orders"), os.path.join(folder, "station.toml")
     with open(orders, "w") as file:
-        file.write("stop\n")
+        file.write("stop\n" if stops else "")
     with open(config, "w") as file:
         file.write(f'orders = "{orders}"\n[[camera]]\nname = "one"\nsource = "pattern"\nstore = "{folder}/one.loop"\nbytes = 100000000\n')
     return ["--", config]
