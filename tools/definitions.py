@@ -3,13 +3,13 @@
 calls that write and open, of a desk's calls, and of `lane_run`; of the last three also those alone under what a power
 loss leaves, which are the clauses in LOSS, and of the records in FIELDS the fields that stand there.
 
-Run it at the top of the repository: `python3 tools/definitions.py`. With names behind it (`after Goes`) it says which
+Run it at the top of the repository: `python3 tools/definitions.py`. With names after it (`after Goes`) it says which
 definitions of these names there are, and what each rests on. It is no part of the gate.
 
 A definition is a crate, a module and a name, since one name may stand in several modules. A name in a clause or in a
 definition is resolved by its own file: what the file defines goes first, then what its lines `use
 Rattle.crate.specs.Module.{a, b as c}` import, and `word.a` where `use Rattle.crate.specs.Module as word` stands there.
-A constructor is its type; a name behind a dot is a field, and one in front of ':' is a field or bound. What a type's
+A constructor is its type; a name after a dot is a field, and one in front of ':' is a field or bound. What a type's
 contracts look at, its `ghost Value`, counts with each call whose signature names the type, or whose `self` is one.
 Types that the program declares (`specs.declared`) and what the kit defines aren't definitions of specs/.
 

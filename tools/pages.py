@@ -20,6 +20,7 @@ ELSEWHERE = (
     (r"gst-launch", "needs a screen and GStreamer", None),
     (r"y4mdenoise", "needs mjpegtools", "y4mdenoise"),
     (r"^rt ", "needs the kit", None),
+    (r"^tools/check", "takes minutes, and the programs", None),
 )
 
 

@@ -9,7 +9,7 @@
  *   LOOP_MODE   a device or a program that breaks its word:
  *                 no_sync      a sync does nothing
  *                 late_sync    a sync is made only before the next write: what is answered in between isn't on the disk
- *                 gate_first   a frame's slot is written and synced only behind its gate
+ *                 gate_first   a frame's slot is written and synced only after its gate
  *                 no_text_sync, no_folder_sync       a sync of LOOP_TEXT, or of its folder, does nothing
  *                 fail_text_sync, fail_folder_sync   it fails (EIO)
  *   LOOP_FAIL   COUNT:ERRNO, or COUNT:ERRNO:on   the call of that number on any file, from 0, fails so, or all from there on; calls are open,
@@ -33,7 +33,7 @@
 #include <sys/syscall.h>
 #include <unistd.h>
 
-/* What is longer than a segment's header, behind the front of a store, is a slot. */
+/* What is longer than a segment's header, after the front of a store, is a slot. */
 #define HEADER 512
 
 static int log_fd = -2;
@@ -202,7 +202,7 @@ static ssize_t written(int fd, const void *bytes, size_t count, off_t at) {
     return syscall(SYS_pwrite64, fd, bytes, count, at);
 }
 
-/* The slot that was kept back is written behind its gate. */
+/* The slot that was kept back is written after its gate. */
 static void give_back(int fd) {
     written(fd, kept, kept_count, kept_at);
     free(kept);

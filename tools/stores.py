@@ -7,7 +7,7 @@ import subprocess
 import sys
 import tempfile
 
-import recovery
+import layout
 
 TOOLS = os.path.dirname(os.path.abspath(__file__))
 CRATES = os.path.join(TOOLS, "..", "crates")
@@ -35,13 +35,13 @@ def built(name):
     return os.path.join(crate, "out", name)
 
 
-def words_of(name, folder):
-    """What makes a program end at once, with status 0, as it is run once it was built: loop_station wants a configuration, whose orders end it."""
+def words_of(name, folder, stops=True):
+    """What makes a program end at once, with status 0, as it is run once it was built: loop_station wants a configuration, whose orders end it, or not."""
     if name != "loop_station":
         return []
     orders, config = os.path.join(folder, "orders"), os.path.join(folder, "station.toml")
     with open(orders, "w") as file:
-        file.write("stop\n")
+        file.write("stop\n" if stops else "")
     with open(config, "w") as file:
         file.write(f'orders = "{orders}"\n[[camera]]\nname = "one"\nsource = "pattern"\nstore = "{folder}/one.loop"\nbytes = 100000000\n')
     return ["--", config]
@@ -81,7 +81,7 @@ def log_of(path):
 
 
 def settle(log, path):
-    """Makes a log behind a kill one of what was done: a record that was cut goes, and a last write, which is told of before it is made, has the
+    """Makes a log after a kill one of what was done: a record that was cut is removed, and a last write, which is logged before it is made, has the
     bytes that the file has in its place, since the kill may have come in between."""
     if not os.path.exists(log):
         return
@@ -135,7 +135,7 @@ def torn(image, record, choose):
 
 
 def after_power_loss(base, records, choose):
-    """A file after the loss of power behind these records: what was synced, and of all else what was chosen."""
+    """A file after the loss of power after these records: what was synced, and of all else what was chosen."""
     image, pending = bytearray(base), []
     for record in records:
         if record[0] == "S":
@@ -170,13 +170,11 @@ class Plain:
         return Plain(self.geometry, self.frames, self.clips, self.next, self.version)
 
     def victim(self):
-        """The block that has to go before the next frame is stored, if one has to."""
+        """The block that is removed before the next frame is stored, if one is."""
         slots = self.geometry.slots
-        blocks = sorted({number // slots for number in self.frames})
-        if self.next % slots or len(blocks) < self.geometry.segments:
-            return None
-        free = [block for block in blocks[:-1] if not any(first // slots <= block <= last // slots for _, first, last, _ in self.clips)]
-        return free[0] if free else None
+        blocks = {number // slots for number in self.frames}
+        is_full = not self.next % slots and len(blocks) == self.geometry.segments
+        return layout.victim(blocks, [clip[1:3] for clip in self.clips], slots) if is_full else None
 
     def store(self, byte):
         """The states that the store of one more frame goes through."""
@@ -189,25 +187,25 @@ class Plain:
         return states + [self.copy()]
 
     def lock(self, first, last, tag=0):
-        """The state behind a lock."""
+        """The state after a lock."""
         taken = {clip[0] for clip in self.clips}
-        self.clips = sorted(self.clips + [(min(set(range(64)) - taken), first, last, tag)])
+        self.clips = sorted(self.clips + [(min(set(range(layout.CLIPS)) - taken), first, last, tag)])
         return [self.copy()]
 
     def unlock(self, index):
-        """The state behind an unlock."""
+        """The state after an unlock."""
         self.clips = [clip for clip in self.clips if clip[0] != index]
         return [self.copy()]
 
     def upgrade(self):
-        """The state behind an upgrade of version 1."""
+        """The state after an upgrade of version 1."""
         self.version = 2
         return [self.copy()]
 
     def reads_as(self):
         """What an image of this state reads as."""
         frames = {number: bytes([byte]) * self.geometry.size for number, byte in self.frames.items()}
-        return recovery.Recording(self.geometry, self.version, self.next, frames, self.clips)
+        return layout.Recording(self.geometry, self.version, self.next, frames, self.clips)
 
 
 def list_of(program, path):
@@ -220,12 +218,12 @@ def reads_the_same(program, path, image):
     """Writes an image into a file; `list` and `export` answer what the rules say, and a refused file keeps its bytes. Answers what it reads as."""
     with open(path, "wb") as file:
         file.write(image)
-    found = recovery.read(image)
-    wanted = recovery.answer(found)
+    found = layout.read(image)
+    wanted = layout.answer(found)
     answered = list_of(program, path)
     if answered != wanted:
         raise Violation(f"list answers {answered}, and by the rules {wanted}")
-    if isinstance(found, recovery.Refused):
+    if isinstance(found, layout.Refused):
         with open(path, "rb") as file:
             if file.read() != image:
                 raise Violation("a refused file was changed")
@@ -234,7 +232,7 @@ def reads_the_same(program, path, image):
         done = subprocess.run([program, "export", path, "0", ALL, text], capture_output=True, text=True)
         with open(text, "rb") as file:
             exported = file.read()
-        if (done.returncode, done.stdout) != (0, f"exported {len(found.frames)}\n") or exported != recovery.text_of(found, 0, 2 ** 64 - 1):
+        if (done.returncode, done.stdout) != (0, f"exported {len(found.frames)}\n") or exported != layout.text_of(found, 0, 2 ** 64 - 1):
             raise Violation(f"export answers {done.returncode} {done.stdout!r} {done.stderr!r}, or another text than the frames that are held")
     return found
 
@@ -242,6 +240,6 @@ def reads_the_same(program, path, image):
 def is_one_of(found, readings):
     """Sees that what an image reads as is one of these, pixels and all."""
     if found not in readings:
-        shown = found.text if isinstance(found, recovery.Refused) else recovery.listed(found).replace("\n", ", ")
-        wanted = " or ".join(recovery.listed(reading).replace("\n", ", ") for reading in readings)
+        shown = found.text if isinstance(found, layout.Refused) else layout.listed(found).replace("\n", ", ")
+        wanted = " or ".join(layout.listed(reading).replace("\n", ", ") for reading in readings)
         raise Violation(f"a file reads as {shown}; what may stand there is {wanted}(with the pixels of each number and run)")
