@@ -5,6 +5,7 @@ ghost use Rattle.std.specs.Prelude.{◌<◌, length};
 use crate::calls::{SIZE, ends, last};
 use crate::common::{AtOnce, Rec, frame, limits, recorder};
 use crate::told::{holds, same};
+use loop_desk::Status;
 use loop_record::Span;
 use loop_recorder::{Noted, Pass, SessionFault, Stamp, Times};
 use loop_store::{Clip, StoreFault};
@@ -205,9 +206,7 @@ fn are_noted(rt: &impl Abort, pass: &Pass, before: usize, case: &Case<'_>, at: u
 // The look found a run of these numbers, which has no tag.
 fn is_run(look: Noted, span: Span) -> bool {
     match look {
-        Noted::Sought(_, _, Some(run)) => {
-            (run.from, run.to, run.tag) == (span.from, span.to, 0)
-        }
+        Noted::Sought(_, _, Some(run)) => { (run.from, run.to, run.tag) == (span.from, span.to, 0) }
         _ => false,
     }
 }
@@ -217,6 +216,35 @@ fn are_kept(rt: &impl Abort, clips: &[Clip], wanted: &[(u32, u64, u64)], at: usi
     same!(*rt; clips.len(), wanted.len(), at);
     for (clip, (id, from, to)) in clips.iter().zip(wanted) {
         same!(*rt; (clip.id, clip.from, clip.to, clip.tag), (*id, *from, *to, TAG), at);
+    }
+}
+
+// An outline has the clips of a keep, and its status is noted, unless the history is full.
+fn outlines<R: Wait + Abort>(
+    rt: &R,
+    alloc: Global,
+    recorder: &Rec,
+    pass: &mut Pass,
+    case: &Case<'_>,
+    kept: &[Clip],
+    at: usize,
+)
+    requires { 0 < length recorder.now.outlines }
+{
+    let full = pass.receipts().len() >= case.calls as usize;
+    match recorder.outline(rt, alloc, 0, pass) {
+        Err(fault) => same!(*rt; (fault, full), (SessionFault::SessionFull, true), at),
+        Ok(outline) => {
+            holds!(*rt; !full && kept.iter().all(|clip| outline.clips.contains(clip)), at);
+            let status = Status {
+                next: case.times.len() as u64,
+                held: outline.frames.len() as u64,
+                pending: 0,
+                must_reopen: false,
+            };
+            let last = pass.receipts().last().map(|receipt| receipt.call);
+            same!(*rt; (outline.next, last), (status.next, Some(Noted::Status(status))), at);
+        }
     }
 }
 
@@ -239,6 +267,7 @@ fn keeps<R: Wait + Abort>(rt: &R, alloc: Global, case: &Case<'_>, at: usize) {
     are_kept(rt, &kept.clips, case.clips, at);
     same!(*rt; kept.fault, case.fault, at);
     are_noted(rt, &pass, before, case, at);
+    outlines(rt, alloc, &recorder, &mut pass, case, &kept.clips, at);
     passes.push(pass).expect(rt, "memory for a list");
     let ended = ends(rt, recorder, passes);
     same!(*rt; ended.cameras.len(), 1, at);
