@@ -26,7 +26,7 @@ const MOST_CAMERAS: usize = 1 << 30;
 /// Why nothing was recorded.
 #[derive(Clone, Copy, Debug, PartialEq, Eq)]
 pub enum Unrecorded {
-    /// The buffers of the camera of this number need more pages than a ledger has, or a plane more bytes than a frame.
+    /// The buffers of the camera of this number need more pages than a ledger has.
     TooLarge(u32),
     /// A store that must be reopened; or memory was refused, or a thread.
     Refused(StoreFault),
