@@ -125,8 +125,8 @@ pub struct Start<P> {
     brought: Supply<P>,
 }
 
-/// Four buffers of mapped memory, from a ledger of their own, for the queue of the camera of this number. `TooLarge` where
-/// they need more than 1,024 pages; `NoMemory`.
+/// Four buffers of mapped memory, from a ledger of their own, for the queue of the camera of this number. `TooLarge`
+/// where they need more than 1,024 pages; `NoMemory`.
 pub(crate) fn mapped_start<D: Disk + Drop>(
     alloc: Global,
     camera: &Camera<D, MmapPlane>,
@@ -146,8 +146,8 @@ pub(crate) fn mapped_start<D: Disk + Drop>(
     }
 }
 
-/// So many buffers of the application's memory (USERPTR), each plane in a row of its own, for the queue of a camera with
-/// frames of any size. A queue has 32 at most. `NoMemory`.
+/// So many buffers of the application's memory (USERPTR), each plane in a row of its own, for the queue of a camera
+/// with frames of any size. A queue has 32 at most. `NoMemory`.
 pub fn heap_start<D: Disk + Drop>(
     alloc: Global,
     camera: &Camera<D, HeapPlane>,

@@ -1,8 +1,8 @@
 -- What a keep does, put together from its parts.
-use Rattle.std.proofs.Common.{◌≡◌, ℕ, suc, ◌+◌, ◌<◌, ◌≤◌, inl, inr, Option, Some, None, Result, Ok, Err, List, [], ◌∷◌, ◌++◌, length, map, take, drop, get_or, refl, sym, ap, ◌∙◌, subst, arith}
+use Rattle.std.proofs.Common.{◌≡◌, ℕ, suc, ◌+◌, ◌<◌, inl, inr, Some, None, Result, Ok, Err, List, [], ◌∷◌, ◌++◌, length, map, take, drop, get_or, refl, sym, ap, ◌∙◌, subst, arith}
 use Rattle.std.specs.Prelude.{OnOk}
 use Rattle.std.specs.Option.{option_to_list}
-use Rattle.std.proofs.lemmas.List.{append-nil, append_assoc, length-take-le, map-append, take-append-drop, take_all, take_more}
+use Rattle.std.proofs.lemmas.List.{append-nil, length-take-le, map-append, take-append-drop, take_all, take_more}
 use Rattle.std.proofs.Math.Seq.{drop-cons}
 use Rattle.loop_clips.specs.declared.clip.Clip.{Clip}
 use Rattle.loop_disk.specs.Medium.{Medium, IsSound}
@@ -20,9 +20,9 @@ use Rattle.loop_recorder.specs.declared.fault.SessionFault.{SessionFault}
 use Rattle.loop_recorder.specs.declared.fault.SessionFault.TheVariants.{NoMemory}
 use Rattle.loop_recorder.specs.declared.keep.Kept.{Kept}
 use Rattle.loop_recorder.specs.Histories.{noted_call}
-use Rattle.loop_recorder.specs.Keeps.{Enters, Keeps, KeepsHeld, Locks, Notes, clip_span, fault_of, found_noted, lock_noted, refused_lock, runs_noted, with_tag}
+use Rattle.loop_recorder.specs.Keeps.{Enters, KeepsHeld, Locks, Notes, clip_span, refusal_in, found_noted, lock_noted, refused_lock, runs_noted, with_tag}
 use Rattle.loop_recorder.specs.Receipts.{lock_note}
-use Rattle.loop_recorder.proofs.Noting.{enters-joined, enters-none, enters-one, notes-joined, notes-none}
+use Rattle.loop_recorder.proofs.Noting.{enters-joined, notes-joined, notes-none}
 
 -- ---- the runs of a time
 
@@ -207,13 +207,13 @@ module _ {D A : Type 0} (medium : D → Medium) (camera tag : ℕ) (times : Time
   -- and they were locked, or some of them
   pub keeps-some : (runs : List Span) (old mid new : SeenDesk D) (before between after : List Entry)
       (given through back : Pass A) (slice : List Span) (kept : Kept A) (result : Result (Unit {0}) SessionFault)
-      → slice ≡ runs → kept.fault ≡ fault_of result
+      → slice ≡ runs → kept.fault ≡ refusal_in result
       → Notes medium camera (runs_noted times runs) old mid before between given through
       → Locks medium camera tag slice kept.clips.items mid new between after through back result
       → KeepsHeld medium camera times tag old new before after given back kept
   keeps-some runs old mid new before between after given through back slice kept result same refused n l = record {
-    notes = runs_noted times runs ++ (map lock_noted kept.clips.items ++ refused_lock l.left (fault_of result));
-    noted = notes-joined medium camera (runs_noted times runs) (map lock_noted kept.clips.items ++ refused_lock l.left (fault_of result))
+    notes = runs_noted times runs ++ (map lock_noted kept.clips.items ++ refused_lock l.left (refusal_in result));
+    noted = notes-joined medium camera (runs_noted times runs) (map lock_noted kept.clips.items ++ refused_lock l.left (refusal_in result))
         old mid new before between after given through back n l.notes;
     keeps = inr (record {
       runs = runs;
@@ -224,6 +224,6 @@ module _ {D A : Type 0} (medium : D → Medium) (camera tag : ℕ) (times : Time
     });
   }
     where
-      whole : (r : Result (Unit {0}) SessionFault) → OnOk r (l.left ≡ []) → fault_of r ≡ None → l.left ≡ []
+      whole : (r : Result (Unit {0}) SessionFault) → OnOk r (l.left ≡ []) → refusal_in r ≡ None → l.left ≡ []
       whole (Ok x) w none = w
       whole (Err fault) w none = absurd cc

@@ -1,12 +1,11 @@
 -- A keep is whole: what a desk tells as the runs of a time, one by one, are all of them.
-use Rattle.std.proofs.Common.{◌≡◌, ℕ, zero, suc, ◌+◌, ◌-◌, ◌<◌, ◌≤◌, true, is_some, inl, inr, Option, Some, None, List, [], ◌∷◌, ◌++◌, length, map, drop, get_or, refl, sym, ap, ◌∙◌, subst, arith}
+use Rattle.std.proofs.Common.{◌≡◌, ℕ, zero, suc, ◌+◌, ◌-◌, ◌≤◌, true, is_some, inl, inr, Option, Some, None, List, [], ◌∷◌, ◌++◌, length, map, drop, refl, sym, ap, ◌∙◌, subst, arith}
 use Rattle.std.specs.Prelude.{slice_get}
 use Rattle.std.specs.List.{range_with_len}
 use Rattle.std.proofs.lemmas.List.{append-nil, map-append}
 use Rattle.std.proofs.lemmas.Option.{get_or_from_slice_get, none-some, same_Some, slice_get_within}
 use Rattle.std.proofs.Math.ListN.{drop_of_length-le}
 use Rattle.std.proofs.Math.Seq.{drop-cons}
-use Rattle.loop_clips.specs.declared.clip.Clip.{Clip}
 use Rattle.loop_record.specs.declared.clip.Span.{Span}
 use Rattle.loop_record.specs.declared.times.Times.{Times}
 use Rattle.loop_record.specs.Times.{AreRuns, RunsFrom, numbers_in_time, numbers_of_span, numbers_of_spans}
@@ -16,7 +15,7 @@ use Rattle.loop_recorder.specs.declared.entry.Noted.{Noted}
 use Rattle.loop_recorder.specs.declared.entry.Noted.TheVariants as noted
 use Rattle.loop_recorder.specs.declared.keep.Kept.{Kept}
 use Rattle.loop_recorder.specs.Histories.{noted_call}
-use Rattle.loop_recorder.specs.Keeps.{Keeps, KeepsAreWhole, KeepsRuns, clip_span, found_noted, lock_noted, refused_lock, runs_noted, with_tag}
+use Rattle.loop_recorder.specs.Keeps.{KeepsAreWhole, clip_span, found_noted, lock_noted, refused_lock, runs_noted, with_tag}
 
 -- ---- numbers have one list of runs
 

@@ -45,8 +45,8 @@ EndsAt {D} {A} medium outlines cameras passes k =
     (e : EndedCamera D A) (o : Outline A) → slice_get cameras k ≡ Some e → slice_get outlines k ≡ Some o
     → IsEndOf medium k e o passes
 
--- So it is of each camera that the recorder was made with, and no receipt names another. The lock of each camera's queue
--- comes back at its place, and a count of the frames that were given up.
+-- So it is of each camera that the recorder was made with, and no receipt names another. The lock of each camera's
+-- queue comes back at its place, and a count of the frames that were given up.
 pub record IsEnd {D P A : Type 0} (medium : D → Medium) (outlines : List (Outline A)) (e : Ended D P A) : Type 0 where
   pub count : length e.cameras.items ≡ length outlines
   pub each : (k : ℕ) → k < length outlines → EndsAt medium outlines e.cameras.items e.passes.items k

@@ -132,17 +132,17 @@ pub record Notes {D A : Type 0} (medium : D → Medium) (camera : ℕ) (notes : 
   pub enters : Enters camera notes before after given back
 
 -- what refused
-abbrev pub fault_of : {T : Type 0} → Result T SessionFault → Option SessionFault
-fault_of (Ok x) = None
-fault_of (Err fault) = Some fault
+abbrev pub refusal_in : {T : Type 0} → Result T SessionFault → Option SessionFault
+refusal_in (Ok x) = None
+refusal_in (Err fault) = Some fault
 
 -- runs were locked with a tag, from the first on
 pub record Locks {D A : Type 0} (medium : D → Medium) (camera tag : ℕ) (runs : List Span) (clips : List Clip)
     (old new : SeenDesk D) (before after : List Entry) (given back : Pass A) (result : Result (Unit {0}) SessionFault)
     : Type 0 where
   pub left : List Span
-  pub notes : Notes medium camera (map lock_noted clips ++ refused_lock left (fault_of result)) old new before after given
-      back
+  pub notes : Notes medium camera (map lock_noted clips ++ refused_lock left (refusal_in result)) old new before after
+      given back
   pub locked : map (with_tag tag) runs ≡ map clip_span clips ++ left
   pub whole : OnOk result (left ≡ [])
 

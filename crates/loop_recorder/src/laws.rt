@@ -11,8 +11,7 @@ use loop_disk::Disk;
 use std::alloc::Allocator;
 
 /// Where the desk at which a session ended is given to a new recorder, whose outline of it is `between`, and that one
-/// ends too: the second session began with all that the first one left, and its history is legal from there. So no step
-/// that was acknowledged in the first is lost on the way to the second.
+/// ends too: the second session began with all that the first one left, and its history is legal from there.
 pub fn sessions_join<D: Disk + Drop, A: Allocator>(
     first: &EndedCamera<D, A>,
     between: &Outline<A>,
