@@ -103,7 +103,7 @@ module _ {D : Type 0} (medium : D → Medium) (d : SeenDesk D) where
   runs-play times all before (r ∷ rs) place s at are parts is =
       let next : DeskState = desk_after (rules_of d) s (run_told times place (Some r)) in
       let more = runs-play times all (before ++ r ∷ []) rs (place + 1) next (record { store = at.store; pending = at.pending }) are
-          (append_assoc before (r ∷ []) rs ∙ parts) (omega (arith, is, length-append before (r ∷ []))) in
+      (append_assoc before (r ∷ []) rs ∙ parts) (omega (arith, is, length-append before (r ∷ []))) in
       (((all, (are s at, there)), more.0), more.1)
     where
       there : slice_get all place ≡ Some r
