@@ -7,7 +7,7 @@
 // handed back there with the same two (`allocate` and `deallocate`, by hand in `proofs/BudgetAllocator`), and
 // how a block is counted (`take_one`). The count itself lies in a `Cell`, so that a `&` can change it, and no
 // contract can look into a cell: that `allocate` refuses where the count is 0, and what `left` and `allow` do,
-// is shown by tests in test_planes. Nothing but tests uses this crate.
+// is shown by tests in test_queue. Nothing but tests uses this crate.
 #![tactic(auto)]
 
 ghost use Rattle.std.specs.Prelude.{◌≡◌, ◌-◌, ◌<◌, ◌↔◌, IsTrue};

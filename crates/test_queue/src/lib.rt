@@ -1,7 +1,9 @@
-//! Tests of the buffer queue, its ioctls and a device over real planes: what needs an allocator, boxes, or pages that
-//! are counted. Calls with what they answer stand in `lane_cases`.
+//! Tests of page ledgers, planes, the buffer queue, its ioctls and a device over real planes: what needs an allocator,
+//! boxes, threads, or pages that are counted. Calls with what they answer stand in `lane_cases`.
 //!
-//! - `common`: planes over claimed pages, and a queue of frames of one byte whose calls stand in tables;
+//! - `budget`: what an allocator with a budget grants; `pages`: claims of pages by one thread, `threads`: by several;
+//!   `claimed`: planes over claimed pages; `planes`: planes of each kind;
+//! - `common`: a queue of frames of one byte whose calls stand in tables;
 //! - `rounds`: buffers go round, with ample memory and with each growth refused;
 //! - `refusals`: what a refused request hands back, and which pages are free again; `supplies`: the same by ioctls;
 //!   `lists`: by a list of events;
@@ -13,11 +15,19 @@
 
 pub mod boxes;
 #[cfg(test)]
+mod budget;
+#[cfg(test)]
+mod claimed;
+#[cfg(test)]
 mod common;
 #[cfg(test)]
 mod listed;
 #[cfg(test)]
 mod lists;
+#[cfg(test)]
+mod pages;
+#[cfg(test)]
+mod planes;
 #[cfg(test)]
 mod refusals;
 #[cfg(test)]
@@ -26,6 +36,8 @@ mod rounds;
 mod sources;
 #[cfg(test)]
 mod supplies;
+#[cfg(test)]
+mod threads;
 #[cfg(test)]
 mod ticks;
 #[cfg(test)]

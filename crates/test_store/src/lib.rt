@@ -1,7 +1,7 @@
-//! Tests of the store and of its parts that need Rust: the bytes of each part of a disk, written and read, which stray
-//! gates are closed, which block goes, memory that is refused, looks without a write, and the names of the refusals. The
-//! worked rows of the layout and of the rules, the stops and the calls that fail are cases of `store_cases`; what an
-//! image reads as stands in loop_record's proofs too, computed on worked images.
+//! Tests of the store, of its parts and of its exports that need Rust: the bytes of each part of a disk, written and
+//! read, which stray gates are closed, which block goes, memory that is refused, looks without a write, and the names of
+//! the refusals. The worked rows of the layout and of the rules, the stops and the calls that fail are cases of
+//! `store_cases`; what an image reads as stands in loop_record's proofs too, computed on worked images.
 //!
 //! - `layout`: sizes, and what stands in each part of a disk; `ring`: calls of a ring, over a disk that claims nothing
 //!   of its bytes, so that a test may begin with any image; `upgrade`: upgrades of a clip table to version 2 of the
@@ -10,11 +10,18 @@
 //! - `looks`: a store over a disk that is never written to;
 //! - `memory`: each growth is refused in turn;
 //! - `names`: the numbers, the names and the sentences of the refusals;
+//! - YUV4MPEG2: `reading` and `writing` have the worked rows of the format, with inputs and outputs that are cut,
+//!   interrupted or fail (`fakes`); `exporting`: what is exported of a store, read back; `real`: streams that ffmpeg and
+//!   mjpegtools wrote;
 //! - `told`: assertions that are cheap to prove.
 #![tactic(auto)]
 
 #[cfg(test)]
 mod common;
+#[cfg(test)]
+mod exporting;
+#[cfg(test)]
+mod fakes;
 #[cfg(test)]
 mod layout;
 #[cfg(test)]
@@ -24,6 +31,10 @@ mod memory;
 #[cfg(test)]
 mod names;
 #[cfg(test)]
+mod reading;
+#[cfg(test)]
+mod real;
+#[cfg(test)]
 mod ring;
 #[cfg(test)]
 mod tables;
@@ -31,3 +42,5 @@ mod tables;
 mod told;
 #[cfg(test)]
 mod upgrade;
+#[cfg(test)]
+mod writing;
