@@ -1,5 +1,5 @@
 #!/usr/bin/env python3
-"""The rules of a buffer queue and its ioctls a second time, in plain Python, and a comparison with the program queue_script.
+"""The rules of a buffer queue and its ioctls a second time, in plain Python, and a comparison with the program lane_cases.
 
     queue_model.py PROGRAM short [KINDS]         every list of at most five events of SHORT, of the kinds of memory KINDS (m, u, d)
     queue_model.py PROGRAM all [KINDS]           every list of at most three events of ALL
@@ -301,7 +301,7 @@ def compare(program, lists, batch=20000):
     count = events = 0
     while told := list(itertools.islice(lists, batch)):
         text = "".join(line + "\n" for line, _ in told)
-        answers = subprocess.run([program], input=text, capture_output=True, text=True, check=True).stdout.splitlines()
+        answers = subprocess.run([program, "lists"], input=text, capture_output=True, text=True, check=True).stdout.splitlines()
         for (line, rules), answer in itertools.zip_longest(told, answers, fillvalue=("", "")):
             if answer != rules:
                 print(f"list    {line}\nprogram {answer}\nrules   {rules}")

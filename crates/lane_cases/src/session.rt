@@ -4,6 +4,7 @@ use crate::failing::failing;
 use crate::line::{Call, Verb, call_of};
 use crate::lists::{List, again, runs};
 use crate::queue::{self, QueueCase, QueueList};
+use crate::script;
 use crate::shown::{self, Step};
 use crate::stops::stops;
 use anyhow::{Result, anyhow};
@@ -259,6 +260,10 @@ fn before<'a>(line: &'a str, sign: &str) -> (&'a str, &'a str) {
 fn tells(alloc: Global, session: &mut Session, text: &str) -> Result<Vec<u8>> {
     let (asked, shown) = before(text, "shows");
     let mut told = Vec::new(alloc);
+    if let Some(list) = asked.strip_prefix("list ") {
+        script::run(alloc, list.trim().as_bytes(), &mut told)?;
+        return Ok(told);
+    }
     match call_of(alloc, asked)? {
         Some(call) => does(alloc, session, call, shown.trim(), &mut told)?,
         None => told.write_all(b"bad line")?,

@@ -1,5 +1,5 @@
 // The language of the lists: two characters an event, a letter and a digit.
-use crate::cell::Cell;
+use super::cell::Cell;
 use loop_ioctl::{BufferMemory, BufferType, Ioctl, PlaneFds, QueueEvent};
 use loop_plane::Memory;
 use loop_vb2::{PlaneSet, Planes, Stamp};

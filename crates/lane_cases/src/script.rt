@@ -1,15 +1,21 @@
-// One list of events.
+//! Lists of events over a queue of two buffers: what `tools/queue_model.py` makes and judges.
+//!
+//! `cell` is the memory of a frame of one byte; `letters` has the language; `told` prints replies and states.
+
+mod cell;
+mod letters;
+mod told;
+
 ghost use Rattle.std.specs.Prelude.{◌≡◌, ◌∷◌, [], IfOk};
 
-use crate::cell::Cell;
-use crate::{script, told};
+use self::cell::Cell;
 use anyhow::{Result, anyhow};
 use loop_ioctl::{QueueEvent, QueueReply, are_whole, run_events};
 use loop_plane::{FdTable, Memory};
 use loop_record::PixelFormat;
 use loop_vb2::{Queue, Shape};
 use std::alloc::{AllocError, Global};
-use std::io::Write;
+use std::io::{BufRead, Write};
 
 // The kind of memory that a list begins with.
 fn kind_of(letter: u8) -> Memory {
@@ -25,7 +31,7 @@ fn queue(alloc: Global, kind: Memory) -> Result<Queue<Cell>>
     ensures { IfOk result (λ q. q.body.shape ≡ record { count = 1; sizes = 1 ∷ 0 ∷ 0 ∷ [] }) }
 {
     let sets = if kind == Memory::Mmap { 2 } else { 0 };
-    let supply = script::supply(alloc, sets)?;
+    let supply = letters::supply(alloc, sets)?;
     let mut queue = Queue::new(alloc, PixelFormat::Grey, 1, 1, 1);
     match queue.request(2, kind, supply) {
         Ok(_) => Ok(queue),
@@ -55,7 +61,7 @@ fn events(alloc: Global, kind: Memory, text: &[u8]) -> Result<Vec<QueueEvent<Cel
     for (number, pair) in (0..u32::MAX).zip(text.chunks_exact(2)) {
         if let [letter, digit] = pair {
             let index = u32::from(digit.wrapping_sub(b'0'));
-            events.push(script::event(alloc, kind, *letter, index, number)?)?;
+            events.push(letters::event(alloc, kind, *letter, index, number)?)?;
         }
     }
     Ok(events)
@@ -82,7 +88,21 @@ fn replies(
     }
 }
 
-/// Runs a list, and prints its replies and the state after it as one line.
+/// Runs each list of an input, and prints a line for each.
+pub(crate) fn run_all<R: BufRead + Drop, W: Write>(
+    alloc: Global,
+    input: R,
+    out: &mut W,
+) -> Result<()> {
+    for line in input.lines(alloc) {
+        let line = line?;
+        run(alloc, line.as_bytes(), out)?;
+        out.write_all(b"\n")?;
+    }
+    Ok(())
+}
+
+/// Runs a list, and prints its replies and the state after it.
 pub(crate) fn run<W: Write>(alloc: Global, text: &[u8], out: &mut W) -> Result<()> {
     let Some((first, rest)) = text.split_first() else {
         return Ok(());

@@ -1,5 +1,5 @@
 // What is printed of replies and states.
-use crate::cell::Cell;
+use super::cell::Cell;
 use bitflags::Flags;
 use loop_ioctl::{IoctlReply, QueueReply};
 use loop_plane::FdTable;
@@ -85,7 +85,7 @@ pub(crate) fn state<W: Write>(
     }
     let started = u8::from(queue.started());
     match queue.next_active() {
-        Some(index) => writeln!(out, " {started} {index}"),
-        None => writeln!(out, " {started} none"),
+        Some(index) => write!(out, " {started} {index}"),
+        None => write!(out, " {started} none"),
     }
 }
