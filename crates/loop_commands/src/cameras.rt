@@ -2,23 +2,20 @@
 ghost use Rattle.std.specs.Prelude.{◌≡◌, ◌<◌, ◌≤◌, ◌^◌, ◌+◌, All, IfOk, IfSome, length, vec_len};
 ghost use Rattle.loop_recorder.specs.Opened.{IsReady};
 
-use crate::buffers::{Start, mapped_start, start_queue};
 use loop_capture::Device;
-use loop_desk::Desk;
 use loop_disk::Disk;
-use loop_ioctl::laws::new_queues_stand;
-use loop_plane::{FdTable, MmapPlane, PlaneMemory};
-use loop_recorder::{Camera, EndRefused, Ended, Pace, Recorder, Step, record};
+use loop_pages::PageFault;
+use loop_plane::{MmapPlane, PlaneMemory};
+use loop_recorder::{
+    Camera, EndRefused, Ended, Pace, Recorder, Start, Step, camera_before, mapped_start, record,
+    start_queue,
+};
 use loop_script::LIMITS;
 use loop_store::{Store, StoreFault};
-use loop_vb2::Queue;
 use std::alloc::{AllocError, Global};
 use std::sync::Wait;
 use std::thread::Threads;
 use std::time::Clock;
-
-/// How many buffers of a queue have to be queued before its device starts.
-const MIN_QUEUED: u32 = 1;
 
 /// The most cameras that are recorded at once: a number for each of their passes, and for two more.
 const MOST_CAMERAS: usize = 1 << 30;
@@ -37,11 +34,17 @@ pub enum Unrecorded {
 }
 
 /// Want of memory, or of threads.
-pub(crate) const NO_MEMORY: Unrecorded = Unrecorded::Refused(StoreFault::NoMemory);
+const NO_MEMORY: Unrecorded = Unrecorded::Refused(StoreFault::NoMemory);
 
 impl From<AllocError> for Unrecorded {
     fn from(_: AllocError) -> Self {
         NO_MEMORY
+    }
+}
+
+impl From<StoreFault> for Unrecorded {
+    fn from(fault: StoreFault) -> Self {
+        Unrecorded::Refused(fault)
     }
 }
 
@@ -62,30 +65,17 @@ impl Pace for Unwatched {
     fn reached(&self, _camera: u32, _step: Step) {}
 }
 
-/// A camera before a store: a desk at which nothing waits, with the script's limits, and a queue without buffers.
-/// `MustReopen` where the store must be reopened; `NoMemory`.
-pub fn camera_before<D: Disk + Drop, P: PlaneMemory>(
+// What the queue of the camera of this number is started with.
+fn start_for<D: Disk + Drop>(
     alloc: Global,
-    store: Store<D>,
-) -> Result<Camera<D, P>, Unrecorded>
-    ensures { IfOk result (IsReady P.plane) }
-{
-    if store.must_reopen() {
-        return Err(Unrecorded::Refused(StoreFault::MustReopen));
+    camera: &Camera<D, MmapPlane>,
+    number: u32,
+) -> Result<Start<MmapPlane>, Unrecorded> {
+    match mapped_start(alloc, camera) {
+        Ok(start) => Ok(start),
+        Err(PageFault::BadCount | PageFault::NoPages) => Err(Unrecorded::TooLarge(number)),
+        Err(PageFault::NoMemory) => Err(NO_MEMORY),
     }
-    let geometry = store.geometry();
-    let Ok(desk) = Desk::new(alloc, store, LIMITS) else {
-        return Err(NO_MEMORY);
-    };
-    let queue = Queue::new(
-        alloc,
-        geometry.format,
-        geometry.width,
-        geometry.height,
-        MIN_QUEUED,
-    );
-    new_queues_stand::<P>();
-    Ok((desk, queue, FdTable::new(alloc)))
 }
 
 // A camera before each store, and what its queue is started with.
@@ -102,8 +92,8 @@ fn cameras_before<D: Disk + Drop>(
     let mut cameras = Vec::with_capacity(alloc, count)?;
     let mut starts = Vec::with_capacity(alloc, count)?;
     for store in stores {
-        let camera = camera_before(alloc, store)?;
-        starts.push_reserved(mapped_start(alloc, &camera, starts.len() as u32)?);
+        let camera = camera_before(alloc, store, LIMITS)?;
+        starts.push_reserved(start_for(alloc, &camera, starts.len() as u32)?);
         cameras.push_reserved(camera);
     }
     Ok((cameras, starts))

@@ -3,14 +3,12 @@
 //! `program` reads the program's words and chooses what to do, and ends with a status. `simulation` runs a script
 //! line by line on a recorder whose disk lies in memory. `files` does commands on stores in files: it opens them, and
 //! `on_store` does the rest, over any disk and any writer; `even` makes the writes of an export even. `record`
-//! records from a source into stores in files; `cameras` sets up a camera before each; `buffers` has the memory of a
-//! queue's buffers, and starts a queue with it.
+//! records from a source into stores in files; `cameras` sets up a camera before each.
 //!
 //! What a line and the words mean is loop_script's, and proved there. What becomes of an open store and of the text of
 //! an export, and when that is told, is proved of `on_store`; all other lines that are printed are tested.
 #![tactic(auto)]
 
-mod buffers;
 mod cameras;
 mod even;
 mod files;
@@ -19,8 +17,6 @@ mod program;
 mod record;
 mod simulation;
 
-pub use buffers::{Start, heap_start, start_queue};
-pub use cameras::{Unrecorded, camera_before};
 pub use even::EvenWriter;
 pub use files::run_on_file;
 pub use on_store::{

@@ -10,14 +10,15 @@ use crate::places::Places;
 use crate::size::size_of;
 use crate::state::CameraState;
 use loop_capture::Device;
-use loop_commands::{Start, Unrecorded, camera_before, heap_start, start_queue};
 use loop_disk::Disk;
 use loop_file::{FileDisk, FileFault};
 use loop_plane::{HeapPlane, PlaneMemory};
 use loop_record::Geometry;
 use loop_recorder::{
-    Camera, EndRefused, Ended, NewRefused, Pass, Pool, Recorder, Unended, camera_again, start_pool,
+    Camera, EndRefused, Ended, NewRefused, Pass, Pool, Recorder, Start, Unended, camera_again,
+    camera_before, heap_start, start_pool, start_queue,
 };
+use loop_script::LIMITS;
 use loop_store::{OpenRefused, Store, StoreFault};
 use station_words::{
     RingSize, Room, frames_in, print_broken_tie, print_not_a_store, ring_for, ring_within,
@@ -230,10 +231,10 @@ fn camera_for(
     alloc: Global,
     store: Store<FileDisk>,
     buffers: u32,
-) -> Result<(FileCamera, FileStart), Unrecorded>
+) -> Result<(FileCamera, FileStart), StoreFault>
     ensures { IfOk result (λ made. IsReady ⟦<HeapPlane as PlaneMemory>⟧.plane made.0) }
 {
-    let camera = camera_before(alloc, store)?;
+    let camera = camera_before(alloc, store, LIMITS)?;
     let start = heap_start(alloc, &camera, buffers)?;
     Ok((camera, start))
 }

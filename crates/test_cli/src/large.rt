@@ -5,12 +5,14 @@ ghost use Rattle.loop_recorder.specs.Opened.{IsReady};
 
 use crate::told::{holds, same};
 use loop_capture::{Device, FrameSource, Pattern};
-use loop_commands::{camera_before, heap_start, start_queue};
 use loop_desk::Desk;
 use loop_disk::MemDisk;
 use loop_plane::{HeapPlane, PlaneMemory};
 use loop_record::{Geometry, PixelFormat};
-use loop_recorder::{Camera, Ended, Pace, Pass, Recorder, Step, record};
+use loop_recorder::{
+    Camera, Ended, Pace, Pass, Recorder, Step, camera_before, heap_start, record, start_queue,
+};
+use loop_script::LIMITS;
 use loop_store::format;
 use std::alloc::Global;
 use std::process::Abort;
@@ -53,7 +55,7 @@ fn camera_of(rt: &impl Abort, alloc: Global, row: &(PixelFormat, u32, u32, u32, 
     let Ok(store) = format(alloc, disk, geometry) else {
         panic!(rt; "no store of {width}x{height}")
     };
-    match camera_before(alloc, store) {
+    match camera_before(alloc, store, LIMITS) {
         Ok(camera) => camera,
         Err(_) => panic!(rt; "no camera of {width}x{height}"),
     }

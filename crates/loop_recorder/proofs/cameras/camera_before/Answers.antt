@@ -1,6 +1,6 @@
 use Rattle.std.proofs.Common.{ap, refl, sym, ◌∙◌}
 use Rattle.loop_desk.specs.Seen.{SeenDesk}
-use Rattle.loop_commands.proofs.cameras.camera_before.Goals as goal
+use Rattle.loop_recorder.proofs.cameras.camera_before.Goals as goal
 
 -- nothing has failed of the desk, and a queue without buffers stands with any table
 pub returns : goal.returns

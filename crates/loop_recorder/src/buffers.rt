@@ -1,14 +1,14 @@
-// The memory of a queue's buffers, and how a queue is started with it.
+//! The memory of a queue's buffers, and how a queue is started with it.
+
 ghost use Rattle.std.specs.Prelude.{◌≡◌, ◌<◌, IfOk, length};
 ghost use Rattle.std.specs.Arc.{arc_value};
 ghost use Rattle.loop_pages.specs.Place.{IsIdle};
 
-use crate::cameras::{NO_MEMORY, Unrecorded};
+use crate::{Camera, Recorder};
 use loop_disk::Disk;
 use loop_ioctl::{BufferMemory, BufferType, Ioctl};
 use loop_pages::{MOST_PAGES, PageFault, PageLedger, PageSeat};
 use loop_plane::{HeapPlane, Memory, MmapPlane, PAGE_BYTES, PlaneMemory};
-use loop_recorder::{Camera, Recorder};
 use loop_vb2::{PlaneSet, Planes, Shape};
 use std::alloc::{AllocError, Global};
 use std::sync::{Arc, Wait};
@@ -125,34 +125,29 @@ pub struct Start<P> {
     brought: Supply<P>,
 }
 
-/// Four buffers of mapped memory, from a ledger of their own, for the queue of the camera of this number. `TooLarge`
-/// where they need more than 1,024 pages; `NoMemory`.
-pub(crate) fn mapped_start<D: Disk + Drop>(
+/// Four buffers of mapped memory, from a ledger of their own, for the queue of a camera. `BadCount` or `NoPages` where
+/// they need more than 1,024 pages; `NoMemory`.
+pub fn mapped_start<D: Disk + Drop>(
     alloc: Global,
     camera: &Camera<D, MmapPlane>,
-    number: u32,
-) -> Result<Start<MmapPlane>, Unrecorded> {
+) -> Result<Start<MmapPlane>, PageFault> {
     let (_, queue, _) = camera;
-    match supply_for(alloc, &queue.shape()) {
-        Ok(supply) => Ok(Start {
-            buf_type: BufferType::of(queue.format()),
-            count: MAPPED_BUFFERS,
-            memory: Memory::Mmap,
-            supply,
-            brought: Vec::new(alloc),
-        }),
-        Err(PageFault::BadCount | PageFault::NoPages) => Err(Unrecorded::TooLarge(number)),
-        Err(PageFault::NoMemory) => Err(NO_MEMORY),
-    }
+    Ok(Start {
+        buf_type: BufferType::of(queue.format()),
+        count: MAPPED_BUFFERS,
+        memory: Memory::Mmap,
+        supply: supply_for(alloc, &queue.shape())?,
+        brought: Vec::new(alloc),
+    })
 }
 
 /// So many buffers of the application's memory (USERPTR), each plane in a row of its own, for the queue of a camera
-/// with frames of any size. A queue has 32 at most. `NoMemory`.
+/// with frames of any size. A queue has 32 at most.
 pub fn heap_start<D: Disk + Drop>(
     alloc: Global,
     camera: &Camera<D, HeapPlane>,
     count: u32,
-) -> Result<Start<HeapPlane>, Unrecorded> {
+) -> Result<Start<HeapPlane>, AllocError> {
     let (_, queue, _) = camera;
     Ok(Start {
         buf_type: BufferType::of(queue.format()),
@@ -169,22 +164,23 @@ fn ask<R: Wait, D: Disk + Drop, P: PlaneMemory>(
     recorder: &Recorder<D, P>,
     camera: u32,
     call: Ioctl<P>,
-) -> Result<(), Unrecorded>
+) -> Result<(), AllocError>
     requires { camera < length recorder.now.outlines }
 {
     match recorder.ioctl(rt, camera, call) {
         Ok(_) => Ok(()),
-        Err(_) => Err(NO_MEMORY),
+        Err(_) => Err(AllocError),
     }
 }
 
-/// Gives a camera's queue, which has just been made, its buffers, queues them and turns streaming on. `NoMemory`.
+/// Gives a camera's queue, which has just been made, its buffers, queues them and turns streaming on. It is refused for
+/// want of memory alone.
 pub fn start_queue<R: Wait, D: Disk + Drop, P: PlaneMemory>(
     rt: &R,
     recorder: &Recorder<D, P>,
     camera: u32,
     start: Start<P>,
-) -> Result<(), Unrecorded>
+) -> Result<(), AllocError>
     requires { camera < length recorder.now.outlines }
 {
     let Start {
