@@ -12,6 +12,7 @@ pub mod Ran
 pub mod Told
 pub mod Completed
 pub mod Completing
+pub mod Moving
 pub mod Taking
 pub mod Order
 pub mod Blind
