@@ -15,6 +15,7 @@ pub mod Completing
 pub mod Moving
 pub mod Taking
 pub mod Order
+pub mod FrontMoves
 pub mod Blind
 pub mod Failing
 pub mod Crossing
