@@ -104,20 +104,28 @@ KeepsFrames waited s events wait =
 
 -- So it is from any state of a queue whose frames are those of a format,
 pub record FramesAreKept {P : Type 0} (meaning : P → Plane) : Type 0 where
-  -- if it is sound, for moves that stop the stream nowhere,
-  pub from_start : (old new : Lined P) (s : QueueState) (moves : List Move) (format : PixelFormat) (width height : ℕ)
+  -- if it is sound, for events of which none stops the stream,
+  pub from_start : (old new : Lined P) (s : QueueState) (events : List Event) (format : PixelFormat) (width height : ℕ)
       → StandsQueue meaning old s → IsSound old s → s.body.shape ≡ shape_of format width height
-      → EachIn after_move move_machine.May s moves → StandsQueue meaning new (after_all after_move s moves)
-      → list_any stops (events_in moves) ≡ false
-      → KeepsFrames (frames_waiting old s) s (events_in moves) (frames_waiting new (after_all after_move s moves))
+      → EachIn after_event IsCounted s events → StandsQueue meaning new (after_all after_event s events)
+      → list_any stops events ≡ false
+      → KeepsFrames (frames_waiting old s) s events (frames_waiting new (after_all after_event s events))
   -- and from each stop of the stream on, sound or not: then nothing waited.
-  pub from_stop : (old new : Lined P) (s : QueueState) (before part : List Move) (stop : Move) (e : Event)
-      (format : PixelFormat) (width height : ℕ) → StandsQueue meaning old s
-      → s.body.shape ≡ shape_of format width height → EachIn after_move move_machine.May s (before ++ stop ∷ part)
-      → StandsQueue meaning new (after_all after_move s (before ++ stop ∷ part))
-      → stop.events ≡ e ∷ [] → stops e ≡ true → list_any stops (events_in part) ≡ false
-      → KeepsFrames [] (after_move (after_all after_move s before) stop) (events_in part)
-      (frames_waiting new (after_all after_move s (before ++ stop ∷ part)))
+  pub from_stop : (old new : Lined P) (s : QueueState) (before part : List Event) (stop : Event) (format : PixelFormat)
+      (width height : ℕ) → StandsQueue meaning old s → s.body.shape ≡ shape_of format width height
+      → EachIn after_event IsCounted s (before ++ stop ∷ part)
+      → StandsQueue meaning new (after_all after_event s (before ++ stop ∷ part))
+      → stops stop ≡ true → list_any stops part ≡ false
+      → KeepsFrames [] (after_event (after_all after_event s before) stop) part
+      (frames_waiting new (after_all after_event s (before ++ stop ∷ part)))
+
+-- What is said of events is said of moves: each event of theirs may happen at its point and is whole, and the state
+-- after the events is that after the moves.
+abbrev pub MovesAreEvents : Type 0
+MovesAreEvents =
+    (s : QueueState) (moves : List Move) → EachIn after_move move_machine.May s moves
+    → EachIn after_event IsCounted s (events_in moves)
+    × (after_all after_move s moves ≡ after_all after_event s (events_in moves))
 
 -- A queue without buffers is sound, and a sound one stays so, whatever happens.
 pub record QueuesStaySound {P : Type 0} (meaning : P → Plane) : Type 0 where
