@@ -1,14 +1,14 @@
 -- The frames of a queue's buffers through the events of its model: what is taken of a buffer is what it was completed with.
-use Rattle.std.proofs.Common.{◌≡◌, ℕ, zero, suc, true, false, ◌||◌, ◌==◌, cond, List, [], ◌∷◌, ◌++◌, length, map, Option, Some, None, Ok, Err, refl, sym, ◌∙◌, ap, subst, append_assoc}
+use Rattle.std.proofs.Common.{◌≡◌, ℕ, zero, suc, Bool, true, false, ◌||◌, ◌==◌, cond, List, [], ◌∷◌, ◌++◌, length, map, Option, Some, None, Ok, Err, refl, sym, ◌∙◌, ap, subst, append_assoc}
 use Rattle.std.specs.Prelude.{is_some, slice_get}
 use Rattle.std.specs.List.{flat_map, list_any}
 use Rattle.std.proofs.lemmas.Grind.{flat_map-append}
-use Rattle.std.proofs.lemmas.List.{append-nil}
+use Rattle.std.proofs.lemmas.List.{append-nil, map-append}
 use Rattle.loop_plane.specs.Plane.{Plane}
 use Rattle.loop_plane.specs.declared.memory.Memory.{Memory}
 use Rattle.loop_record.specs.declared.geometry.PixelFormat.{PixelFormat}
 use Rattle.loop_record.specs.Recording.{Picture}
-use Rattle.loop_record.specs.Turns.{EachIn, after_all, told_in}
+use Rattle.loop_record.specs.Turns.{EachIn, after_all}
 use Rattle.loop_vb2.specs.declared.buffer.Buffer.{Buffer}
 use Rattle.loop_vb2.specs.declared.buffer.Stamp.{Stamp}
 use Rattle.loop_vb2.specs.declared.planes.PlaneSet.{PlaneSet}
@@ -19,7 +19,7 @@ use Rattle.loop_vb2.specs.Buffers.{change_at, state_at, holds_at, wake_buffer, s
 use Rattle.loop_vb2.specs.Checks.{queue_checks, queue_refusal, prepare_refusal, take_checks, end_refusal}
 use Rattle.loop_vb2.specs.Effects.{awake, device_runs, settle_device, with_buffer, body_streaming, body_stopped}
 use Rattle.loop_vb2.specs.Events as model
-use Rattle.loop_vb2.specs.Events.{Event, stops}
+use Rattle.loop_vb2.specs.Events.{Event, dequeued_by, ended_by, stops}
 use Rattle.loop_vb2.specs.First.{shape_of}
 use Rattle.loop_vb2.specs.Lines.{lists, Once}
 use Rattle.loop_vb2.specs.Owner.{waits, is_ended, is_dequeued, activate}
@@ -36,31 +36,24 @@ use Rattle.loop_vb2.proofs.States.{state_at-map}
 use Rattle.loop_vb2.proofs.Steps.{queue_idle, prepare_dequeued, end_within, end_active, held_there}
 use Rattle.loop_desk.specs.Front.{taken_bytes, taken_frame, was_given_up}
 use Rattle.loop_desk.specs.Lane.{completed_frame, without_flags}
+use Rattle.loop_desk.specs.Moves.{AreHeld, IsCounted, IsHeld, IsWhole, dequeued_frame, frames_of, shot}
 use Rattle.loop_desk.proofs.Completed.{whole_taken}
 use Rattle.loop_desk.proofs.Queued.{get-within}
 
 -- ---- the frames of buffers
 
--- that of a buffer, unless the device gave it up
-abbrev pub shot : Shape → Option (Buffer Plane) → List Picture
-shot shape None = []
-shot shape (Some b) = cond (was_given_up b.state) [] (without_flags (taken_frame shape b) ∷ [])
+-- that of a buffer but for its flags
+abbrev pub bare : Shape → Option (Buffer Plane) → List Picture
+bare shape o = map without_flags (shot shape o)
 
 abbrev pub shots : Shape → List (Buffer Plane) → List ℕ → List Picture
-shots shape bs line = flat_map (λ i. shot shape (slice_get bs i)) line
+shots shape bs line = flat_map (λ i. bare shape (slice_get bs i)) line
 
--- that of the buffer that an event takes
-abbrev pub taken_by : QueueState → Event → List Picture
-taken_by s (model.dqbuf (Ok d)) = shot s.body.shape (slice_get s.body.buffers d.index)
-taken_by s e = []
-
--- a completion brings one whole frame
-abbrev pub IsWhole : QueueState → Event → Type 0
-IsWhole s (model.complete index stamp bytes None) = length bytes ≡ frame_size s.body.shape
-IsWhole s e = Unit {0}
-
-abbrev pub IsCounted : QueueState → Event → Type 0
-IsCounted s e = model.MayHappen s e × IsWhole s e
+-- frames that differ in their flags alone, unless they were given up
+bare_same : (given_up : Bool) (p q : Picture) → without_flags p ≡ without_flags q
+    → map without_flags (cond given_up [] (p ∷ [])) ≡ map without_flags (cond given_up [] (q ∷ []))
+bare_same true p q e = refl
+bare_same false p q e = ap (λ x. x ∷ []) e
 
 got_other : {X : Type 0} (f : X → X) (xs : List X) (x i : ℕ) → (i ≡ x → ⊥)
     → slice_get (change_at f x xs) i ≡ slice_get xs i
@@ -83,8 +76,8 @@ state_got (x ∷ bs) zero b e = let g : x ≡ b = cc in ap (λ y. y.state) g
 state_got (x ∷ bs) (suc index) b e = state_got bs index b e
 
 shot_kept : (sh : Shape) (f : Buffer Plane → Buffer Plane)
-    → ((b : Buffer Plane) → shot sh (Some (f b)) ≡ shot sh (Some b)) → (bs : List (Buffer Plane)) (x i : ℕ)
-    → shot sh (slice_get (change_at f x bs) i) ≡ shot sh (slice_get bs i)
+    → ((b : Buffer Plane) → bare sh (Some (f b)) ≡ bare sh (Some b)) → (bs : List (Buffer Plane)) (x i : ℕ)
+    → bare sh (slice_get (change_at f x bs) i) ≡ bare sh (slice_get bs i)
 shot_kept sh f h [] x i = refl
 shot_kept sh f h (b ∷ bs) zero zero = h b
 shot_kept sh f h (b ∷ bs) zero (suc i) = refl
@@ -92,8 +85,8 @@ shot_kept sh f h (b ∷ bs) (suc x) zero = refl
 shot_kept sh f h (b ∷ bs) (suc x) (suc i) = shot_kept sh f h bs x i
 
 shot_map : (sh : Shape) (f : Buffer Plane → Buffer Plane)
-    → ((b : Buffer Plane) → shot sh (Some (f b)) ≡ shot sh (Some b)) → (bs : List (Buffer Plane)) (i : ℕ)
-    → shot sh (slice_get (map f bs) i) ≡ shot sh (slice_get bs i)
+    → ((b : Buffer Plane) → bare sh (Some (f b)) ≡ bare sh (Some b)) → (bs : List (Buffer Plane)) (i : ℕ)
+    → bare sh (slice_get (map f bs) i) ≡ bare sh (slice_get bs i)
 shot_map sh f h [] i = refl
 shot_map sh f h (b ∷ bs) zero = h b
 shot_map sh f h (b ∷ bs) (suc i) = shot_map sh f h bs i
@@ -106,22 +99,26 @@ given_up_woken Active = refl
 given_up_woken Done = refl
 given_up_woken Error = refl
 
-shot_woken : (sh : Shape) (b : Buffer Plane) → shot sh (Some (wake_buffer b)) ≡ shot sh (Some b)
-shot_woken sh b = ap (λ t. cond t [] (without_flags (taken_frame sh b) ∷ [])) (given_up_woken b.state)
+shot_woken : (sh : Shape) (b : Buffer Plane) → bare sh (Some (wake_buffer b)) ≡ bare sh (Some b)
+shot_woken sh b = ap (λ t. map without_flags (cond t [] (taken_frame sh (wake_buffer b) ∷ []))) (given_up_woken b.state)
+    ∙ bare_same (was_given_up b.state) (taken_frame sh (wake_buffer b)) (taken_frame sh b) refl
 
-shot_settled : (sh : Shape) (b : Body Plane) (i : ℕ) → shot sh (slice_get (settle_device b).buffers i) ≡ shot sh
+shot_mapped : (sh : Shape) (mapped : Bool) (b : Buffer Plane) → bare sh (Some (mapped_as mapped b)) ≡ bare sh (Some b)
+shot_mapped sh mapped b = bare_same (was_given_up b.state) (taken_frame sh (mapped_as mapped b)) (taken_frame sh b) refl
+
+shot_settled : (sh : Shape) (b : Body Plane) (i : ℕ) → bare sh (slice_get (settle_device b).buffers i) ≡ bare sh
     (slice_get b.buffers i)
-shot_settled sh b i = elim (device_runs b) as (λ t. shot sh (slice_get (cond t (awake b) b).buffers i) ≡ shot sh
+shot_settled sh b i = elim (device_runs b) as (λ t. bare sh (slice_get (cond t (awake b) b).buffers i) ≡ bare sh
     (slice_get b.buffers i)) [ true ↦ shot_map sh wake_buffer (shot_woken sh) b.buffers i | false ↦ refl ]
 
-shot_streaming : (sh : Shape) (b : Body Plane) (i : ℕ) → shot sh (slice_get (body_streaming b).buffers i) ≡ shot sh
+shot_streaming : (sh : Shape) (b : Body Plane) (i : ℕ) → bare sh (slice_get (body_streaming b).buffers i) ≡ bare sh
     (slice_get b.buffers i)
 shot_streaming sh b i = elim b.streaming as
-    (λ t. shot sh (slice_get (cond t b (settle_device (record b { streaming = true }))).buffers i) ≡ shot sh
+    (λ t. bare sh (slice_get (cond t b (settle_device (record b { streaming = true }))).buffers i) ≡ bare sh
     (slice_get b.buffers i)) [ true ↦ refl | false ↦ shot_settled sh (record b { streaming = true }) i ]
 
 shots_same : (sh : Shape) (bs cs : List (Buffer Plane)) (line : List ℕ)
-    → ((i : ℕ) → lists line i ≡ true → shot sh (slice_get cs i) ≡ shot sh (slice_get bs i))
+    → ((i : ℕ) → lists line i ≡ true → bare sh (slice_get cs i) ≡ bare sh (slice_get bs i))
     → shots sh cs line ≡ shots sh bs line
 shots_same sh bs cs [] h = refl
 shots_same sh bs cs (k ∷ ks) h =
@@ -138,16 +135,9 @@ shots_beside : (s : QueueState) (line : List ℕ) → Runs s line → (f : Buffe
     → is_ended (state_at s.body.buffers x) ≡ false → shots s.body.shape (change_at f x s.body.buffers) line ≡ shots
     s.body.shape s.body.buffers line
 shots_beside s line r f x off = shots_same s.body.shape s.body.buffers (change_at f x s.body.buffers) line
-    (λ i there. ap (shot s.body.shape) (got_other f s.body.buffers x i (apart_of s line r x off i there)))
+    (λ i there. ap (bare s.body.shape) (got_other f s.body.buffers x i (apart_of s line r x off i there)))
 
 -- ---- who waits for a frame holds planes
-
-abbrev IsHeld : Buffer Plane → Type 0
-IsHeld b = waits b.state ≡ true → is_some b.planes ≡ true
-
-abbrev pub AreHeld : List (Buffer Plane) → Type 0
-AreHeld [] = Unit {0}
-AreHeld (b ∷ bs) = IsHeld b × AreHeld bs
 
 held_changed : (f : Buffer Plane → Buffer Plane) (bs : List (Buffer Plane)) (x : ℕ)
     → ((b : Buffer Plane) → slice_get bs x ≡ Some b → IsHeld b → IsHeld (f b)) → AreHeld bs → AreHeld (change_at f x bs)
@@ -333,17 +323,17 @@ idle_frames sh bs cs line rest joined same = append-nil (shots sh bs line) ∙ (
 
 -- a frame that ends joins the others
 ended_frames : (sh : Shape) (bs cs : List (Buffer Plane)) (line rest : List ℕ) (index : ℕ) (new : List Picture) → line
-    ++ index ∷ [] ≡ rest → shots sh cs line ≡ shots sh bs line → shot sh (slice_get cs index) ++ [] ≡ new
+    ++ index ∷ [] ≡ rest → shots sh cs line ≡ shots sh bs line → bare sh (slice_get cs index) ++ [] ≡ new
     → shots sh bs line ++ new ≡ shots sh cs rest
 ended_frames sh bs cs line rest index new joined same is =
     ap (λ l. l ++ new) (sym same) ∙ (ap (λ l. shots sh cs line ++ l) (sym is)
-    ∙ (sym (flat_map-append (λ i. shot sh (slice_get cs i)) line (index ∷ [])) ∙ ap (shots sh cs) joined))
+    ∙ (sym (flat_map-append (λ i. bare sh (slice_get cs i)) line (index ∷ [])) ∙ ap (shots sh cs) joined))
 
 -- the first is taken
 taken_frames : (sh : Shape) (bs cs : List (Buffer Plane)) (line rest : List ℕ) (index : ℕ) → line ++ [] ≡ index ∷ rest
-    → shots sh cs rest ≡ shots sh bs rest → shots sh bs line ++ [] ≡ shot sh (slice_get bs index) ++ shots sh cs rest
+    → shots sh cs rest ≡ shots sh bs rest → shots sh bs line ++ [] ≡ bare sh (slice_get bs index) ++ shots sh cs rest
 taken_frames sh bs cs line rest index joined same = append-nil (shots sh bs line)
-    ∙ (ap (shots sh bs) (sym (append-nil line) ∙ joined) ∙ ap (λ l. shot sh (slice_get bs index) ++ l) (sym same))
+    ∙ (ap (shots sh bs) (sym (append-nil line) ∙ joined) ∙ ap (λ l. bare sh (slice_get bs index) ++ l) (sym same))
 
 module _ (format : PixelFormat) (width height : ℕ) where
   -- what was completed with a whole frame has its bytes
@@ -363,7 +353,7 @@ module _ (format : PixelFormat) (width height : ℕ) where
 
   frames_next : (s : QueueState) (e : Event) (line : List ℕ) → Runs s line → (n : Next s e line)
       → IsHolding (shape_of format width height) s → stops e ≡ false → model.MayHappen s e → IsWhole s e
-      → shots s.body.shape s.body.buffers line ++ completed_frame e ≡ taken_by s e ++ shots s.body.shape (model.after_event s e).body.buffers n.rest
+      → shots s.body.shape s.body.buffers line ++ completed_frame e ≡ map without_flags (dequeued_frame s e) ++ shots s.body.shape (model.after_event s e).body.buffers n.rest
   frames_next s (model.reqbufs count kind sets (Ok g)) line r n c on a w =
       let new = new_buffers (grants_or_none s.body.min_queued count) sets in
       let none : n.rest ≡ [] = none_listed n.rest (λ i. n.runs.shows.done.listed i ∙ ap is_ended (new_state (grants_or_none s.body.min_queued count) sets i)) in
@@ -384,7 +374,7 @@ module _ (format : PixelFormat) (width height : ℕ) where
       let off = idle_ended_not (state_at bs index) (queue_idle index kind given s.body (not_refused (queue_refusal index kind given s.body) a)) in
       idle_frames sh bs (settle_device mid).buffers line n.rest n.joined
       (shots_same sh bs (settle_device mid).buffers line (λ i there. shot_settled sh mid i
-      ∙ ap (shot sh) (got_other (queued_with given) bs index i (apart_of s line r index off i there))))
+      ∙ ap (bare sh) (got_other (queued_with given) bs index i (apart_of s line r index off i there))))
   frames_next s (model.qbuf index kind given (Some x)) line r n c on a w = idle_frames s.body.shape s.body.buffers s.body.buffers line n.rest n.joined refl
   frames_next s (model.dqbuf (Ok d)) line r n c on a w =
       let bs = s.body.buffers in
@@ -393,7 +383,7 @@ module _ (format : PixelFormat) (width height : ℕ) where
       let once : Once (d.index ∷ n.rest) = subst (λ (l : List ℕ). Once l) is (Rising-once s.end_number line r.shows.done.rising) in
       taken_frames sh bs (change_at (dequeued_from s.body.kind) d.index bs) line n.rest d.index n.joined
       (shots_same sh bs (change_at (dequeued_from s.body.kind) d.index bs) n.rest
-      (λ i there. ap (shot sh) (got_other (dequeued_from s.body.kind) bs d.index i
+      (λ i there. ap (bare sh) (got_other (dequeued_from s.body.kind) bs d.index i
       (λ e. not_both (lists n.rest i) there (ap (lists n.rest) e ∙ once.0)))))
   frames_next s (model.dqbuf (Err x)) line r n c on a w = idle_frames s.body.shape s.body.buffers s.body.buffers line n.rest n.joined refl
   frames_next s (model.streamon None) line r n c on a w = idle_frames s.body.shape s.body.buffers
@@ -406,12 +396,12 @@ module _ (format : PixelFormat) (width height : ℕ) where
   frames_next s (model.mmap index None) line r n c on a w =
       idle_frames s.body.shape s.body.buffers (change_at (mapped_as true) index s.body.buffers) line n.rest n.joined
       (shots_same s.body.shape s.body.buffers (change_at (mapped_as true) index s.body.buffers) line
-      (λ i there. shot_kept s.body.shape (mapped_as true) (λ b. refl) s.body.buffers index i))
+      (λ i there. shot_kept s.body.shape (mapped_as true) (shot_mapped s.body.shape true) s.body.buffers index i))
   frames_next s (model.mmap index (Some x)) line r n c on a w = idle_frames s.body.shape s.body.buffers s.body.buffers line n.rest n.joined refl
   frames_next s (model.munmap index None) line r n c on a w =
       idle_frames s.body.shape s.body.buffers (change_at (mapped_as false) index s.body.buffers) line n.rest n.joined
       (shots_same s.body.shape s.body.buffers (change_at (mapped_as false) index s.body.buffers) line
-      (λ i there. shot_kept s.body.shape (mapped_as false) (λ b. refl) s.body.buffers index i))
+      (λ i there. shot_kept s.body.shape (mapped_as false) (shot_mapped s.body.shape false) s.body.buffers index i))
   frames_next s (model.munmap index (Some x)) line r n c on a w = idle_frames s.body.shape s.body.buffers s.body.buffers line n.rest n.joined refl
   frames_next s (model.take_planes index (Ok set)) line r n c on a w =
       let bs = s.body.buffers in
@@ -430,7 +420,7 @@ module _ (format : PixelFormat) (width height : ℕ) where
       ended_frames sh bs (change_at f index bs) line n.rest index
       (completed_frame (model.complete index stamp bytes None)) n.joined
       (shots_beside s line r f index (active_ended_not (state_at bs index) (end_active index s.body passed)))
-      (ap (λ o. shot sh o ++ []) (got_here f bs index at.0 at.1)
+      (ap (λ o. bare sh o ++ []) (got_here f bs index at.0 at.1)
       ∙ ap (λ (l : List ℕ). record { sequence = stamp.sequence; flags = 0; timestamp = stamp.timestamp; bytes = l }
       ∷ []) (whole_there s index stamp bytes at.0 c passed w at.1))
   frames_next s (model.complete index stamp bytes (Some x)) line r n c on a w = idle_frames s.body.shape s.body.buffers s.body.buffers line n.rest n.joined refl
@@ -442,7 +432,7 @@ module _ (format : PixelFormat) (width height : ℕ) where
       let at = get-within bs index (end_within index s.body passed) in
       ended_frames sh bs (change_at f index bs) line n.rest index [] n.joined
       (shots_beside s line r f index (active_ended_not (state_at bs index) (end_active index s.body passed)))
-      (ap (λ o. shot sh o ++ []) (got_here f bs index at.0 at.1))
+      (ap (λ o. bare sh o ++ []) (got_here f bs index at.0 at.1))
   frames_next s (model.fail index stamp (Some x)) line r n c on a w = idle_frames s.body.shape s.body.buffers s.body.buffers line n.rest n.joined refl
   frames_next s model.fatal line r n c on a w = idle_frames s.body.shape s.body.buffers s.body.buffers line n.rest n.joined refl
   frames_next s (model.take_fresh fresh) line r n c on a w = idle_frames s.body.shape s.body.buffers s.body.buffers line n.rest n.joined refl
@@ -460,19 +450,32 @@ pub all_fit : (s : QueueState) (events : List Event) → EachIn model.after_even
 all_fit s [] each fit = fit
 all_fit s (e ∷ es) each fit = all_fit (model.after_event s e) es each.1 (kept_fit s e each.0.0 each.0.1 fit)
 
+pub all_held : (s : QueueState) (events : List Event) → EachIn model.after_event model.MayHappen s events
+    → AreHeld s.body.buffers → AreHeld (after_all model.after_event s events).body.buffers
+all_held s [] each held = held
+all_held s (e ∷ es) each held = all_held (model.after_event s e) es each.1 (kept_held s e each.0 held)
+
 pub all_shaped : (s : QueueState) (events : List Event)
     → (after_all model.after_event s events).body.shape ≡ s.body.shape
 all_shaped s [] = refl
 all_shaped s (e ∷ es) = all_shaped (model.after_event s e) es ∙ kept_shape s e
 
+-- the line after events, and the frames of both
+pub record Along (s : QueueState) (events : List Event) (line : List ℕ) : Type 0 where
+  pub rest : List ℕ
+  pub ends : line ++ flat_map ended_by events ≡ flat_map dequeued_by events ++ rest
+  pub frames : shots s.body.shape s.body.buffers line ++ flat_map completed_frame events
+      ≡ map without_flags (frames_of s events) ++ shots (after_all model.after_event s events).body.shape
+      (after_all model.after_event s events).body.buffers rest
+
 pub frames_along : (format : PixelFormat) (width height : ℕ) (s : QueueState) (events : List Event) (line : List ℕ)
     → Runs s line → IsHolding (shape_of format width height) s → list_any stops events ≡ false
-    → EachIn model.after_event IsCounted s events
-    → (others : List Picture) × (shots s.body.shape s.body.buffers line
-    ++ flat_map completed_frame events ≡ told_in model.after_event taken_by s events ++ others)
-frames_along format width height s [] line r c on each = (shots s.body.shape s.body.buffers line, append-nil (shots s.body.shape s.body.buffers line))
+    → EachIn model.after_event IsCounted s events → Along s events line
+frames_along format width height s [] line r c on each =
+    record { rest = line; ends = append-nil line; frames = append-nil (shots s.body.shape s.body.buffers line) }
 frames_along format width height s (e ∷ es) line r c on each =
     let t : QueueState = model.after_event s e in
+    let end : QueueState = after_all model.after_event t es in
     let now = first_off (stops e) (list_any stops es) on in
     let n : Next s e line = next s e line r now each.0.0 in
     let kept : t.body.shape ≡ s.body.shape = kept_shape s e in
@@ -484,13 +487,18 @@ frames_along format width height s (e ∷ es) line r c on each =
           kept_held s e each.0.0 c.held;
     } in
     let one = frames_next format width height s e line r n c now each.0.0 each.0.1 in
-    let more = frames_along format width height t es n.rest n.runs holding (second_off (stops e) (list_any stops es) on) each.1 in (
-      more.0,
-      glued (shots s.body.shape s.body.buffers line) (completed_frame e) (taken_by s e)
+    let more : Along t es n.rest = frames_along format width height t es n.rest n.runs holding (second_off (stops e) (list_any stops es) on) each.1 in
+    let here = map without_flags (dequeued_frame s e) in
+    record {
+      rest = more.rest;
+      ends = glued line (ended_by e) (dequeued_by e) n.rest (flat_map ended_by es) (flat_map dequeued_by es) more.rest n.joined more.ends;
+      frames = glued (shots s.body.shape s.body.buffers line) (completed_frame e) here
           (shots t.body.shape t.body.buffers n.rest) (flat_map completed_frame es)
-          (told_in model.after_event taken_by t es) more.0
-          (one ∙ ap (λ (x : Shape). taken_by s e ++ shots x t.body.buffers n.rest) (sym kept)) more.1,
-    )
+          (map without_flags (frames_of t es)) (shots end.body.shape end.body.buffers more.rest)
+          (one ∙ ap (λ (x : Shape). here ++ shots x t.body.buffers n.rest) (sym kept)) more.frames
+          ∙ ap (λ l. l ++ shots end.body.shape end.body.buffers more.rest)
+          (sym (map-append without_flags (dequeued_frame s e) (frames_of t es)));
+    }
 
 -- ---- behind a stop
 

@@ -12,8 +12,10 @@ pub mod Ran
 pub mod Told
 pub mod Completed
 pub mod Completing
+pub mod Moving
 pub mod Taking
 pub mod Order
+pub mod FrontMoves
 pub mod Blind
 pub mod Failing
 pub mod Crossing

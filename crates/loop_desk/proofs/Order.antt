@@ -45,7 +45,7 @@ dequeue-frames A m j (spent i planes) (Ok index) said = absurd (cc)
 dequeue-frames A m j h (Err fault) said = sym (append-nil (hand_frame h))
 
 module _ {P A : Type 0} (m : P → Plane) where
-  turn-frames : (f : Front) (t : LaneTurn P A) → IsAtFront m f t → accepted_in (calls_of_turn f.hand t)
+  pub turn-frames : (f : Front) (t : LaneTurn P A) → IsAtFront m f t → accepted_in (calls_of_turn f.hand t)
       ++ hand_frame (after_turn m f t).hand ≡ hand_frame f.hand ++ frame_of_turn m f t
   turn-frames f (at_front (on_queue e (Ok r))) said = sym (append-nil (hand_frame f.hand))
   turn-frames f (at_front (on_queue e (Err fault))) said = sym (append-nil (hand_frame f.hand))

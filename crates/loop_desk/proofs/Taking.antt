@@ -3,12 +3,11 @@ use Rattle.std.proofs.Common.{◌≡◌, ℕ, Bool, true, false, if◌then◌els
 use Rattle.std.specs.Prelude.{option_to_list, slice_get}
 use Rattle.std.specs.List.{list_any, zip}
 use Rattle.std.proofs.lemmas.Bool.{eqb-true}
-use Rattle.std.proofs.lemmas.List.{map-append}
 use Rattle.loop_plane.specs.Plane.{Plane}
 use Rattle.loop_plane.specs.declared.memory.Memory.{Memory}
 use Rattle.loop_disk.specs.Medium.{Medium}
 use Rattle.loop_record.specs.declared.geometry.PixelFormat.{PixelFormat}
-use Rattle.loop_record.specs.Turns.{EachIn, after_all, told_in}
+use Rattle.loop_record.specs.Turns.{EachIn, after_all}
 use Rattle.loop_record.proofs.Turned.{after-behind, told-behind}
 use Rattle.loop_vb2.specs.declared.buffer.Buffer.{Buffer}
 use Rattle.loop_vb2.specs.declared.reason.Errno.{Errno}
@@ -24,6 +23,7 @@ use Rattle.loop_vb2.specs.Planes.{frame_size}
 use Rattle.loop_vb2.specs.State.{AllFit, Body, QueueState}
 use Rattle.loop_vb2.proofs.Lines.{InOrder-none}
 use Rattle.loop_vb2.proofs.Ordered.{Runs, runs_stopped}
+use Rattle.loop_ioctl.specs.declared.call.BufferType.{BufferType}
 use Rattle.loop_ioctl.specs.declared.call.Ioctl.{Ioctl}
 use Rattle.loop_ioctl.specs.declared.call.Ioctl.TheVariants as call
 use Rattle.loop_ioctl.specs.declared.call.IoctlReply.{IoctlReply}
@@ -45,24 +45,25 @@ use Rattle.loop_desk.specs.declared.hand.LaneFault.{LaneFault}
 use Rattle.loop_desk.specs.declared.hand.LaneFault.TheVariants.{Queue, Store}
 use Rattle.loop_desk.specs.declared.lane.Lane.{Lane}
 use Rattle.loop_desk.specs.Front.{dequeued, empty, forbids, Front, full, hand_with, HandState, index_in, kind_of, on_queue, requeue_event, requeued, spent, taken_frame, was_given_up}
-use Rattle.loop_desk.specs.Lane.{IsAtFront, IsLaneTurn, LaneRan, LaneTurn, StandsLane, TakesCompleted, TakesFrames, at_front, event_at, event_at_turn, frame_at, front_behind, frame_of_turn, frames_taken, hand_frame, is_dequeue, lane_after, mixed, queue_events, turn_at, turn_of, without_flags}
-use Rattle.loop_desk.proofs.Completing.{IsCounted, IsHolding, IsWhole, all_fit, all_shaped, frames_along, held_none, shot, stopped_waits, taken_by}
+use Rattle.loop_desk.specs.Lane.{IsAtFront, IsLaneTurn, LaneRan, LaneTurn, StandsLane, TakesCompleted, TakesFrames, at_front, event_at, event_at_turn, front_behind, frame_of_turn, frames_taken, hand_frame, is_dequeue, lane_after, mixed, queue_events, turn_at, turn_of, without_flags}
+use Rattle.loop_desk.specs.Moves.{IsCounted, IsWhole, dequeued_frame, frames_of, shot}
+use Rattle.loop_desk.proofs.Completing.{Along, IsHolding, all_fit, all_shaped, frames_along, held_none, shots, stopped_waits}
 use Rattle.loop_desk.proofs.Queued.{lane-told}
 use Rattle.loop_desk.proofs.Turning.{taken_event}
 
 -- ---- lists
 
-each-first : {S X : Type 0} (after : S → X → S) (P : S → X → Type 0) (s : S) (xs ys : List X)
+pub each-first : {S X : Type 0} (after : S → X → S) (P : S → X → Type 0) (s : S) (xs ys : List X)
     → EachIn after P s (xs ++ ys) → EachIn after P s xs
 each-first after P s [] ys each = tt
 each-first after P s (x ∷ xs) ys each = (each.0, each-first after P (after s x) xs ys each.1)
 
-each-second : {S X : Type 0} (after : S → X → S) (P : S → X → Type 0) (s : S) (xs ys : List X)
+pub each-second : {S X : Type 0} (after : S → X → S) (P : S → X → Type 0) (s : S) (xs ys : List X)
     → EachIn after P s (xs ++ ys) → EachIn after P (after_all after s xs) ys
 each-second after P s [] ys each = each
 each-second after P s (x ∷ xs) ys each = each-second after P (after s x) xs ys each.1
 
-each-both : (s : QueueState) (es : List Event) → EachIn model.after_event model.MayHappen s es
+pub each-both : (s : QueueState) (es : List Event) → EachIn model.after_event model.MayHappen s es
     → EachIn model.after_event IsWhole s es → EachIn model.after_event IsCounted s es
 each-both s [] first second = tt
 each-both s (e ∷ es) first second = ((first.0, second.0), each-both (model.after_event s e) es first.1 second.1)
@@ -70,7 +71,7 @@ each-both s (e ∷ es) first second = ((first.0, second.0), each-both (model.aft
 -- ---- an event that takes no frame
 
 abbrev Quiet : QueueState → List Event → Type 0
-Quiet s es = EachIn model.after_event IsWhole s es × (told_in model.after_event taken_by s es ≡ [])
+Quiet s es = EachIn model.after_event IsWhole s es × (frames_of s es ≡ [])
 
 quiet-unless : (s : QueueState) (why : Option Reason) (es : List Event) → Quiet s es → Quiet s (unless_refused why es)
 quiet-unless s None es quiet = quiet
@@ -144,33 +145,58 @@ module _ {P A : Type 0} (m : P → Plane) where
   quiet-event queue_event.Fatal answer.Fatal j other whole = ((tt, tt), refl)
   quiet-event e r j other whole = (tt, refl)
 
+-- ---- an event that completes a frame completes a whole one
+
+whole-unless : (s : QueueState) (why : Option Reason) (es : List Event) → EachIn model.after_event IsWhole s es
+    → EachIn model.after_event IsWhole s (unless_refused why es)
+whole-unless s None es whole = whole
+whole-unless s (Some reason) es whole = tt
+
+module _ {P A : Type 0} (m : P → Plane) where
+  whole-dqbuf : (type : BufferType) (result : Result (IoctlReply P A) (Refused P A)) (j : IoctlState)
+      → EachIn model.after_event IsWhole j.queue (option_to_list (call_event m (call.DqBuf type) result j))
+  whole-dqbuf type (Ok (reply_to.Dequeued d)) j = (tt, tt)
+  whole-dqbuf type (Ok r) j = tt
+  whole-dqbuf type (Err r) j = (tt, tt)
+
+  whole-call : (c : Ioctl P A) (result : Result (IoctlReply P A) (Refused P A)) (j : IoctlState)
+      → EachIn model.after_event IsWhole j.queue (event_of m (queue_event.Ioctl c) (answer.Ioctl result) j)
+  whole-call (call.DqBuf type) result j =
+      whole-unless j.queue (refusal_before {P = P} {A = A} (call.DqBuf type) j)
+      (option_to_list (call_event m (call.DqBuf type) result j)) (whole-dqbuf type result j)
+  whole-call c result j = (quiet-call m c result j refl).0
+
+  pub whole-event : (e : QueueEvent P A) (r : QueueReply P A) (j : IoctlState)
+      → is_whole j.queue.body.shape e ≡ true → EachIn model.after_event IsWhole j.queue (event_of m e r j)
+  whole-event (queue_event.Ioctl c) (answer.Ioctl result) j whole = whole-call c result j
+  whole-event (queue_event.Ioctl c) r j whole = tt
+  whole-event e r j whole = (quiet-event m e r j refl whole).0
+
 -- ---- one turn
 
 taken-tells : (f : Front) (index : ℕ) (o : Option (Buffer Plane)) → slice_get f.queue.queue.body.buffers index ≡ o
     → EachIn model.after_event IsWhole f.queue.queue (taken_event (kind_of f.queue) index o)
-    × (map without_flags (hand_frame (hand_with f.queue.queue.body index o)) ≡ told_in model.after_event taken_by
-    f.queue.queue (taken_event (kind_of f.queue) index o))
+    × (hand_frame (hand_with f.queue.queue.body index o) ≡ frames_of f.queue.queue
+    (taken_event (kind_of f.queue) index o))
 taken-tells f index None got = (tt, refl)
 taken-tells f index (Some b) got =
     let body : Body Plane = f.queue.queue.body in
     let planes = handed_over body.kind b.planes in (
       (tt, tt),
       elim (was_given_up b.state) as
-          (λ t. map without_flags (hand_frame
-          (cond t (spent index planes) (full index (taken_frame body.shape b) planes))) ≡ cond t []
-          (without_flags (taken_frame body.shape b) ∷ []) ++ []) [ true ↦ refl | false ↦ refl ]
+          (λ t. hand_frame (cond t (spent index planes) (full index (taken_frame body.shape b) planes)) ≡ cond t []
+          (taken_frame body.shape b ∷ []) ++ []) [ true ↦ refl | false ↦ refl ]
           ∙ sym (ap (λ o. shot body.shape o ++ []) got),
     )
 
 module _ {P A : Type 0} (m : P → Plane) where
   -- each completion is whole, and what the hand gets is what the event takes
-  abbrev Tells : Front → LaneTurn P A → Type 0
+  abbrev pub Tells : Front → LaneTurn P A → Type 0
   Tells f t = EachIn model.after_event IsWhole f.queue.queue (event_at_turn m f t)
-      × (map without_flags (frame_of_turn m f t) ≡ told_in model.after_event taken_by f.queue.queue
-      (event_at_turn m f t))
+      × (frame_of_turn m f t ≡ frames_of f.queue.queue (event_at_turn m f t))
 
 module _ {P : Type 0} (A : Type 0) (m : P → Plane) where
-  dequeue-tells : (f : Front) (result : Result ℕ LaneFault) → Tells {P = P} {A = A} m f (at_front (dequeued result))
+  pub dequeue-tells : (f : Front) (result : Result ℕ LaneFault) → Tells {P = P} {A = A} m f (at_front (dequeued result))
   dequeue-tells f (Ok index) = taken-tells f index (slice_get f.queue.queue.body.buffers index) refl
   dequeue-tells f (Err (Queue e)) = ((tt, tt), refl)
   dequeue-tells f (Err (Store fault)) = (tt, refl)
@@ -181,7 +207,7 @@ module _ {P : Type 0} (A : Type 0) (m : P → Plane) where
   dqbuf-tells f result true said = dequeue-tells f result
   dqbuf-tells f result false said = absurd said
 
-  requeue-tells : (f : Front) (result : Result ℕ LaneFault) → Tells {P = P} {A = A} m f (at_front (requeued result))
+  pub requeue-tells : (f : Front) (result : Result ℕ LaneFault) → Tells {P = P} {A = A} m f (at_front (requeued result))
   requeue-tells f (Ok index) = let quiet = quiet-requeue f.queue.queue (kind_of f.queue) f.hand (Ok index) in (quiet.0, sym quiet.1)
   requeue-tells f (Err fault) = let quiet = quiet-requeue f.queue.queue (kind_of f.queue) f.hand (Err fault) in (quiet.0, sym quiet.1)
 
@@ -220,7 +246,7 @@ module _ {P A : Type 0} (m : P → Plane) where
       (each-both x.queue.queue (event_at m x t) told.0 (lane-tells m x t.0 t.1 said).0, told.1)) f xs each
 
   frames-told : (f : Front) (xs : List (LaneEvent P A × LaneReply P A)) → EachIn (lane_after m) (IsLaneTurn m) f xs
-      → map without_flags (frames_taken m f xs) ≡ told_in model.after_event taken_by f.queue.queue (queue_events m f xs)
+      → frames_taken m f xs ≡ frames_of f.queue.queue (queue_events m f xs)
   frames-told f [] each = refl
   frames-told f (x ∷ xs) each =
       let next = lane_after m f x in
@@ -228,10 +254,9 @@ module _ {P A : Type 0} (m : P → Plane) where
       let here = lane-tells m f x.0 x.1 each.0 in
       let rest = frames-told next xs each.1 in
       let moved = (lane-told m f (turn_at f x) each.0).1 in
-      map-append without_flags (frame_at m f x) (frames_taken m next xs)
-      ∙ ((λ i. here.1 i ++ rest i)
-      ∙ (ap (λ (t : QueueState). told_in model.after_event taken_by s (event_at m f x) ++ told_in model.after_event taken_by t (queue_events m next xs)) moved
-      ∙ sym (told-behind model.after_event taken_by s (event_at m f x) (queue_events m next xs))))
+      (λ i. here.1 i ++ rest i)
+      ∙ (ap (λ (t : QueueState). frames_of s (event_at m f x) ++ frames_of t (queue_events m next xs)) moved
+      ∙ sym (told-behind model.after_event dequeued_frame s (event_at m f x) (queue_events m next xs)))
 
   -- from a front whose queue has nothing done
   from-front : (format : PixelFormat) (width height : ℕ) (f : Front) (part : List (LaneEvent P A × LaneReply P A))
@@ -239,8 +264,12 @@ module _ {P A : Type 0} (m : P → Plane) where
       → EachIn (lane_after m) (IsLaneTurn m) f part → list_any stops (queue_events m f part) ≡ false
       → TakesCompleted m f part
   from-front format width height f part runs holding each on =
-      let all = frames_along format width height f.queue.queue (queue_events m f part) [] runs holding on (counted f part each).0 in
-      (all.0, all.1 ∙ ap (λ l. l ++ all.0) (sym (frames-told f part each)))
+      let s : QueueState = f.queue.queue in
+      let events = queue_events m f part in
+      let end : QueueState = after_all model.after_event s events in
+      let all : Along s events [] = frames_along format width height s events [] runs holding on (counted f part each).0 in
+      let others = shots end.body.shape end.body.buffers all.rest in
+      (others, all.frames ∙ ap (λ l. map without_flags l ++ others) (sym (frames-told f part each)))
 
 pub completes : {D P A : Type 0} (m : P → Plane) (medium : D → Medium) (old new : Lane D P A)
     (es : List (LaneEvent P A)) (ps : List (LaneReply P A)) → LaneRan m medium old new es ps

@@ -1,4 +1,5 @@
-// What happens to a queue, its table of fds, and the hand.
+//! What happens to a queue, its table of fds, and the hand.
+
 ghost use Rattle.std.specs.Prelude.{◌≡◌, ◌≤◌, length, true};
 ghost use Rattle.loop_vb2.specs.Planes.{frame_size};
 ghost use Rattle.loop_desk.specs.Front.{hand_state, index_in, forbids, FrontTurns, IsForbidden, on_queue, dequeued, requeued, TurnsBeside};
@@ -109,12 +110,15 @@ fn hold<P: PlaneMemory, A: Allocator + Copy>(
     }
 }
 
-/// DQBUF into the hand; answers the buffer's index. HandFull unless the hand is empty, NoMemory where there is no
+/// DQBUF into the hand; answers the buffer's index. `HandFull` unless the hand is empty, `NoMemory` where there is no
 /// room for the bytes of a frame, then the queue's refusals (NotStreaming, FatalError, NothingDone); a refusal
-/// changes nothing. The buffer's planes go with it, unless they are mapped memory, and their fds stay attached. A
-/// buffer that the device gave up is spent at once. The frame's memory is what is spare, where that has its length;
-/// what isn't needed is left.
-pub(crate) fn dequeue<P: PlaneMemory, A: Allocator + Copy>(
+/// leaves queue and hand as they were. The buffer's planes go with it, unless they are mapped memory, and their fds
+/// stay attached. A buffer that the device gave up has no frame: it is spent at once. The frame's memory is what is
+/// spare, where that has its length; what isn't needed is left.
+///
+/// While the hand has a buffer, the caller sends the queue no REQBUFS, and no QBUF or PREPARE_BUF of that buffer: the
+/// contracts here speak of queues whose planes are in their buffers or in the hand.
+pub fn dequeue<P: PlaneMemory, A: Allocator + Copy>(
     alloc: A,
     queue: &mut Queue<P, A>,
     hand: &mut Hand<P, A>,
@@ -146,9 +150,9 @@ pub(crate) fn dequeue<P: PlaneMemory, A: Allocator + Copy>(
 }
 
 /// QBUF of the hand's buffer, whose frame is gone, with its planes; answers its index, and the hand is empty.
-/// HandFull where the hand has a frame, HandEmpty where it has nothing, then the queue's refusals, at which the
-/// hand keeps buffer and planes.
-pub(crate) fn requeue<P: PlaneMemory, A: Allocator + Copy>(
+/// `HandFull` where the hand has a frame, `HandEmpty` where it has nothing, then as `Queue::queue`, and then the hand
+/// keeps buffer and planes: it may be tried again.
+pub fn requeue<P: PlaneMemory, A: Allocator + Copy>(
     queue: &mut Queue<P, A>,
     hand: &mut Hand<P, A>,
 ) -> Result<u32, LaneFault>

@@ -11,6 +11,7 @@ ghost use Rattle.loop_desk.specs.declared.event.LaneReply.{LaneReply};
 ghost use Rattle.loop_desk.specs.declared.limits.Outline.{Outline};
 ghost use Rattle.loop_desk.specs.FrontLaws.{NewFrontsStand, WholeFramesAreTaken};
 ghost use Rattle.loop_desk.specs.Lane.{LaneKeeps, LaneRan, LaneTurnsAreEvents};
+ghost use Rattle.loop_desk.specs.Moves.{FramesAreKept, MovesAreEvents, QueuesStaySound};
 ghost use Rattle.loop_desk.specs.Seen.{DeskGoes, StandsAt, TellsOutline, rules_of};
 
 use crate::{Desk, Lane};
@@ -50,6 +51,25 @@ pub fn calls_keep_footage<D: Disk + Drop, A: Allocator>(before: &Desk<D, A>, aft
 /// Turns of a lane, each told as its front has it, are events of the queue's own model, and leave its state.
 pub fn turns_are_events<P: PlaneMemory, A: Allocator>()
     ensures { LaneTurnsAreEvents A P.plane }
+{}
+
+/// A queue that isn't stopped loses no frame: those that waited, and then those that the device completed, are those
+/// that were dequeued, in that order and with their bytes, and then those that wait. From each stop of the stream on it
+/// is the same again, with nothing that waited.
+pub fn frames_are_kept<P: PlaneMemory>()
+    ensures { FramesAreKept P.plane }
+{}
+
+/// Moves of a queue, each told as its model has it, are events of that model, and leave its state. So what is said of
+/// events is said of moves.
+pub fn moves_are_events()
+    ensures { MovesAreEvents }
+{}
+
+/// A queue without buffers is sound, so a law of sound queues holds of it; and a sound queue stays so, whatever
+/// happens, a stop of the stream too.
+pub fn queues_stay_sound<P: PlaneMemory>()
+    ensures { QueuesStaySound P.plane }
 {}
 
 /// Two runs of a lane, one behind the other, are one run of both lists of events, and it keeps what one run does.

@@ -3,12 +3,13 @@
 //! - `desk` has the desk and its calls, each of which is one call of the model in `specs/Desk`; `group`: the first
 //!   of the frames that wait, stored as one group; `limits`: how much a desk takes in, and what it tells;
 //! - `hand` has what was taken from a queue; `front` the events of queue, table of fds and hand, each of which is one
-//!   turn of the model in `specs/Front`: what the hand asks of the queue is an event of the queue's own model;
+//!   turn of the model in `specs/Front`: what the hand asks of the queue is an event of the queue's own model. Its
+//!   `dequeue` and `requeue` are public: whoever has a queue and a hand without a lane calls them;
 //!   `frame` copies a frame's bytes out of a buffer's planes;
 //! - `lane` has `lane_run`, whose contract is the promise of the whole: whenever the power fails, the recording is
 //!   there after a beginning of the steps, with all that was answered (`specs/Footage`, `specs/Lane`); `event`: what a
 //!   lane is asked for and what it answers;
-//! - `laws` has what follows for lists of calls and of events.
+//! - `laws` has what follows for lists of calls, of events, and of moves at a queue (`specs/Moves`).
 //!
 //! Only private functions speak of `specs/Parts`.
 #![tactic(auto)]
@@ -16,7 +17,7 @@
 mod desk;
 mod event;
 mod frame;
-mod front;
+pub mod front;
 mod group;
 mod hand;
 mod lane;

@@ -1,0 +1,5 @@
+use Rattle.loop_desk.proofs.Moving.{frames-are-kept}
+use Rattle.loop_desk.proofs.laws.frames_are_kept.Goals as goal
+
+pub returns : goal.returns
+returns g c = frames-are-kept g.P.PlaneMemory.plane

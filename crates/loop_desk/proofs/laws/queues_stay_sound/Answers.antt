@@ -1,0 +1,5 @@
+use Rattle.loop_desk.proofs.Moving.{queues-stay-sound}
+use Rattle.loop_desk.proofs.laws.queues_stay_sound.Goals as goal
+
+pub returns : goal.returns
+returns g c = queues-stay-sound g.P.PlaneMemory.plane

@@ -1,0 +1,135 @@
+-- What calls do at a queue, and which frames come out of it and go to a desk.
+use Rattle.std.specs.Prelude.{◌≡◌, ℕ, Bool, true, false, cond, List, [], ◌∷◌, ◌++◌, length, map, is_some, Option, Some, None, Ok, slice_get}
+use Rattle.std.specs.List.{flat_map, list_any}
+use Rattle.loop_plane.specs.Plane.{Plane}
+use Rattle.loop_record.specs.declared.geometry.PixelFormat.{PixelFormat}
+use Rattle.loop_record.specs.Recording.{Picture}
+use Rattle.loop_record.specs.Turns.{EachIn, Machine, after_all, told_in}
+use Rattle.loop_vb2.specs.declared.buffer.Buffer.{Buffer}
+use Rattle.loop_vb2.specs.declared.planes.Shape.{Shape}
+use Rattle.loop_vb2.specs.Events as model
+use Rattle.loop_vb2.specs.Events.{Event, MayHappen, after_event, stops}
+use Rattle.loop_vb2.specs.First.{shape_of}
+use Rattle.loop_vb2.specs.Laws.{IsStill}
+use Rattle.loop_vb2.specs.Owner.{waits}
+use Rattle.loop_vb2.specs.Planes.{frame_size}
+use Rattle.loop_vb2.specs.State.{Lined, QueueState, StandsQueue}
+use Rattle.loop_desk.specs.Front.{taken_frame, was_given_up}
+use Rattle.loop_desk.specs.Lane.{completed_frame, without_flags}
+
+-- ---- moves
+
+-- a call at a queue: which events of the queue's model it is, and whether the frame that it dequeues goes to the desk
+pub record Move : Type 0 where
+  pub events : List Event
+  pub carried : Bool
+
+-- a completion brings one whole frame
+abbrev pub IsWhole : QueueState → Event → Type 0
+IsWhole s (model.complete index stamp bytes None) = length bytes ≡ frame_size s.body.shape
+IsWhole s e = Unit {0}
+
+-- an event may happen, and brings one whole frame if it is a completion
+abbrev pub IsCounted : QueueState → Event → Type 0
+IsCounted s e = MayHappen s e × IsWhole s e
+
+-- the state after a move
+abbrev pub after_move : QueueState → Move → QueueState
+after_move s m = after_all after_event s m.events
+
+-- the queue as a machine of moves: each event of a move may be so at its point
+abbrev pub move_machine : Machine QueueState Move
+move_machine = record { after = after_move; May = λ s m. EachIn after_event IsCounted s m.events }
+
+-- the events of moves, in order
+abbrev pub events_in : List Move → List Event
+events_in moves = flat_map (λ m. m.events) moves
+
+-- ---- the frames that leave the queue
+
+-- the frame of a buffer, unless the device gave it up
+abbrev pub shot : Shape → Option (Buffer Plane) → List Picture
+shot shape None = []
+shot shape (Some b) = cond (was_given_up b.state) [] (taken_frame shape b ∷ [])
+
+-- the frame of the buffer that an event dequeues
+abbrev pub dequeued_frame : QueueState → Event → List Picture
+dequeued_frame s (model.dqbuf (Ok d)) = shot s.body.shape (slice_get s.body.buffers d.index)
+dequeued_frame s e = []
+
+-- the frames that events dequeue, in order
+abbrev pub frames_of : QueueState → List Event → List Picture
+frames_of s events = told_in after_event dequeued_frame s events
+
+-- those that moves dequeue
+abbrev pub frames_dequeued : QueueState → List Move → List Picture
+frames_dequeued s moves = frames_of s (events_in moves)
+
+-- the frames of a move that go to the desk
+abbrev pub carried_by : QueueState → Move → List Picture
+carried_by s m = cond m.carried (frames_of s m.events) []
+
+-- those of moves, in order
+abbrev pub frames_carried : QueueState → List Move → List Picture
+frames_carried s moves = told_in after_move carried_by s moves
+
+-- the frames of the buffers that are done, in the order of their ends
+abbrev pub frames_waiting : {P : Type 0} → Lined P → QueueState → List Picture
+frames_waiting code s = flat_map (λ i. shot s.body.shape (slice_get s.body.buffers i)) code.done
+
+-- ---- what events keep of a queue that had no buffers once
+
+-- a buffer that waits for a frame holds planes
+abbrev pub IsHeld : Buffer Plane → Type 0
+IsHeld b = waits b.state ≡ true → is_some b.planes ≡ true
+
+-- each of these is so
+abbrev pub AreHeld : List (Buffer Plane) → Type 0
+AreHeld [] = Unit {0}
+AreHeld (b ∷ bs) = IsHeld b × AreHeld bs
+
+-- nothing is done unless the queue streams, and each buffer that waits for a frame holds planes
+pub record IsSound {P : Type 0} (code : Lined P) (s : QueueState) : Type 0 where
+  pub still : IsStill code
+  pub held : AreHeld s.body.buffers
+
+-- ---- what follows
+
+-- Events from a state on: the frames that waited, and then those that the device completed, are those that were
+-- dequeued, in that order and with their bytes, and then those that wait.
+abbrev pub KeepsFrames : List Picture → QueueState → List Event → List Picture → Type 0
+KeepsFrames waited s events wait =
+    map without_flags waited ++ flat_map completed_frame events
+    ≡ map without_flags (frames_of s events) ++ map without_flags wait
+
+-- So it is from any state of a queue whose frames are those of a format,
+pub record FramesAreKept {P : Type 0} (meaning : P → Plane) : Type 0 where
+  -- if it is sound, for events of which none stops the stream,
+  pub from_start : (old new : Lined P) (s : QueueState) (events : List Event) (format : PixelFormat) (width height : ℕ)
+      → StandsQueue meaning old s → IsSound old s → s.body.shape ≡ shape_of format width height
+      → EachIn after_event IsCounted s events → StandsQueue meaning new (after_all after_event s events)
+      → list_any stops events ≡ false
+      → KeepsFrames (frames_waiting old s) s events (frames_waiting new (after_all after_event s events))
+  -- and from each stop of the stream on, sound or not: then nothing waited.
+  pub from_stop : (old new : Lined P) (s : QueueState) (before part : List Event) (stop : Event) (format : PixelFormat)
+      (width height : ℕ) → StandsQueue meaning old s → s.body.shape ≡ shape_of format width height
+      → EachIn after_event IsCounted s (before ++ stop ∷ part)
+      → StandsQueue meaning new (after_all after_event s (before ++ stop ∷ part))
+      → stops stop ≡ true → list_any stops part ≡ false
+      → KeepsFrames [] (after_event (after_all after_event s before) stop) part
+      (frames_waiting new (after_all after_event s (before ++ stop ∷ part)))
+
+-- What is said of events is said of moves: each event of theirs may happen at its point and is whole, and the state
+-- after the events is that after the moves.
+abbrev pub MovesAreEvents : Type 0
+MovesAreEvents =
+    (s : QueueState) (moves : List Move) → EachIn after_move move_machine.May s moves
+    → EachIn after_event IsCounted s (events_in moves)
+    × (after_all after_move s moves ≡ after_all after_event s (events_in moves))
+
+-- A queue without buffers is sound, and a sound one stays so, whatever happens.
+pub record QueuesStaySound {P : Type 0} (meaning : P → Plane) : Type 0 where
+  pub new : (code : Lined P) (s : QueueState) → StandsQueue meaning code s → s.body.buffers ≡ [] → IsSound code s
+  pub after : (old new : Lined P) (s : QueueState) (events : List Event) → StandsQueue meaning old s → IsSound old s
+      → EachIn after_event MayHappen s events → StandsQueue meaning new (after_all after_event s events)
+      → IsSound new (after_all after_event s events)
