@@ -1,6 +1,6 @@
 // Cameras: each with a queue of its own, whose memory its start gives it.
 ghost use Rattle.std.specs.Prelude.{◌≡◌, ◌<◌, ◌≤◌, ◌^◌, ◌+◌, All, IfOk, IfSome, length, vec_len};
-ghost use Rattle.loop_recorder.specs.Opened.{IsReady};
+ghost use Rattle.loop_sessions.specs.Opened.{IsReady};
 
 use loop_capture::Device;
 use loop_disk::Disk;

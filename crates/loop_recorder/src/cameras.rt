@@ -1,7 +1,7 @@
 //! A camera before a store.
 
 ghost use Rattle.std.specs.Prelude.{◌≡◌, IfOk};
-ghost use Rattle.loop_recorder.specs.Opened.{IsReady};
+ghost use Rattle.loop_sessions.specs.Opened.{IsReady};
 
 use crate::Camera;
 use loop_desk::{Desk, DeskLimits};

@@ -2,7 +2,7 @@
 //! beside the workers.
 
 ghost use Rattle.std.specs.Prelude.{◌≡◌, ◌≤◌, length};
-ghost use Rattle.loop_recorder.specs.Receipts.{pass_number};
+ghost use Rattle.loop_sessions.specs.Receipts.{pass_number};
 
 use crate::{Pace, Pass, Recorder, SessionFault, Step};
 use loop_capture::Tick;

@@ -4,8 +4,8 @@ ghost use Rattle.std.specs.Prelude.{◌≡◌, ◌≤◌, IfErr, IfOk, length, m
 ghost use Rattle.std.specs.Arc.{arc_value};
 ghost use Rattle.std.specs.List.{range_with_len};
 ghost use Rattle.std.specs.Vec.{vec_capacity};
-ghost use Rattle.loop_recorder.specs.Ends.{IsEnd};
-ghost use Rattle.loop_recorder.specs.Receipts.{pass_number};
+ghost use Rattle.loop_sessions.specs.Ends.{IsEnd};
+ghost use Rattle.loop_sessions.specs.Receipts.{pass_number};
 ghost use Rattle.loop_recorder.specs.Recordings.{RefusesPool};
 
 use crate::crew::Crew;

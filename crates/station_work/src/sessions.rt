@@ -1,7 +1,7 @@
 //! A camera's thread: its store is opened or made, and recorded into, a session behind the other.
 
 ghost use Rattle.std.specs.Prelude.{◌≡◌, ◌<◌, ◌∷◌, [], IfOk, IfSome, length, vec_len};
-ghost use Rattle.loop_recorder.specs.Opened.{IsReady};
+ghost use Rattle.loop_sessions.specs.Opened.{IsReady};
 
 use crate::absent::Absent;
 use crate::feed::FeedSource;

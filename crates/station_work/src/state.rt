@@ -1,7 +1,7 @@
 //! What the threads of one camera share, and how it leads its recordings.
 
 ghost use Rattle.std.specs.Prelude.{◌≡◌, ◌<◌, length};
-ghost use Rattle.loop_recorder.specs.Receipts.{pass_number};
+ghost use Rattle.loop_sessions.specs.Receipts.{pass_number};
 
 use crate::absent::Absent;
 use crate::clerk::{Answer, Request, attend, lend};

@@ -1,7 +1,7 @@
 //! Recordings of frames of two million bytes, through buffers of the application's memory.
 
 ghost use Rattle.std.specs.Prelude.{◌≡◌, length};
-ghost use Rattle.loop_recorder.specs.Opened.{IsReady};
+ghost use Rattle.loop_sessions.specs.Opened.{IsReady};
 
 use crate::told::{holds, same};
 use loop_capture::{Device, FrameSource, Pattern};

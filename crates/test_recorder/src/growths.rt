@@ -1,7 +1,7 @@
 //! Each growth is refused in turn: nothing changes, and with one more all goes well.
 
 ghost use Rattle.std.specs.Prelude.{◌≡◌, ◌<◌, All, false, length, vec_len};
-ghost use Rattle.loop_recorder.specs.Opened.{IsReady};
+ghost use Rattle.loop_sessions.specs.Opened.{IsReady};
 
 use crate::calls::*;
 use crate::common::*;

@@ -7,6 +7,7 @@ use crate::common::{AtOnce, Rec, frame, limits, recorder};
 use crate::told::{holds, same};
 use loop_desk::Status;
 use loop_record::Span;
+use loop_recorder::laws::keeps_are_whole;
 use loop_recorder::{Noted, Pass, SessionFault, Stamp, Times};
 use loop_store::{Clip, StoreFault};
 use std::alloc::Global;
@@ -264,6 +265,7 @@ fn keeps<R: Wait + Abort>(rt: &R, alloc: Global, case: &Case<'_>, at: usize) {
     let before = pass.receipts().len();
     let (since, until) = case.keep;
     let kept = recorder.keep(rt, alloc, 0, &mut pass, Times { since, until }, TAG);
+    keeps_are_whole(&kept);
     are_kept(rt, &kept.clips, case.clips, at);
     same!(*rt; kept.fault, case.fault, at);
     are_noted(rt, &pass, before, case, at);

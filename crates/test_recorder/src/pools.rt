@@ -1,8 +1,8 @@
 //! Recordings one after another on the same threads.
 
 ghost use Rattle.std.specs.Prelude.{◌≡◌, ◌≤◌, length};
-ghost use Rattle.loop_recorder.specs.Opened.{IsReady};
-ghost use Rattle.loop_recorder.specs.Receipts.{pass_number};
+ghost use Rattle.loop_sessions.specs.Opened.{IsReady};
+ghost use Rattle.loop_sessions.specs.Receipts.{pass_number};
 
 use crate::common::*;
 use crate::queues::streams;

@@ -1,5 +1,5 @@
 use Rattle.std.proofs.Common.{arith}
-use Rattle.loop_recorder.proofs.Opening.{tell-count}
+use Rattle.loop_sessions.proofs.Opening.{tell-count}
 use Rattle.bench.proofs.recorder.recorder_of.Goals as goal
 
 pub returns-in-Ok : goal.returns-in-Ok

@@ -3,7 +3,7 @@ use Rattle.std.proofs.lemmas.List.Elements.{All-push}
 use Rattle.std.specs.Global.{Global}
 use Rattle.loop_plane.specs.declared.mmap.MmapPlane.{MmapPlane}
 use Rattle.loop_plane.specs.Kinds.{mmap_plane}
-use Rattle.loop_recorder.specs.Opened.{CameraOf, IsReady}
+use Rattle.loop_sessions.specs.Opened.{CameraOf, IsReady}
 use Rattle.loop_commands.proofs.cameras.cameras_before.Goals as goal
 
 pub loop-store-preserved : goal.loop-store-preserved

@@ -2,7 +2,7 @@ use Rattle.std.proofs.Common.{◌≡◌, ◌+◌, ◌<◌, ◌≤◌, ◌^◌, A
 use Rattle.std.specs.Vec.{vec_capacity}
 use Rattle.std.specs.Vec.Iter.{into_iter_len}
 use Rattle.loop_plane.specs.Kinds.{mmap_plane}
-use Rattle.loop_recorder.specs.Opened.{IsReady}
+use Rattle.loop_sessions.specs.Opened.{IsReady}
 use Rattle.loop_commands.proofs.cameras.cameras_before.Given as goal
 
 abbrev pub invariant-loop-store : goal.invariant-loop-store

@@ -1,8 +1,8 @@
 use Rattle.std.proofs.Common.{◌≡◌, ap, arith, length, map, ◌∙◌}
 use Rattle.std.proofs.lemmas.List.{length-map}
 use Rattle.loop_record.proofs.Readings.{length-range}
-use Rattle.loop_recorder.specs.Receipts.{pass_number}
-use Rattle.loop_recorder.proofs.Opening.{tell-count}
+use Rattle.loop_sessions.specs.Receipts.{pass_number}
+use Rattle.loop_sessions.proofs.Opening.{tell-count}
 use Rattle.loop_commands.proofs.cameras.record_stores.Goals as goal
 
 pub start_all-requires-clause-cameras : goal.start_all-requires-clause-cameras

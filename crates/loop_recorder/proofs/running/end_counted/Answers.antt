@@ -1,5 +1,5 @@
 use Rattle.std.proofs.Common.{arith}
-use Rattle.loop_recorder.proofs.Ends.{broken-counted, end-counted}
+use Rattle.loop_sessions.proofs.Ends.{broken-counted, end-counted}
 use Rattle.loop_recorder.proofs.running.end_counted.Goals as goal
 
 pub returns-in-Ok-clause-ended : goal.returns-in-Ok-clause-ended

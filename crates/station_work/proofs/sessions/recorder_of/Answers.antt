@@ -5,9 +5,9 @@ use Rattle.std.specs.Global.{Global}
 use Rattle.loop_plane.specs.declared.heap.HeapPlane.{HeapPlane}
 use Rattle.loop_plane.specs.Kinds.{heap_plane}
 use Rattle.loop_record.proofs.Readings.{length-range}
-use Rattle.loop_recorder.specs.Opened.{CameraOf, IsReady}
-use Rattle.loop_recorder.specs.Receipts.{pass_number}
-use Rattle.loop_recorder.proofs.Opening.{tell-count}
+use Rattle.loop_sessions.specs.Opened.{CameraOf, IsReady}
+use Rattle.loop_sessions.specs.Receipts.{pass_number}
+use Rattle.loop_sessions.proofs.Opening.{tell-count}
 use Rattle.station_work.proofs.sessions.recorder_of.Goals as goal
 
 pub new-requires-clause-few : goal.new-requires-clause-few

@@ -4,8 +4,8 @@ use Rattle.std.specs.Global.{Global}
 use Rattle.loop_disk.specs.declared.memory.MemDisk.{MemDisk}
 use Rattle.loop_plane.specs.declared.heap.HeapPlane.{HeapPlane}
 use Rattle.loop_plane.specs.Kinds.{heap_plane}
-use Rattle.loop_recorder.specs.Opened.{CameraOf, IsReady}
-use Rattle.loop_recorder.proofs.Opening.{tell-count}
+use Rattle.loop_sessions.specs.Opened.{CameraOf, IsReady}
+use Rattle.loop_sessions.proofs.Opening.{tell-count}
 use Rattle.test_cli.proofs.large.recorder_of.Goals as goal
 
 pub new-requires-clause-ready : goal.new-requires-clause-ready

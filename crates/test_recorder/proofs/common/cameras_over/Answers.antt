@@ -1,6 +1,6 @@
 use Rattle.std.proofs.Common.{arith}
 use Rattle.std.proofs.lemmas.List.Elements.{All-push}
-use Rattle.loop_recorder.specs.Opened.{CameraOf, IsReady}
+use Rattle.loop_sessions.specs.Opened.{CameraOf, IsReady}
 use Rattle.test_recorder.proofs.common.cameras_over.Goals as goal
 
 pub loop-disk-preserved : goal.loop-disk-preserved

@@ -1,7 +1,7 @@
 use Rattle.std.proofs.Common.{◌≡◌, ◌+◌, ◌≤◌, All, vec_len}
 use Rattle.std.specs.Vec.{vec_capacity}
 use Rattle.std.specs.Vec.Iter.{into_iter_len}
-use Rattle.loop_recorder.specs.Opened.{IsReady}
+use Rattle.loop_sessions.specs.Opened.{IsReady}
 use Rattle.test_recorder.proofs.common.cameras_over.Given as goal
 
 abbrev pub invariant-loop-disk : goal.invariant-loop-disk

@@ -1,5 +1,5 @@
 use Rattle.std.proofs.Common.{◌≡◌, All, vec_len}
-use Rattle.loop_recorder.specs.Opened.{IsReady}
+use Rattle.loop_sessions.specs.Opened.{IsReady}
 use Rattle.test_recorder.proofs.growths.made.Given as goal
 
 abbrev pub invariant-loop-allowed : goal.invariant-loop-allowed

@@ -4,7 +4,7 @@ use Rattle.std.specs.Global.{Global}
 use Rattle.loop_disk.specs.declared.memory.MemDisk.{MemDisk}
 use Rattle.loop_plane.specs.declared.mmap.MmapPlane.{MmapPlane}
 use Rattle.loop_plane.specs.Kinds.{mmap_plane}
-use Rattle.loop_recorder.specs.Opened.{CameraOf, IsReady}
+use Rattle.loop_sessions.specs.Opened.{CameraOf, IsReady}
 use Rattle.test_recorder.proofs.pools.recorder_after.Goals as goal
 
 pub recorder_of-requires-clause-ready : goal.recorder_of-requires-clause-ready

@@ -1,7 +1,7 @@
 use denote.Param.Send.{sendable}
 use Rattle.std.proofs.Crossing.{crosses}
 use Rattle.loop_capture.proofs.Crossing.{device_send}
-use Rattle.loop_recorder.proofs.Crossing.{pass_send, recorder_sync}
+use Rattle.loop_sessions.proofs.Crossing.{pass_send, recorder_sync}
 use Rattle.test_recorder.proofs.queues.both_tick.Goals as goal
 
 pub join-requires-send-F : goal.join-requires-send-F

@@ -2,7 +2,7 @@ use Rattle.std.proofs.Common.{rules, ◌≡◌, [], ◌∷◌}
 use Rattle.std.proofs.lemmas.List.Elements.{All-nil, All-push}
 use Rattle.loop_disk.specs.declared.memory.MemDisk.{MemDisk}
 use Rattle.std.specs.Global.{Global}
-use Rattle.loop_recorder.specs.Opened.{CameraOf, IsReady}
+use Rattle.loop_sessions.specs.Opened.{CameraOf, IsReady}
 use Rattle.test_recorder.proofs.recordings.camera_with.Goals as goal
 
 pub recorder_of-requires-clause-ready : goal.recorder_of-requires-clause-ready

@@ -1,6 +1,6 @@
 use denote.Param.Send.{sendable}
 use Rattle.std.proofs.Crossing.{crosses}
-use Rattle.loop_recorder.proofs.Crossing.{pass_send, recorder_sync}
+use Rattle.loop_sessions.proofs.Crossing.{pass_send, recorder_sync}
 use Rattle.test_recorder.proofs.together.both_call.Goals as goal
 
 pub join-one-requires-send-F : goal.join-one-requires-send-F

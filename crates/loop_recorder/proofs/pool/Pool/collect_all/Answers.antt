@@ -1,8 +1,8 @@
 use Rattle.std.proofs.Common.{◌++◌, ◌∷◌, [], ◌∙◌, ap, arith, sym, map, vec_len}
 use Rattle.std.proofs.lemmas.List.{map-append}
 use Rattle.std.specs.List.{range_with_len}
-use Rattle.loop_recorder.specs.Receipts.{pass_number}
-use Rattle.loop_recorder.proofs.Opening.{numbers-more}
+use Rattle.loop_sessions.specs.Receipts.{pass_number}
+use Rattle.loop_sessions.proofs.Opening.{numbers-more}
 use Rattle.loop_recorder.proofs.pool.Pool.collect_all.Goals as goal
 use Rattle.loop_recorder.proofs.pool.Pool.collect_all.Goals.{in-Some+then-number-len, in-Some+else-number-len, in_default}
 

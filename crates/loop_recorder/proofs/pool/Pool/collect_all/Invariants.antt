@@ -1,7 +1,7 @@
 use Rattle.std.proofs.Common.{◌≡◌, ◌≤◌, map, vec_len}
 use Rattle.std.specs.List.{range_with_len}
 use Rattle.std.specs.Vec.{vec_capacity}
-use Rattle.loop_recorder.specs.Receipts.{pass_number}
+use Rattle.loop_sessions.specs.Receipts.{pass_number}
 use Rattle.loop_recorder.proofs.pool.Pool.collect_all.Given as goal
 
 abbrev pub invariant-loop-seat : goal.invariant-loop-seat

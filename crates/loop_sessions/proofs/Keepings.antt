@@ -1,0 +1,229 @@
+-- What a keep does, put together from its parts.
+use Rattle.std.proofs.Common.{◌≡◌, ℕ, suc, ◌+◌, ◌<◌, inl, inr, Some, None, Result, Ok, Err, List, [], ◌∷◌, ◌++◌, length, map, take, drop, get_or, refl, sym, ap, ◌∙◌, subst, arith}
+use Rattle.std.specs.Prelude.{OnOk}
+use Rattle.std.specs.Option.{option_to_list}
+use Rattle.std.proofs.lemmas.List.{append-nil, length-take-le, map-append, take-append-drop, take_all, take_more}
+use Rattle.std.proofs.Math.Seq.{drop-cons}
+use Rattle.loop_clips.specs.declared.clip.Clip.{Clip}
+use Rattle.loop_disk.specs.Medium.{Medium, IsSound}
+use Rattle.loop_record.specs.declared.clip.Span.{Span}
+use Rattle.loop_record.specs.declared.times.Times.{Times}
+use Rattle.loop_store.specs.Reopen.{TellsOne}
+use Rattle.loop_desk.specs.Bare.{bare_call}
+use Rattle.loop_desk.specs.Desk.{runs_told}
+use Rattle.loop_desk.specs.Seen.{DeskGoes, SeenDesk}
+use Rattle.loop_sessions.specs.declared.entry.Entry.{Entry}
+use Rattle.loop_sessions.specs.declared.entry.Noted.{Noted}
+use Rattle.loop_sessions.specs.declared.entry.Noted.TheVariants as noted
+use Rattle.loop_sessions.specs.declared.entry.Pass.{Pass}
+use Rattle.loop_sessions.specs.declared.fault.SessionFault.{SessionFault}
+use Rattle.loop_sessions.specs.declared.fault.SessionFault.TheVariants.{NoMemory}
+use Rattle.loop_sessions.specs.declared.keep.Kept.{Kept}
+use Rattle.loop_sessions.specs.Histories.{noted_call}
+use Rattle.loop_sessions.specs.Keeps.{Enters, KeepsHeld, Locks, Notes, clip_span, refusal_in, found_noted, lock_noted, refused_lock, runs_noted, with_tag}
+use Rattle.loop_sessions.specs.Receipts.{lock_note}
+use Rattle.loop_sessions.proofs.Noting.{enters-joined, notes-joined, notes-none}
+
+-- ---- the runs of a time
+
+-- runs, and one behind them
+found-more : (times : Times) (place : ℕ) (runs : List Span) (run : Span)
+    → found_noted times place (runs ++ run ∷ []) ≡ found_noted times place runs ++ noted.Sought times (place + length runs) (Some run) ∷ []
+found-more times place [] run = ap (λ n. noted.Sought times n (Some run) ∷ []) (omega arith)
+found-more times place (r ∷ rs) run =
+    let at : place + 1 + length rs ≡ place + length (r ∷ rs) = omega arith in
+    ap (λ l. noted.Sought times place (Some r) ∷ l) (found-more times (place + 1) rs run
+    ∙ ap (λ n. found_noted times (place + 1) rs ++ noted.Sought times n (Some run) ∷ []) at)
+
+-- what is noted of them is what the desk was asked
+runs-called : (times : Times) (place : ℕ) (runs : List Span)
+    → map noted_call (found_noted times place runs ++ noted.Sought times (place + length runs) None ∷ [])
+    ≡ map bare_call (runs_told times place runs)
+runs-called times place [] =
+    ap (λ n. map noted_call (noted.Sought times n None ∷ [])) (omega arith)
+runs-called times place (r ∷ rs) =
+    let at : place + length (r ∷ rs) ≡ place + 1 + length rs = omega arith in
+    ap (λ n. map noted_call (found_noted times place (r ∷ rs) ++ noted.Sought times n None ∷ [])) at
+    ∙ ap (λ l. noted_call (noted.Sought times place (Some r)) ∷ l) (runs-called times (place + 1) rs)
+
+-- one more was noted
+pub found-next : {A : Type 0} (camera : ℕ) (times : Times) (runs : List Span) (i place : ℕ) (run : Span)
+    (before between after : List Entry) (given through back : Pass A) → i < length runs → place ≡ i
+    → Enters camera (found_noted times 0 (take i runs)) before between given through
+    → Enters camera (noted.Sought times place (Some (get_or runs i run)) ∷ []) between after through back
+    → Enters camera (found_noted times 0 (take (i + 1) runs)) before after given back
+found-next camera times runs i place run before between after given through back below is first second =
+    let at : place ≡ 0 + length (take i runs) = omega (arith, is, below, length-take-le i runs (omega (arith, below))) in
+    let next = get_or runs i run in
+    subst (λ l. Enters camera l before after given back)
+    (ap (λ n. found_noted times 0 (take i runs) ++ noted.Sought times n (Some next) ∷ []) at
+    ∙ sym (found-more times 0 (take i runs) next) ∙ ap (found_noted times 0) (sym (take_more runs i run below)))
+    (enters-joined camera (found_noted times 0 (take i runs)) (noted.Sought times place (Some next) ∷ []) before between after given through back first second)
+
+-- and that there are no more
+pub found-all : {A : Type 0} (camera : ℕ) (times : Times) (runs : List Span) (i place : ℕ)
+    (before between after : List Entry) (given through back : Pass A) → i ≡ length runs → place ≡ i
+    → Enters camera (found_noted times 0 (take i runs)) before between given through
+    → Enters camera (noted.Sought times place None ∷ []) between after through back
+    → Enters camera (runs_noted times runs) before after given back
+found-all camera times runs i place before between after given through back end is first second =
+    subst (λ l. Enters camera l before after given back)
+    (λ j. found_noted times 0 (take_all i runs (omega (arith, end)) j) ++ noted.Sought times ((is ∙ end) j) None ∷ [])
+    (enters-joined camera (found_noted times 0 (take i runs)) (noted.Sought times place None ∷ []) before between after given through back first second)
+
+-- a desk told them, and all is noted
+pub seeks : {D A : Type 0} (medium : D → Medium) (camera : ℕ) (times : Times) (runs : List Span) (desk : SeenDesk D)
+    (before after : List Entry) (given back : Pass A) → DeskGoes medium desk desk (runs_told times 0 runs)
+    → Enters camera (runs_noted times runs) before after given back
+    → Notes medium camera (runs_noted times runs) desk desk before after given back
+seeks medium camera times runs desk before after given back goes enters =
+    let at : length runs ≡ 0 + length runs = omega arith in
+    record {
+      calls = runs_told times 0 runs;
+      goes = goes;
+      noted = ap (λ n. map noted_call (found_noted times 0 runs ++ noted.Sought times n None ∷ [])) at ∙ runs-called times 0 runs;
+      enters = enters;
+    }
+
+-- ---- one run after the other
+
+-- so many runs are locked, all without a refusal
+pub record LocksFirst {D A : Type 0} (medium : D → Medium) (camera tag count : ℕ) (runs : List Span) (clips : List Clip)
+    (old new : SeenDesk D) (before after : List Entry) (given back : Pass A) : Type 0 where
+  pub notes : Notes medium camera (map lock_noted clips) old new before after given back
+  pub locked : map clip_span clips ≡ map (with_tag tag) (take count runs)
+
+module _ {D A : Type 0} (medium : D → Medium) (camera tag : ℕ) where
+  -- none
+  pub lock-none : (runs : List Span) (desk : SeenDesk D) (history : List Entry) (pass : Pass A) → TellsOne desk.store
+      → ((medium desk.store.disk).honest → IsSound (medium desk.store.disk))
+      → LocksFirst medium camera tag 0 runs [] desk desk history history pass pass
+  lock-none runs desk history pass one sound = record {
+    notes = notes-none medium camera desk history history pass pass one sound refl refl refl;
+    locked = refl;
+  }
+
+  -- one more
+  pub lock-more : (count id : ℕ) (runs : List Span) (r : Span) (clips : List Clip) (old mid new : SeenDesk D)
+      (before between after : List Entry) (given through back : Pass A) → count < length runs
+      → LocksFirst medium camera tag count runs clips old mid before between given through
+      → Notes medium camera
+      (option_to_list (lock_note (record { from = (get_or runs count r).from; to = (get_or runs count r).to; tag = tag }) (Ok id)))
+      mid new between after through back
+      → LocksFirst medium camera tag (count + 1) runs
+      (clips ++ record { id = id; from = (get_or runs count r).from; to = (get_or runs count r).to; tag = tag } ∷ [])
+      old new before after given back
+  lock-more count id runs r clips old mid new before between after given through back below first n =
+      let clip : Clip = record { id = id; from = (get_or runs count r).from; to = (get_or runs count r).to; tag = tag } in
+      record {
+        notes = subst (λ (l : List Noted). Notes medium camera l old new before after given back)
+            (sym (map-append lock_noted clips (clip ∷ [])))
+            (notes-joined medium camera (map lock_noted clips) (lock_noted clip ∷ []) old mid new before between after given
+            through back first.notes n);
+        locked = map-append clip_span clips (clip ∷ []) ∙ ap (λ l. l ++ clip_span clip ∷ []) first.locked
+            ∙ sym (map-append (with_tag tag) (take count runs) (get_or runs count r ∷ []))
+            ∙ ap (map (with_tag tag)) (sym (take_more runs count r below));
+      }
+
+  -- all of them
+  pub lock-all : (runs : List Span) (count : ℕ) (clips : List Clip) (old new : SeenDesk D) (before after : List Entry)
+      (given back : Pass A) → count ≡ length runs
+      → LocksFirst medium camera tag count runs clips old new before after given back
+      → Locks medium camera tag runs clips old new before after given back (Ok tt)
+  lock-all runs count clips old new before after given back all first = record {
+    left = [];
+    notes = subst (λ (l : List Noted). Notes medium camera l old new before after given back)
+        (sym (append-nil (map lock_noted clips))) first.notes;
+    locked = ap (map (with_tag tag)) (sym (take_all count runs (omega (arith, all)))) ∙ sym first.locked
+        ∙ sym (append-nil (map clip_span clips));
+    whole = refl;
+  }
+
+  -- one was refused
+  pub lock-refused : (count : ℕ) (fault : SessionFault) (runs : List Span) (r : Span) (clips : List Clip)
+      (old mid new : SeenDesk D) (before between after : List Entry) (given through back : Pass A)
+      → count < length runs
+      → LocksFirst medium camera tag count runs clips old mid before between given through
+      → Notes medium camera
+      (option_to_list (lock_note (record { from = (get_or runs count r).from; to = (get_or runs count r).to; tag = tag }) (Err fault)))
+      mid new between after through back
+      → Locks medium camera tag runs clips old new before after given back (Err fault)
+  lock-refused count fault runs r clips old mid new before between after given through back below first n =
+      let span = with_tag tag (get_or runs count r) in
+      record {
+        left = span ∷ map (with_tag tag) (drop (count + 1) runs);
+        notes = notes-joined medium camera (map lock_noted clips) (option_to_list (lock_note span (Err fault))) old mid new
+            before between after given through back first.notes n;
+        locked = ap (map (with_tag tag)) (sym (take-append-drop count runs) ∙ ap (λ l. take count runs ++ l) (rest below))
+            ∙ map-append (with_tag tag) (take count runs) (get_or runs count r ∷ drop (count + 1) runs)
+            ∙ ap (λ l. l ++ span ∷ map (with_tag tag) (drop (count + 1) runs)) (sym first.locked);
+        whole = tt;
+      }
+    where
+      rest : count < length runs → drop count runs ≡ get_or runs count r ∷ drop (count + 1) runs
+      rest below =
+          let at : suc count ≡ count + 1 = omega arith in
+          drop-cons runs count r below ∙ ap (λ n. get_or runs count r ∷ drop n runs) at
+
+-- ---- both
+
+module _ {D A : Type 0} (medium : D → Medium) (camera tag : ℕ) (times : Times) where
+  -- nothing was told
+  pub keeps-none : (desk : SeenDesk D) (before after : List Entry) (given back : Pass A) (kept : Kept A)
+      (fault : SessionFault) → kept.clips.items ≡ [] → kept.fault ≡ Some fault
+      → Notes medium camera [] desk desk before after given back
+      → KeepsHeld medium camera times tag desk desk before after given back kept
+  keeps-none desk before after given back kept fault empty refused n = record {
+    notes = [];
+    noted = n;
+    keeps = inl (record { none = refl; clips = empty; refused = rw refused refl });
+  }
+
+  -- the runs were told, and there was no memory for clips
+  pub keeps-crammed : (runs : List Span) (desk : SeenDesk D) (before after : List Entry) (given back : Pass A) (kept : Kept A)
+      → kept.clips.items ≡ [] → kept.fault ≡ Some NoMemory
+      → Notes medium camera (runs_noted times runs) desk desk before after given back
+      → KeepsHeld medium camera times tag desk desk before after given back kept
+  keeps-crammed runs desk before after given back kept empty refused n = record {
+    notes = runs_noted times runs;
+    noted = n;
+    keeps = inr (record {
+      runs = runs;
+      left = map (with_tag tag) runs;
+      locked = ap (λ l. map clip_span l ++ map (with_tag tag) runs) (sym empty);
+      notes_are = sym (append-nil (runs_noted times runs))
+          ∙ (λ i. runs_noted times runs ++ (map lock_noted (sym empty i) ++ no_lock (map (with_tag tag) runs) i));
+      whole = λ none. absurd (never none);
+    });
+  }
+    where
+      never : kept.fault ≡ None → ⊥
+      never none = absurd cc
+
+      no_lock : (left : List Span) → [] ≡ refused_lock left kept.fault
+      no_lock [] = refl
+      no_lock (s ∷ left) = ap (refused_lock (s ∷ left)) (sym refused)
+
+  -- and they were locked, or some of them
+  pub keeps-some : (runs : List Span) (old mid new : SeenDesk D) (before between after : List Entry)
+      (given through back : Pass A) (slice : List Span) (kept : Kept A) (result : Result (Unit {0}) SessionFault)
+      → slice ≡ runs → kept.fault ≡ refusal_in result
+      → Notes medium camera (runs_noted times runs) old mid before between given through
+      → Locks medium camera tag slice kept.clips.items mid new between after through back result
+      → KeepsHeld medium camera times tag old new before after given back kept
+  keeps-some runs old mid new before between after given through back slice kept result same refused n l = record {
+    notes = runs_noted times runs ++ (map lock_noted kept.clips.items ++ refused_lock l.left (refusal_in result));
+    noted = notes-joined medium camera (runs_noted times runs) (map lock_noted kept.clips.items ++ refused_lock l.left (refusal_in result))
+        old mid new before between after given through back n l.notes;
+    keeps = inr (record {
+      runs = runs;
+      left = l.left;
+      locked = ap (map (with_tag tag)) (sym same) ∙ l.locked;
+      notes_are = ap (λ f. runs_noted times runs ++ (map lock_noted kept.clips.items ++ refused_lock l.left f)) (sym refused);
+      whole = λ none. whole result l.whole (sym refused ∙ none);
+    });
+  }
+    where
+      whole : (r : Result (Unit {0}) SessionFault) → OnOk r (l.left ≡ []) → refusal_in r ≡ None → l.left ≡ []
+      whole (Ok x) w none = w
+      whole (Err fault) w none = absurd cc

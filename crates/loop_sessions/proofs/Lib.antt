@@ -1,0 +1,10 @@
+pub mod Keeping
+pub mod Placing
+pub mod Opening
+pub mod Linking
+pub mod Crossing
+pub mod Apart
+pub mod Ends
+pub mod Noting
+pub mod Keepings
+pub mod Whole

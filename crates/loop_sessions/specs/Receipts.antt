@@ -1,0 +1,116 @@
+-- What a call leaves in the history and in the caller's pass.
+use Rattle.std.specs.Prelude.{◌≡◌, ℕ, Option, Some, None, Result, Ok, Err, IfOk, List, [], ◌∷◌, ◌++◌, length}
+use Rattle.std.specs.Option.{option_map}
+use Rattle.loop_disk.specs.Medium.{Medium}
+use Rattle.loop_record.specs.declared.clip.Span.{Span}
+use Rattle.loop_record.specs.declared.frame.Frame.{Frame}
+use Rattle.loop_record.specs.declared.frame.FrameHead.{FrameHead}
+use Rattle.loop_store.specs.declared.command.ReadFrame.{ReadFrame}
+use Rattle.loop_store.specs.declared.fault.StoreFault.{StoreFault}
+use Rattle.loop_desk.specs.declared.limits.Flushed.{Flushed}
+use Rattle.loop_desk.specs.declared.limits.Outline.{Outline}
+use Rattle.loop_desk.specs.declared.limits.Status.{Status}
+use Rattle.loop_sessions.specs.declared.entry.Entry.{Entry}
+use Rattle.loop_sessions.specs.declared.entry.Noted.{Noted}
+use Rattle.loop_sessions.specs.declared.entry.Noted.TheVariants as noted
+use Rattle.loop_sessions.specs.declared.entry.Pass.{Pass}
+use Rattle.loop_sessions.specs.declared.entry.Receipt.{Receipt}
+use Rattle.loop_sessions.specs.declared.entry.Stamp.{Stamp}
+use Rattle.loop_sessions.specs.declared.fault.SessionFault.{SessionFault}
+use Rattle.loop_sessions.specs.declared.fault.SessionFault.TheVariants.{SessionFull, NoMemory, Desk}
+use Rattle.loop_sessions.specs.Sessions.{SeenSession, TellsNow}
+
+-- the desk's own refusal, if the desk was asked
+abbrev pub desk_fault : SessionFault → Option StoreFault
+desk_fault SessionFull = None
+desk_fault NoMemory = None
+desk_fault (Desk fault) = Some fault
+
+-- the desk's answer, if it was asked
+abbrev pub heard : {T : Type 0} → Result T SessionFault → Option (Result T StoreFault)
+heard (Ok x) = Some (Ok x)
+heard (Err fault) = option_map Err (desk_fault fault)
+
+-- the same, where a refusal hands something back
+abbrev pub heard_back : {T X : Type 0} → Result T (SessionFault × X) → Option (Result T StoreFault)
+heard_back (Ok x) = Some (Ok x)
+heard_back (Err refused) = option_map Err (desk_fault refused.0)
+
+-- an answer that the desk never refuses
+abbrev pub answer_told : {T : Type 0} → Result T SessionFault → Option T
+answer_told (Ok x) = Some x
+answer_told (Err fault) = None
+
+abbrev pub stamp_of : {A : Type 0} → Frame A → Stamp
+stamp_of f = record { sequence = f.sequence; flags = f.flags; timestamp = f.timestamp }
+
+-- what a read answers, without pixels
+abbrev pub head_of : {A : Type 0} → Result (ReadFrame A) StoreFault → Result FrameHead StoreFault
+head_of (Ok frame) = Ok frame.head
+head_of (Err fault) = Err fault
+
+-- what is noted of each call
+abbrev pub submit_note : {A X : Type 0} → Frame A → Result ℕ (SessionFault × X) → Option Noted
+submit_note f result = option_map (noted.Submit (stamp_of f) (length f.bytes.items)) (heard_back result)
+
+abbrev pub flush_note : Result Flushed SessionFault → Option Noted
+flush_note result = option_map noted.Flush (heard result)
+
+abbrev pub lock_note : Span → Result ℕ SessionFault → Option Noted
+lock_note span result = option_map (noted.Lock span) (heard result)
+
+abbrev pub unlock_note : ℕ → Result (Unit {0}) SessionFault → Option Noted
+unlock_note id result = option_map (noted.Unlock id) (heard result)
+
+abbrev pub read_note : {A : Type 0} → ℕ → Result (ReadFrame A) SessionFault → Option Noted
+read_note number result = option_map (λ answer. noted.Read number (head_of answer)) (heard result)
+
+abbrev pub status_note : Result Status SessionFault → Option Noted
+status_note result = option_map noted.Status (answer_told result)
+
+abbrev pub entry : ℕ → Noted → Entry
+entry pass call = record { pass = pass; call = call }
+
+abbrev pub receipt : ℕ → ℕ → Noted → Receipt
+receipt camera place call = record { camera = camera; place = place; call = call }
+
+abbrev pub pass_number : {A : Type 0} → Pass A → ℕ
+pass_number pass = pass.number
+
+abbrev pub receipts_of : {A : Type 0} → Pass A → List Receipt
+receipts_of pass = pass.receipts.items
+
+-- one or none
+abbrev pub one_or_none : {X Y : Type 0} → (X → Y) → Option X → List Y
+one_or_none f None = []
+one_or_none f (Some x) = f x ∷ []
+
+-- the pass has a receipt more for what was noted
+pub record Receives {A : Type 0} (camera place : ℕ) (note : Option Noted) (before after : Pass A) : Type 0 where
+  pub receipts : receipts_of after ≡ receipts_of before ++ one_or_none (receipt camera place) note
+  pub number : pass_number after ≡ pass_number before
+
+-- the history has an entry more for what was noted, and the pass its receipt, at the entry's place
+pub record Records {A : Type 0} (camera : ℕ) (note : Option Noted) (old new : SeenSession) (before after : Pass A)
+    : Type 0 where
+  pub entered : new.history ≡ old.history ++ one_or_none (entry (pass_number before)) note
+  pub calls : new.calls ≡ old.calls
+  pub received : Receives camera (length old.history) note before after
+
+-- ---- outlines
+
+-- a status was noted, and the outline tells of the desk right after it
+pub record OutlinesNow {D A B : Type 0} (medium : D → Medium) (camera : ℕ) (old new : SeenSession)
+    (before after : Pass B) (result : Result (Outline A) SessionFault) : Type 0 where
+  pub told : Result Status SessionFault
+  pub records : Records camera (status_note told) old new before after
+  pub tells : IfOk result (λ o. (s : Status) × ((told ≡ Ok s) × TellsNow medium new.history o))
+
+-- So its caller sees it: the receipt has the status, and the outline is of the desk of a history that ends in its entry.
+pub record Outlines {D A B : Type 0} (medium : D → Medium) (camera : ℕ) (before after : Pass B)
+    (result : Result (Outline A) SessionFault) : Type 0 where
+  pub told : Result Status SessionFault
+  pub earlier : List Entry
+  pub receives : Receives camera (length earlier) (status_note told) before after
+  pub tells : IfOk result (λ o. (s : Status) × ((told ≡ Ok s)
+      × TellsNow medium (earlier ++ entry (pass_number before) (noted.Status s) ∷ []) o))

@@ -1,0 +1,82 @@
+//! What is noted of a call.
+
+ghost use Rattle.std.specs.Prelude.{◌≡◌};
+ghost use Rattle.loop_sessions.specs.Receipts.{pass_number, receipts_of};
+
+use loop_desk::{Flushed, Status};
+use loop_record::{FrameHead, Span, Times};
+use loop_store::StoreFault;
+use std::alloc::{Allocator, Global};
+
+/// A frame without its number and its bytes.
+#[derive(Clone, Copy, Debug, PartialEq, Eq)]
+pub struct Stamp {
+    /// The place in the camera's count of frames.
+    pub sequence: u32,
+    /// The buffer flags of the V4L2 userspace API.
+    pub flags: u32,
+    /// Microseconds.
+    pub timestamp: u64,
+}
+
+/// A call of a desk and its answer, without pixels.
+#[derive(Clone, Copy, Debug, PartialEq, Eq)]
+pub enum Noted {
+    /// A frame, the count of its bytes, and the number that it will have.
+    Submit(Stamp, u64, Result<u64, StoreFault>),
+    /// What was stored.
+    Flush(Result<Flushed, StoreFault>),
+    /// The numbers and the tag of a clip, and its id.
+    Lock(Span, Result<u32, StoreFault>),
+    /// The id of a clip.
+    Unlock(u32, Result<(), StoreFault>),
+    /// A number, and the head of its frame.
+    Read(u64, Result<FrameHead, StoreFault>),
+    /// How the desk stands.
+    Status(Status),
+    /// A time, and a run of the numbers of its held frames by its place among these runs; None where there are no more.
+    Sought(Times, u64, Option<Span>),
+}
+
+/// A call in a desk's history.
+#[derive(Clone, Copy, Debug, PartialEq, Eq)]
+pub struct Entry {
+    /// The number of the caller's pass.
+    pub pass: u32,
+    /// The call.
+    pub call: Noted,
+}
+
+/// What a caller gets for a call.
+#[derive(Clone, Copy, Debug, PartialEq, Eq)]
+pub struct Receipt {
+    /// The camera.
+    pub camera: u32,
+    /// The place in the history of the camera's desk.
+    pub place: u64,
+    /// The call.
+    pub call: Noted,
+}
+
+/// One caller's receipts.
+#[derive(Drop)]
+pub struct Pass<A: Allocator = Global> {
+    pub(crate) number: u32,
+    pub(crate) receipts: Vec<Receipt, A>,
+}
+
+impl<A: Allocator> Pass<A> {
+    /// Its number, from 0.
+    pub fn number(&self) -> u32
+        ensures { result ≡ pass_number self.now }
+    {
+        self.number
+    }
+
+    /// Its receipts, in the order of the calls.
+    pub fn receipts(&self) -> &[Receipt]
+        ensures { result.now ≡ receipts_of self.now }
+    {
+        self.receipts.as_slice()
+    }
+}

@@ -1,0 +1,437 @@
+//! A recorder: desks and queues that threads share, each under a lock.
+
+ghost use Rattle.std.specs.Prelude.{◌≡◌, ◌<◌, ◌≤◌, ◌^◌, ℕ, All, IfErr, IfOk, None, length, map, replicate, vec_len};
+ghost use Rattle.std.specs.List.{range_with_len};
+ghost use Rattle.loop_sessions.specs.declared.fault.NewRefused.TheVariants.{NoMemory};
+ghost use Rattle.loop_sessions.specs.Ends.{IsEnd};
+ghost use Rattle.loop_sessions.specs.Keeps.{KeepsSome};
+ghost use Rattle.loop_sessions.specs.Opened.{IsReady, TellEach, desks_of};
+ghost use Rattle.loop_sessions.specs.Ports.{AnswersCopy, AnswersIoctl, AnswersTick};
+ghost use Rattle.loop_sessions.specs.Receipts.{Outlines, Receives, desk_fault, flush_note, lock_note, pass_number, read_note, status_note, submit_note, unlock_note};
+ghost use Rattle.loop_sessions.specs.Refused.{RefusesEnd};
+ghost use Rattle.loop_sessions.specs.Sessions.{AnswersRead};
+
+use crate::ended::{least_broken, open_all};
+use crate::keep::Kept;
+use crate::opened::{Camera, lock_all, make_passes, outline_all};
+use crate::{EndedCamera, NewRefused, Pace, Pass, QueueLock, Session, SessionFault};
+use loop_capture::{Device, FrameSource, Tick};
+use loop_desk::{Flushed, Outline, Status};
+use loop_disk::Disk;
+use loop_ioctl::{BufferType, Ioctl, IoctlReply};
+use loop_plane::{Memory, PlaneMemory};
+use loop_record::{Frame, Geometry, Times};
+use loop_store::ReadFrame;
+use loop_vb2::{Errno, Refused};
+use std::alloc::{Allocator, Global};
+use std::fmt;
+use std::fmt::Display;
+use std::marker::Model;
+use std::sync::{Mutex, Wait};
+
+/// Desks, each under a lock with its history, and queues, each under a lock with its table of fds. Contracts see the
+/// outlines that the desks had, and how many passes were made.
+#[derive(Drop)]
+pub struct Recorder<
+    D: Disk + Drop,
+    P: PlaneMemory = Box<dyn PlaneMemory + Send>,
+    A: Allocator + Copy = Global,
+> {
+    sessions: Vec<Mutex<Session<D, A>>, A>,
+    ports: Vec<QueueLock<P, A>, A>,
+    outlines: Vec<Outline<A>, A>,
+    passes: u32,
+    ended: Vec<EndedCamera<D, A>, A>,
+    given_up: Vec<u64, A>,
+}
+
+/// What is left of a recorder.
+#[derive(Drop)]
+pub struct Ended<
+    D: Disk + Drop,
+    P: PlaneMemory = Box<dyn PlaneMemory + Send>,
+    A: Allocator + Copy = Global,
+> {
+    /// The desks with their histories.
+    pub cameras: Vec<EndedCamera<D, A>, A>,
+    /// The queues with their tables, each in its camera's lock, which no other thread has.
+    pub ports: Vec<QueueLock<P, A>, A>,
+    /// The passes.
+    pub passes: Vec<Pass<A>, A>,
+    /// How many frames of each camera were given up.
+    pub given_up: Vec<u64, A>,
+}
+
+/// Why a recorder gave no end.
+#[derive(Drop)]
+pub enum EndRefused<
+    D: Disk + Drop,
+    P: PlaneMemory = Box<dyn PlaneMemory + Send>,
+    A: Allocator + Copy = Global,
+> {
+    /// So many passes were given, fewer than were made. All is handed back.
+    PassesMissing(u32, u32, Recorder<D, P, A>, Vec<Pass<A>, A>),
+    /// The least camera whose history isn't that of the passes' receipts, or that they name and isn't there.
+    TieBroken(u32, Ended<D, P, A>),
+    /// Memory for the workers of a recording was refused. All is handed back; `end` itself never answers it.
+    NoMemory(Recorder<D, P, A>, Vec<Pass<A>, A>),
+}
+
+impl<D: Disk + Drop, P: PlaneMemory, A: Allocator + Copy> Display for EndRefused<D, P, A> {
+    /// The refusal's name, and its numbers.
+    fn fmt<W: fmt::Write>(&self, f: &mut fmt::Formatter<W>) -> fmt::Result {
+        match self {
+            EndRefused::PassesMissing(given, made, _, _) => write!(
+                f,
+                "PassesMissing {given} {made}"
+            ),
+            EndRefused::TieBroken(camera, _) => write!(f, "TieBroken {camera}"),
+            EndRefused::NoMemory(_, _) => f.write_str("NoMemory"),
+        }
+    }
+}
+
+impl<D: Disk + Drop, P: PlaneMemory, A: Allocator + Copy> Model for Recorder<D, P, A> {
+    ghost use Rattle.std.specs.Prelude.{◌≡◌, ◌≤◌, ◌<◌, ◌^◌, [], replicate, vec_len};
+    ghost use Rattle.std.specs.Vec.{vec_capacity};
+    ghost use Rattle.loop_sessions.specs.Opened.{AreNumbered, SeenRecorder};
+
+    ghost Value = { SeenRecorder A };
+
+    ghost view = { λ r. record { outlines = r.outlines.items; passes = r.passes } };
+
+    ghost invariant = { λ r. (vec_len r.sessions ≡ vec_len r.outlines) × ((vec_len r.ports ≡ vec_len r.outlines)
+        × ((r.ended.items ≡ []) × ((vec_len r.sessions ≤ vec_capacity r.ended) × ((vec_len r.sessions < 2 ^ 32)
+        × (AreNumbered (vec_len r.outlines) r.ports.items × (r.given_up.items ≡ replicate (vec_len r.outlines) 0)))))) };
+}
+
+impl<D: Disk + Drop, P: PlaneMemory, A: Allocator + Copy> Recorder<D, P, A> {
+    /// Puts each desk under a lock of its own and each queue under a lock with its table, and makes so many passes.
+    /// Where memory is refused, the cameras come back. No desk's status may show `must_reopen`.
+    pub fn new(
+        alloc: A,
+        cameras: Vec<Camera<D, P, A>, A>,
+        passes: u32,
+    ) -> Result<(Self, Vec<Pass<A>, A>), NewRefused<D, P, A>>
+        requires few { vec_len cameras < 2 ^ 32 }
+        requires ready { All (IsReady P.plane) cameras.items }
+        ensures outlines { IfOk result (λ made. TellEach D.medium (desks_of cameras.items) made.0.outlines) }
+        ensures count { IfOk result (λ made. made.0.passes ≡ passes) }
+        ensures passes { IfOk result (λ made. map pass_number made.1.items ≡ range_with_len 0 passes) }
+        ensures refused { IfErr result (λ refused. refused ≡ NoMemory cameras) }
+    {
+        let count = cameras.len();
+        let Ok(sessions) = Vec::with_capacity(alloc, count) else {
+            return Err(NewRefused::NoMemory(cameras));
+        };
+        let Ok(ports) = Vec::with_capacity(alloc, count) else {
+            return Err(NewRefused::NoMemory(cameras));
+        };
+        let Ok(ended) = Vec::with_capacity(alloc, count) else {
+            return Err(NewRefused::NoMemory(cameras));
+        };
+        let Ok(given_up) = vec![in alloc; 0u64; count] else {
+            return Err(NewRefused::NoMemory(cameras));
+        };
+        let Ok(made) = make_passes(alloc, passes) else {
+            return Err(NewRefused::NoMemory(cameras));
+        };
+        let Ok(outlines) = outline_all(alloc, cameras.as_slice()) else {
+            return Err(NewRefused::NoMemory(cameras));
+        };
+        let Ok(inside) = outline_all(alloc, cameras.as_slice()) else {
+            return Err(NewRefused::NoMemory(cameras));
+        };
+        let (sessions, ports) = lock_all(alloc, cameras, inside, sessions, ports);
+        let recorder = Recorder {
+            sessions,
+            ports,
+            outlines,
+            passes,
+            ended,
+            given_up,
+        };
+        Ok((recorder, made))
+    }
+
+    /// As `Session::submit`, at a camera's desk.
+    pub fn submit<R: Wait>(
+        &self,
+        rt: &R,
+        camera: u32,
+        pass: &mut Pass<A>,
+        frame: Frame<A>,
+    ) -> Result<u64, (SessionFault, Frame<A>)>
+        requires { camera < length self.now.outlines }
+        ensures receives { (place : ℕ) × Receives camera place (submit_note frame result) pass.old pass.new }
+        ensures back { IfErr result (λ refused. refused.1 ≡ frame) }
+    {
+        self.sessions[camera as usize]
+            .lock(rt)
+            .submit(camera, pass, frame)
+    }
+
+    /// As `Session::flush`, at a camera's desk.
+    pub fn flush<R: Wait, Q: Pace>(
+        &self,
+        rt: &R,
+        camera: u32,
+        pass: &mut Pass<A>,
+        pace: &Q,
+    ) -> Result<Flushed, SessionFault>
+        requires { camera < length self.now.outlines }
+        ensures { (place : ℕ) × Receives camera place (flush_note result) pass.old pass.new }
+    {
+        self.sessions[camera as usize]
+            .lock(rt)
+            .flush(camera, pass, pace)
+    }
+
+    /// As `Session::lock_clip`, at a camera's desk.
+    pub fn lock_clip<R: Wait>(
+        &self,
+        rt: &R,
+        camera: u32,
+        pass: &mut Pass<A>,
+        from: u64,
+        to: u64,
+        tag: u64,
+    ) -> Result<u32, SessionFault>
+        requires { camera < length self.now.outlines }
+        ensures { (place : ℕ)
+            × Receives camera place (lock_note (record { from = from; to = to; tag = tag }) result) pass.old pass.new }
+    {
+        self.sessions[camera as usize]
+            .lock(rt)
+            .lock_clip(camera, pass, from, to, tag)
+    }
+
+    /// As `Session::unlock_clip`, at a camera's desk.
+    pub fn unlock_clip<R: Wait>(
+        &self,
+        rt: &R,
+        camera: u32,
+        pass: &mut Pass<A>,
+        id: u32,
+    ) -> Result<(), SessionFault>
+        requires { camera < length self.now.outlines }
+        ensures { (place : ℕ) × Receives camera place (unlock_note id result) pass.old pass.new }
+    {
+        self.sessions[camera as usize]
+            .lock(rt)
+            .unlock_clip(camera, pass, id)
+    }
+
+    /// As `Session::read_frame`, at a camera's desk.
+    pub fn read_frame<R: Wait>(
+        &self,
+        rt: &R,
+        alloc: A,
+        camera: u32,
+        pass: &mut Pass<A>,
+        number: u64,
+    ) -> Result<ReadFrame<A>, SessionFault>
+        requires { camera < length self.now.outlines }
+        ensures receives { (place : ℕ) × Receives camera place (read_note number result) pass.old pass.new }
+        ensures frame { IfOk result (AnswersRead D.medium number) }
+    {
+        self.sessions[camera as usize]
+            .lock(rt)
+            .read_frame(alloc, camera, pass, number)
+    }
+
+    /// As `Session::keep`, at a camera's desk.
+    pub fn keep<R: Wait>(
+        &self,
+        rt: &R,
+        alloc: A,
+        camera: u32,
+        pass: &mut Pass<A>,
+        times: Times,
+        tag: u64,
+    ) -> Kept<A>
+        requires { camera < length self.now.outlines }
+        ensures { KeepsSome camera times tag pass.old pass.new result }
+    {
+        self.sessions[camera as usize]
+            .lock(rt)
+            .keep(alloc, camera, pass, times, tag)
+    }
+
+    /// As `Session::status`, at a camera's desk.
+    pub fn status<R: Wait>(
+        &self,
+        rt: &R,
+        camera: u32,
+        pass: &mut Pass<A>,
+    ) -> Result<Status, SessionFault>
+        requires { camera < length self.now.outlines }
+        ensures receives { (place : ℕ) × Receives camera place (status_note result) pass.old pass.new }
+        ensures unheard { IfErr result (λ fault. desk_fault fault ≡ None) }
+    {
+        self.sessions[camera as usize].lock(rt).status(camera, pass)
+    }
+
+    /// How many frames wait at a camera's desk. It promises nothing, and is no call of the history.
+    pub fn pending<R: Wait>(&self, rt: &R, camera: u32) -> u32
+        requires { camera < length self.now.outlines }
+    {
+        self.sessions[camera as usize].lock(rt).pending()
+    }
+
+    /// As `Session::outline`, at a camera's desk. The receipt says how the desk stands, and `end` ties it to the history:
+    /// so the outline's next number, the count of its frames and how many wait are that desk's at that place.
+    pub fn outline<R: Wait>(
+        &self,
+        rt: &R,
+        alloc: A,
+        camera: u32,
+        pass: &mut Pass<A>,
+    ) -> Result<Outline<A>, SessionFault>
+        requires { camera < length self.now.outlines }
+        ensures { Outlines D.medium camera pass.old pass.new result }
+    {
+        self.sessions[camera as usize]
+            .lock(rt)
+            .outline(alloc, camera, pass)
+    }
+
+    /// As `Port::ioctl`, at a camera's queue.
+    pub fn ioctl<R: Wait>(
+        &self,
+        rt: &R,
+        camera: u32,
+        call: Ioctl<P, A>,
+    ) -> Result<IoctlReply<P, A>, Refused<P, A>>
+        requires { camera < length self.now.outlines }
+        ensures { AnswersIoctl P.plane call result }
+    {
+        self.ports[camera as usize].port.lock(rt).ioctl(call)
+    }
+
+    /// As `Port::tick`, at a camera's queue.
+    pub fn tick<R: Wait, S: FrameSource, B: Allocator + Copy>(
+        &self,
+        rt: &R,
+        camera: u32,
+        device: &mut Device<S, B>,
+        now: u64,
+    ) -> Tick
+        requires { camera < length self.now.outlines }
+        ensures { AnswersTick S.next_gives P.plane now result device.old device.new }
+    {
+        self.ports[camera as usize].port.lock(rt).tick(device, now)
+    }
+
+    /// As `Port::copy_plane`, at a camera's queue.
+    pub fn copy_plane<R: Wait>(
+        &self,
+        rt: &R,
+        camera: u32,
+        index: u32,
+        plane: u32,
+        at: u32,
+        out: &mut [u8],
+    ) -> Result<(), Errno>
+        requires { camera < length self.now.outlines }
+        ensures { AnswersCopy index plane at out.old out.new result }
+    {
+        self.ports[camera as usize]
+            .port
+            .lock(rt)
+            .copy_plane(index, plane, at, out)
+    }
+
+    /// Whether a buffer of a camera's queue waits for a frame. It promises nothing.
+    pub fn is_fed<R: Wait>(&self, rt: &R, camera: u32) -> bool
+        requires { camera < length self.now.outlines }
+    {
+        self.ports[camera as usize].port.lock(rt).is_fed()
+    }
+
+    /// The memory of a camera's queue. It promises nothing.
+    pub fn kind<R: Wait>(&self, rt: &R, camera: u32) -> Memory
+        requires { camera < length self.now.outlines }
+    {
+        self.ports[camera as usize].port.lock(rt).kind()
+    }
+
+    /// The buffer type of a camera's queue. It promises nothing.
+    pub fn buf_type<R: Wait>(&self, rt: &R, camera: u32) -> BufferType
+        requires { camera < length self.now.outlines }
+    {
+        self.ports[camera as usize].port.lock(rt).buf_type()
+    }
+
+    /// The geometry of a camera's store. It promises nothing.
+    pub fn geometry<R: Wait>(&self, rt: &R, camera: u32) -> Geometry
+        requires { camera < length self.now.outlines }
+    {
+        self.sessions[camera as usize].lock(rt).geometry()
+    }
+
+    /// Whether as many frames wait at a camera's desk as may. It promises nothing.
+    pub fn is_full<R: Wait>(&self, rt: &R, camera: u32) -> bool
+        requires { camera < length self.now.outlines }
+    {
+        self.sessions[camera as usize].lock(rt).is_full()
+    }
+
+    /// Whether as many frames wait at a camera's desk as a flush stores at most. It promises nothing, and is no call of
+    /// the history.
+    pub fn has_group<R: Wait>(&self, rt: &R, camera: u32) -> bool
+        requires { camera < length self.now.outlines }
+    {
+        self.sessions[camera as usize].lock(rt).has_group()
+    }
+
+    /// Memory of a frame that a camera's desk has stored, for a later one (`Desk::spare_memory`). It isn't noted.
+    pub fn spare_memory<R: Wait>(&self, rt: &R, camera: u32) -> Option<Vec<u8, A>>
+        requires { camera < length self.now.outlines }
+    {
+        self.sessions[camera as usize].lock(rt).spare_memory()
+    }
+
+    /// Keeps memory for a later frame of a camera (`Desk::keep_memory`). It isn't noted.
+    pub fn keep_memory<R: Wait>(&self, rt: &R, camera: u32, bytes: Vec<u8, A>)
+        requires { camera < length self.now.outlines }
+    {
+        self.sessions[camera as usize].lock(rt).keep_memory(bytes);
+    }
+
+    /// Opens the locks, and compares the passes' receipts with the histories: `PassesMissing`, then `TieBroken`. It
+    /// takes no memory.
+    pub fn end(self, passes: Vec<Pass<A>, A>) -> Result<Ended<D, P, A>, EndRefused<D, P, A>>
+        ensures ended { IfOk result (IsEnd D.medium self.outlines) }
+        ensures passes { IfOk result (λ e. e.passes ≡ passes) }
+        ensures enough { IfOk result (λ _. self.passes ≤ vec_len passes) }
+        ensures given_up { IfOk result (λ e. e.given_up.items ≡ replicate (length self.outlines) 0) }
+        ensures refused { IfErr result (RefusesEnd D.medium self passes.items) }
+    {
+        if passes.len() < self.passes as usize {
+            let given = passes.len() as u32;
+            let made = self.passes;
+            return Err(EndRefused::PassesMissing(given, made, self, passes));
+        }
+        let Recorder {
+            sessions,
+            ports,
+            outlines,
+            passes: _,
+            ended,
+            given_up,
+        } = self;
+        let cameras = open_all(sessions, ended);
+        let broken = least_broken(cameras.as_slice(), outlines.as_slice(), passes.as_slice());
+        let ended = Ended {
+            cameras,
+            ports,
+            passes,
+            given_up,
+        };
+        match broken {
+            None => Ok(ended),
+            Some(camera) => Err(EndRefused::TieBroken(camera, ended)),
+        }
+    }
+}
