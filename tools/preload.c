@@ -1,5 +1,5 @@
-/* Stands between a program and its files, for kill_check, power_check, format_check, start_check and save_check: built by them as a shared library
- * and preloaded.
+/* Stands between a program and its files, for kill_check, power_check, format_check, start_check, save_check and stall_check: built by them as a
+ * shared library and preloaded.
  *
  *   LOOP_FILE   the file: calls on descriptors that were opened by this name
  *   LOOP_LOG    a file to which each change of it is appended before it is made, and each sync and answer once it was made: a byte W, T, S or A,
@@ -16,6 +16,8 @@
  *               flock, statx, readlink, pread, pwrite, ftruncate, fsync, fdatasync, rename and unlink. ERRNO 0: the read or write is of one byte alone
  *   LOOP_KILL   COUNT   the program is killed (SIGKILL) before its call of that number, from 0, that writes, cuts, syncs or renames LOOP_FILE or LOOP_TEXT, or
  *               syncs their folder
+ *   LOOP_STALL  FROM:EVERY:HOLD   a disk that stalls: from FROM on, and every EVERY after it, each sync of a file NAME.loop that comes within HOLD
+ *               ends only after that; all in milliseconds of CLOCK_MONOTONIC
  *   LOOP_THREADS   COUNT   the thread of that number, from 0, can't be started (EAGAIN)
  */
 #define _GNU_SOURCE
@@ -31,6 +33,7 @@
 #include <string.h>
 #include <sys/stat.h>
 #include <sys/syscall.h>
+#include <time.h>
 #include <unistd.h>
 
 /* What is longer than a segment's header, after the front of a store, is a slot. */
@@ -257,6 +260,25 @@ int ftruncate64(int fd, off_t size) {
     return ftruncate(fd, size);
 }
 
+/* Waits while the disk stalls. */
+static void stall(int fd) {
+    static const char END[] = ".loop";
+    const char *given = getenv("LOOP_STALL");
+    long long from, every, hold;
+    if (!given || sscanf(given, "%lld:%lld:%lld", &from, &every, &hold) != 3 || every <= 0) return;
+    char name[4096], link[64];
+    snprintf(link, sizeof link, "/proc/self/fd/%d", fd);
+    ssize_t length = syscall(SYS_readlink, link, name, sizeof name);
+    if (length < (ssize_t)sizeof END - 1 || memcmp(name + length - (sizeof END - 1), END, sizeof END - 1)) return;
+    struct timespec now;
+    clock_gettime(CLOCK_MONOTONIC, &now);
+    long long at = now.tv_sec * 1000LL + now.tv_nsec / 1000000 - from;
+    if (at < 0 || at % every >= hold) return;
+    long long rest = hold - at % every;
+    struct timespec pause = {rest / 1000, rest % 1000 * 1000000};
+    nanosleep(&pause, NULL);
+}
+
 /* A sync of the text or of its folder. */
 static int sync_beside(int fd, long number, char kind, int swallows, int refuses) {
     if (mode == swallows) return 0;
@@ -271,6 +293,7 @@ static int sync_beside(int fd, long number, char kind, int swallows, int refuses
 
 static int sync_of(int fd, long number) {
     if (fails()) return -1;
+    stall(fd);
     const char *text = getenv("LOOP_TEXT"), *file = getenv("LOOP_FILE");
     if (is_watched(fd) || is_folder_of(fd, text) || is_folder_of(fd, file)) reached();
     if (fd != file_fd && is_text(fd)) return sync_beside(fd, number, 's', NO_TEXT_SYNC, FAIL_TEXT_SYNC);

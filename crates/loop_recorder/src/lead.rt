@@ -31,8 +31,17 @@ pub trait Lead: Pace {
     /// A frame of a camera was given up.
     fn gave_up(&self, camera: u32);
 
+    /// A flush of a camera by the flusher stored so many frames.
+    fn stored(&self, _camera: u32, _count: u32) {}
+
+    /// Whether workers wait without an end, asleep, for a buffer to be free and for room at a desk. Otherwise they look
+    /// so many times, and then go on without.
+    fn is_patient(&self) -> bool {
+        false
+    }
+
     /// A flush of a camera was refused so; whether its frames are flushed again. Until this is answered, frames that
-    /// come to a full desk are given up.
+    /// come to a full desk wait where the workers are patient, and are given up otherwise.
     fn flushes_again<R: Wait + Clock>(&self, rt: &R, camera: u32, fault: SessionFault) -> bool;
 
     /// What a caller with a pass of its own does beside the workers, from when all are started until it leaves.

@@ -12,12 +12,21 @@ pub enum ConfigFault {
     /// The text is no TOML, on the line of this number, from 1.
     #[error("line {0} can't be read as TOML")]
     BadToml(u64),
-    /// A key beside `orders` and `camera`.
-    #[error("there is a key other than orders and [[camera]]")]
+    /// A key beside `orders`, `answers`, `times` and `camera`.
+    #[error("there is a key other than orders, answers, times and [[camera]]")]
     UnknownKey,
     /// `orders` is no text, or an empty one.
     #[error("orders is a path")]
     BadOrders,
+    /// `answers` is no text, or an empty one.
+    #[error("answers is a path")]
+    BadAnswers,
+    /// `orders` and `answers` are the same path.
+    #[error("orders and answers are two paths")]
+    SamePath,
+    /// `times` is neither true nor false.
+    #[error("times is true or false")]
+    BadTimes,
     /// `camera` is no array of tables.
     #[error("cameras are written below [[camera]]")]
     BadCameras,
@@ -35,6 +44,9 @@ pub enum ConfigFault {
 /// What is wrong with a camera.
 #[derive(Clone, Copy, Debug, PartialEq, Eq, Error)]
 pub enum CameraFault {
+    /// Memory was refused.
+    #[error("no memory")]
+    NoMemory,
     /// It is no table.
     #[error("it is no table")]
     NoTable,
@@ -77,6 +89,18 @@ pub enum CameraFault {
     /// `buffers` is no whole number from 4 to 32.
     #[error("buffers is a whole number from 4 to 32")]
     BadBuffers,
+    /// `memory` is no whole number of bytes above 0, and no text of seconds.
+    #[error("memory is a number of bytes above 0, or a text of seconds, as \"4 s\"")]
+    BadMemory,
+    /// `save_to` is no text, or an empty one.
+    #[error("save_to is the path of a folder")]
+    BadSaveTo,
+    /// `release` is neither true nor false.
+    #[error("release is true or false")]
+    BadRelease,
+    /// `release` is true, and there is no `save_to`.
+    #[error("release stands only beside save_to")]
+    NoSaveTo,
     /// `pattern` can't be read, or no store may have such frames.
     #[error("pattern is a size, a format and a rate, as 640x480 YM12 25:1")]
     BadPattern,
@@ -94,5 +118,11 @@ impl From<AllocError> for ConfigFault {
 impl<T: Drop> From<AllocFailed<T>> for ConfigFault {
     fn from(_refused: AllocFailed<T>) -> ConfigFault {
         ConfigFault::NoMemory
+    }
+}
+
+impl From<AllocError> for CameraFault {
+    fn from(_refused: AllocError) -> CameraFault {
+        CameraFault::NoMemory
     }
 }

@@ -6,9 +6,13 @@ use std::sync::atomic::{AtomicU64, Ordering};
 /// What is counted of a camera since the program began.
 #[derive(Drop)]
 pub struct Counts {
+    /// Frames that came to the desk or were given up: each that was taken for the device is one of them, in its order.
+    brought: AtomicU64,
     /// Frames that were given to the desk.
-    pub submitted: AtomicU64,
-    /// Frames that were given up: no buffer was there for them, or no room at the desk.
+    submitted: AtomicU64,
+    /// Frames that left the desk: they were stored, or the desk was given up.
+    left: AtomicU64,
+    /// Frames that were given up: no buffer was there for them, no room at the desk, or the disk failed while they waited.
     pub given_up: AtomicU64,
     /// How often the disk or the store failed, and the store was opened again.
     pub faults: AtomicU64,
@@ -20,7 +24,9 @@ impl Counts {
     /// Nothing yet.
     pub fn new() -> Counts {
         Counts {
+            brought: AtomicU64::new(0),
             submitted: AtomicU64::new(0),
+            left: AtomicU64::new(0),
             given_up: AtomicU64::new(0),
             faults: AtomicU64::new(0),
             entries: AtomicU64::new(0),
@@ -32,6 +38,7 @@ impl Counts {
         match step {
             Step::Submitted => {
                 self.submitted.fetch_add(1, Ordering::SeqCst);
+                self.brought.fetch_add(1, Ordering::SeqCst);
             }
             Step::Dequeued | Step::FlushLocked | Step::Read => {
                 self.entries.fetch_add(1, Ordering::SeqCst);
@@ -40,10 +47,44 @@ impl Counts {
         }
     }
 
+    /// A frame was given up before it came to the desk.
+    pub fn give_up(&self) {
+        self.given_up.fetch_add(1, Ordering::SeqCst);
+        self.brought.fetch_add(1, Ordering::SeqCst);
+    }
+
+    /// So many frames were stored.
+    pub fn store(&self, count: u32) {
+        self.left.fetch_add(u64::from(count), Ordering::SeqCst);
+    }
+
     /// Whether so many frames of the source have come to the desk or were given up.
-    pub fn has_brought(&self, taken: u64) -> bool {
+    pub fn has_brought(&self, come: u64) -> bool {
+        self.brought.load(Ordering::SeqCst) >= come
+    }
+
+    /// Frames that have come from the source, so many in all, and are neither stored nor given up. A frame that comes to
+    /// the desk meanwhile may be counted twice, and never left out.
+    pub fn behind(&self, come: u64) -> u64 {
+        let brought = self.brought.load(Ordering::SeqCst);
+        let left = self.left.load(Ordering::SeqCst);
         let submitted = self.submitted.load(Ordering::SeqCst);
-        let given_up = self.given_up.load(Ordering::SeqCst);
-        submitted.wrapping_add(given_up) >= taken
+        come.saturating_sub(brought)
+            .saturating_add(submitted.saturating_sub(left))
+    }
+
+    /// How much has been done to frames: another number where one was brought or stored since.
+    pub fn steps(&self) -> u64 {
+        let brought = self.brought.load(Ordering::SeqCst);
+        brought.wrapping_add(self.left.load(Ordering::SeqCst))
+    }
+
+    /// Desk and queue are given up, and with them each frame of so many that came and isn't stored.
+    pub fn lose(&self, come: u64) {
+        let lost = self.behind(come);
+        self.given_up.fetch_add(lost, Ordering::SeqCst);
+        self.brought.store(come, Ordering::SeqCst);
+        self.left
+            .store(self.submitted.load(Ordering::SeqCst), Ordering::SeqCst);
     }
 }

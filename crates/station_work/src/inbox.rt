@@ -71,6 +71,11 @@ impl<Q: Drop, A: Drop, N: Drop + Copy> Inbox<Q, A, N> {
         desk.question.take()
     }
 
+    /// Puts the question that was taken back: who comes next answers it.
+    pub fn again<R: Wait>(&self, rt: &R, question: Q) {
+        self.desk.lock(rt).question = Some(question);
+    }
+
     /// Answers the question that was taken.
     pub fn reply<R: Wait>(&self, rt: &R, answer: A) {
         let mut desk = self.desk.lock(rt);

@@ -2,8 +2,9 @@
 //!
 //! Each camera has a thread for its source (`source`), which puts frames into a `feed`, and one for its sessions
 //! (`sessions`): it opens or makes the store, and records into it by the workers of loop_recorder, a session behind the
-//! other. `state` is what the threads of a camera share, and leads its recordings; `link` is what source and store know of
-//! each other, `counts` what is counted, `absent` why a store isn't there, `clock` the time of frames, `size` their bytes.
+//! other. `state` is what the threads of a camera share, and leads its recordings; `turn` says when a session may end, `link`
+//! is what source and store know of each other, `counts` what is counted, `absent` why a store isn't there, `clock` the time
+//! of frames, `size` their bytes and how many wait.
 //!
 //! `run` starts all that; `orders` reads orders and does them: it asks a camera through its `inbox`, where a visitor of the
 //! recording answers (`clerk`). `save` writes clips meanwhile, `places` opens files and makes stores, `told` makes lines of
@@ -31,6 +32,7 @@ mod size;
 mod source;
 mod state;
 mod told;
+mod turn;
 
 pub use places::Places;
 pub use run::{NotBegun, run_station};

@@ -45,7 +45,12 @@ pub fn run_station<
     W: Write + Drop + Send + 'static,
 >(rt: &R, config: Config, input: I, out: W, watched: bool) -> Result<bool, NotBegun> {
     let alloc = rt.alloc();
-    let Config { orders, cameras } = config;
+    let Config {
+        orders,
+        answers: _,
+        times: _,
+        cameras,
+    } = config;
     let Ok(timeline) = Timeline::new(rt) else {
         return Err(NotBegun::NoClock);
     };

@@ -220,10 +220,13 @@ fn record_into<R: AllocGlobal + Wait + Clock>(
     store: Store<FileDisk>,
 ) -> Absent {
     state.link.set_store(rt, store.geometry());
-    match camera_for(rt.alloc(), store, state.config.buffers) {
+    state.begin_queue();
+    let why = match camera_for(rt.alloc(), store, state.config.buffers) {
         Ok((camera, start)) => run_sessions(rt, state, pool, camera, start),
         Err(_) => Absent::NoBuffers,
-    }
+    };
+    state.lose_rest(rt);
+    why
 }
 
 /// A camera before a store, and what its queue of so many buffers is started with.
@@ -262,7 +265,10 @@ fn run_sessions<R: AllocGlobal + Wait + Clock>(
             Ok(camera) => camera,
             Err(why) => return why,
         };
-        if state.is_stopped() {
+        if state.is_broken() {
+            return Absent::Store(StoreFault::MustReopen);
+        }
+        if state.is_done(rt) {
             break;
         }
         next = run_session(rt, alloc, state, pool, camera, None, &mut device);
@@ -301,16 +307,11 @@ fn run_session<R: Wait + Clock>(
     }
     state.begin_session(rt);
     match pool.record(rt, alloc, recorder, passes, device, state) {
-        Ok(ended) => match camera_of(state, ended) {
+        Ok(ended) => match camera_of(ended) {
             Some(camera) => Ok(camera),
             None => Err(Absent::Store(StoreFault::MustReopen)),
         },
-        Err(Unended::Refused(EndRefused::TieBroken(_, ended))) => {
-            if let Some((desk, _, _)) = camera_of(state, ended) {
-                lose(state, desk.status().pending);
-            }
-            Err(Absent::TieBroken)
-        }
+        Err(Unended::Refused(EndRefused::TieBroken(_, _))) => Err(Absent::TieBroken),
         Err(_) => Err(Absent::Store(StoreFault::MustReopen)),
     }
 }
@@ -356,8 +357,8 @@ fn recorder_of<D: Disk + Drop>(
     }
 }
 
-/// The camera of an end, where its desk can be written. Where it can't, what waits there is lost.
-fn camera_of(state: &CameraState, ended: Ended<FileDisk, HeapPlane>) -> Option<FileCamera>
+/// The camera of an end, where its desk can be written.
+fn camera_of(ended: Ended<FileDisk, HeapPlane>) -> Option<FileCamera>
     ensures { IfSome result (IsReady ⟦<HeapPlane as PlaneMemory>⟧.plane) }
 {
     let Ended {
@@ -367,18 +368,8 @@ fn camera_of(state: &CameraState, ended: Ended<FileDisk, HeapPlane>) -> Option<F
         given_up: _,
     } = ended;
     let (camera, port) = (cameras.pop()?, ports.pop()?);
-    let status = camera.desk.status();
-    if status.must_reopen {
-        lose(state, status.pending);
+    if camera.desk.status().must_reopen {
         return None;
     }
     Some(camera_again(camera, port))
-}
-
-/// Counts frames that waited at a desk that is given up.
-fn lose(state: &CameraState, pending: u32) {
-    state
-        .counts
-        .given_up
-        .fetch_add(u64::from(pending), Ordering::SeqCst);
 }

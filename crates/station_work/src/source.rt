@@ -1,11 +1,10 @@
 //! A source's thread: it opens the source again and again, and gives its frames to the camera's feed. A source whose
 //! frames aren't as the store has them is refused, and that is printed once.
 
-use crate::feed::Fed;
 use crate::link::{Offered, SourceState};
 use crate::outlet::Outlet;
 use crate::places::Places;
-use crate::size::size_of;
+use crate::size::{frames_before, size_of};
 use crate::state::CameraState;
 use loop_capture::{FrameSource, Pattern};
 use loop_desk::frame_memory;
@@ -31,6 +30,9 @@ const ANY_RING: RingSize = RingSize {
     segments: 2,
     slots: 1,
 };
+
+/// How many milliseconds a source without memory for a frame waits for that of an earlier one.
+const MEMORY_AGAIN: u64 = 10;
 
 /// A source that is so many microseconds late gives its frames from now on.
 const LATE: u64 = 1_000_000;
@@ -111,13 +113,11 @@ fn play_pattern<R: AllocGlobal + Wait + Clock, W: Write + Drop>(
             break;
         }
         beat.wait(rt, state);
-        let spare = state.feed.memory(rt);
-        let Ok(mut bytes) = frame_memory(rt.alloc(), spare, size as usize) else {
+        let Some(mut bytes) = row_for(rt, state, size) else {
             break;
         };
         let _more = pattern.next(&mut bytes);
-        let time = state.timeline.now(rt);
-        state.feed.give(rt, Fed { time, bytes });
+        state.feed.give(rt, &state.timeline, bytes);
     }
 }
 
@@ -130,7 +130,10 @@ fn offer<R: AllocGlobal + Wait, W: Write + Drop>(
     geometry: &Geometry,
 ) -> bool {
     match state.link.offer(rt, *geometry) {
-        Offered::Fits => true,
+        Offered::Fits => {
+            state.feed.reserve(rt, frames_before(state.config.memory, geometry));
+            true
+        }
         Offered::Refused => {
             tell_other(rt, state, outlet, geometry);
             false
@@ -208,20 +211,38 @@ fn play_input<R: AllocGlobal + Wait + Clock, I: Read + Drop, W: Write + Drop>(
     }
 }
 
+/// Memory for a frame of so many bytes: that of an earlier one, or new. Where it is refused, that of an earlier frame is
+/// waited for; None where the camera is stopped before.
+fn row_for<R: AllocGlobal + Wait + Clock>(
+    rt: &R,
+    state: &CameraState,
+    size: u32,
+) -> Option<Vec<u8>> {
+    for _ in rt.forever() {
+        let spare = state.feed.memory(rt);
+        if let Ok(bytes) = frame_memory(rt.alloc(), spare, size as usize) {
+            return Some(bytes);
+        }
+        if state.is_stopped() {
+            return None;
+        }
+        thread::sleep(rt, Duration::from_millis(MEMORY_AGAIN));
+    }
+    unreachable!()
+}
+
 /// Reads a frame and gives it to the feed; whether there was one.
 fn give_next<R: AllocGlobal + Wait + Clock, I: Read + Drop>(
     rt: &R,
     state: &CameraState,
     reader: &mut Y4mReader<I>,
 ) -> bool {
-    let spare = state.feed.memory(rt);
-    let Ok(mut bytes) = frame_memory(rt.alloc(), spare, reader.frame_bytes() as usize) else {
+    let Some(mut bytes) = row_for(rt, state, reader.frame_bytes()) else {
         return false;
     };
     match reader.next_frame(&mut bytes) {
         Ok(true) => {
-            let time = state.timeline.now(rt);
-            state.feed.give(rt, Fed { time, bytes });
+            state.feed.give(rt, &state.timeline, bytes);
             true
         }
         Ok(false) => false,

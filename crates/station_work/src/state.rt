@@ -10,11 +10,14 @@ use crate::counts::Counts;
 use crate::feed::Feed;
 use crate::inbox::Inbox;
 use crate::link::Link;
+use crate::size::micros_of;
+use crate::turn::Turn;
 use loop_capture::Tick;
 use loop_disk::Disk;
 use loop_plane::PlaneMemory;
 use loop_record::Geometry;
 use loop_recorder::{Lead, Pace, Pass, Recorder, SessionFault, Step};
+use loop_script::LIMITS;
 use loop_store::{ReadFrame, StoreFault};
 use station_words::CameraConfig;
 use std::alloc::{AllocError, Global};
@@ -28,6 +31,9 @@ const LOOK_AGAIN: u64 = 50;
 
 /// How many milliseconds a flush that found no room is left alone.
 const FLUSH_AGAIN: u64 = 100;
+
+/// A session ends once so few frames are in the queue and at the desk that all have room there: `DeskLimits::pending`.
+const ROOM_AT_DESK: u64 = LIMITS.pending as u64;
 
 /// With so many entries in its history a session ends, and the next one begins: far below the most calls that a history
 /// may have, so that what is under way finds room, and few enough that a session's memory is small from the first on.
@@ -50,8 +56,26 @@ pub struct CameraState {
     pub reader: Inbox<u64, Result<ReadFrame, SessionFault>, Absent>,
     /// What is counted.
     pub counts: Counts,
+    /// Whether its session may end.
+    pub turn: Turn,
+    /// The session is over.
     over: AtomicBool,
+    /// The queue takes no frames any more.
+    broken: AtomicBool,
+    /// Every block is locked, as the last flush was answered.
+    locked: AtomicBool,
     stopped: AtomicBool,
+}
+
+/// What a device does next.
+#[derive(Clone, Copy)]
+enum Next {
+    /// It takes the next frame.
+    Tick,
+    /// It waits until all that it took has room at the desk.
+    Rest,
+    /// It leaves its session.
+    Leave,
 }
 
 impl CameraState {
@@ -69,7 +93,10 @@ impl CameraState {
             clerk: Inbox::new(),
             reader: Inbox::new(),
             counts: Counts::new(),
+            turn: Turn::new(),
             over: AtomicBool::new(false),
+            broken: AtomicBool::new(false),
+            locked: AtomicBool::new(false),
             stopped: AtomicBool::new(false),
         })
     }
@@ -88,6 +115,7 @@ impl CameraState {
     pub fn begin_session<R: Wait>(&self, rt: &R) {
         self.over.store(false, Ordering::SeqCst);
         self.counts.entries.store(0, Ordering::SeqCst);
+        self.turn.begin(rt);
         self.clerk.open(rt);
         self.reader.open(rt);
     }
@@ -98,10 +126,66 @@ impl CameraState {
         self.reader.leave(rt, why);
     }
 
-    fn is_over(&self) -> bool {
-        self.is_stopped()
-            || self.over.load(Ordering::SeqCst)
-            || self.counts.entries.load(Ordering::SeqCst) >= MOST_ENTRIES
+    /// A queue that was just made takes frames.
+    pub fn begin_queue(&self) {
+        self.broken.store(false, Ordering::SeqCst);
+        self.locked.store(false, Ordering::SeqCst);
+    }
+
+    /// Whether the queue takes no frames any more.
+    pub fn is_broken(&self) -> bool {
+        self.broken.load(Ordering::SeqCst)
+    }
+
+    /// Whether frames wait because every block is locked.
+    pub fn is_locked(&self) -> bool {
+        self.locked.load(Ordering::SeqCst)
+    }
+
+    /// Whether the camera is to end, and no frame that its source gave before waits for its device, or none can be
+    /// stored.
+    pub fn is_done<R: Wait>(&self, rt: &R) -> bool {
+        let (come, taken) = self.feed.counts(rt);
+        self.is_stopped() && (come == taken || self.over.load(Ordering::SeqCst))
+    }
+
+    /// Desk and queue are given up: what was in them and isn't stored is lost, and counted. The camera's thread calls it,
+    /// when no worker is left.
+    pub fn lose_rest<R: Wait>(&self, rt: &R) {
+        let (_, taken) = self.feed.counts(rt);
+        let ready = u64::from(self.feed.is_ready(rt));
+        self.counts.lose(taken.saturating_sub(ready));
+    }
+
+    /// How many microseconds the frames last that have come from the source, and are neither stored nor given up.
+    pub fn behind_micros<R: Wait>(&self, rt: &R) -> u64 {
+        let (come, _) = self.feed.counts(rt);
+        match self.link.store(rt) {
+            Some(geometry) => micros_of(self.counts.behind(come), &geometry),
+            None => 0,
+        }
+    }
+
+    /// What the device does next. A session that is old enough goes on while a keep waits for frames, and until all that
+    /// its device took has room at the desk: that, and what is there, is the next session's. One that the program stops
+    /// goes on until no frame waits.
+    fn next_step<R: Wait>(&self, rt: &R) -> Next {
+        if self.over.load(Ordering::SeqCst) || self.is_done(rt) {
+            self.turn.leave(rt);
+            return Next::Leave;
+        }
+        if self.is_stopped() || self.counts.entries.load(Ordering::SeqCst) < MOST_ENTRIES {
+            return Next::Tick;
+        }
+        let (_, taken) = self.feed.counts(rt);
+        if self.counts.behind(taken) > ROOM_AT_DESK {
+            return Next::Rest;
+        }
+        if self.turn.leave_unawaited(rt) {
+            Next::Leave
+        } else {
+            Next::Tick
+        }
     }
 }
 
@@ -120,14 +204,20 @@ impl Lead for CameraState {
         _n: u64,
         _geometry: &Geometry,
     ) -> Option<u64> {
+        let most = Duration::from_millis(LOOK_AGAIN);
         for _ in rt.forever() {
-            if self.is_over() {
-                self.clerk.close(rt);
-                self.reader.close(rt);
-                return None;
-            }
-            if let Some(time) = self.feed.make_ready(rt, Duration::from_millis(LOOK_AGAIN)) {
-                return Some(time);
+            match self.next_step(rt) {
+                Next::Leave => {
+                    self.clerk.close(rt);
+                    self.reader.close(rt);
+                    return None;
+                }
+                Next::Rest => thread::sleep(rt, most),
+                Next::Tick => {
+                    if let Some(time) = self.feed.make_ready(rt, most) {
+                        return Some(time);
+                    }
+                }
             }
         }
         unreachable!()
@@ -136,15 +226,28 @@ impl Lead for CameraState {
     fn ticked<R: Wait>(&self, _rt: &R, _camera: u32, tick: Tick) {
         match tick {
             Tick::Completed(_) | Tick::Failed(_) => {}
-            Tick::Missed => {
-                self.counts.given_up.fetch_add(1, Ordering::SeqCst);
+            Tick::Missed => self.counts.give_up(),
+            Tick::Idle | Tick::Ended | Tick::WrongSize => {
+                self.broken.store(true, Ordering::SeqCst);
+                self.over.store(true, Ordering::SeqCst);
             }
-            Tick::Idle | Tick::Ended | Tick::WrongSize => self.over.store(true, Ordering::SeqCst),
         }
     }
 
     fn gave_up(&self, _camera: u32) {
-        self.counts.given_up.fetch_add(1, Ordering::SeqCst);
+        self.counts.give_up();
+    }
+
+    fn stored(&self, _camera: u32, count: u32) {
+        self.counts.store(count);
+        if count > 0 {
+            self.locked.store(false, Ordering::SeqCst);
+        }
+    }
+
+    // No frame is given up for a slow disk: the source's frames wait.
+    fn is_patient(&self) -> bool {
+        true
     }
 
     // Where each block is locked, or memory is short, the frames wait; where the disk failed, the session ends, and the
@@ -152,8 +255,10 @@ impl Lead for CameraState {
     fn flushes_again<R: Wait + Clock>(&self, rt: &R, _camera: u32, fault: SessionFault) -> bool {
         match fault {
             SessionFault::NoMemory | SessionFault::Desk(StoreFault::AllLocked) => {
+                let locked = fault != SessionFault::NoMemory;
+                self.locked.store(locked, Ordering::SeqCst);
                 thread::sleep(rt, Duration::from_millis(FLUSH_AGAIN));
-                !self.is_over()
+                !self.is_stopped() && !self.turn.has_left(rt)
             }
             _ => {
                 self.over.store(true, Ordering::SeqCst);

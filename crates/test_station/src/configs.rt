@@ -1,12 +1,15 @@
 //! Configurations: what is read of them, and why they are refused.
 
 use crate::told::{holds, same};
-use station_words::{CameraFault, ConfigFault, Room, read_config};
+use loop_record::PixelFormat;
+use station_words::{
+    CameraConfig, CameraFault, Config, ConfigFault, Memory, Room, Shape, Source, read_config,
+};
 use std::alloc::Global;
 use std::process::Abort;
 
 // A configuration, and why it is refused.
-const ROWS: [(&str, Option<ConfigFault>); 30] = [
+const ROWS: [(&str, Option<ConfigFault>); 47] = [
     (
         "[[camera]]\nname='a'\nsource='p'\nstore='s'\nminutes=5\n",
         None,
@@ -115,6 +118,74 @@ const ROWS: [(&str, Option<ConfigFault>); 30] = [
         "[[camera]]\nname='a'\nsource='p'\nstore='s'\nminutes=1\n[[camera]]\nname='b'\nsource='p'\nstore='t'\n",
         Some(ConfigFault::Camera(2, CameraFault::NoRoom)),
     ),
+    (
+        "[[camera]]\nname='a'\nsource='p'\nstore='s'\nminutes=1\nmemory=1\n",
+        None,
+    ),
+    (
+        "[[camera]]\nname='a'\nsource='p'\nstore='s'\nminutes=1\nmemory='12 s'\n",
+        None,
+    ),
+    (
+        "[[camera]]\nname='a'\nsource='p'\nstore='s'\nminutes=1\nmemory=0\n",
+        Some(ConfigFault::Camera(1, CameraFault::BadMemory)),
+    ),
+    (
+        "[[camera]]\nname='a'\nsource='p'\nstore='s'\nminutes=1\nmemory=-1\n",
+        Some(ConfigFault::Camera(1, CameraFault::BadMemory)),
+    ),
+    (
+        "[[camera]]\nname='a'\nsource='p'\nstore='s'\nminutes=1\nmemory='0 s'\n",
+        Some(ConfigFault::Camera(1, CameraFault::BadMemory)),
+    ),
+    (
+        "[[camera]]\nname='a'\nsource='p'\nstore='s'\nminutes=1\nmemory='4s'\n",
+        Some(ConfigFault::Camera(1, CameraFault::BadMemory)),
+    ),
+    (
+        "[[camera]]\nname='a'\nsource='p'\nstore='s'\nminutes=1\nmemory='4 m'\n",
+        Some(ConfigFault::Camera(1, CameraFault::BadMemory)),
+    ),
+    (
+        "[[camera]]\nname='a'\nsource='p'\nstore='s'\nminutes=1\nmemory=0.5\n",
+        Some(ConfigFault::Camera(1, CameraFault::BadMemory)),
+    ),
+    (
+        "[[camera]]\nname='a'\nsource='p'\nstore='s'\nminutes=1\nsave_to=''\n",
+        Some(ConfigFault::Camera(1, CameraFault::BadSaveTo)),
+    ),
+    (
+        "[[camera]]\nname='a'\nsource='p'\nstore='s'\nminutes=1\nsave_to=1\n",
+        Some(ConfigFault::Camera(1, CameraFault::BadSaveTo)),
+    ),
+    (
+        "[[camera]]\nname='a'\nsource='p'\nstore='s'\nminutes=1\nrelease=true\n",
+        Some(ConfigFault::Camera(1, CameraFault::NoSaveTo)),
+    ),
+    (
+        "[[camera]]\nname='a'\nsource='p'\nstore='s'\nminutes=1\nrelease=1\nsave_to='f'\n",
+        Some(ConfigFault::Camera(1, CameraFault::BadRelease)),
+    ),
+    (
+        "[[camera]]\nname='a'\nsource='p'\nstore='s'\nminutes=1\nrelease=false\n",
+        None,
+    ),
+    (
+        "answers=''\n[[camera]]\nname='a'\nsource='p'\nstore='s'\nminutes=1\n",
+        Some(ConfigFault::BadAnswers),
+    ),
+    (
+        "answers=true\n[[camera]]\nname='a'\nsource='p'\nstore='s'\nminutes=1\n",
+        Some(ConfigFault::BadAnswers),
+    ),
+    (
+        "orders='p'\nanswers='p'\n[[camera]]\nname='a'\nsource='p'\nstore='s'\nminutes=1\n",
+        Some(ConfigFault::SamePath),
+    ),
+    (
+        "times=1\n[[camera]]\nname='a'\nsource='p'\nstore='s'\nminutes=1\n",
+        Some(ConfigFault::BadTimes),
+    ),
 ];
 
 // Minutes as they are written, and the seconds that they are.
@@ -172,25 +243,81 @@ fn minutes_are_seconds_rounded_up(rt: HostRuntime) {
     }
 }
 
-#[test]
-fn a_camera_has_what_is_left_out(rt: HostRuntime) {
-    let text = "[[camera]]\nname='a'\nsource='p'\nstore='s'\nbytes=77\n";
-    holds!(rt; has_defaults(rt.alloc(), text));
+// Every word of the file, each with a value of its own.
+const WHOLE: &str = "orders='from'\nanswers='to'\ntimes=false\n\
+[[camera]]\nname='left'\nsource='pattern'\npattern='4x2 GREY 30:7'\nstore='l.loop'\nminutes=3\nkeep=11\ntag=12\n\
+buffers=13\nmemory=14\nsave_to='clips'\nrelease=true\n\
+[[camera]]\nname='right'\nsource='r.y4m'\nstore='r.loop'\nbytes=15\nkeep=16\ntag=17\nbuffers=18\nmemory='19 s'\nsave_to='more'\n";
+
+// The pattern of the first camera.
+const SHAPE: Shape = Shape {
+    width: 4,
+    height: 2,
+    format: PixelFormat::Grey,
+    rate_num: 30,
+    rate_den: 7,
+};
+
+// Just two cameras, what the file says of all, and of each.
+fn says_all(config: &Config) -> bool {
+    match config.cameras.as_slice() {
+        [left, right] => {
+            config.orders.as_deref() == Some("from")
+                && config.answers.as_deref() == Some("to")
+                && !config.times
+                && is_left(left)
+                && is_right(right)
+        }
+        _ => false,
+    }
 }
 
-// The first camera keeps 60 seconds without a tag, in so many bytes, through 8 buffers.
-fn has_defaults(alloc: Global, text: &str) -> bool {
-    match read_config(alloc, text) {
-        Ok(config) => match config.cameras.first() {
-            Some(camera) => {
-                camera.seconds == 60
-                    && camera.tag == 0
-                    && camera.buffers == 8
-                    && matches!(camera.room, Room::Bytes(77))
-                    && config.orders.is_none()
-            }
-            None => false,
-        },
-        Err(_) => false,
+fn is_left(camera: &CameraConfig) -> bool {
+    camera.name.as_str() == "left"
+        && matches!(&camera.source, Source::Pattern(shape) if *shape == SHAPE)
+        && camera.store.as_str() == "l.loop"
+        && camera.room == Room::Seconds(180)
+        && (camera.seconds, camera.tag, camera.buffers) == (11, 12, 13)
+        && camera.memory == Some(Memory::Bytes(14))
+        && camera.save_to.as_deref() == Some("clips")
+        && camera.release
+}
+
+fn is_right(camera: &CameraConfig) -> bool {
+    camera.name.as_str() == "right"
+        && matches!(&camera.source, Source::Path(path) if path.as_str() == "r.y4m")
+        && camera.store.as_str() == "r.loop"
+        && camera.room == Room::Bytes(15)
+        && (camera.seconds, camera.tag, camera.buffers) == (16, 17, 18)
+        && camera.memory == Some(Memory::Seconds(19))
+        && camera.save_to.as_deref() == Some("more")
+        && !camera.release
+}
+
+// The file has nothing but one camera without a word that may be left out.
+fn says_least(config: &Config) -> bool {
+    match config.cameras.as_slice() {
+        [camera] => {
+            config.orders.is_none()
+                && config.answers.is_none()
+                && config.times
+                && (camera.seconds, camera.tag, camera.buffers) == (60, 0, 8)
+                && camera.memory.is_none()
+                && camera.save_to.is_none()
+                && !camera.release
+                && camera.room == Room::Bytes(77)
+        }
+        _ => false,
     }
+}
+
+#[test]
+fn each_word_is_read_back(rt: HostRuntime) {
+    let whole = read_config(rt.alloc(), WHOLE);
+    holds!(rt; matches!(&whole, Ok(config) if says_all(config)));
+    let least = read_config(
+        rt.alloc(),
+        "[[camera]]\nname='a'\nsource='p'\nstore='s'\nbytes=77\n",
+    );
+    holds!(rt; matches!(&least, Ok(config) if says_least(config)));
 }
