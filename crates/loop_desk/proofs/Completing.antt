@@ -36,7 +36,7 @@ use Rattle.loop_vb2.proofs.States.{state_at-map}
 use Rattle.loop_vb2.proofs.Steps.{queue_idle, prepare_dequeued, end_within, end_active, held_there}
 use Rattle.loop_desk.specs.Front.{taken_bytes, taken_frame, was_given_up}
 use Rattle.loop_desk.specs.Lane.{completed_frame, without_flags}
-use Rattle.loop_desk.specs.Moves.{AreHeld, IsCounted, IsHeld, IsWhole, dequeued_frame, frames_of, shot}
+use Rattle.loop_desk.specs.Waiting.{AreHeld, IsCounted, IsHeld, IsWhole, dequeued_frame, frames_of, shot}
 use Rattle.loop_desk.proofs.Completed.{whole_taken}
 use Rattle.loop_desk.proofs.Queued.{get-within}
 

@@ -12,10 +12,9 @@ pub mod Ran
 pub mod Told
 pub mod Completed
 pub mod Completing
-pub mod Moving
+pub mod Keeping
 pub mod Taking
 pub mod Order
-pub mod FrontMoves
 pub mod Blind
 pub mod Failing
 pub mod Crossing

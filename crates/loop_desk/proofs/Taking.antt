@@ -46,7 +46,7 @@ use Rattle.loop_desk.specs.declared.hand.LaneFault.TheVariants.{Queue, Store}
 use Rattle.loop_desk.specs.declared.lane.Lane.{Lane}
 use Rattle.loop_desk.specs.Front.{dequeued, empty, forbids, Front, full, hand_with, HandState, index_in, kind_of, on_queue, requeue_event, requeued, spent, taken_frame, was_given_up}
 use Rattle.loop_desk.specs.Lane.{IsAtFront, IsLaneTurn, LaneRan, LaneTurn, StandsLane, TakesCompleted, TakesFrames, at_front, event_at, event_at_turn, front_behind, frame_of_turn, frames_taken, hand_frame, is_dequeue, lane_after, mixed, queue_events, turn_at, turn_of, without_flags}
-use Rattle.loop_desk.specs.Moves.{IsCounted, IsWhole, dequeued_frame, frames_of, shot}
+use Rattle.loop_desk.specs.Waiting.{IsCounted, IsWhole, dequeued_frame, frames_of, shot}
 use Rattle.loop_desk.proofs.Completing.{Along, IsHolding, all_fit, all_shaped, frames_along, held_none, shots, stopped_waits}
 use Rattle.loop_desk.proofs.Queued.{lane-told}
 use Rattle.loop_desk.proofs.Turning.{taken_event}

@@ -4,6 +4,6 @@ pub mod Seen
 pub mod Footage
 pub mod Front
 pub mod Lane
-pub mod Moves
+pub mod Waiting
 pub mod FrontLaws
 pub mod Parts

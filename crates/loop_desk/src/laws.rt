@@ -11,7 +11,7 @@ ghost use Rattle.loop_desk.specs.declared.event.LaneReply.{LaneReply};
 ghost use Rattle.loop_desk.specs.declared.limits.Outline.{Outline};
 ghost use Rattle.loop_desk.specs.FrontLaws.{NewFrontsStand, WholeFramesAreTaken};
 ghost use Rattle.loop_desk.specs.Lane.{LaneKeeps, LaneRan, LaneTurnsAreEvents};
-ghost use Rattle.loop_desk.specs.Moves.{FramesAreKept, MovesAreEvents, QueuesStaySound};
+ghost use Rattle.loop_desk.specs.Waiting.{FramesAreKept, QueuesStaySound};
 ghost use Rattle.loop_desk.specs.Seen.{DeskGoes, StandsAt, TellsOutline, rules_of};
 
 use crate::{Desk, Lane};
@@ -58,12 +58,6 @@ pub fn turns_are_events<P: PlaneMemory, A: Allocator>()
 /// is the same again, with nothing that waited.
 pub fn frames_are_kept<P: PlaneMemory>()
     ensures { FramesAreKept P.plane }
-{}
-
-/// Moves of a queue, each told as its model has it, are events of that model, and leave its state. So what is said of
-/// events is said of moves.
-pub fn moves_are_events()
-    ensures { MovesAreEvents }
 {}
 
 /// A queue without buffers is sound, so a law of sound queues holds of it; and a sound queue stays so, whatever

@@ -9,7 +9,7 @@
 //! - `lane` has `lane_run`, whose contract is the promise of the whole: whenever the power fails, the recording is
 //!   there after a beginning of the steps, with all that was answered (`specs/Footage`, `specs/Lane`); `event`: what a
 //!   lane is asked for and what it answers;
-//! - `laws` has what follows for lists of calls, of events, and of moves at a queue (`specs/Moves`).
+//! - `laws` has what follows for lists of calls, of events of a lane, and of events of a queue (`specs/Waiting`).
 //!
 //! Only private functions speak of `specs/Parts`.
 #![tactic(auto)]

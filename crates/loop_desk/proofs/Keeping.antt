@@ -1,4 +1,4 @@
--- Moves of a queue as events of its model, and the frames that they keep.
+-- Events of a queue, and the frames that they keep.
 use Rattle.std.proofs.Common.{◌≡◌, ℕ, false, List, [], ◌∷◌, ◌++◌, map, refl, sym, ◌∙◌, ap}
 use Rattle.std.specs.Prelude.{slice_get}
 use Rattle.std.specs.List.{flat_map, list_any}
@@ -6,7 +6,7 @@ use Rattle.std.proofs.lemmas.List.{append-nil, append_cancel_left, map-append}
 use Rattle.loop_plane.specs.Plane.{Plane}
 use Rattle.loop_record.specs.declared.geometry.PixelFormat.{PixelFormat}
 use Rattle.loop_record.specs.Turns.{EachIn, after_all}
-use Rattle.loop_record.proofs.Turned.{after-behind, each-behind}
+use Rattle.loop_record.proofs.Turned.{after-behind}
 use Rattle.loop_vb2.specs.Buffers.{state_at}
 use Rattle.loop_vb2.specs.Events.{Event, MayHappen, after_event, dequeued_by, stops}
 use Rattle.loop_vb2.specs.First.{shape_of}
@@ -15,19 +15,11 @@ use Rattle.loop_vb2.specs.Owner.{waits}
 use Rattle.loop_vb2.specs.State.{Body, Lined, QueueState, StandsQueue}
 use Rattle.loop_vb2.proofs.Ordered.{Runs, dequeues_in_order, new_queues_are_still, runs_stopped}
 use Rattle.loop_desk.specs.Lane.{completed_frame, without_flags}
-use Rattle.loop_desk.specs.Moves.{FramesAreKept, IsCounted, MovesAreEvents, QueuesStaySound, after_move, events_in, frames_of, frames_waiting, shot}
+use Rattle.loop_desk.specs.Waiting.{FramesAreKept, IsCounted, QueuesStaySound, frames_of, frames_waiting, shot}
 use Rattle.loop_desk.proofs.Taking.{each-first, each-second}
 use Rattle.loop_desk.proofs.Completing.{Along, IsHolding, all_fit, all_held, all_shaped, frames_along, held_none, shots, stopped_waits}
 
--- ---- moves as events
-
-pub moves-are-events : MovesAreEvents
-moves-are-events s [] each = (tt, refl)
-moves-are-events s (m ∷ ms) each =
-    let rest = moves-are-events (after_move s m) ms each.1 in (
-      each-behind after_event IsCounted s m.events (events_in ms) each.0 rest.0,
-      rest.1 ∙ sym (after-behind after_event s m.events (events_in ms)),
-    )
+-- ---- events
 
 pub each-may : (s : QueueState) (events : List Event) → EachIn after_event IsCounted s events
     → EachIn after_event MayHappen s events

@@ -1,10 +1,10 @@
--- What calls do at a queue, and which frames come out of it and go to a desk.
-use Rattle.std.specs.Prelude.{◌≡◌, ℕ, Bool, true, false, cond, List, [], ◌∷◌, ◌++◌, length, map, is_some, Option, Some, None, Ok, slice_get}
+-- The frames that come out of a queue, and those that wait in it.
+use Rattle.std.specs.Prelude.{◌≡◌, ℕ, true, false, cond, List, [], ◌∷◌, ◌++◌, length, map, is_some, Option, Some, None, Ok, slice_get}
 use Rattle.std.specs.List.{flat_map, list_any}
 use Rattle.loop_plane.specs.Plane.{Plane}
 use Rattle.loop_record.specs.declared.geometry.PixelFormat.{PixelFormat}
 use Rattle.loop_record.specs.Recording.{Picture}
-use Rattle.loop_record.specs.Turns.{EachIn, Machine, after_all, told_in}
+use Rattle.loop_record.specs.Turns.{EachIn, after_all, told_in}
 use Rattle.loop_vb2.specs.declared.buffer.Buffer.{Buffer}
 use Rattle.loop_vb2.specs.declared.planes.Shape.{Shape}
 use Rattle.loop_vb2.specs.Events as model
@@ -17,12 +17,7 @@ use Rattle.loop_vb2.specs.State.{Lined, QueueState, StandsQueue}
 use Rattle.loop_desk.specs.Front.{taken_frame, was_given_up}
 use Rattle.loop_desk.specs.Lane.{completed_frame, without_flags}
 
--- ---- moves
-
--- a call at a queue: which events of the queue's model it is, and whether the frame that it dequeues goes to the desk
-pub record Move : Type 0 where
-  pub events : List Event
-  pub carried : Bool
+-- ---- events
 
 -- a completion brings one whole frame
 abbrev pub IsWhole : QueueState → Event → Type 0
@@ -32,18 +27,6 @@ IsWhole s e = Unit {0}
 -- an event may happen, and brings one whole frame if it is a completion
 abbrev pub IsCounted : QueueState → Event → Type 0
 IsCounted s e = MayHappen s e × IsWhole s e
-
--- the state after a move
-abbrev pub after_move : QueueState → Move → QueueState
-after_move s m = after_all after_event s m.events
-
--- the queue as a machine of moves: each event of a move may be so at its point
-abbrev pub move_machine : Machine QueueState Move
-move_machine = record { after = after_move; May = λ s m. EachIn after_event IsCounted s m.events }
-
--- the events of moves, in order
-abbrev pub events_in : List Move → List Event
-events_in moves = flat_map (λ m. m.events) moves
 
 -- ---- the frames that leave the queue
 
@@ -60,18 +43,6 @@ dequeued_frame s e = []
 -- the frames that events dequeue, in order
 abbrev pub frames_of : QueueState → List Event → List Picture
 frames_of s events = told_in after_event dequeued_frame s events
-
--- those that moves dequeue
-abbrev pub frames_dequeued : QueueState → List Move → List Picture
-frames_dequeued s moves = frames_of s (events_in moves)
-
--- the frames of a move that go to the desk
-abbrev pub carried_by : QueueState → Move → List Picture
-carried_by s m = cond m.carried (frames_of s m.events) []
-
--- those of moves, in order
-abbrev pub frames_carried : QueueState → List Move → List Picture
-frames_carried s moves = told_in after_move carried_by s moves
 
 -- the frames of the buffers that are done, in the order of their ends
 abbrev pub frames_waiting : {P : Type 0} → Lined P → QueueState → List Picture
@@ -118,14 +89,6 @@ pub record FramesAreKept {P : Type 0} (meaning : P → Plane) : Type 0 where
       → stops stop ≡ true → list_any stops part ≡ false
       → KeepsFrames [] (after_event (after_all after_event s before) stop) part
       (frames_waiting new (after_all after_event s (before ++ stop ∷ part)))
-
--- What is said of events is said of moves: each event of theirs may happen at its point and is whole, and the state
--- after the events is that after the moves.
-abbrev pub MovesAreEvents : Type 0
-MovesAreEvents =
-    (s : QueueState) (moves : List Move) → EachIn after_move move_machine.May s moves
-    → EachIn after_event IsCounted s (events_in moves)
-    × (after_all after_move s moves ≡ after_all after_event s (events_in moves))
 
 -- A queue without buffers is sound, and a sound one stays so, whatever happens.
 pub record QueuesStaySound {P : Type 0} (meaning : P → Plane) : Type 0 where
