@@ -1,0 +1,3 @@
+mod Moving
+mod Taking
+mod Ticking
