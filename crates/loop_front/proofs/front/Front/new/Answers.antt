@@ -1,6 +1,8 @@
+use Rattle.std.proofs.Common.{sym}
 use Rattle.loop_front.proofs.Moving.{begun}
 use Rattle.loop_front.proofs.front.Front.new.Goals as goal
 
 pub invariant_of-result : goal.invariant_of-result
 invariant_of-result g c =
-    begun g.S.FrameSource.next_gives g.P.PlaneMemory.plane _ _ _ _ c.requires.ready c.requires.ring
+    rw (c.of-queue_before.ensures, c.of-device_before.ensures, c.of-to_before.ensures)
+    (begun g.S.FrameSource.next_gives g.P.PlaneMemory.plane c.args.queue c.args.table c.args.device c.args.to c.requires.ready c.requires.ring)
