@@ -28,8 +28,8 @@ use Rattle.loop_desk.specs.declared.hand.LaneFault.TheVariants.{Queue, Store}
 use Rattle.loop_desk.specs.Front.{Front, HandState, IsDequeue, IsOneEvent, IsRequeue, StandsFront, TurnsBeside, buffer_answer, dequeue_event, dequeued, empty, front_after, full, hand_state, hand_with, kind_of, planes_held, requeue_event, requeued, spent, taken_frame, was_given_up}
 use Rattle.loop_desk.specs.Lane.{completed_frame, hand_frame}
 use Rattle.loop_desk.specs.Moves.{IsCounted, frames_of, shot}
-use Rattle.loop_front.specs.Fronts.{emptied, frame_of, shown}
-use Rattle.loop_front.proofs.Moving.{Adds}
+use Rattle.loop_pipeline.specs.Fronts.{emptied, frame_of, shown}
+use Rattle.loop_pipeline.proofs.Moving.{Adds}
 
 -- ---- a buffer that is dequeued
 

@@ -1,3 +1,4 @@
+mod Bringing
 mod Moving
 mod Taking
 mod Ticking

@@ -1,7 +1,7 @@
 use Rattle.std.proofs.Common.{subst}
-use Rattle.loop_front.specs.Fronts.{FrontKeeps}
-use Rattle.loop_front.proofs.Moving.{again, kept}
-use Rattle.loop_front.proofs.front.Front.into_parts.Goals as goal
+use Rattle.loop_pipeline.specs.Fronts.{FrontKeeps}
+use Rattle.loop_pipeline.proofs.Moving.{again, kept}
+use Rattle.loop_pipeline.proofs.front.Front.into_parts.Goals as goal
 
 pub returns-clause-keeps : goal.returns-clause-keeps
 returns-clause-keeps g c =

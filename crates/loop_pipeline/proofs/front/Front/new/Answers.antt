@@ -1,6 +1,6 @@
 use Rattle.std.proofs.Common.{sym}
-use Rattle.loop_front.proofs.Moving.{begun}
-use Rattle.loop_front.proofs.front.Front.new.Goals as goal
+use Rattle.loop_pipeline.proofs.Moving.{begun}
+use Rattle.loop_pipeline.proofs.front.Front.new.Goals as goal
 
 pub invariant_of-result : goal.invariant_of-result
 invariant_of-result g c =

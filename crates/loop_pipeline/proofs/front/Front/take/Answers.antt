@@ -1,6 +1,6 @@
-use Rattle.loop_front.proofs.Moving.{moved}
-use Rattle.loop_front.proofs.Taking.{refused-adds, take-adds}
-use Rattle.loop_front.proofs.front.Front.take.Goals as goal
+use Rattle.loop_pipeline.proofs.Moving.{moved}
+use Rattle.loop_pipeline.proofs.Taking.{refused-adds, take-adds}
+use Rattle.loop_pipeline.proofs.front.Front.take.Goals as goal
 
 pub invariant_of-self-in-Err : goal.invariant_of-self-in-Err
 invariant_of-self-in-Err g c =

@@ -1,6 +1,6 @@
-use Rattle.loop_front.proofs.Moving.{moved}
-use Rattle.loop_front.proofs.Ticking.{tick-adds}
-use Rattle.loop_front.proofs.front.Front.tick.Goals as goal
+use Rattle.loop_pipeline.proofs.Moving.{moved}
+use Rattle.loop_pipeline.proofs.Ticking.{tick-adds}
+use Rattle.loop_pipeline.proofs.front.Front.tick.Goals as goal
 
 pub invariant_of-self : goal.invariant_of-self
 invariant_of-self g c =

@@ -4,7 +4,7 @@ ghost use Rattle.std.specs.Prelude.{◌≡◌, ◌<◌, ◌++◌, []};
 ghost use Rattle.rtrb.specs.Ring.{SameProducer, known_free, sent};
 ghost use Rattle.loop_desk.specs.declared.hand.Hand.TheVariants.{Empty};
 ghost use Rattle.loop_desk.specs.Front.{hand_state};
-ghost use Rattle.loop_front.specs.Fronts.{FrontKeeps, IsOpen, emptied, frame_of};
+ghost use Rattle.loop_pipeline.specs.Fronts.{FrontKeeps, IsOpen, emptied, frame_of};
 
 use loop_capture::{Device, FrameSource, Tick};
 use loop_desk::laws::{frames_are_kept, queues_stay_sound};
@@ -62,7 +62,7 @@ pub struct FrontParts<S: FrameSource + Drop, P: PlaneMemory, A: Allocator + Copy
 }
 
 impl<S: FrameSource + Drop, P: PlaneMemory, A: Allocator + Copy> Model for Front<S, P, A> {
-    ghost use Rattle.loop_front.specs.Fronts.{HasMoved, SeenFront};
+    ghost use Rattle.loop_pipeline.specs.Fronts.{HasMoved, SeenFront};
 
     ghost Value = { SeenFront S P A };
 

@@ -25,7 +25,7 @@ use Rattle.loop_desk.specs.declared.hand.Hand.TheVariants as hand
 use Rattle.loop_desk.specs.Front.{Front, StandsFront, empty, hand_state, kind_of, planes_held}
 use Rattle.loop_desk.specs.Lane.{completed_frame, hand_frame, without_flags}
 use Rattle.loop_desk.specs.Moves.{FramesAreKept, Move, IsCounted, IsSound, QueuesStaySound, dequeued_frame, frames_of, frames_waiting}
-use Rattle.loop_front.specs.Fronts.{FrontKeeps, Given, GoesOn, HasMoved, IsOpen, SeenFront, shown, shown_by}
+use Rattle.loop_pipeline.specs.Fronts.{FrontKeeps, Given, GoesOn, HasMoved, IsOpen, SeenFront, shown, shown_by}
 
 module _ {S : Type 0} (gives : S → Next → List ℕ → S → Type 0) where
   -- ticks, and others after them

@@ -7,6 +7,8 @@
 //! those that still wait.
 #![tactic(auto)]
 
+mod back;
 mod front;
 
+pub use back::{Back, BackParts, Brought};
 pub use front::{Front, FrontParts, Took};

@@ -28,8 +28,8 @@ use Rattle.loop_desk.specs.declared.hand.Hand.{Hand}
 use Rattle.loop_desk.specs.Front.{Front, StandsFront, planes_held}
 use Rattle.loop_desk.specs.Lane.{completed_frame, hand_frame}
 use Rattle.loop_desk.specs.Moves.{IsCounted, frames_of}
-use Rattle.loop_front.specs.Fronts.{GaveBy, Given, IsToldBy, shown, shown_by}
-use Rattle.loop_front.proofs.Moving.{Adds}
+use Rattle.loop_pipeline.specs.Fronts.{GaveBy, Given, IsToldBy, shown, shown_by}
+use Rattle.loop_pipeline.proofs.Moving.{Adds}
 
 -- for such a tick the source was asked
 abbrev Asks : Tick → Type 0
