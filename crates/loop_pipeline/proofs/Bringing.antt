@@ -7,7 +7,7 @@ use Rattle.std.specs.List.{filter, flat_map}
 use Rattle.rtrb.specs.declared.AnyItems.{AnyItems}
 use Rattle.rtrb.specs.declared.consumer.Consumer.{Consumer}
 use Rattle.rtrb.specs.Ring.{SameConsumer, received}
-use Rattle.loop_disk.specs.Medium.{Medium}
+use Rattle.loop_disk.specs.Medium.{IsSound, Medium}
 use Rattle.loop_record.specs.declared.frame.Frame.{Frame}
 use Rattle.loop_record.specs.Recording.{Picture, picture}
 use Rattle.loop_store.specs.declared.fault.StoreFault.{StoreFault}
@@ -16,6 +16,9 @@ use Rattle.loop_desk.specs.Desk.{DeskCall, submitted}
 use Rattle.loop_desk.specs.Seen.{DeskGoes, SeenDesk}
 use Rattle.loop_desk.proofs.Gone.{desk-joined, desk-none}
 use Rattle.loop_pipeline.specs.Backs.{BackKeeps, Came, IsFed, SeenBack, asked, calls_by, is_submit, lost_by, picture_of, unasked}
+
+plus-none : (n : ℕ) → n + 0 ≡ n
+plus-none n = omega arith
 
 -- ---- frames that came
 
@@ -44,12 +47,13 @@ fed-beside got calls given_up came more fed none = record {
 
 module _ {D A : Type 0} (medium : D → Medium) where
   -- a new back has done nothing
-  pub begun : (desk : SeenDesk D) (from : Consumer (Frame A) A AnyItems) → TellsOne desk.store → received from ≡ []
+  pub begun : (desk : SeenDesk D) (from : Consumer (Frame A) A AnyItems) → TellsOne desk.store
+      → ((medium desk.store.disk).honest → IsSound (medium desk.store.disk)) → received from ≡ []
       → BackKeeps medium (record { began = desk; from = from; desk = desk }) from 0
-  begun desk from one none = record {
+  begun desk from one sound none = record {
     ring = ((refl, refl, refl, refl), refl);
     calls = [];
-    goes = desk-none medium desk one;
+    goes = desk-none medium desk one sound;
     came = [];
     fed = record { whole = sym (ap (map picture) none); submits = refl; lost = refl };
   }
@@ -104,6 +108,14 @@ module _ {D A : Type 0} (medium : D → Medium) where
               (sym (came-out frame got))
               (fed-more (map picture (received from)) keeps.calls given_up keeps.came x (call ∷ []) keeps.fed refl);
         }
+
+    -- and accepted it
+    pub accepted : (frame : Frame A) (number : ℕ) → SameConsumer from up → received up ≡ received from ++ frame ∷ []
+        → DeskGoes medium old new (submitted (picture frame) (length frame.bytes.items) (Ok number) ∷ [])
+        → BackKeeps medium (record { began = began; from = before; desk = new }) up given_up
+    accepted frame number same got goes =
+        subst (λ n. BackKeeps medium (record { began = began; from = before; desk = new }) up n) (plus-none given_up)
+        (brought frame (Ok number) same got goes)
 
     -- or it was given up unasked
     pub dropped : (frame : Frame A) → SameConsumer from up → received up ≡ received from ++ frame ∷ []

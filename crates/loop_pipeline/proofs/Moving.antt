@@ -1,7 +1,7 @@
 -- What a front has done, and a step more.
-use Rattle.std.proofs.Common.{◌≡◌, ◌||◌, ℕ, true, false, List, [], ◌∷◌, ◌++◌, map, refl, sym, ap, ◌∙◌, subst, option_to_list}
+use Rattle.std.proofs.Common.{◌≡◌, ◌||◌, ℕ, false, List, [], ◌∷◌, ◌++◌, map, refl, sym, ap, ◌∙◌, subst, option_to_list}
 use Rattle.std.proofs.lemmas.Grind.{flat_map-append}
-use Rattle.std.proofs.lemmas.List.{append-nil, map-append}
+use Rattle.std.proofs.lemmas.List.{map-append}
 use Rattle.std.proofs.lemmas.List.Folds.{list_any-append}
 use Rattle.std.specs.List.{flat_map, list_any}
 use Rattle.rtrb.specs.declared.AnyItems.{AnyItems}
@@ -24,7 +24,7 @@ use Rattle.loop_desk.specs.declared.hand.Hand.{Hand}
 use Rattle.loop_desk.specs.declared.hand.Hand.TheVariants as hand
 use Rattle.loop_desk.specs.Front.{Front, StandsFront, empty, hand_state, kind_of, planes_held}
 use Rattle.loop_desk.specs.Lane.{completed_frame, hand_frame, without_flags}
-use Rattle.loop_desk.specs.Moves.{FramesAreKept, Move, IsCounted, IsSound, QueuesStaySound, dequeued_frame, frames_of, frames_waiting}
+use Rattle.loop_desk.specs.Moves.{FramesAreKept, IsCounted, IsSound, QueuesStaySound, dequeued_frame, frames_of, frames_waiting}
 use Rattle.loop_pipeline.specs.Fronts.{FrontKeeps, Given, GoesOn, HasMoved, IsOpen, SeenFront, shown, shown_by}
 
 module _ {S : Type 0} (gives : S → Next → List ℕ → S → Type 0) where
@@ -94,7 +94,6 @@ module _ {S P A : Type 0} (gives : S → Next → List ℕ → S → Type 0) (m 
       → FrontKeeps gives m seen device queue to
   kept seen device queue table h to law has =
       let last = after_all after_event has.first has.events in
-      let all : Move = record { events = has.events; carried = true } in
       record {
         ring = has.ring;
         first = has.first;
@@ -105,14 +104,9 @@ module _ {S P A : Type 0} (gives : S → Next → List ℕ → S → Type 0) (m 
         source = has.source;
         completed = flat_map completed_frame has.events;
         shows = has.shows;
-        whole = subst
-            (λ l. map without_flags (frames_waiting seen.queue has.first) ++ flat_map completed_frame l
-            ≡ map without_flags (frames_of has.first l) ++ map without_flags (frames_waiting queue last))
-            (append-nil has.events)
-            (law.from_start seen.queue queue has.first (all ∷ []) has.shaped.0 has.shaped.1 has.shaped.2 has.stood has.sound
-            (shape-of seen.queue has.first has.stood ∙ has.shaped.3) (has.legal, tt)
-            (subst (StandsQueue m queue) has.reached has.stands.queue.queue)
-            (ap (list_any stops) (append-nil has.events) ∙ has.flows))
+        whole = law.from_start seen.queue queue has.first has.events has.shaped.0 has.shaped.1 has.shaped.2 has.stood
+            has.sound (shape-of seen.queue has.first has.stood ∙ has.shaped.3) has.legal
+            (subst (StandsQueue m queue) has.reached has.stands.queue.queue) has.flows
             ∙ ap (λ l. map without_flags l ++ map without_flags (frames_waiting queue last)) (sym has.went);
       }
       where
