@@ -8,7 +8,13 @@
 #![tactic(auto)]
 
 mod back;
+mod bell;
+mod ending;
+mod film;
 mod front;
+mod guide;
 
 pub use back::{Back, BackParts, Brought};
+pub use ending::{Ended, end};
 pub use front::{Front, FrontParts, Took};
+pub use guide::Guide;
