@@ -75,6 +75,7 @@ impl<S: FrameSource, A: Allocator + Copy> Device<S, A> {
     ) -> Tick
         ensures tick { Ticks S.next_gives P.plane now result self.old self.new queue.old queue.new }
         ensures shape { queue.new.body.shape ≡ queue.old.body.shape }
+        ensures size { length self.new.frame ≡ length self.old.frame }
     {
         if queue.frame_bytes() != self.frame.len() as u64 {
             return Tick::WrongSize;

@@ -1,0 +1,5 @@
+mod Bringing
+mod Joining
+mod Moving
+mod Taking
+mod Ticking

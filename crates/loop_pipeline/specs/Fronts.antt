@@ -1,0 +1,144 @@
+-- What one thread keeps that has a camera's device, its queue and the end of a ring.
+use Rattle.std.specs.Prelude.{◌≡◌, ◌≢◌, ℕ, false, List, [], ◌∷◌, ◌++◌, map}
+use Rattle.std.specs.List.{flat_map, list_any}
+use Rattle.rtrb.specs.declared.AnyItems.{AnyItems}
+use Rattle.rtrb.specs.declared.producer.Producer.{Producer}
+use Rattle.rtrb.specs.Ring.{SameProducer, sent}
+use Rattle.loop_plane.specs.Fds.{Fds}
+use Rattle.loop_plane.specs.Plane.{Plane}
+use Rattle.loop_record.specs.declared.frame.Frame.{Frame}
+use Rattle.loop_record.specs.declared.geometry.PixelFormat.{PixelFormat}
+use Rattle.loop_record.specs.Recording.{Picture, picture}
+use Rattle.loop_record.specs.Turns.{EachIn, after_all}
+use Rattle.loop_vb2.specs.Events.{Event, after_event, stops}
+use Rattle.loop_vb2.specs.First.{shape_of}
+use Rattle.loop_vb2.specs.State.{Lined, QueueState, StandsQueue}
+use Rattle.loop_ioctl.specs.Calls.{IoctlState, StandsIoctl}
+use Rattle.loop_capture.specs.declared.device.Tick.{Tick}
+use Rattle.loop_capture.specs.declared.device.Tick.TheVariants.{Idle, Completed, Failed, Missed, Ended, WrongSize}
+use Rattle.loop_capture.specs.declared.source.Next.{Next}
+use Rattle.loop_capture.specs.declared.source.Next.TheVariants.{More, End, Bad}
+use Rattle.loop_capture.specs.Ticks.{SeenDevice}
+use Rattle.loop_desk.specs.declared.hand.Hand.{Hand}
+use Rattle.loop_desk.specs.declared.hand.Hand.TheVariants as hand
+use Rattle.loop_desk.specs.Front.{Front, HandState, StandsFront, empty, full, spent}
+use Rattle.loop_desk.specs.Lane.{completed_frame, hand_frame, without_flags}
+use Rattle.loop_desk.specs.Waiting.{IsCounted, IsSound, frames_of, frames_waiting}
+
+-- ---- ticks of a device
+
+-- a tick: when it was, what it did, and what is in the device's buffer after it
+pub record Given : Type 0 where
+  pub now : ℕ
+  pub tick : Tick
+  pub bytes : List ℕ
+
+-- what the source has answered where a tick did this
+abbrev pub IsToldBy : Tick → Next → Type 0
+IsToldBy (Completed i) answer = answer ≡ More
+IsToldBy (Failed i) answer = answer ≡ Bad
+IsToldBy Missed answer = answer ≢ End
+IsToldBy Ended answer = answer ≡ End
+IsToldBy Idle answer = ⊥
+IsToldBy WrongSize answer = ⊥
+
+module _ {S : Type 0} (gives : S → Next → List ℕ → S → Type 0) where
+  -- one tick: Idle and WrongSize change nothing, and for any other the source was asked, and gave these bytes
+  abbrev pub GaveBy : Tick → List ℕ → SeenDevice S → SeenDevice S → Type 0
+  GaveBy Idle bytes d e = e ≡ d
+  GaveBy WrongSize bytes d e = e ≡ d
+  GaveBy tick bytes d e =
+      (answer : Next) × IsToldBy tick answer × gives d.source answer bytes e.source × (e.frame ≡ bytes)
+
+  -- ticks, one after the other
+  abbrev pub GoesOn : SeenDevice S → List Given → SeenDevice S → Type 0
+  GoesOn d [] e = e ≡ d
+  GoesOn d (g ∷ gs) e = (between : SeenDevice S) × GaveBy g.tick g.bytes d between × GoesOn between gs e
+
+-- what a frame shows of its source: its time and its bytes
+abbrev pub shown : Picture → ℕ × List ℕ
+shown p = (p.timestamp, p.bytes)
+
+-- what a tick that completed a buffer shows
+abbrev pub shown_at : Tick → ℕ × List ℕ → List (ℕ × List ℕ)
+shown_at (Completed i) x = x ∷ []
+shown_at tick x = []
+
+abbrev pub shown_by : Given → List (ℕ × List ℕ)
+shown_by g = shown_at g.tick (g.now, g.bytes)
+
+-- ---- what a front keeps
+
+-- a front as its callers see it: its queue, its device and the end of its ring as they were when it was made
+pub record SeenFront (S P A : Type 0) : Type 0 where
+  pub queue : Lined P
+  pub device : SeenDevice S
+  pub to : Producer (Frame A) A AnyItems
+
+-- the frames of a queue have the planes of a format
+abbrev pub IsShaped : {P : Type 0} → Lined P → Type 0
+IsShaped queue =
+    (format : PixelFormat) × (width : ℕ) × (height : ℕ) × (queue.body.shape ≡ shape_of format width height)
+
+-- A queue and its table stand for a sound state, no plane is out of it, and its frames have the planes of a format. A
+-- new queue is so.
+pub record IsOpen {P : Type 0} (meaning : P → Plane) (queue : Lined P) (table : Fds P) : Type 0 where
+  pub state : IoctlState
+  pub stands : StandsIoctl meaning queue table state
+  pub sound : IsSound queue state.queue
+  pub inside : state.out ≡ []
+  pub shaped : IsShaped queue
+
+-- What waited and then what the device completed is what went into the ring, in order and with all bytes, and then what
+-- waits; and what it completed is what its source gave.
+pub record FrontKeeps {S P A : Type 0} (gives : S → Next → List ℕ → S → Type 0) (meaning : P → Plane)
+    (seen : SeenFront S P A) (device : SeenDevice S) (queue : Lined P) (to : Producer (Frame A) A AnyItems)
+    : Type 0 where
+  pub ring : SameProducer seen.to to
+  pub first : QueueState
+  pub last : QueueState
+  pub stood : StandsQueue meaning seen.queue first
+  pub stands : StandsQueue meaning queue last
+  pub given : List Given
+  pub source : GoesOn gives seen.device given device
+  pub completed : List Picture
+  pub shows : map shown completed ≡ flat_map shown_by given
+  pub whole : map without_flags (frames_waiting seen.queue first) ++ completed
+      ≡ map without_flags (map picture (sent to)) ++ map without_flags (frames_waiting queue last)
+
+-- ---- its events (private contracts alone)
+
+-- the frame of a hand, if it has one
+abbrev pub frame_of : {P A : Type 0} → Hand P A → List (Frame A)
+frame_of (hand.Frame index frame planes) = frame ∷ []
+frame_of (hand.Spent index planes) = []
+frame_of hand.Empty = []
+
+-- the hand without its frame
+abbrev pub emptied : HandState → HandState
+emptied (full index p planes) = spent index planes
+emptied (spent index planes) = spent index planes
+emptied empty = empty
+
+-- The queue's events since the front was made: each may be so at its point, none stops the stream, the frames that they
+-- dequeued are in the ring, and those that they completed are the ticks'.
+pub record HasMoved {S P A : Type 0} (gives : S → Next → List ℕ → S → Type 0) (meaning : P → Plane)
+    (seen : SeenFront S P A) (device : SeenDevice S) (queue : Lined P) (table : Fds P) (hand : Hand P A)
+    (to : Producer (Frame A) A AnyItems) : Type 0 where
+  pub first : QueueState
+  pub stood : StandsQueue meaning seen.queue first
+  pub sound : IsSound seen.queue first
+  pub shaped : IsShaped seen.queue
+  pub formed : queue.body.shape ≡ seen.queue.body.shape
+  pub ring : SameProducer seen.to to
+  pub events : List Event
+  pub legal : EachIn after_event IsCounted first events
+  pub flows : list_any stops events ≡ false
+  pub now : Front
+  pub stands : StandsFront meaning queue table hand now
+  pub reached : now.queue.queue ≡ after_all after_event first events
+  pub free : hand_frame now.hand ≡ []
+  pub went : map picture (sent to) ≡ frames_of first events
+  pub given : List Given
+  pub source : GoesOn gives seen.device given device
+  pub shows : map shown (flat_map completed_frame events) ≡ flat_map shown_by given

@@ -1,0 +1,165 @@
+//! The end of a ring and a desk, in one hand.
+
+ghost use Rattle.std.specs.Prelude.{◌≡◌, ◌∷◌, []};
+ghost use Rattle.rtrb.specs.Ring.{received};
+ghost use Rattle.loop_desk.specs.Desk.{flushed};
+ghost use Rattle.loop_desk.specs.Seen.{DeskGoes, TellsStatus};
+ghost use Rattle.loop_pipeline.specs.Backs.{BackKeeps};
+
+use loop_desk::{Desk, Flushed, Status};
+use loop_disk::Disk;
+use loop_record::Frame;
+use loop_store::StoreFault;
+use rtrb::Consumer;
+use std::alloc::{Allocator, Global};
+use std::marker::Model;
+use std::snapshot::Snapshot;
+
+/// What came of bringing the next frame of the ring to the desk.
+#[derive(Drop)]
+pub enum Brought {
+    /// No frame is in the ring.
+    Nothing,
+    /// As many frames wait at the desk as may; the frame stays in the ring.
+    DeskFull,
+    /// The desk took it in, under this number.
+    Submitted(u64),
+    /// The desk refused it; it is given up and counted.
+    GivenUp(StoreFault),
+}
+
+/// A camera's desk, and the end of a ring from which its frames come. Contracts see desk and ring as they were when it
+/// was made, and the desk as it is.
+#[derive(Drop)]
+pub struct Back<D: Disk + Drop, A: Allocator + Copy = Global> {
+    desk: Desk<D, A>,
+    from: Consumer<Frame<A>, A>,
+    given_up: u64,
+    desk_before: Snapshot<Desk<D, A>>,
+    from_before: Snapshot<Consumer<Frame<A>, A>>,
+}
+
+/// What is left of a back.
+#[derive(Drop)]
+pub struct BackParts<D: Disk + Drop, A: Allocator + Copy = Global> {
+    /// Its desk.
+    pub desk: Desk<D, A>,
+    /// The end of its ring.
+    pub from: Consumer<Frame<A>, A>,
+    /// How many frames came out of the ring and weren't accepted by the desk.
+    pub given_up: u64,
+}
+
+impl<D: Disk + Drop, A: Allocator + Copy> Model for Back<D, A> {
+    ghost use Rattle.loop_pipeline.specs.Backs.{BackKeeps, SeenBack};
+
+    ghost Value = { SeenBack D A };
+
+    ghost view = { λ b. record { began = b.desk_before.value; from = b.from_before.value; desk = b.desk } };
+
+    ghost invariant = { λ b. BackKeeps D.medium
+        (record { began = b.desk_before.value; from = b.from_before.value; desk = b.desk }) b.from b.given_up };
+}
+
+impl<D: Disk + Drop, A: Allocator + Copy> Back<D, A> {
+    /// A back of a desk, and the end of a ring out of which nothing came.
+    pub fn new(desk: Desk<D, A>, from: Consumer<Frame<A>, A>) -> Self
+        requires { received from ≡ [] }
+        ensures { result ≡ record { began = desk; from = from; desk = desk } }
+    {
+        desk.opens();
+        let desk_before = Snapshot::of(&desk);
+        let from_before = Snapshot::of(&from);
+        Back {
+            desk,
+            from,
+            given_up: 0,
+            desk_before,
+            from_before,
+        }
+    }
+
+    /// Brings the next frame of the ring to the desk.
+    pub fn bring(&mut self) -> Brought
+        ensures { self.new ≡ record self.old { desk = self.new.desk } }
+    {
+        if self.given_up == u64::MAX {
+            return Brought::Nothing;
+        }
+        if self.is_full() {
+            return Brought::DeskFull;
+        }
+        let Ok(frame) = self.from.pop() else {
+            return Brought::Nothing;
+        };
+        match self.desk.submit(frame) {
+            Ok(number) => Brought::Submitted(number),
+            Err((fault, frame)) => {
+                self.given_up += 1;
+                self.desk.keep_memory(frame.bytes);
+                Brought::GivenUp(fault)
+            }
+        }
+    }
+
+    /// Gives up the next frame of the ring, and counts it; whether there was one.
+    pub fn give_up(&mut self) -> bool
+        ensures { self.new ≡ self.old }
+    {
+        if self.given_up == u64::MAX {
+            return false;
+        }
+        let Ok(frame) = self.from.pop() else {
+            return false;
+        };
+        self.given_up += 1;
+        self.desk.keep_memory(frame.bytes);
+        true
+    }
+
+    /// Stores the first frames that wait, as `Desk::flush`.
+    pub fn flush(&mut self) -> Result<Flushed, StoreFault>
+        ensures goes { DeskGoes D.medium self.old.desk self.new.desk (flushed result ∷ []) }
+        ensures same { self.new ≡ record self.old { desk = self.new.desk } }
+    {
+        self.desk.flush()
+    }
+
+    /// How the desk stands, as `Desk::status`.
+    pub fn status(&self) -> Status
+        ensures { TellsStatus D.medium self.now.desk result }
+    {
+        self.desk.status()
+    }
+
+    /// Whether as many frames wait at the desk as may. It promises nothing.
+    pub fn is_full(&self) -> bool {
+        self.desk.status().pending >= self.desk.limits().pending
+    }
+
+    /// Memory of a frame that was stored, for a later one, as `Desk::spare_memory`.
+    pub fn spare_memory(&mut self) -> Option<Vec<u8, A>>
+        ensures { self.new ≡ self.old }
+    {
+        self.desk.spare_memory()
+    }
+
+    /// What is left of it.
+    pub fn into_parts(self) -> BackParts<D, A>
+        ensures desk { result.desk ≡ self.desk }
+        ensures keeps { BackKeeps D.medium self result.from result.given_up }
+    {
+        let Back {
+            desk,
+            from,
+            given_up,
+            desk_before: _,
+            from_before: _,
+        } = self;
+        BackParts {
+            desk,
+            from,
+            given_up,
+        }
+    }
+}

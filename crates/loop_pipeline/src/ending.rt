@@ -1,0 +1,77 @@
+//! The end of a camera: its front and its back in one hand.
+
+ghost use Rattle.std.specs.Prelude.{◌≡◌, ◌+◌};
+ghost use Rattle.rtrb.specs.Ring.{IsPair};
+ghost use Rattle.loop_desk.specs.declared.hand.Hand.TheVariants.{Empty};
+ghost use Rattle.loop_pipeline.specs.Cameras.{CameraKeeps};
+ghost use Rattle.loop_pipeline.specs.Fronts.{IsOpen};
+
+use crate::{Back, BackParts, Front, FrontParts};
+use loop_capture::{Device, FrameSource};
+use loop_desk::{Desk, Hand};
+use loop_disk::Disk;
+use loop_plane::{FdTable, PlaneMemory};
+use loop_vb2::Queue;
+use std::alloc::{Allocator, Global};
+
+/// What is left of a camera.
+#[derive(Drop)]
+pub struct Ended<
+    S: FrameSource + Drop,
+    D: Disk + Drop,
+    P: PlaneMemory,
+    A: Allocator + Copy = Global,
+> {
+    /// Its device.
+    pub device: Device<S, A>,
+    /// Its queue.
+    pub queue: Queue<P, A>,
+    /// What fds name.
+    pub table: FdTable<P, A>,
+    /// The buffer that isn't queued again, if there is one.
+    pub hand: Hand<P, A>,
+    /// Its desk.
+    pub desk: Desk<D, A>,
+    /// How many frames the desk refused, or were given up before it.
+    pub given_up: u64,
+    /// How many frames were in the ring, and are lost.
+    pub left: u64,
+}
+
+/// Ends a camera of which both threads have left: what it kept since its front and its back were made on the two ends
+/// of one ring.
+pub fn end<S: FrameSource + Drop, D: Disk + Drop, P: PlaneMemory, A: Allocator + Copy>(
+    front: Front<S, P, A>,
+    back: Back<D, A>,
+) -> Ended<S, D, P, A>
+    requires pair { IsPair front.to back.from }
+    ensures keeps { CameraKeeps D.medium S.next_gives P.plane
+        (record { device = front.device; queue = front.queue; desk = back.began })
+        (record { device = result.device; queue = result.queue; desk = result.desk })
+        (result.given_up + result.left) }
+    ensures again { result.hand ≡ Empty → IsOpen P.plane result.queue result.table }
+    ensures desk { result.desk ≡ back.desk }
+{
+    let FrontParts {
+        device,
+        queue,
+        table,
+        hand,
+        mut to,
+    } = front.into_parts();
+    let BackParts {
+        desk,
+        mut from,
+        given_up,
+    } = back.into_parts();
+    let left = from.slots_beside(&mut to) as u64;
+    Ended {
+        device,
+        queue,
+        table,
+        hand,
+        desk,
+        given_up,
+        left,
+    }
+}

@@ -1,0 +1,188 @@
+//! A device, its queue and the end of a ring, in one hand.
+
+ghost use Rattle.std.specs.Prelude.{◌≡◌, ◌<◌, ◌++◌, []};
+ghost use Rattle.rtrb.specs.Ring.{SameProducer, known_free, sent};
+ghost use Rattle.loop_desk.specs.declared.hand.Hand.TheVariants.{Empty};
+ghost use Rattle.loop_desk.specs.Front.{hand_state};
+ghost use Rattle.loop_pipeline.specs.Fronts.{FrontKeeps, IsOpen, emptied, frame_of};
+
+use loop_capture::{Device, FrameSource, Tick};
+use loop_desk::laws::{frames_are_kept, queues_stay_sound};
+use loop_desk::front::{dequeue, requeue};
+use loop_desk::{Hand, LaneFault};
+use loop_plane::{FdTable, PlaneMemory};
+use loop_record::Frame;
+use loop_vb2::Queue;
+use rtrb::Producer;
+use std::alloc::{Allocator, Global};
+use std::marker::Model;
+use std::mem;
+use std::snapshot::Snapshot;
+
+/// What came of taking the frame that waits first.
+#[derive(Drop)]
+pub enum Took {
+    /// It is in the ring.
+    Frame,
+    /// The buffer that was done first has no frame: the device had given it up.
+    NoFrame,
+    /// The ring is full, and nothing changed.
+    RingFull,
+    /// The hand has a buffer that isn't queued again yet, no buffer is done, or memory was refused.
+    Refused(LaneFault),
+}
+
+/// A camera's device, its queue with the table of fds, the hand that takes buffers out of it, and the end of a ring to
+/// which their frames go. Contracts see queue, device and ring as they were when it was made.
+#[derive(Drop)]
+pub struct Front<S: FrameSource + Drop, P: PlaneMemory, A: Allocator + Copy = Global> {
+    device: Device<S, A>,
+    queue: Queue<P, A>,
+    table: FdTable<P, A>,
+    hand: Hand<P, A>,
+    to: Producer<Frame<A>, A>,
+    queue_before: Snapshot<Queue<P, A>>,
+    device_before: Snapshot<Device<S, A>>,
+    to_before: Snapshot<Producer<Frame<A>, A>>,
+}
+
+/// What is left of a front.
+#[derive(Drop)]
+pub struct FrontParts<S: FrameSource + Drop, P: PlaneMemory, A: Allocator + Copy = Global> {
+    /// Its device.
+    pub device: Device<S, A>,
+    /// Its queue.
+    pub queue: Queue<P, A>,
+    /// What fds name.
+    pub table: FdTable<P, A>,
+    /// The buffer that isn't queued again, if there is one.
+    pub hand: Hand<P, A>,
+    /// The end of its ring.
+    pub to: Producer<Frame<A>, A>,
+}
+
+impl<S: FrameSource + Drop, P: PlaneMemory, A: Allocator + Copy> Model for Front<S, P, A> {
+    ghost use Rattle.loop_pipeline.specs.Fronts.{HasMoved, SeenFront};
+
+    ghost Value = { SeenFront S P A };
+
+    ghost view = { λ f. record { queue = f.queue_before.value; device = f.device_before.value; to = f.to_before.value } };
+
+    ghost invariant = { λ f. HasMoved S.next_gives P.plane
+        (record { queue = f.queue_before.value; device = f.device_before.value; to = f.to_before.value })
+        f.device f.queue f.table f.hand f.to };
+}
+
+// Gives the hand's frame into a ring that has room; what came of it.
+fn give<P: PlaneMemory, A: Allocator + Copy>(
+    hand: &mut Hand<P, A>,
+    to: &mut Producer<Frame<A>, A>,
+) -> Took
+    requires { 0 < known_free to.old }
+    ensures hand { hand_state P.plane hand.new ≡ emptied (hand_state P.plane hand.old) }
+    ensures ring { SameProducer to.old to.new }
+    ensures sent { sent to.new ≡ sent to.old ++ frame_of hand.old }
+{
+    match mem::replace(hand, Hand::Empty) {
+        Hand::Frame {
+            index,
+            frame,
+            planes,
+        } => {
+            *hand = Hand::Spent { index, planes };
+            to.push_reserved(frame);
+            Took::Frame
+        }
+        other => {
+            *hand = other;
+            Took::NoFrame
+        }
+    }
+}
+
+impl<S: FrameSource + Drop, P: PlaneMemory, A: Allocator + Copy> Front<S, P, A> {
+    /// A front of a device, a queue with its table, and the end of a ring into which nothing was pushed.
+    pub fn new(
+        device: Device<S, A>,
+        queue: Queue<P, A>,
+        table: FdTable<P, A>,
+        to: Producer<Frame<A>, A>,
+    ) -> Self
+        requires ready { IsOpen P.plane queue table }
+        requires ring { sent to ≡ [] }
+        ensures { result ≡ record { queue = queue; device = device; to = to } }
+    {
+        let queue_before = Snapshot::of(&queue);
+        let device_before = Snapshot::of(&device);
+        let to_before = Snapshot::of(&to);
+        Front {
+            device,
+            queue,
+            table,
+            hand: Hand::Empty,
+            to,
+            queue_before,
+            device_before,
+            to_before,
+        }
+    }
+
+    /// Whether a buffer waits for a frame. It promises nothing.
+    pub fn is_fed(&self) -> bool {
+        self.queue.next_active().is_some()
+    }
+
+    /// A tick of the device, as `Device::tick`.
+    pub fn tick(&mut self, now: u64) -> Tick
+        ensures { self.new ≡ self.old }
+    {
+        self.device.tick(&mut self.queue, now)
+    }
+
+    /// Takes the frame that waits first into the ring. Its memory is what is spare, or new. The buffer stays in the hand
+    /// until `put_back`.
+    pub fn take(&mut self, alloc: A, spare: &mut Option<Vec<u8, A>>) -> Took
+        ensures { self.new ≡ self.old }
+    {
+        if self.to.is_full() {
+            return Took::RingFull;
+        }
+        match dequeue(alloc, &mut self.queue, &mut self.hand, spare) {
+            Err(fault) => Took::Refused(fault),
+            Ok(_) => give(&mut self.hand, &mut self.to),
+        }
+    }
+
+    /// Queues the hand's buffer again; answers its index. A refusal leaves it in the hand.
+    pub fn put_back(&mut self) -> Result<u32, LaneFault>
+        ensures { self.new ≡ self.old }
+    {
+        requeue(&mut self.queue, &mut self.hand)
+    }
+
+    /// What is left of it.
+    pub fn into_parts(self) -> FrontParts<S, P, A>
+        ensures keeps { FrontKeeps S.next_gives P.plane self result.device result.queue result.to }
+        ensures again { result.hand ≡ Empty → IsOpen P.plane result.queue result.table }
+    {
+        frames_are_kept::<P>();
+        queues_stay_sound::<P>();
+        let Front {
+            device,
+            queue,
+            table,
+            hand,
+            to,
+            queue_before: _,
+            device_before: _,
+            to_before: _,
+        } = self;
+        FrontParts {
+            device,
+            queue,
+            table,
+            hand,
+            to,
+        }
+    }
+}
