@@ -1,8 +1,10 @@
 -- What a keep does, put together from its parts.
-use Rattle.std.proofs.Common.{◌≡◌, ℕ, suc, ◌+◌, ◌<◌, inl, inr, Some, None, Result, Ok, Err, List, [], ◌∷◌, ◌++◌, length, map, take, drop, get_or, refl, sym, ap, ◌∙◌, subst, arith}
+use Rattle.std.proofs.Common.{◌≡◌, ℕ, suc, ◌+◌, ◌<◌, ◌≤◌, inl, inr, Some, None, Result, Ok, Err, List, [], ◌∷◌, ◌++◌, length, map, take, drop, get_or, refl, sym, ap, ◌∙◌, subst, arith}
 use Rattle.std.specs.Prelude.{OnOk}
 use Rattle.std.specs.Option.{option_to_list}
-use Rattle.std.proofs.lemmas.List.{append-nil, length-take-le, map-append, take-append-drop, take_all, take_more}
+use Rattle.std.specs.Result.{result_err}
+use Rattle.std.proofs.lemmas.List.{append-nil, map-append, take-append-drop, take_all, take_more}
+use Rattle.std.proofs.Math.ListN.{drop_of_length-le}
 use Rattle.std.proofs.Math.Seq.{drop-cons}
 use Rattle.loop_clips.specs.declared.clip.Clip.{Clip}
 use Rattle.loop_disk.specs.Medium.{Medium, IsSound}
@@ -20,70 +22,67 @@ use Rattle.loop_sessions.specs.declared.fault.SessionFault.{SessionFault}
 use Rattle.loop_sessions.specs.declared.fault.SessionFault.TheVariants.{NoMemory}
 use Rattle.loop_sessions.specs.declared.keep.Kept.{Kept}
 use Rattle.loop_sessions.specs.Histories.{noted_call}
-use Rattle.loop_sessions.specs.Keeps.{Enters, KeepsHeld, Locks, Notes, clip_span, refusal_in, found_noted, lock_noted, refused_lock, runs_noted, with_tag}
+use Rattle.loop_sessions.specs.Keeps.{Enters, KeepsHeld, Locks, Notes, clip_span, lock_noted, refused_lock, runs_noted, with_tag}
 use Rattle.loop_sessions.specs.Receipts.{lock_note}
 use Rattle.loop_sessions.proofs.Noting.{enters-joined, notes-joined, notes-none}
 
 -- ---- the runs of a time
 
--- runs, and one behind them
-found-more : (times : Times) (place : ℕ) (runs : List Span) (run : Span)
-    → found_noted times place (runs ++ run ∷ []) ≡ found_noted times place runs ++ noted.Sought times (place + length runs) (Some run) ∷ []
-found-more times place [] run = ap (λ n. noted.Sought times n (Some run) ∷ []) (omega arith)
-found-more times place (r ∷ rs) run =
-    let at : place + 1 + length rs ≡ place + length (r ∷ rs) = omega arith in
-    ap (λ l. noted.Sought times place (Some r) ∷ l) (found-more times (place + 1) rs run
-    ∙ ap (λ n. found_noted times (place + 1) rs ++ noted.Sought times n (Some run) ∷ []) at)
-
 -- what is noted of them is what the desk was asked
 runs-called : (times : Times) (place : ℕ) (runs : List Span)
-    → map noted_call (found_noted times place runs ++ noted.Sought times (place + length runs) None ∷ [])
-    ≡ map bare_call (runs_told times place runs)
-runs-called times place [] =
-    ap (λ n. map noted_call (noted.Sought times n None ∷ [])) (omega arith)
-runs-called times place (r ∷ rs) =
-    let at : place + length (r ∷ rs) ≡ place + 1 + length rs = omega arith in
-    ap (λ n. map noted_call (found_noted times place (r ∷ rs) ++ noted.Sought times n None ∷ [])) at
-    ∙ ap (λ l. noted_call (noted.Sought times place (Some r)) ∷ l) (runs-called times (place + 1) rs)
+    → map noted_call (runs_noted times place runs) ≡ map bare_call (runs_told times place runs)
+runs-called times place [] = refl
+runs-called times place (r ∷ rs) = ap (λ l. noted_call (noted.Sought times place (Some r)) ∷ l) (runs-called times (place + 1) rs)
+
+-- with what is left to note from a place on, all is noted
+pub record LeftToNote {A : Type 0} (camera : ℕ) (times : Times) (place : ℕ) (left all : List Span)
+    (before between : List Entry) (given through : Pass A) : Type 0 where
+  pub rest : (after : List Entry) (back : Pass A) → Enters camera (runs_noted times place left) between after through back
+      → Enters camera (runs_noted times 0 all) before after given back
+
+-- at first all of them
+pub left-all : {A : Type 0} (camera : ℕ) (times : Times) (all : List Span) (before : List Entry) (given : Pass A)
+    → LeftToNote camera times 0 (drop 0 all) all before before given given
+left-all camera times all before given = record { rest = λ after back enters. enters }
 
 -- one more was noted
-pub found-next : {A : Type 0} (camera : ℕ) (times : Times) (runs : List Span) (i place : ℕ) (run : Span)
-    (before between after : List Entry) (given through back : Pass A) → i < length runs → place ≡ i
-    → Enters camera (found_noted times 0 (take i runs)) before between given through
-    → Enters camera (noted.Sought times place (Some (get_or runs i run)) ∷ []) between after through back
-    → Enters camera (found_noted times 0 (take (i + 1) runs)) before after given back
-found-next camera times runs i place run before between after given through back below is first second =
-    let at : place ≡ 0 + length (take i runs) = omega (arith, is, below, length-take-le i runs (omega (arith, below))) in
-    let next = get_or runs i run in
-    subst (λ l. Enters camera l before after given back)
-    (ap (λ n. found_noted times 0 (take i runs) ++ noted.Sought times n (Some next) ∷ []) at
-    ∙ sym (found-more times 0 (take i runs) next) ∙ ap (found_noted times 0) (sym (take_more runs i run below)))
-    (enters-joined camera (found_noted times 0 (take i runs)) (noted.Sought times place (Some next) ∷ []) before between after given through back first second)
+pub left-next : {A : Type 0} (camera : ℕ) (times : Times) (all : List Span) (i place next : ℕ) (run : Span)
+    (before between mid : List Entry) (given through last : Pass A) → i < length all → next ≡ place + 1
+    → LeftToNote camera times place (drop i all) all before between given through
+    → Enters camera (noted.Sought times place (Some (get_or all i run)) ∷ []) between mid through last
+    → LeftToNote camera times next (drop (i + 1) all) all before mid given last
+left-next camera times all i place next run before between mid given through last below is left one = record {
+  rest = λ after back enters. left.rest after back
+      (subst (λ l. Enters camera l between after through back) (sym (λ j. runs_noted times place (first j)))
+      (enters-joined camera (noted.Sought times place (Some (get_or all i run)) ∷ []) (runs_noted times (place + 1) (drop (i + 1) all))
+      between mid after through last back one (subst (λ n. Enters camera (runs_noted times n (drop (i + 1) all)) mid after last back) is enters)));
+}
+  where
+    first : drop i all ≡ get_or all i run ∷ drop (i + 1) all
+    first =
+        let at : suc i ≡ i + 1 = omega arith in
+        drop-cons all i run below ∙ ap (λ n. get_or all i run ∷ drop n all) at
 
 -- and that there are no more
-pub found-all : {A : Type 0} (camera : ℕ) (times : Times) (runs : List Span) (i place : ℕ)
-    (before between after : List Entry) (given through back : Pass A) → i ≡ length runs → place ≡ i
-    → Enters camera (found_noted times 0 (take i runs)) before between given through
+pub left-none : {A : Type 0} (camera : ℕ) (times : Times) (all : List Span) (i place : ℕ) (before between after : List Entry)
+    (given through back : Pass A) → length all ≤ i → LeftToNote camera times place (drop i all) all before between given through
     → Enters camera (noted.Sought times place None ∷ []) between after through back
-    → Enters camera (runs_noted times runs) before after given back
-found-all camera times runs i place before between after given through back end is first second =
-    subst (λ l. Enters camera l before after given back)
-    (λ j. found_noted times 0 (take_all i runs (omega (arith, end)) j) ++ noted.Sought times ((is ∙ end) j) None ∷ [])
-    (enters-joined camera (found_noted times 0 (take i runs)) (noted.Sought times place None ∷ []) before between after given through back first second)
+    → Enters camera (runs_noted times 0 all) before after given back
+left-none camera times all i place before between after given through back end left one =
+    left.rest after back (subst (λ l. Enters camera (runs_noted times place l) between after through back)
+    (sym (drop_of_length-le all end)) one)
 
 -- a desk told them, and all is noted
 pub seeks : {D A : Type 0} (medium : D → Medium) (camera : ℕ) (times : Times) (runs : List Span) (desk : SeenDesk D)
     (before after : List Entry) (given back : Pass A) → DeskGoes medium desk desk (runs_told times 0 runs)
-    → Enters camera (runs_noted times runs) before after given back
-    → Notes medium camera (runs_noted times runs) desk desk before after given back
-seeks medium camera times runs desk before after given back goes enters =
-    let at : length runs ≡ 0 + length runs = omega arith in
-    record {
-      calls = runs_told times 0 runs;
-      goes = goes;
-      noted = ap (λ n. map noted_call (found_noted times 0 runs ++ noted.Sought times n None ∷ [])) at ∙ runs-called times 0 runs;
-      enters = enters;
-    }
+    → Enters camera (runs_noted times 0 runs) before after given back
+    → Notes medium camera (runs_noted times 0 runs) desk desk before after given back
+seeks medium camera times runs desk before after given back goes enters = record {
+  calls = runs_told times 0 runs;
+  goes = goes;
+  noted = runs-called times 0 runs;
+  enters = enters;
+}
 
 -- ---- one run after the other
 
@@ -182,17 +181,17 @@ module _ {D A : Type 0} (medium : D → Medium) (camera tag : ℕ) (times : Time
   -- the runs were told, and there was no memory for clips
   pub keeps-crammed : (runs : List Span) (desk : SeenDesk D) (before after : List Entry) (given back : Pass A) (kept : Kept A)
       → kept.clips.items ≡ [] → kept.fault ≡ Some NoMemory
-      → Notes medium camera (runs_noted times runs) desk desk before after given back
+      → Notes medium camera (runs_noted times 0 runs) desk desk before after given back
       → KeepsHeld medium camera times tag desk desk before after given back kept
   keeps-crammed runs desk before after given back kept empty refused n = record {
-    notes = runs_noted times runs;
+    notes = runs_noted times 0 runs;
     noted = n;
     keeps = inr (record {
       runs = runs;
       left = map (with_tag tag) runs;
       locked = ap (λ l. map clip_span l ++ map (with_tag tag) runs) (sym empty);
-      notes_are = sym (append-nil (runs_noted times runs))
-          ∙ (λ i. runs_noted times runs ++ (map lock_noted (sym empty i) ++ no_lock (map (with_tag tag) runs) i));
+      notes_are = sym (append-nil (runs_noted times 0 runs))
+          ∙ (λ i. runs_noted times 0 runs ++ (map lock_noted (sym empty i) ++ no_lock (map (with_tag tag) runs) i));
       whole = λ none. absurd (never none);
     });
   }
@@ -207,23 +206,23 @@ module _ {D A : Type 0} (medium : D → Medium) (camera tag : ℕ) (times : Time
   -- and they were locked, or some of them
   pub keeps-some : (runs : List Span) (old mid new : SeenDesk D) (before between after : List Entry)
       (given through back : Pass A) (slice : List Span) (kept : Kept A) (result : Result (Unit {0}) SessionFault)
-      → slice ≡ runs → kept.fault ≡ refusal_in result
-      → Notes medium camera (runs_noted times runs) old mid before between given through
+      → slice ≡ runs → kept.fault ≡ result_err result
+      → Notes medium camera (runs_noted times 0 runs) old mid before between given through
       → Locks medium camera tag slice kept.clips.items mid new between after through back result
       → KeepsHeld medium camera times tag old new before after given back kept
   keeps-some runs old mid new before between after given through back slice kept result same refused n l = record {
-    notes = runs_noted times runs ++ (map lock_noted kept.clips.items ++ refused_lock l.left (refusal_in result));
-    noted = notes-joined medium camera (runs_noted times runs) (map lock_noted kept.clips.items ++ refused_lock l.left (refusal_in result))
+    notes = runs_noted times 0 runs ++ (map lock_noted kept.clips.items ++ refused_lock l.left (result_err result));
+    noted = notes-joined medium camera (runs_noted times 0 runs) (map lock_noted kept.clips.items ++ refused_lock l.left (result_err result))
         old mid new before between after given through back n l.notes;
     keeps = inr (record {
       runs = runs;
       left = l.left;
       locked = ap (map (with_tag tag)) (sym same) ∙ l.locked;
-      notes_are = ap (λ f. runs_noted times runs ++ (map lock_noted kept.clips.items ++ refused_lock l.left f)) (sym refused);
+      notes_are = ap (λ f. runs_noted times 0 runs ++ (map lock_noted kept.clips.items ++ refused_lock l.left f)) (sym refused);
       whole = λ none. whole result l.whole (sym refused ∙ none);
     });
   }
     where
-      whole : (r : Result (Unit {0}) SessionFault) → OnOk r (l.left ≡ []) → refusal_in r ≡ None → l.left ≡ []
+      whole : (r : Result (Unit {0}) SessionFault) → OnOk r (l.left ≡ []) → result_err r ≡ None → l.left ≡ []
       whole (Ok x) w none = w
       whole (Err fault) w none = absurd cc

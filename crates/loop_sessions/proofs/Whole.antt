@@ -1,5 +1,5 @@
 -- A keep is whole: what a desk tells as the runs of a time, one by one, are all of them.
-use Rattle.std.proofs.Common.{◌≡◌, ℕ, zero, suc, ◌+◌, ◌-◌, ◌≤◌, true, is_some, inl, inr, Option, Some, None, List, [], ◌∷◌, ◌++◌, length, map, drop, refl, sym, ap, ◌∙◌, subst, arith}
+use Rattle.std.proofs.Common.{◌≡◌, ℕ, zero, suc, ◌+◌, ◌-◌, ◌≤◌, true, is_some, inl, inr, Option, Some, None, List, [], ◌∷◌, ◌++◌, map, drop, refl, sym, ap, ◌∙◌, subst, arith}
 use Rattle.std.specs.Prelude.{slice_get}
 use Rattle.std.specs.List.{range_with_len}
 use Rattle.std.proofs.lemmas.List.{append-nil, map-append}
@@ -12,10 +12,9 @@ use Rattle.loop_record.specs.Times.{AreRuns, RunsFrom, numbers_in_time, numbers_
 use Rattle.loop_desk.specs.Desk.{AreTold, DeskCall, DeskState, IsDeskTold, IsRunAt, Rules, desk_after, run_told}
 use Rattle.loop_desk.proofs.Frames.{each-parts}
 use Rattle.loop_sessions.specs.declared.entry.Noted.{Noted}
-use Rattle.loop_sessions.specs.declared.entry.Noted.TheVariants as noted
 use Rattle.loop_sessions.specs.declared.keep.Kept.{Kept}
 use Rattle.loop_sessions.specs.Histories.{noted_call}
-use Rattle.loop_sessions.specs.Keeps.{KeepsAreWhole, clip_span, found_noted, lock_noted, refused_lock, runs_noted, with_tag}
+use Rattle.loop_sessions.specs.Keeps.{KeepsAreWhole, clip_span, lock_noted, refused_lock, runs_noted, with_tag}
 
 -- ---- numbers have one list of runs
 
@@ -110,33 +109,26 @@ one-left all place run there =
 -- what was told from a place on, until there was no more, is all that is left from there
 told-rest : (k : Rules) (times : Times) (all runs : List Span) (place : ℕ) (s : DeskState)
     → AreRuns (numbers_in_time times s.store.recording) all
-    → AreTold k s (map noted_call (found_noted times place runs ++ noted.Sought times (place + length runs) None ∷ []))
+    → AreTold k s (map noted_call (runs_noted times place runs))
     → drop place all ≡ runs
 told-rest k times all [] place s are told =
-    let at : place + 0 ≡ place = omega arith in
-    none-left all place (ap (λ (n : ℕ). slice_get all n) (sym at)
-    ∙ told-run (numbers_in_time times s.store.recording) all (place + 0) None are told.0)
+    none-left all place (told-run (numbers_in_time times s.store.recording) all place None are told.0)
 told-rest k times all (r ∷ rs) place s are told =
-    let at : place + length (r ∷ rs) ≡ place + 1 + length rs = omega arith in
     let next : DeskState = desk_after k s (run_told times place (Some r)) in
-    let more = subst (λ (n : ℕ). AreTold k next (map noted_call (found_noted times (place + 1) rs ++ noted.Sought times n None ∷ []))) at told.1 in
     one-left all place r (told-run (numbers_in_time times s.store.recording) all place (Some r) are told.0)
-    ∙ ap (λ (l : List Span). r ∷ l) (told-rest k times all rs (place + 1) next are more)
+    ∙ ap (λ (l : List Span). r ∷ l) (told-rest k times all rs (place + 1) next are told.1)
 
 -- the first answer says that there are runs
-some-runs : (k : Rules) (times : Times) (runs : List Span) (s : DeskState) → AreTold k s (map noted_call (runs_noted times runs))
+some-runs : (k : Rules) (times : Times) (runs : List Span) (s : DeskState) → AreTold k s (map noted_call (runs_noted times 0 runs))
     → (all : List Span) × AreRuns (numbers_in_time times s.store.recording) all
 some-runs k times [] s told = (told.0.0, told.0.1.0)
 some-runs k times (r ∷ rs) s told = (told.0.0, told.0.1.0)
 
-told-all : (k : Rules) (times : Times) (runs : List Span) (s : DeskState) → AreTold k s (map noted_call (runs_noted times runs))
+told-all : (k : Rules) (times : Times) (runs : List Span) (s : DeskState) → AreTold k s (map noted_call (runs_noted times 0 runs))
     → numbers_of_spans runs ≡ numbers_in_time times s.store.recording
 told-all k times runs s told =
     let some = some-runs k times runs s told in
-    let at : length runs ≡ 0 + length runs = omega arith in
-    let same = told-rest k times some.0 runs 0 s some.1
-    (subst (λ (n : ℕ). AreTold k s (map noted_call (found_noted times 0 runs ++ noted.Sought times n None ∷ []))) at told) in
-    ap numbers_of_spans (sym same) ∙ some.1.numbers_are
+    ap numbers_of_spans (sym (told-rest k times some.0 runs 0 s some.1 told)) ∙ some.1.numbers_are
 
 -- ---- the clips
 
@@ -153,11 +145,11 @@ keeps-whole kept k s times tag notes (inl n) none told = absurd (refused kept.fa
     refused (Some x) some none = absurd cc
 keeps-whole kept k s times tag notes (inr h) none told =
     ap numbers_of_spans (sym (append-nil (map clip_span kept.clips.items)) ∙ ap (λ (l : List Span). map clip_span kept.clips.items ++ l) (sym (h.whole none)) ∙ sym h.locked)
-    ∙ tagged-numbers tag h.runs ∙ told-all k times h.runs s (each-parts (desk_after k) (IsDeskTold k) s (map noted_call (runs_noted times h.runs)) (map noted_call behind) parts).0
+    ∙ tagged-numbers tag h.runs ∙ told-all k times h.runs s (each-parts (desk_after k) (IsDeskTold k) s (map noted_call (runs_noted times 0 h.runs)) (map noted_call behind) parts).0
   where
     behind : List Noted
     behind = map lock_noted kept.clips.items ++ refused_lock h.left kept.fault
 
-    parts : AreTold k s (map noted_call (runs_noted times h.runs) ++ map noted_call behind)
+    parts : AreTold k s (map noted_call (runs_noted times 0 h.runs) ++ map noted_call behind)
     parts = subst (λ (l : List DeskCall). AreTold k s l)
-        (ap (map noted_call) h.notes_are ∙ map-append noted_call (runs_noted times h.runs) behind) told
+        (ap (map noted_call) h.notes_are ∙ map-append noted_call (runs_noted times 0 h.runs) behind) told

@@ -1,6 +1,7 @@
 -- What a keep locks: the held frames of a time, by their numbers.
 use Rattle.std.specs.Prelude.{◌≡◌, ◌⊎◌, ℕ, ◌+◌, Option, None, Some, Result, Ok, Err, List, [], ◌∷◌, ◌++◌, IsSome, OnOk, length, map}
 use Rattle.std.specs.Option.{option_to_list}
+use Rattle.std.specs.Result.{result_err}
 use Rattle.loop_clips.specs.declared.clip.Clip.{Clip}
 use Rattle.loop_disk.specs.Medium.{Medium}
 use Rattle.loop_record.specs.declared.clip.Span.{Span}
@@ -36,14 +37,10 @@ with_tag tag run = record run { tag = tag }
 
 -- ---- what is noted
 
--- runs of a time, one by one, from a place on
-abbrev pub found_noted : Times → ℕ → List Span → List Noted
-found_noted times place [] = []
-found_noted times place (run ∷ runs) = noted.Sought times place (Some run) ∷ found_noted times (place + 1) runs
-
--- all of them, and that there are no more
-abbrev pub runs_noted : Times → List Span → List Noted
-runs_noted times runs = found_noted times 0 runs ++ noted.Sought times (length runs) None ∷ []
+-- runs of a time, one by one, from a place on, and that there are no more
+abbrev pub runs_noted : Times → ℕ → List Span → List Noted
+runs_noted times place [] = noted.Sought times place None ∷ []
+runs_noted times place (run ∷ runs) = noted.Sought times place (Some run) ∷ runs_noted times (place + 1) runs
 
 -- a clip was locked
 abbrev pub lock_noted : Clip → Noted
@@ -65,12 +62,17 @@ pub record ReceivesAll {A : Type 0} (camera place : ℕ) (notes : List Noted) (b
   pub receipts : receipts_of after ≡ receipts_of before ++ receipts_from camera place notes
   pub number : pass_number after ≡ pass_number before
 
--- the history has these entries more, and the pass their receipts, at the entries' places
+-- a history has these entries more, and the pass their receipts, at the entries' places
+pub record Enters {A : Type 0} (camera : ℕ) (notes : List Noted) (before after : List Entry) (given back : Pass A)
+    : Type 0 where
+  pub entered : after ≡ before ++ map (entry (pass_number given)) notes
+  pub received : ReceivesAll camera (length before) notes given back
+
+-- so it is of a session, which may have as many calls as before
 pub record RecordsAll {A : Type 0} (camera : ℕ) (notes : List Noted) (old new : SeenSession) (before after : Pass A)
     : Type 0 where
-  pub entered : new.history ≡ old.history ++ map (entry (pass_number before)) notes
+  pub enters : Enters camera notes old.history new.history before after
   pub calls : new.calls ≡ old.calls
-  pub received : ReceivesAll camera (length old.history) notes before after
 
 -- ---- a keep
 
@@ -86,7 +88,7 @@ pub record KeepsRuns {A : Type 0} (times : Times) (tag : ℕ) (notes : List Note
   pub runs : List Span
   pub left : List Span
   pub locked : map (with_tag tag) runs ≡ map clip_span kept.clips.items ++ left
-  pub notes_are : notes ≡ runs_noted times runs ++ (map lock_noted kept.clips.items ++ refused_lock left kept.fault)
+  pub notes_are : notes ≡ runs_noted times 0 runs ++ (map lock_noted kept.clips.items ++ refused_lock left kept.fault)
   pub whole : kept.fault ≡ None → left ≡ []
 
 abbrev pub Keeps : {A : Type 0} → Times → ℕ → List Noted → Kept A → Type 0
@@ -117,12 +119,6 @@ KeepsAreWhole kept =
 
 -- ---- what only private functions speak of
 
--- notes stand in the history and in the pass
-pub record Enters {A : Type 0} (camera : ℕ) (notes : List Noted) (before after : List Entry) (given back : Pass A)
-    : Type 0 where
-  pub entered : after ≡ before ++ map (entry (pass_number given)) notes
-  pub received : ReceivesAll camera (length before) notes given back
-
 -- a desk went on by some calls, which are noted in the history and received by the pass
 pub record Notes {D A : Type 0} (medium : D → Medium) (camera : ℕ) (notes : List Noted) (old new : SeenDesk D)
     (before after : List Entry) (given back : Pass A) : Type 0 where
@@ -131,17 +127,12 @@ pub record Notes {D A : Type 0} (medium : D → Medium) (camera : ℕ) (notes : 
   pub noted : map noted_call notes ≡ map bare_call calls
   pub enters : Enters camera notes before after given back
 
--- what refused
-abbrev pub refusal_in : {T : Type 0} → Result T SessionFault → Option SessionFault
-refusal_in (Ok x) = None
-refusal_in (Err fault) = Some fault
-
 -- runs were locked with a tag, from the first on
 pub record Locks {D A : Type 0} (medium : D → Medium) (camera tag : ℕ) (runs : List Span) (clips : List Clip)
     (old new : SeenDesk D) (before after : List Entry) (given back : Pass A) (result : Result (Unit {0}) SessionFault)
     : Type 0 where
   pub left : List Span
-  pub notes : Notes medium camera (map lock_noted clips ++ refused_lock left (refusal_in result)) old new before after
+  pub notes : Notes medium camera (map lock_noted clips ++ refused_lock left (result_err result)) old new before after
       given back
   pub locked : map (with_tag tag) runs ≡ map clip_span clips ++ left
   pub whole : OnOk result (left ≡ [])

@@ -33,7 +33,7 @@ fn note_runs<A: Allocator>(
 )
     requires entries { vec_len history.old + length runs.now < vec_capacity history.old }
     requires receipts { vec_len pass.old.receipts + length runs.now < vec_capacity pass.old.receipts }
-    ensures { Enters camera (runs_noted times runs.now) history.old.items history.new.items pass.old pass.new }
+    ensures { Enters camera (runs_noted times 0 runs.now) history.old.items history.new.items pass.old pass.new }
 {
     let mut place = 0u64;
     for run in runs {
@@ -58,7 +58,7 @@ fn seek<D: Disk + Drop, A: Allocator + Copy>(
     pass: &mut Pass<A>,
     times: Times,
 ) -> Result<Vec<Span, A>, SessionFault>
-    ensures found { IfOk result (λ runs. Notes D.medium camera (runs_noted times runs.items) desk.now desk.now
+    ensures found { IfOk result (λ runs. Notes D.medium camera (runs_noted times 0 runs.items) desk.now desk.now
         history.old.items history.new.items pass.old pass.new) }
     ensures none { IfErr result (λ _. Notes D.medium camera [] desk.now desk.now
         history.old.items history.new.items pass.old pass.new) }

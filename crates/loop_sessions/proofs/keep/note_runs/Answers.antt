@@ -1,11 +1,11 @@
 use Rattle.std.proofs.Common.{arith, refl}
-use Rattle.loop_sessions.proofs.Keepings.{found-all, found-next}
-use Rattle.loop_sessions.proofs.Noting.{enters-none, enters-one}
+use Rattle.loop_sessions.proofs.Keepings.{left-all, left-next, left-none}
+use Rattle.loop_sessions.proofs.Noting.{enters-one}
 use Rattle.loop_sessions.proofs.keep.note_runs.Goals as goal
 
 pub loop-run-init : goal.loop-run-init
 loop-run-init g c = record {
-  enters = enters-none _ _ _ _ _ refl refl refl;
+  left = left-all _ _ _ _ _;
   place = refl;
   entries = omega (arith, c.requires.entries);
   receipts = omega (arith, c.requires.receipts);
@@ -16,7 +16,7 @@ loop-run-preserved g c =
     let so = c.loop-run.invariant in
     let n = c.note.ensures in
     record {
-      enters = found-next _ _ c.args.runs.now _ _ _ _ _ _ _ _ _ c.loop-run-test.true so.place so.enters
+      left = left-next _ _ c.args.runs.now _ _ _ _ _ _ _ _ _ _ c.loop-run-test.true refl so.left
           (enters-one _ _ _ _ _ _ n.history n.receipts n.number);
       place = omega (arith, so.place);
       entries = omega (arith, so.entries, n.entries.0, n.entries.1);
@@ -27,5 +27,5 @@ pub returns : goal.returns
 returns g c =
     let so = c.loop-run.invariant in
     let n = c.note-2.ensures in
-    found-all _ _ c.args.runs.now _ _ _ _ _ _ _ _ (omega (arith, c.loop-run-test.false, c.loop-run.auto.run-index-end)) so.place so.enters
+    left-none _ _ c.args.runs.now _ _ _ _ _ _ _ _ (omega (arith, c.loop-run-test.false)) so.left
     (enters-one _ _ _ _ _ _ n.history n.receipts n.number)

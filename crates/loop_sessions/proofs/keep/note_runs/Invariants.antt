@@ -1,11 +1,11 @@
-use Rattle.std.proofs.Common.{◌≡◌, ◌+◌, ◌<◌, length, take, vec_len}
+use Rattle.std.proofs.Common.{◌≡◌, ◌+◌, ◌<◌, drop, length, vec_len}
 use Rattle.std.specs.Vec.{vec_capacity}
-use Rattle.loop_sessions.specs.Keeps.{Enters, found_noted}
+use Rattle.loop_sessions.proofs.Keepings.{LeftToNote}
 use Rattle.loop_sessions.proofs.keep.note_runs.Given as goal
 
 abbrev pub invariant-loop-run : goal.invariant-loop-run
 invariant-loop-run g l = record {
-  enters : Enters l.camera (found_noted l.times 0 (take l.run-index l.runs)) l.fn.history.items l.history.items l.fn.pass
+  left : LeftToNote l.camera l.times l.place (drop l.run-index l.runs) l.runs l.fn.history.items l.history.items l.fn.pass
       l.pass;
   place : l.place ≡ l.run-index;
   entries : vec_len l.history + length l.runs < vec_capacity l.history + l.run-index;

@@ -20,7 +20,7 @@ pub returns-clause-found : goal.returns-clause-found
 returns-clause-found g c =
     let r = c.reserve_all.ensures in
     seeks g.D.Disk.medium _ _ c.in-Ok.runs.items _ _ _ _ _ c.in-Ok.ensures.goes
-    (enters-joined _ [] (runs_noted c.args.times c.in-Ok.runs.items) _ _ _ _ _ _
+    (enters-joined _ [] (runs_noted c.args.times 0 c.in-Ok.runs.items) _ _ _ _ _ _
     (enters-none _ _ _ _ _ r.history r.receipts r.number)
-    (subst (λ l. Enters c.args.camera (runs_noted c.args.times l) c.reserve_all.new.history.items c.note_runs.new.history.items
+    (subst (λ l. Enters c.args.camera (runs_noted c.args.times 0 l) c.reserve_all.new.history.items c.note_runs.new.history.items
     c.reserve_all.new.pass c.note_runs.new.pass) c.as_slice.ensures.value c.note_runs.ensures))

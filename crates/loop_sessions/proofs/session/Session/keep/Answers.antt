@@ -16,9 +16,5 @@ returns g c =
     c.keep_at.new.pass c.keep_at.result) c.self.view_is (record {
       notes = k.notes;
       keeps = k.keeps;
-      records = record {
-        entered = k.noted.enters.entered;
-        calls = ap (λ l. l.calls) k.noted.goes.limits;
-        received = k.noted.enters.received;
-      };
+      records = record { enters = k.noted.enters; calls = ap (λ l. l.calls) k.noted.goes.limits };
     })
