@@ -321,16 +321,20 @@ def read_geometry(top, size):
     return geometry, 2 if top[VERSION_AT] == OPEN else 1
 
 
+def read_slots(read_at, geometry, segment, first=0):
+    """The heads of a segment's frames before its first closed gate, from a slot on."""
+    frames = []
+    for slot in range(first, segment.whole if segment.open else 0):
+        frame = Frame(*SLOT_HEAD.unpack(read_at(geometry.slot_at(segment.place, slot), HEAD))[:5])
+        if frame.number != segment.block * geometry.slots + slot or frame.length != geometry.size:
+            raise Refused("refused 5 Damaged 5")
+        frames.append(frame)
+    return frames
+
+
 def read_frames(read_at, geometry, segments):
     """The heads of the frames before the first closed gate of each open segment."""
-    frames = []
-    for segment in segments:
-        for slot in range(segment.whole if segment.open else 0):
-            frame = Frame(*SLOT_HEAD.unpack(read_at(geometry.slot_at(segment.place, slot), HEAD))[:5])
-            if frame.number != segment.block * geometry.slots + slot or frame.length != geometry.size:
-                raise Refused("refused 5 Damaged 5")
-            frames.append(frame)
-    return frames
+    return [frame for segment in segments for frame in read_slots(read_at, geometry, segment)]
 
 
 def read_heads(read_at, geometry):
@@ -348,8 +352,9 @@ def same_blocks(old, new):
     return all((a[0] == OPEN, a[8:16]) == (b[0] == OPEN, b[8:16]) for a, b in zip(old, new))
 
 
-def read_once(read_at, size):
+def read_once(read_at, size, frames_of=read_frames):
     """The store of so many bytes, which `read_at` reads from a place on; Unsteady where something that it looked at was changed meanwhile.
+    `frames_of` may be another reader of the frames' heads, which remembers those that it has read.
 
     The headers are read before the slots and after them, the clip table before all and after all. Where each segment keeps its block, the frames
     that were whole at first are still there, whatever came after them. A fault is believed only where no byte of all that has changed."""
@@ -361,7 +366,7 @@ def read_once(read_at, size):
     fault = store = None
     try:
         check_segments(geometry, segments)
-        store = Store(geometry, version, segments, read_frames(read_at, geometry, segments), clips)
+        store = Store(geometry, version, segments, frames_of(read_at, geometry, segments), clips)
         check_clips(clips, store.numbers)
     except Refused as refused:
         fault = refused
@@ -428,11 +433,15 @@ def answer(found):
     return (1, "", found.text + "\n") if isinstance(found, Refused) else (0, listed(found), "")
 
 
+def text_front(geometry):
+    """The header of an export, as docs/y4m.md has it."""
+    it = geometry
+    return f"YUV4MPEG2 W{it.width} H{it.height} F{it.num}:{it.den} Ip A0:0 C{COLOURS[it.format]}\n".encode()
+
+
 def text_of(recording, first, last):
     """The frames of an export from one number to another, as docs/y4m.md has them: a header and a line `FRAME` before each."""
-    it = recording.geometry
-    front = f"YUV4MPEG2 W{it.width} H{it.height} F{it.num}:{it.den} Ip A0:0 C{COLOURS[it.format]}\n".encode()
-    return front + b"".join(b"FRAME\n" + recording.frames[number] for number in sorted(recording.frames) if first <= number <= last)
+    return text_front(recording.geometry) + b"".join(b"FRAME\n" + recording.frames[number] for number in sorted(recording.frames) if first <= number <= last)
 
 
 def main():
