@@ -89,7 +89,7 @@ class Gate:
     def __init__(self, settings: Settings) -> None:
         self.settings, self.connections, self.refused, self.late = settings, set(), 0, 0
         self.sessions: dict[str, float] = {}
-        self.wrong: list[float] = []
+        self.wrong: dict[str, list[float]] = {}
 
     async def watch(self) -> None:
         """Closes connections that are late, without end."""
@@ -117,20 +117,24 @@ class Gate:
     def is_bearer(self, request: web.Request) -> bool:
         """Whether a request brings the token itself."""
         kind, _, token = request.headers.get("Authorization", "").partition(" ")
-        return self.settings.token is not None and kind.lower() == "bearer" and self.is_token(token)
+        return self.settings.token is not None and kind.lower() == "bearer" and self.is_token(token, request)
 
-    def is_token(self, given: str) -> bool:
-        """Whether a text is the token, in a time that doesn't depend on where they differ."""
+    def is_token(self, given: str, request: web.Request) -> bool:
+        """Whether a text is the token, in a time that doesn't depend on where they differ. Wrong ones are counted, by the address that sent them."""
         if self.settings.token is None:
             return False
         is_right = hmac.compare_digest(given.strip().encode(errors="replace"), self.settings.token.encode())
         if given and not is_right:
-            self.wrong = [*self.wrong, time.monotonic()][-limits.WRONG_TOKENS:]
+            address = str(request.remote)
+            self.wrong[address] = [*self.wrong.pop(address, []), time.monotonic()][-limits.WRONG_TOKENS:]
+            while len(self.wrong) > limits.GUESSERS:
+                del self.wrong[next(iter(self.wrong))]
         return is_right
 
-    def has_guessed(self) -> bool:
-        """Whether too many wrong tokens came in the last minute to answer at once."""
-        return len(self.wrong) >= limits.WRONG_TOKENS and time.monotonic() - self.wrong[0] < 60
+    def has_guessed(self, request: web.Request) -> bool:
+        """Whether too many wrong tokens came from an address in the last minute for another one to be looked at."""
+        times = self.wrong.get(str(request.remote), [])
+        return len(times) >= limits.WRONG_TOKENS and time.monotonic() - times[0] < 60
 
     def is_signed_in(self, request: web.Request) -> bool:
         """Whether a request has the cookie of somebody who has signed in."""

@@ -42,9 +42,10 @@ FILM_BYTES = 2 * 1024 ** 3
 FILM_IDLE_SECONDS = 5.0
 # The bytes of a piece that is read from a store and sent.
 PIECE = 128 * 1024
-# How long a person stays signed in, how many may be, and how many wrong tokens a minute are answered.
+# How long a person stays signed in, how many may be; how many wrong tokens a minute are answered, and of how many addresses they are counted.
 SESSION_SECONDS = 7 * 24 * 3600
 SESSIONS = 1000
 WRONG_TOKENS = 20
+GUESSERS = 1000
 # The largest number of a frame.
 NUMBERS_END = 2 ** 62

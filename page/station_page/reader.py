@@ -158,7 +158,6 @@ class OpenStore:
             raise layout.Refused("missing" if isinstance(fault, FileNotFoundError) else f"cannot open: {fault.strerror}") from None
         found = os.fstat(self.file)
         if not stat.S_ISREG(found.st_mode):
-            os.close(self.file)
             raise layout.Refused("not a file")
         self.identity = (found.st_dev, found.st_ino)
 

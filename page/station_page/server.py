@@ -167,8 +167,8 @@ class Page:
         """Refuses who may not pass."""
         if not self.gate.is_host(request):
             raise Unfit(421, "This page answers to the names of its own machine alone. Another name wants a token.")
-        if self.gate.has_guessed() and not self.gate.is_signed_in(request):
-            raise Unfit(429, "Too many wrong tokens. Wait a minute.")
+        if self.gate.has_guessed(request) and request.path != "/healthz" and not self.gate.is_signed_in(request):
+            raise Unfit(429, "Too many wrong tokens came from your address. Wait a minute.")
         if not self.gate.is_let_in(request):
             if request.method == "GET" and request.path == "/":
                 raise web.HTTPSeeOther("/sign-in")
@@ -204,7 +204,7 @@ class Page:
         """A person gives the token."""
         form = await asyncio.wait_for(request.post(), limits.REQUEST_SECONDS)
         token = form.get("token", "")
-        if not isinstance(token, str) or not self.gate.is_token(token):
+        if not isinstance(token, str) or not self.gate.is_token(token, request):
             await asyncio.sleep(0.5)
             page = self.files["sign_in.html"].replace(b'<p id="wrong" hidden>', b'<p id="wrong">')
             return web.Response(status=403, body=page, content_type="text/html", charset="utf-8")

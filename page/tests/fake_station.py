@@ -30,8 +30,8 @@ class Film(layout.Ring):
         width, height = map(int, size.split("x"))
         num, den = map(int, rate.split(":"))
         self.words, self.name, self.is_paused, self.given_up = words, words["name"], False, 0
-        super().__init__(width, height, form.encode(), words.get("segments", 8), words.get("slots", 25))
-        self.geometry = layout.geometry_of(width, height, form.encode(), num, den, words.get("segments", 8), words.get("slots", 25))
+        super().__init__(width, height, form.encode(), words.get("segments", 8), words.get("slots", 64))
+        self.geometry = layout.geometry_of(width, height, form.encode(), num, den, words.get("segments", 8), words.get("slots", 64))
         self.image = bytearray()
         new = words["store"] + ".new"
         self.file = os.open(new, os.O_RDWR | os.O_CREAT | os.O_TRUNC, 0o644)
@@ -39,7 +39,7 @@ class Film(layout.Ring):
         os.ftruncate(self.file, self.geometry.disk_size())
         os.rename(new, words["store"])
         self.write = lambda at, data: os.pwrite(self.file, data, at)
-        self.period, self.due = den / num, time.time()
+        self.period, self.due = 1_000_000 * den // num, int(time.time() * 1e6)
 
     def pixels(self, number: int) -> bytes:
         """The bytes of a frame: a bar, and the number in its first eight bytes."""
@@ -52,7 +52,7 @@ class Film(layout.Ring):
 
     def film(self) -> bool:
         """Stores the frames that are due; answers whether there was room."""
-        while self.due <= time.time():
+        while self.due <= time.time() * 1e6:
             if self.is_paused:
                 self.due += self.period
                 continue
@@ -61,8 +61,7 @@ class Film(layout.Ring):
                 self.given_up += 1
                 return False
             index, slot = self.blocks.index(self.next // self.geometry.slots), self.next % self.geometry.slots
-            moment = int(self.due * 1e6)
-            self.times[self.next] = moment
+            self.times[self.next] = moment = self.due
             self.write(self.geometry.slot_at(index, slot), layout.head(self.next, self.next, moment, self.geometry.size) + self.pixels(self.next))
             self.write(self.geometry.segment_at(index) + layout.GATES_AT + slot, bytes([layout.OPEN]))
             self.next += 1
@@ -71,7 +70,7 @@ class Film(layout.Ring):
 
     def keep(self, first: int, last: int, tag: int) -> list[str]:
         """Locks the frames of a time."""
-        numbers = [number for number in self.held() if first <= self.times[number] <= last]
+        numbers = [number for number in sorted(self.held()) if first <= self.times[number] <= last]
         lines = []
         for begin, end in layout.runs_of(numbers):
             if len(self.clips) == layout.CLIPS:
