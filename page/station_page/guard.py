@@ -2,6 +2,7 @@
 import asyncio
 import hmac
 import secrets
+import socket
 import time
 from urllib.parse import urlsplit
 
@@ -40,6 +41,8 @@ class Connection(asyncio.Protocol):
         self.gate.connections.add(self)
         self.is_in = True
         transport.set_write_buffer_limits(high=limits.PIECE)
+        # What a client that never reads can make the system hold.
+        transport.get_extra_info("socket").setsockopt(socket.SOL_SOCKET, socket.SO_SNDBUF, limits.PIECE)
         self.inner.connection_made(transport)
 
     def connection_lost(self, exc: Exception | None) -> None:

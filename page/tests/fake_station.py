@@ -30,12 +30,12 @@ class Film(layout.Ring):
         width, height = map(int, size.split("x"))
         num, den = map(int, rate.split(":"))
         self.words, self.name, self.is_paused, self.given_up = words, words["name"], False, 0
-        super().__init__(width, height, form.encode(), words.get("segments", 8), words.get("slots", 64))
+        # A small image, since the file is written and not an image.
+        super().__init__(1, 1, b"GREY", words.get("segments", 8), 1)
         self.geometry = layout.geometry_of(width, height, form.encode(), num, den, words.get("segments", 8), words.get("slots", 64))
-        self.image = bytearray()
         new = words["store"] + ".new"
         self.file = os.open(new, os.O_RDWR | os.O_CREAT | os.O_TRUNC, 0o644)
-        os.pwrite(self.file, layout.fresh(self.geometry)[:layout.FRONT], 0)
+        os.pwrite(self.file, layout.superblock(self.geometry).ljust(layout.FRONT, b"\0"), 0)
         os.ftruncate(self.file, self.geometry.disk_size())
         os.rename(new, words["store"])
         self.write = lambda at, data: os.pwrite(self.file, data, at)
