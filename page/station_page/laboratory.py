@@ -6,7 +6,7 @@ import json
 import logging
 import time
 from collections.abc import Iterator
-from dataclasses import dataclass, field
+from dataclasses import dataclass, field, replace
 
 import layout
 
@@ -22,9 +22,13 @@ from .words import Event, Status
 log = logging.getLogger("loop_page")
 # Pieces of a timeline that a page is sent, the newest.
 PIECES = 300
+# A camera that gives less of its rate is shown as one to look at.
+LEAST_RATE = 0.8
 REFUSALS = {"missing": "There is no store yet. It is made when the camera's source comes",
             "refused 4 NotFormatted": "Its file isn't a store. Move it away, and a store is made",
             "not a file": "Its store isn't a file. Name another path in the configuration"}
+# How a keep is told of which nothing became, or a part.
+NOTHING, PART = "nothing was kept", "a part was kept, and no more"
 
 
 class Unfit(Exception):
@@ -91,7 +95,7 @@ class Laboratory:
         self.fetching: collections.Counter[tuple[str, int]] = collections.Counter()
         self.releasing: set[tuple[str, int]] = set()
         self.is_running, self.was_running, self.said = self.orders.pipe.is_read(), False, 0.0
-        self.streams, self.wanted, self.version = 0, time.monotonic(), 0
+        self.streams, self.wanted, self.version, self.looked = 0, time.monotonic(), 0, 0.0
         self.changed, self.hurry = asyncio.Condition(), asyncio.Event()
         self.state = b"{}"
         self.good_news: collections.deque[dict] = collections.deque(maxlen=20)
@@ -127,6 +131,16 @@ class Laboratory:
                 # Many events together are one look.
                 await asyncio.sleep(0.05)
 
+    async def fresh(self) -> None:
+        """Sees that what was seen last isn't old: while nobody looks, cameras are looked at seldom."""
+        self.wanted, version = time.monotonic(), self.version
+        if self.wanted - self.looked < 2 * limits.LOOK_SECONDS:
+            return
+        self.hurry.set()
+        async with self.changed:
+            with contextlib.suppress(asyncio.TimeoutError):
+                await asyncio.wait_for(self.changed.wait_for(lambda: self.version != version), limits.FRESH_SECONDS)
+
     async def ask(self) -> None:
         """Asks the station how its cameras stand, without end."""
         while True:
@@ -153,7 +167,7 @@ class Laboratory:
         for watched in self.cameras.values():
             await asyncio.to_thread(watched.look)
             self.judge(watched)
-        self.is_running = self.orders.pipe.is_read()
+        self.is_running, self.looked = self.orders.pipe.is_read(), time.monotonic()
         if self.settings.orders and self.was_running and not self.is_running:
             self.alerts.add(Event("station", None, True, "The station has ended. Nothing is recorded until it is started again."))
         self.was_running = self.is_running
@@ -221,6 +235,9 @@ class Laboratory:
             return "bad", "All of its room is locked. Recording stops when the newest block is full: release a clip."
         if watched.status and watched.status.behind and watched.status.behind > 1:
             return "warn", f"The disk is slow: {watched.status.behind} s of frames wait for it."
+        rate, asked = reading.rate(), reading.geometry.rate()
+        if rate is not None and rate < asked * LEAST_RATE:
+            return "warn", f"Recording {rate:.1f} of {asked:.1f} frames a second: the camera gives fewer, or frames were lost."
         return "good", "Recording."
 
     def watched(self, name: object) -> Watched:
@@ -282,7 +299,8 @@ class Laboratory:
                 clip = watched and watched.reading and watched.reading.clip(int(match[2]))
                 clips[match[1]].append(clip or Clip(int(match[2]), int(match[3]), int(match[4]), int(match[5] or 0), 0, 0))
             else:
-                found.append(not_kept(line))
+                refused = not_kept(line)
+                found.append(replace(refused, text=refused.text.replace(NOTHING, PART)) if refused.camera in clips else refused)
         return [told(name, of_one) for name, of_one in clips.items()] + found
 
     async def keep_unheard(self, order: str, names: list[str]) -> list[Kept]:
@@ -389,7 +407,7 @@ class Laboratory:
 def refusal(why: str) -> str:
     """Why a store can't be shown, in a sentence."""
     if "Damaged" in why:
-        return "Its store is damaged. Move its file away, and a new one is made; the clips in it are lost to the page."
+        return "Its store is damaged. Move its file away, and a new one is made."
     return REFUSALS.get(why, f"Its store can't be read: {why}") + "."
 
 
@@ -403,9 +421,9 @@ def not_kept(line: str) -> Kept:
     """Why nothing was kept, by the station's line, in a sentence with what to do."""
     verb, *rest = line.split(" ", 2)
     if verb == "kept" and rest[1:] == ["none"]:
-        return Kept(rest[0], False, f"{rest[0]}: nothing was kept, since no stored frame is of that time. Is the camera recording?", [])
+        return Kept(rest[0], False, f"{rest[0]}: {NOTHING}, since no stored frame is of that time. Is the camera recording?", [])
     if verb in ("refused", "absent") and len(rest) == 2:
-        return Kept(rest[0], False, f"{rest[0]}: nothing was kept, since {words.meaning(rest[1])}.", [])
+        return Kept(rest[0], False, f"{rest[0]}: {NOTHING}, since {words.meaning(rest[1])}.", [])
     if line.startswith("no camera"):
         return Kept(None, False, "The station has no camera of that name. Was its configuration changed? Start the page again.", [])
     return Kept(None, False, f"The station answers: {line}. Is it older than the page?", [])

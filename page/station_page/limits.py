@@ -10,9 +10,11 @@ READ_SECONDS = 20
 # The bytes of a request's body, and of a line of the station.
 BODY_BYTES = 16 * 1024
 LINE_BYTES = 4096
-# How often cameras are looked at while a page is open, and while none is; how often the station is asked how it stands.
+# How often cameras are looked at while a page is open, and while none is, and how long a request waits for a look; how often the station is asked how
+# it stands.
 LOOK_SECONDS = 0.5
 IDLE_SECONDS = 5.0
+FRESH_SECONDS = 2.0
 ASK_SECONDS = 5.0
 IDLE_ASK_SECONDS = 60.0
 # How long an order may wait for its answer, and how often the answers are looked at while one is awaited, and else.

@@ -8,7 +8,6 @@ import logging
 import re
 import signal
 import sys
-import time
 from collections.abc import AsyncIterator
 from pathlib import Path
 
@@ -249,12 +248,12 @@ class Page:
 
     async def metrics(self, request: web.Request) -> web.Response:
         """Prometheus's text."""
-        self.laboratory.wanted = time.monotonic()
+        await self.laboratory.fresh()
         return web.Response(body=metrics.text_of(self.registry), headers={"Content-Type": "text/plain; version=0.0.4; charset=utf-8"})
 
     async def status(self, request: web.Request) -> web.Response:
         """How all stands, once."""
-        self.laboratory.wanted = time.monotonic()
+        await self.laboratory.fresh()
         standing = self.laboratory.standing()
         for camera in standing["cameras"]:
             camera.pop("pieces", None)
@@ -262,11 +261,12 @@ class Page:
 
     async def clips(self, request: web.Request) -> web.Response:
         """All clips."""
-        self.laboratory.wanted = time.monotonic()
+        await self.laboratory.fresh()
         return web.json_response({"clips": self.laboratory.clips()})
 
     async def newest(self, request: web.Request) -> web.Response:
         """The newest stored frame; or the one of a number, so that pages that look at the same time cost one picture."""
+        await self.laboratory.fresh()
         watched, reading, source = self.laboratory.seen(request.match_info["camera"])
         if not reading.frames:
             raise Unfit(503, "No frame is stored yet.")

@@ -16,7 +16,12 @@ WHY = {
     "ClipEmpty": "there is no frame of that time",
     "ClipNotHeld": "a frame of that time was overwritten meanwhile. Ask for a shorter time",
     "NotHeld": "that frame or clip isn't held any more",
-    "NoClip": "no clip has that number any more",
+    "NoSuchClip": "no clip has that number any more",
+    "NumbersSpent": "its store has no number left. Move its file away, and a new one is made",
+    "BadGeometry": "its store isn't for these frames. Move its file away, and a new one is made",
+    "SessionFull": "the station begins anew with it. Try again in a moment",
+    "TieBroken": "the station found a fault of its own, and opens the store again. Try again in a moment, and report it",
+    "Stopped": "the station ends",
     "OldLayout": "the store has the old layout, without tags. `loop_cli upgrade` makes it anew while the station is stopped",
     "MustReopen": "the disk has failed. The station opens the store again; look at the disk",
     "Disk": "the disk has failed. Look at it, and at the station's messages",
@@ -31,8 +36,12 @@ WHY = {
     "Unfinished": "a store that wasn't finished is in the way. Move STORE.new away, and a store is made",
     "TooLong": "the time that is asked for is more than a store holds. Ask for fewer minutes",
     "TooManyFrames": "the time that is asked for is more than 16,384 frames. Ask for fewer minutes",
-    "NoSource": "its source hasn't come yet. See that the camera is plugged in and its program runs",
-    "SourceMissing": "its source hasn't come yet. See that the camera is plugged in and its program runs",
+    "NoStore": "it has no store yet, since its source hasn't come. See that the camera is plugged in and its program runs",
+    "NoGeometry": "no store holds what the configuration asks, or its source says no rate. Ask for less, and give ffmpeg a rate",
+    "TooFewBytes": "`bytes` of the configuration is too little for two frames. Ask for more",
+    "Folder": "its store is a folder. Name another path in the configuration",
+    "NotRegular": "its store isn't a file. Name another path in the configuration",
+    "CannotOpen": "its store can't be opened. Look at its path, its rights and the disk",
     "saving": "the clip is being saved. Wait until that has ended",
 }
 UNKNOWN = "docs/station.md says what this means"
@@ -87,7 +96,7 @@ def read_status(text: str) -> tuple[str, Status] | None:
 
 def meaning(why: str) -> str:
     """What a refusal means, and what to do: by the first of its words that is known."""
-    if (many := re.search(r"TooManyFrames (\d{1,9})", why)):
+    if (many := re.search(r"TooManyFrames (\d{1,9}(?:\.\d)?)", why)):
         return f"the time that is asked for is more than 16,384 frames. {many[1]} minutes fit"
     return next((WHY[word] for word in why.split() if word in WHY), f"{why}. {UNKNOWN}")
 

@@ -3,10 +3,11 @@
 
     fake_station.py CONFIG
 
-It films a moving bar of its own into each camera's store of the configuration, in the size, format and rate of `pattern`. Beside the station's
+It films a pendulum into each camera's store of the configuration, in the size, format and rate of `pattern`. Beside the station's
 orders it takes `!print LINE`, which prints a line; `!pause CAMERA` and `!go CAMERA`, which stop and start its frames; and `!mute`, after which
 nothing is answered any more."""
 import datetime
+import math
 import os
 import re
 import select
@@ -14,6 +15,8 @@ import sys
 import time
 import tomllib
 from pathlib import Path
+
+import numpy
 
 sys.path.insert(1, str(Path(__file__).resolve().parent.parent.parent / "tools"))
 import layout
@@ -23,13 +26,13 @@ LABELLED = re.compile(r"(?:@([A-Za-z0-9_-]{1,32}) )?(.*)")
 
 
 class Film(layout.Ring):
-    """A store in a file, whose frames a bar moves through."""
+    """A store in a file, whose frames show a pendulum."""
 
     def __init__(self, words: dict) -> None:
         size, form, rate = words.get("pattern", "64x48 YM12 25:1").split()
         width, height = map(int, size.split("x"))
         num, den = map(int, rate.split(":"))
-        self.words, self.name, self.is_paused, self.given_up = words, words["name"], False, 0
+        self.words, self.name, self.is_paused, self.given_up, self.still = words, words["name"], False, 0, None
         # A small image, since the file is written and not an image.
         super().__init__(1, 1, b"GREY", words.get("segments", 8), 1)
         self.geometry = layout.geometry_of(width, height, form.encode(), num, den, words.get("segments", 8), words.get("slots", 64))
@@ -41,14 +44,30 @@ class Film(layout.Ring):
         self.write = lambda at, data: os.pwrite(self.file, data, at)
         self.period, self.due = 1_000_000 * den // num, int(time.time() * 1e6)
 
-    def pixels(self, number: int) -> bytes:
-        """The bytes of a frame: a bar, and the number in its first eight bytes."""
+    def scene(self) -> tuple:
+        """What stands still: the brightness of each pixel, and both colours."""
         width, height = self.geometry.width, self.geometry.height
-        row = bytearray(b"\x40" * width)
-        row[number * 2 % width:number * 2 % width + max(4, width // 8)] = bytes([200]) * len(row[number * 2 % width:number * 2 % width + max(4, width // 8)])
-        whole = bytearray(bytes(row) * height) + bytes([(128 + number % 60)]) * (self.geometry.size - width * height)
-        whole[:8] = number.to_bytes(8, "little")
-        return bytes(whole)
+        down, across = numpy.mgrid[0:height, 0:width]
+        luma = (40 + 70 * across / width + 50 * down / height).astype(numpy.uint8)
+        luma[::max(1, height // 6)] = 30
+        luma[:, ::max(1, width // 8)] = 30
+        colours = [numpy.linspace(*ends, size).astype(numpy.uint8).tobytes()
+                   for ends, size in zip(((110, 170), (150, 100)), layout.planes_of(width, height, self.geometry.format)[1:])]
+        return luma, b"".join(colours)
+
+    def pixels(self, number: int) -> bytes:
+        """The bytes of a frame: a pendulum."""
+        if self.still is None:
+            self.still = self.scene()
+        luma, width, height = self.still[0].copy(), self.geometry.width, self.geometry.height
+        angle, arm, ball = 0.9 * math.cos(number * 0.12), height * 0.7, max(2, height // 10)
+        for part in numpy.linspace(0, 1, height):
+            luma[int(arm * part * math.cos(angle)), int(width / 2 + arm * part * math.sin(angle))] = 235
+        top, left = int(arm * math.cos(angle)) - ball, int(width / 2 + arm * math.sin(angle)) - ball
+        box = luma[max(0, top):top + 2 * ball, max(0, left):left + 2 * ball]
+        down, across = numpy.mgrid[0:box.shape[0], 0:box.shape[1]]
+        box[(down + max(0, top) - top - ball) ** 2 + (across + max(0, left) - left - ball) ** 2 < ball * ball] = 225
+        return luma.tobytes() + self.still[1]
 
     def film(self) -> bool:
         """Stores the frames that are due; answers whether there was room."""
@@ -152,7 +171,7 @@ class Station:
             if film is None:
                 return [f"no camera {parts[1]}"]
             if int(parts[2]) not in film.clips:
-                return [f"refused {parts[1]} 12 NoClip"]
+                return [f"refused {parts[1]} 12 NoSuchClip"]
             film.unlock(int(parts[2]))
             self.full.discard(parts[1])
             return [f"released {parts[1]} {parts[2]}"]

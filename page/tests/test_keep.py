@@ -158,3 +158,11 @@ def test_many_keeps_at_once_each_have_their_own_answer(make):
     with ThreadPoolExecutor(12) as pool:
         found = list(pool.map(lambda _: lab.keep()["id"], range(24)))
     assert sorted(found) == list(range(24))
+
+
+def test_a_keep_of_which_a_part_was_refused_says_both():
+    from station_page.laboratory import Laboratory
+    found = Laboratory.kept_of(type("Nothing", (), {"cameras": {}})(), ["kept left 0 1..5", "kept left 1 9..9 tag 3", "refused left 11 ClipTableFull", "absent right NoStore",
+                                                                     "kept other none", "no camera x", "bad order: keep"])
+    assert [it.is_kept for it in found] == [True] + [False] * 5 and [clip.count() for clip in found[0].clips] == [5, 1]
+    assert "a part was kept" in found[1].text and "plugged in" in found[2].text and "no stored frame" in found[3].text
