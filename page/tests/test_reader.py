@@ -127,6 +127,32 @@ def test_a_frame_is_never_that_of_another_block(tmp_path):
         os.close(file)
 
 
+@pytest.mark.parametrize("moment", range(4))
+def test_a_frame_that_is_overwritten_while_it_is_read_is_gone(tmp_path, moment):
+    """Its block is removed before one of the four reads, and another one has come in its place: it is never the bytes of that one."""
+    path, ring = tmp_path / "a.loop", layout.Ring(64, 48, b"GREY", 3, 2)
+    put(path, ring)
+    with open(path, "r+b") as file:
+        def write(at, data):
+            os.pwrite(file.fileno(), data, at)
+        for _ in range(6):
+            store(ring, write)
+        _, source = Reader(str(path)).read()
+        plain, reads = source.opened.read_at, []
+
+        def read_at(at, count):
+            reads.append(at)
+            if len(reads) == moment + 1:
+                for _ in range(6):
+                    store(ring, write)
+            return plain(at, count)
+
+        source.opened.read_at = read_at
+        # Before the last read the bytes were its own, but nobody can know that.
+        with pytest.raises(Gone):
+            source.frame(0)
+
+
 def store(ring, write):
     """Appends a frame of one byte, whose value is its number."""
     slots, size = ring.geometry.slots, ring.geometry.size
