@@ -7,6 +7,7 @@ import struct
 import sys
 import time
 from collections import namedtuple
+from operator import attrgetter
 
 OPEN, CLOSED, MAGIC = 0xA5, 0, b"LOOPREC"
 # The bytes of the superblock, of it with the clip table, of a segment's header, of a slot's head and of a clip's entry.
@@ -246,7 +247,7 @@ class Store:
 
     def __init__(self, geometry, version, segments, frames, clips):
         self.geometry, self.version, self.segments, self.clips = geometry, version, segments, clips
-        self.frames = sorted(frames, key=lambda frame: frame.number)
+        self.frames = sorted(frames, key=attrgetter("number"))
         self.numbers = runs_of([frame.number for frame in self.frames])
         self.times = {frame.number: frame.time for frame in self.frames}
         self.next = next_number(geometry, segments)
@@ -273,13 +274,8 @@ def next_number(geometry, segments):
 
 def runs_of(numbers):
     """The longest runs of numbers that follow one another, of a list that rises, as (first, last)."""
-    runs = []
-    for number in numbers:
-        if runs and number == runs[-1][1] + 1:
-            runs[-1] = (runs[-1][0], number)
-        else:
-            runs.append((number, number))
-    return runs
+    breaks = [place for place, (old, new) in enumerate(zip(numbers, numbers[1:]), 1) if new != old + 1]
+    return [(numbers[start], numbers[end - 1]) for start, end in zip([0, *breaks], [*breaks, len(numbers)]) if start < end]
 
 
 def clips_in(table, version):

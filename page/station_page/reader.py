@@ -118,17 +118,12 @@ class Reading:
 
     def divide(self) -> list[Piece]:
         """The pieces, reckoned."""
-        period = 1_000_000 * self.geometry.den // self.geometry.num
-        longest, pieces, first, old = max(3 * period, period + HOLE), [], None, None
-        for new in self.frames:
-            if old is None or new.number != old.number + 1 or not 0 <= new.time - old.time <= longest:
-                if old is not None:
-                    pieces.append(Piece(first.number, old.number, first.time, old.time))
-                first = new
-            old = new
-        if old is not None:
-            pieces.append(Piece(first.number, old.number, first.time, old.time))
-        return pieces
+        frames, period = self.frames, 1_000_000 * self.geometry.den // self.geometry.num
+        longest = max(3 * period, period + HOLE)
+        # A frame as a tuple, since this is done for each frame, often: its number is the first, and its time the fourth.
+        breaks = [place for place, (old, new) in enumerate(zip(frames, frames[1:]), 1) if new[0] != old[0] + 1 or not 0 <= new[3] - old[3] <= longest]
+        spans = zip([0, *breaks], [*breaks, len(frames)])
+        return [Piece(frames[start].number, frames[end - 1].number, frames[start].time, frames[end - 1].time) for start, end in spans if start < end]
 
     def at(self, moment: int) -> layout.Frame | None:
         """The frame that was the newest at a time, or the oldest one where none was there yet."""
