@@ -12,7 +12,7 @@ import layout
 
 from . import limits, pictures
 from .reader import Clip, Gone, Reading, Source
-from .words import iso
+from .words import Unfit, iso
 
 FRAME_LINE = b"FRAME\n"
 # A film that plays while it is made: it needs no end to be read.
@@ -142,7 +142,7 @@ class Film:
 
     def __init__(self, path: str) -> None:
         self.path, self.size, self.is_done, self.fault = path, 0, False, ""
-        self.readers, self.changed = 0, asyncio.Condition()
+        self.readers, self.changed, self.why = 0, asyncio.Condition(), "The film wasn't made."
         self.task: asyncio.Task | None = None
 
     async def grow(self, size: int = 0, is_done: bool = False, fault: str = "") -> None:
@@ -230,13 +230,13 @@ class Films:
                     await self.encode(film, Text(fetch))
             await film.grow(is_done=True)
             self.tidy()
-        except (FilmFault, Gone, OSError) as fault:
-            self.remove(key)
-            await film.grow(fault=str(fault) or type(fault).__name__)
-        except asyncio.CancelledError:
-            self.remove(key)
-            await film.grow(fault="Nobody read the film any more.")
-            raise
+        except (FilmFault, Gone, OSError, Unfit) as fault:
+            film.why = str(fault) or type(fault).__name__
+        finally:
+            # Also where nobody reads it any more, and it was told to end.
+            if not film.is_done:
+                self.remove(key)
+                await film.grow(fault=film.why)
 
     async def encode(self, film: Film, text: Text) -> None:
         """Runs ffmpeg over a clip."""
@@ -252,6 +252,8 @@ class Films:
                 while piece := await run.stdout.read(65536):
                     file.write(piece)
                     await film.grow(len(piece))
+                    if film.size > limits.FILM_BYTES:
+                        raise FilmFault("The film is too large. Keep a shorter time, or fetch YUV4MPEG2.")
             await feeder
             if await run.wait():
                 raise FilmFault(f"ffmpeg made no film: {await told}. Is it installed?")

@@ -17,7 +17,7 @@ from .notes import Notes, NotesFault, key_of
 from .orders import NoStation, Orders
 from .reader import Clip, Gone, Reader, Reading, Source
 from .settings import Camera, Settings
-from .words import Event, Status
+from .words import Event, Status, Unfit
 
 log = logging.getLogger("loop_page")
 # Pieces of a timeline that a page is sent, the newest.
@@ -29,14 +29,6 @@ REFUSALS = {"missing": "There is no store yet. It is made when the camera's sour
             "not a file": "Its store isn't a file. Name another path in the configuration"}
 # How a keep is told of which nothing became, or a part.
 NOTHING, PART = "nothing was kept", "a part was kept, and no more"
-
-
-class Unfit(Exception):
-    """Why something that was asked for can't be done, in a sentence, with HTTP's status."""
-
-    def __init__(self, status: int, text: str) -> None:
-        super().__init__(text)
-        self.status = status
 
 
 @dataclass
@@ -52,13 +44,25 @@ class Watched:
     status: Status | None = None
     newest: int | None = None
     changed: float = field(default_factory=time.monotonic)
+    looking: asyncio.Task | None = None
+    began: float = 0.0
+
+    def begin(self) -> None:
+        """Begins to look, in a thread, where it isn't being looked at: a disk may need long."""
+        if self.looking is None or self.looking.done():
+            self.looking, self.began = asyncio.create_task(asyncio.to_thread(self.look)), time.monotonic()
+
+    def hangs(self) -> float:
+        """For how many seconds its disk hasn't answered, where that is long; else 0."""
+        waited = time.monotonic() - self.began
+        return waited if self.looking and not self.looking.done() and waited > 2 * limits.DISK_SECONDS else 0.0
 
     def look(self) -> None:
-        """Reads the store. It may be called from any thread, and is, one at a time."""
+        """Reads the store."""
         try:
             reading, source = self.reader.read()
-        except layout.Refused as refused:
-            self.reading, self.source, self.why = None, None, refused.text
+        except (layout.Refused, OSError) as fault:
+            self.reading, self.source, self.why = None, None, str(fault)
             return
         newest = reading.frames[-1].number if reading.frames else None
         if newest != self.newest:
@@ -164,8 +168,8 @@ class Laboratory:
 
     async def look(self) -> None:
         """Looks once, and sends all pages what was seen."""
+        await self.look_at(list(self.cameras))
         for watched in self.cameras.values():
-            await asyncio.to_thread(watched.look)
             self.judge(watched)
         self.is_running, self.looked = self.orders.pipe.is_read(), time.monotonic()
         if self.settings.orders and self.was_running and not self.is_running:
@@ -221,6 +225,8 @@ class Laboratory:
     def camera_state(self, watched: Watched) -> tuple[str, str]:
         """How a camera stands, as a word for its colour and in a sentence."""
         reading, silent = watched.reading, time.monotonic() - watched.changed
+        if waited := watched.hangs():
+            return "bad", f"Its disk hasn't answered for {words.seconds_words(waited)}. Look at the disk."
         source = watched.status.source if watched.status and self.orders.has_answers else "on"
         if reading is None:
             return "bad", refusal(watched.why)
@@ -251,6 +257,8 @@ class Laboratory:
         watched = self.watched(name)
         self.wanted = time.monotonic()
         reading, source = watched.reading, watched.source
+        if watched.hangs():
+            raise Unfit(503, "Its disk doesn't answer.")
         if reading is None or source is None:
             raise Unfit(503, refusal(watched.why) if watched.why else "The page has only just begun. Try again in a moment.")
         return watched, reading, source
@@ -278,17 +286,21 @@ class Laboratory:
         self.wanted = time.monotonic()
         if self.orders.has_answers:
             lines = await self.orders.ask(order)
-            await self.look_at(names)
+            await self.look_at(names, is_new=True)
             kept = self.kept_of(lines)
         else:
             kept = await self.keep_unheard(order, names)
         self.hurry.set()
-        return self.noted(kept, note)
+        return await self.noted(kept, note)
 
-    async def look_at(self, names: list[str]) -> None:
-        """Reads some stores at once."""
-        for name in names:
-            await asyncio.to_thread(self.cameras[name].look)
+    async def look_at(self, names: list[str], is_new: bool = False) -> None:
+        """Looks at some cameras together, and waits for a while until that is done. A look that is to be new begins after this call."""
+        chosen = [self.cameras[name] for name in names]
+        if is_new:
+            await settle(chosen)
+        for watched in chosen:
+            watched.begin()
+        await settle(chosen)
 
     def kept_of(self, lines: list[str]) -> list[Kept]:
         """What the lines of an answer say."""
@@ -305,13 +317,13 @@ class Laboratory:
 
     async def keep_unheard(self, order: str, names: list[str]) -> list[Kept]:
         """Gives an order to a station whose answers can't be read, and looks in the stores what it has done."""
-        await self.look_at(names)
+        await self.look_at(names, is_new=True)
         before = {name: {(clip.id, clip.first) for clip in self.clips_of(name)} for name in names}
         self.orders.give(order)
         end = time.monotonic() + limits.ANSWER_SECONDS
         while time.monotonic() < end:
             await asyncio.sleep(0.1)
-            await self.look_at(names)
+            await self.look_at(names, is_new=True)
             new = {name: [clip for clip in self.clips_of(name) if (clip.id, clip.first) not in before[name]] for name in names}
             if all(new.values()) or (any(new.values()) and time.monotonic() > end - limits.ANSWER_SECONDS + 1.5):
                 break
@@ -323,7 +335,7 @@ class Laboratory:
         reading = self.cameras[name].reading
         return reading.clips if reading else []
 
-    def noted(self, kept: list[Kept], note: str) -> list[Kept]:
+    async def noted(self, kept: list[Kept], note: str) -> list[Kept]:
         """Writes a note to what was kept. Where it can't be, the answer says so, and the clip is kept nevertheless."""
         if not note:
             return kept
@@ -332,7 +344,7 @@ class Laboratory:
             text = one.text
             try:
                 for clip in one.clips:
-                    self.put_note(one.camera or "", clip, note)
+                    await asyncio.to_thread(self.put_note, one.camera or "", clip, note)
             except NotesFault as fault:
                 text = f"{text} {fault}"
             found.append(Kept(one.camera, one.is_kept, text, one.clips))
@@ -353,7 +365,7 @@ class Laboratory:
 
     async def release(self, camera: str, id_: int, first: int | None) -> str:
         """Releases a clip that isn't being fetched."""
-        await self.look_at([self.watched(camera).camera.name])
+        await self.look_at([self.watched(camera).camera.name], is_new=True)
         self.clip(camera, id_, first)
         key = (camera, id_)
         if self.fetching[key] or key in self.releasing:
@@ -364,7 +376,7 @@ class Laboratory:
             if not self.orders.has_answers:
                 self.orders.give(f"release {camera} {id_}")
                 await asyncio.sleep(0.5)
-            await self.look_at([camera])
+            await self.look_at([camera], is_new=True)
         finally:
             self.releasing.discard(key)
             self.hurry.set()
@@ -402,6 +414,13 @@ class Laboratory:
         await self.films.close()
         self.orders.pipe.close()
         self.orders.reader.close()
+
+
+async def settle(chosen: list[Watched]) -> None:
+    """Waits for the looks that are under way, but not for a disk that doesn't answer."""
+    tasks = [watched.looking for watched in chosen if watched.looking and not watched.looking.done()]
+    if tasks:
+        await asyncio.wait(tasks, timeout=limits.DISK_SECONDS)
 
 
 def refusal(why: str) -> str:

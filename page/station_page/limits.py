@@ -17,6 +17,8 @@ IDLE_SECONDS = 5.0
 FRESH_SECONDS = 2.0
 ASK_SECONDS = 5.0
 IDLE_ASK_SECONDS = 60.0
+# How long a disk may need for a look before nobody waits for it.
+DISK_SECONDS = 1.0
 # How long an order may wait for its answer, and how often the answers are looked at while one is awaited, and else.
 ANSWER_SECONDS = 5.0
 WATCH_SECONDS = 0.02

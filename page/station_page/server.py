@@ -16,11 +16,12 @@ from aiohttp import web
 from . import limits, metrics, pictures
 from .films import FilmFault, Text, csv_of, zip_stream
 from .guard import COOKIE, HEADERS, Connection, Gate
-from .laboratory import Laboratory, Unfit
+from .laboratory import Laboratory
 from .notes import NotesFault
 from .orders import NoStation
 from .reader import Gone
 from .settings import BadSettings, Settings, read_settings
+from .words import Unfit
 
 log = logging.getLogger("loop_page")
 STATIC = Path(__file__).parent / "static"
@@ -156,6 +157,8 @@ class Page:
             return problem(404, f"{gone}.")
         except NotesFault as fault:
             return problem(507, str(fault))
+        except asyncio.TimeoutError:
+            return problem(408, "The request's body didn't come in time.")
         except web.HTTPException as answer:
             if answer.status in (301, 302, 303):
                 self.dress(answer)
@@ -201,6 +204,8 @@ class Page:
 
     async def sign_in(self, request: web.Request) -> web.Response:
         """A person gives the token."""
+        if request.content_type != "application/x-www-form-urlencoded":
+            raise Unfit(415, "Send the form.")
         form = await asyncio.wait_for(request.post(), limits.REQUEST_SECONDS)
         token = form.get("token", "")
         if not isinstance(token, str) or not self.gate.is_token(token, request):
@@ -308,8 +313,6 @@ class Page:
             found = json.loads(await asyncio.wait_for(request.read(), limits.REQUEST_SECONDS))
         except (ValueError, RecursionError):
             raise Unfit(400, "The body isn't JSON.") from None
-        except asyncio.TimeoutError:
-            raise Unfit(408, "The body didn't come in time.") from None
         if not isinstance(found, dict) or set(found) - words:
             raise Unfit(400, f"The body is an object with these words: {', '.join(sorted(words))}.")
         return found

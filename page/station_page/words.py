@@ -47,6 +47,14 @@ WHY = {
 UNKNOWN = "docs/station.md says what this means"
 
 
+class Unfit(Exception):
+    """Why something that was asked for can't be done, in a sentence, with HTTP's status."""
+
+    def __init__(self, status: int, text: str) -> None:
+        super().__init__(text)
+        self.status = status
+
+
 @dataclass(frozen=True)
 class Line:
     """A line of the station: its label, where it has one, and its words."""

@@ -35,6 +35,8 @@ class Answer:
 class Laboratory:
     """A folder with a configuration, a station that runs, and a page that does."""
 
+    config = "station.toml"
+
     def __init__(self, folder, cameras=None, answers="pipe", orders=True):
         self.folder, self.runs, self.station, self.page, self.port = Path(folder), [], None, None, 0
         self.token = None
@@ -67,7 +69,7 @@ class Laboratory:
 
     def start_page(self, *words):
         """Starts the page, and waits until it has looked at its cameras."""
-        self.page = self.begin(str(PROGRAM), "station.toml", "--listen", "127.0.0.1:0", *words, env=dict(os.environ, CACHE_DIRECTORY=str(self.folder)))
+        self.page = self.begin(str(PROGRAM), self.config, "--listen", "127.0.0.1:0", *words, env=dict(os.environ, CACHE_DIRECTORY=str(self.folder)))
         line = self.page.stdout.readline()
         found = re.fullmatch(r"loop_page: http://127\.0\.0\.1:(\d+)/\n", line)
         assert found, line + self.page.stdout.read()

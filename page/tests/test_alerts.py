@@ -105,3 +105,36 @@ def test_a_camera_without_new_frames_is_seen_to_stand_still(make):
     assert lab.camera("right")["level"] == "good"
     lab.order("!go left")
     lab.until(lambda: lab.camera()["level"] == "good", "frames again", 4)
+
+
+def test_a_disk_that_does_not_answer_holds_up_no_other_camera(monkeypatch):
+    import asyncio
+    import threading
+    import time
+    import types
+
+    import layout
+    from station_page import laboratory, limits
+    monkeypatch.setattr(limits, "DISK_SECONDS", 0.1)
+    let_go = threading.Event()
+
+    def hang():
+        let_go.wait(5)
+        raise layout.Refused("missing")
+
+    async def look():
+        reader = types.SimpleNamespace(read=hang)
+        watched = laboratory.Watched(types.SimpleNamespace(name="left"), reader)
+        start = time.monotonic()
+        for _ in range(4):
+            watched.begin()
+            await laboratory.settle([watched])
+        took = time.monotonic() - start
+        asked = types.SimpleNamespace(cameras={"left": watched}, wanted=0, watched=lambda name: watched, orders=types.SimpleNamespace(has_answers=False))
+        state = laboratory.Laboratory.camera_state(asked, watched)
+        let_go.set()
+        await laboratory.settle([watched])
+        return took, state, watched.hangs(), watched.why
+
+    took, state, hangs, why = asyncio.run(look())
+    assert 0.3 < took < 2 and state[0] == "bad" and "disk hasn't answered" in state[1] and hangs == 0 and why == "missing"

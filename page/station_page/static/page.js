@@ -104,6 +104,8 @@ function watch() {
 function show(standing) {
   state(byId("station"), ...standing.station);
   showAlerts(standing.alerts);
+  const news = standing.news.at(-1);
+  say(byId("news"), news ? `${clock(news.time * 1e6)} ${news.text}` : "");
   const names = standing.cameras.map((camera) => camera.name);
   if (names.join() !== cameraNames.join()) begin(standing.cameras, names);
   for (const camera of standing.cameras) tiles.get(camera.name).show(camera, standing.now * 1e6);
