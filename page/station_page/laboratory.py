@@ -22,6 +22,8 @@ from .words import Event, Status, Unfit
 log = logging.getLogger("loop_page")
 # Pieces of a timeline that a page is sent, the newest.
 PIECES = 300
+# What comes at each start of the station, and passes with the other kind of event: of these it is only warned where they last.
+PASSING = {"missing": "source", "absent": "open"}
 # A camera that gives less of its rate is shown as one to look at.
 LEAST_RATE = 0.8
 REFUSALS = {"missing": "There is no store yet. It is made when the camera's source comes",
@@ -102,6 +104,7 @@ class Laboratory:
         self.streams, self.wanted, self.version, self.looked = 0, time.monotonic(), 0, 0.0
         self.changed, self.hurry = asyncio.Condition(), asyncio.Event()
         self.state = b"{}"
+        self.passing: dict[tuple[str, str | None], asyncio.Future] = {}
         self.good_news: collections.deque[dict] = collections.deque(maxlen=20)
 
     # ------------------------------------------------------------------------------------------- what happens by itself
@@ -109,8 +112,20 @@ class Laboratory:
     def on_event(self, text: str) -> None:
         """A line of the station that nobody asked for."""
         event = words.read_event(text)
-        if event:
+        if event and event.kind in PASSING:
+            self.passing.pop((event.kind, event.camera), asyncio.Future()).cancel()
+            self.passing[event.kind, event.camera] = asyncio.create_task(self.add_later(event))
+        elif event:
+            for kind, end in PASSING.items():
+                if end == event.kind and not event.is_bad:
+                    self.passing.pop((kind, event.camera), asyncio.Future()).cancel()
             self.add(event)
+
+    async def add_later(self, event: Event) -> None:
+        """Warns of what may pass by itself, where it hasn't by then."""
+        await asyncio.sleep(limits.PASSING_SECONDS)
+        self.passing.pop((event.kind, event.camera), None)
+        self.add(event)
 
     def add(self, event: Event) -> None:
         """Something has happened. All open pages are sent it at once."""

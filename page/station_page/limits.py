@@ -29,6 +29,8 @@ ORDERS = 32
 KEEP_SECONDS = 86_400
 NOTE_BYTES = 500
 NOTES = 4096
+# How long a source may be missing, or a store absent, before it is warned of.
+PASSING_SECONDS = 3.0
 # Alerts that are remembered, and those that wait for the command or the webhook; the seconds that these may take.
 ALERTS = 100
 DELIVERIES = 100

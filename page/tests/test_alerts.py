@@ -19,6 +19,15 @@ def test_an_event_is_a_warning_until_it_is_seen(make):
         assert lab.post("/api/seen", body).status == 404
 
 
+def test_a_source_that_comes_at_once_is_no_warning_and_one_that_stays_away_is(make):
+    lab = make()
+    lab.filmed()
+    for line in ("source left missing", "store left absent NoStore", "source right missing", "source left on 64x48 YM12 100:1", "store left open"):
+        lab.order(f"!print {line}")
+    lab.until(lambda: lab.status()["alerts"], "warning", 6)
+    assert [(it["kind"], it["camera"]) for it in lab.status()["alerts"]] == [("missing", "right")]
+
+
 def test_good_news_and_unknown_lines_are_no_warnings(make):
     lab = make()
     lab.filmed()
