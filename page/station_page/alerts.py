@@ -43,7 +43,7 @@ class Alerts:
                 return
         self.count += 1
         alert = Alert(self.count, time.time(), event.kind, event.camera, event.text)
-        self.alerts = [*self.alerts, alert][-limits.ALERTS:]
+        self.alerts = [*self.alerts, alert][-limits.ALERTS :]
         if self.command or self.webhook:
             try:
                 self.queue.put_nowait(alert)
@@ -74,7 +74,9 @@ class Alerts:
 
     async def run_command(self, alert: Alert) -> None:
         """Runs the command, without a shell; the sentence is its input."""
-        run = await asyncio.create_subprocess_exec(*self.command, stdin=asyncio.subprocess.PIPE, stdout=asyncio.subprocess.DEVNULL)
+        run = await asyncio.create_subprocess_exec(
+            *self.command, stdin=asyncio.subprocess.PIPE, stdout=asyncio.subprocess.DEVNULL
+        )
         try:
             await asyncio.wait_for(run.communicate(alert.text.encode() + b"\n"), limits.DELIVERY_SECONDS)
         finally:
@@ -91,6 +93,8 @@ class Alerts:
         timeout = aiohttp.ClientTimeout(total=limits.DELIVERY_SECONDS)
         async with aiohttp.ClientSession(timeout=timeout) as session:
             data = json.dumps(asdict(alert)).encode()
-            async with session.post(self.webhook, data=data, headers={"Content-Type": "application/json"}, allow_redirects=False) as answer:
+            async with session.post(
+                self.webhook, data=data, headers={"Content-Type": "application/json"}, allow_redirects=False
+            ) as answer:
                 if answer.status >= 300:
                     raise OSError(f"{self.webhook} answers {answer.status}")

@@ -16,8 +16,26 @@ from .words import Unfit, iso
 
 FRAME_LINE = b"FRAME\n"
 # A film that plays while it is made: it needs no end to be read.
-ENCODER = ["-an", "-c:v", "libx264", "-preset", "veryfast", "-crf", "20", "-threads", "2", "-pix_fmt", "yuv420p",
-           "-vf", "pad=ceil(iw/2)*2:ceil(ih/2)*2", "-movflags", "frag_keyframe+empty_moov+default_base_moof", "-f", "mp4", "pipe:1"]
+ENCODER = [
+    "-an",
+    "-c:v",
+    "libx264",
+    "-preset",
+    "veryfast",
+    "-crf",
+    "20",
+    "-threads",
+    "2",
+    "-pix_fmt",
+    "yuv420p",
+    "-vf",
+    "pad=ceil(iw/2)*2:ceil(ih/2)*2",
+    "-movflags",
+    "frag_keyframe+empty_moov+default_base_moof",
+    "-f",
+    "mp4",
+    "pipe:1",
+]
 
 
 class FilmFault(Exception):
@@ -50,6 +68,7 @@ def fetch_of(camera: str, reading: Reading, source: Source, clip: Clip) -> Fetch
 
 # ----------------------------------------------------------------------------------------------- YUV4MPEG2
 
+
 class Text:
     """A clip as YUV4MPEG2, whose length and whose bytes from any place on are known."""
 
@@ -71,10 +90,10 @@ class Text:
     def piece(self, at: int, count: int) -> bytes:
         """Bytes from a place on, up to the end of what stands there: the header, a frame's line, or its pixels."""
         if at < len(self.front):
-            return self.front[at:at + count]
+            return self.front[at : at + count]
         index, place = divmod(at - len(self.front), self.step)
         if place < len(FRAME_LINE):
-            return FRAME_LINE[place:place + count]
+            return FRAME_LINE[place : place + count]
         place -= len(FRAME_LINE)
         return self.source.part(self.first + index, place, min(count, self.source.geometry.size - place))
 
@@ -85,6 +104,7 @@ class Text:
 
 
 # ----------------------------------------------------------------------------------------------- numbers, PNGs
+
 
 def csv_of(fetch: Fetch) -> bytes:
     """The numbers and times of a clip's frames."""
@@ -132,10 +152,11 @@ async def zip_stream(fetch: Fetch) -> AsyncIterator[bytes]:
     pieces = zip_pieces(fetch)
     while (piece := await asyncio.to_thread(next, pieces, None)) is not None:
         for at in range(0, len(piece), limits.PIECE):
-            yield piece[at:at + limits.PIECE]
+            yield piece[at : at + limits.PIECE]
 
 
 # ----------------------------------------------------------------------------------------------- MP4
+
 
 class Film:
     """A film that is made, or was: its file, how long it is so far, and who reads it."""
@@ -173,7 +194,9 @@ class Films:
     """The films that are made, one at a time, and those that were, in a folder that ends with the page."""
 
     def __init__(self) -> None:
-        self.folder = tempfile.TemporaryDirectory(prefix="loop_page.", dir=os.environ.get("CACHE_DIRECTORY") or "/var/tmp")
+        self.folder = tempfile.TemporaryDirectory(
+            prefix="loop_page.", dir=os.environ.get("CACHE_DIRECTORY") or "/var/tmp"
+        )
         self.films: dict[str, Film] = {}
         self.turn, self.count = asyncio.Semaphore(1), 0
 
@@ -212,9 +235,13 @@ class Films:
 
     def tidy(self) -> None:
         """Removes the films that were asked for longest ago, where there are too many, or they are too large."""
+
         def spare() -> list[str]:
             return [key for key, film in self.films.items() if film.is_done and not film.readers]
-        while (keys := spare()) and (len(self.films) > limits.FILMS or sum(film.size for film in self.films.values()) > limits.FILM_BYTES):
+
+        while (keys := spare()) and (
+            len(self.films) > limits.FILMS or sum(film.size for film in self.films.values()) > limits.FILM_BYTES
+        ):
             self.remove(keys[0])
 
     def remove(self, key: str) -> None:
@@ -241,8 +268,22 @@ class Films:
     async def encode(self, film: Film, text: Text) -> None:
         """Runs ffmpeg over a clip."""
         try:
-            run = await asyncio.create_subprocess_exec("nice", "-n", "10", "ffmpeg", "-v", "error", "-f", "yuv4mpegpipe", "-i", "pipe:0", *ENCODER,
-                                                       stdin=asyncio.subprocess.PIPE, stdout=asyncio.subprocess.PIPE, stderr=asyncio.subprocess.PIPE)
+            run = await asyncio.create_subprocess_exec(
+                "nice",
+                "-n",
+                "10",
+                "ffmpeg",
+                "-v",
+                "error",
+                "-f",
+                "yuv4mpegpipe",
+                "-i",
+                "pipe:0",
+                *ENCODER,
+                stdin=asyncio.subprocess.PIPE,
+                stdout=asyncio.subprocess.PIPE,
+                stderr=asyncio.subprocess.PIPE,
+            )
         except FileNotFoundError:
             raise FilmFault("ffmpeg isn't installed, so there are no films. Install it, or fetch YUV4MPEG2.") from None
         feeder = asyncio.create_task(feed(run, text))

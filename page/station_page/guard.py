@@ -13,10 +13,18 @@ from .settings import Settings, is_loopback
 
 COOKIE = "loop_page"
 # Scripts, styles and pictures come from this server alone, and none of them from within the page's text.
-POLICY = ("default-src 'none'; script-src 'self'; style-src 'self'; img-src 'self'; media-src 'self'; connect-src 'self'; form-action 'self'; "
-          "base-uri 'none'; frame-ancestors 'none'")
-HEADERS = {"Content-Security-Policy": POLICY, "X-Content-Type-Options": "nosniff", "X-Frame-Options": "DENY", "Referrer-Policy": "same-origin",
-           "Cross-Origin-Resource-Policy": "same-origin", "Cross-Origin-Opener-Policy": "same-origin"}
+POLICY = (
+    "default-src 'none'; script-src 'self'; style-src 'self'; img-src 'self'; media-src 'self'; connect-src 'self'; form-action 'self'; "
+    "base-uri 'none'; frame-ancestors 'none'"
+)
+HEADERS = {
+    "Content-Security-Policy": POLICY,
+    "X-Content-Type-Options": "nosniff",
+    "X-Frame-Options": "DENY",
+    "Referrer-Policy": "same-origin",
+    "Cross-Origin-Resource-Policy": "same-origin",
+    "Cross-Origin-Opener-Policy": "same-origin",
+}
 # What is answered to anybody.
 OPEN = {"/sign-in", "/healthz", "/static/page.css", "/static/icon.svg", "/favicon.ico"}
 OWN_HEADER = "X-Loop-Page"
@@ -129,7 +137,7 @@ class Gate:
         is_right = hmac.compare_digest(given.strip().encode(errors="replace"), self.settings.token.encode())
         if given and not is_right:
             address = str(request.remote)
-            self.wrong[address] = [*self.wrong.pop(address, []), time.monotonic()][-limits.WRONG_TOKENS:]
+            self.wrong[address] = [*self.wrong.pop(address, []), time.monotonic()][-limits.WRONG_TOKENS :]
             while len(self.wrong) > limits.GUESSERS:
                 del self.wrong[next(iter(self.wrong))]
         return is_right

@@ -26,9 +26,11 @@ PIECES = 300
 PASSING = {"missing": "source", "absent": "open"}
 # A camera that gives less of its rate is shown as one to look at.
 LEAST_RATE = 0.8
-REFUSALS = {"missing": "There is no store yet. It is made when the camera's source comes",
-            "refused 4 NotFormatted": "Its file isn't a store. Move it away, and a store is made",
-            "not a file": "Its store isn't a file. Name another path in the configuration"}
+REFUSALS = {
+    "missing": "There is no store yet. It is made when the camera's source comes",
+    "refused 4 NotFormatted": "Its file isn't a store. Move it away, and a store is made",
+    "not a file": "Its store isn't a file. Name another path in the configuration",
+}
 # How a keep is told of which nothing became, or a part.
 NOTHING, PART = "nothing was kept", "a part was kept, and no more"
 
@@ -84,8 +86,18 @@ class Kept:
 
     def as_object(self) -> dict:
         """For JSON."""
-        clips = [{"id": clip.id, "first": clip.first, "last": clip.last, "from_us": clip.since, "to_us": clip.until,
-                  "from": words.iso(clip.since), "to": words.iso(clip.until)} for clip in self.clips]
+        clips = [
+            {
+                "id": clip.id,
+                "first": clip.first,
+                "last": clip.last,
+                "from_us": clip.since,
+                "to_us": clip.until,
+                "from": words.iso(clip.since),
+                "to": words.iso(clip.until),
+            }
+            for clip in self.clips
+        ]
         return {"camera": self.camera, "kept": self.is_kept, "text": self.text, "clips": clips}
 
 
@@ -188,7 +200,9 @@ class Laboratory:
             self.judge(watched)
         self.is_running, self.looked = self.orders.pipe.is_read(), time.monotonic()
         if self.settings.orders and self.was_running and not self.is_running:
-            self.alerts.add(Event("station", None, True, "The station has ended. Nothing is recorded until it is started again."))
+            self.alerts.add(
+                Event("station", None, True, "The station has ended. Nothing is recorded until it is started again.")
+            )
         self.was_running = self.is_running
         state = json.dumps(self.standing(), separators=(",", ":")).encode()
         async with self.changed:
@@ -201,7 +215,14 @@ class Laboratory:
             watched.was_there = True
         elif watched.was_there:
             watched.was_there = False
-            self.alerts.add(Event("lost", watched.camera.name, True, f"{watched.camera.name}: its store was there, and now: {refusal(watched.why)}"))
+            self.alerts.add(
+                Event(
+                    "lost",
+                    watched.camera.name,
+                    True,
+                    f"{watched.camera.name}: its store was there, and now: {refusal(watched.why)}",
+                )
+            )
 
     # ------------------------------------------------------------------------------------------- how all stands
 
@@ -212,26 +233,52 @@ class Laboratory:
         elif not self.is_running:
             station = ["bad", f"The station doesn't run: nobody reads orders at {self.settings.orders}. Start it."]
         elif not self.orders.has_answers:
-            station = ["warn", "The station's configuration has no `answers`: the page sees what is kept, and no warnings of the station."]
+            station = [
+                "warn",
+                "The station's configuration has no `answers`: the page sees what is kept, and no warnings of the station.",
+            ]
         else:
             station = ["good", "The station runs."]
-        return {"version": self.version, "now": time.time(), "station": station, "alerts": self.alerts.listed(), "news": list(self.good_news)[-3:],
-                "notes_fault": self.notes.fault, "cameras": [self.camera(watched) for watched in self.cameras.values()]}
+        return {
+            "version": self.version,
+            "now": time.time(),
+            "station": station,
+            "alerts": self.alerts.listed(),
+            "news": list(self.good_news)[-3:],
+            "notes_fault": self.notes.fault,
+            "cameras": [self.camera(watched) for watched in self.cameras.values()],
+        }
 
     def camera(self, watched: Watched) -> dict:
         """How a camera stands."""
         level, text = self.camera_state(watched)
         status = watched.status if self.orders.has_answers else None
-        found = {"name": watched.camera.name, "keep": watched.camera.keep, "level": level, "state": text,
-                 "given_up": status and status.given_up, "behind": status and status.behind, "room": status and status.room}
+        found = {
+            "name": watched.camera.name,
+            "keep": watched.camera.keep,
+            "level": level,
+            "state": text,
+            "given_up": status and status.given_up,
+            "behind": status and status.behind,
+            "room": status and status.room,
+        }
         reading = watched.reading
         if not reading:
             return found
         geometry, removed = reading.geometry, reading.removed_next()
-        found |= {"width": geometry.width, "height": geometry.height, "format": geometry.format.decode(), "asked_rate": geometry.rate(),
-                  "rate": reading.rate(), "seconds": reading.seconds(), "frames": len(reading.frames), "locked": reading.locked(),
-                  "pieces": [[it.first, it.last, it.since, it.until] for it in reading.pieces()[-PIECES:]], "removed_next": removed,
-                  "clips": [[clip.id, clip.first, clip.last, clip.since, clip.until] for clip in reading.clips]}
+        found |= {
+            "width": geometry.width,
+            "height": geometry.height,
+            "format": geometry.format.decode(),
+            "asked_rate": geometry.rate(),
+            "rate": reading.rate(),
+            "seconds": reading.seconds(),
+            "frames": len(reading.frames),
+            "locked": reading.locked(),
+            "pieces": [[it.first, it.last, it.since, it.until] for it in reading.pieces()[-PIECES:]],
+            "removed_next": removed,
+            "clips": [[clip.id, clip.first, clip.last, clip.since, clip.until] for clip in reading.clips],
+        }
         if reading.frames:
             newest, oldest = reading.frames[-1], reading.frames[0]
             found |= {"newest": [newest.number, newest.time], "oldest": [oldest.number, oldest.time]}
@@ -249,16 +296,25 @@ class Laboratory:
             return "bad", "Its source gives frames of another size, format or rate than its store. Nothing is stored."
         if not reading.frames:
             return "warn", "No frame is stored yet."
-        if silent > max(2.0, 3 / reading.geometry.rate() + limits.LOOK_SECONDS) and time.time() - reading.frames[-1].time / 1e6 > 2:
+        if (
+            silent > max(2.0, 3 / reading.geometry.rate() + limits.LOOK_SECONDS)
+            and time.time() - reading.frames[-1].time / 1e6 > 2
+        ):
             why = "its source is missing" if source == "missing" else "the camera may be away, or the station"
-            return "bad", f"No new frame for {words.seconds_words(max(silent, time.time() - reading.frames[-1].time / 1e6))}: {why}."
+            return (
+                "bad",
+                f"No new frame for {words.seconds_words(max(silent, time.time() - reading.frames[-1].time / 1e6))}: {why}.",
+            )
         if reading.removed_next() is None and len(reading.store.with_frames()) == reading.geometry.segments:
             return "bad", "All of its room is locked. Recording stops when the newest block is full: release a clip."
         if watched.status and watched.status.behind and watched.status.behind > 1:
             return "warn", f"The disk is slow: {watched.status.behind} s of frames wait for it."
         rate, asked = reading.rate(), reading.geometry.rate()
         if rate is not None and rate < asked * LEAST_RATE:
-            return "warn", f"Recording {rate:.1f} of {asked:.1f} frames a second: the camera gives fewer, or frames were lost."
+            return (
+                "warn",
+                f"Recording {rate:.1f} of {asked:.1f} frames a second: the camera gives fewer, or frames were lost.",
+            )
         return "good", "Recording."
 
     def watched(self, name: object) -> Watched:
@@ -275,7 +331,9 @@ class Laboratory:
         if watched.hangs():
             raise Unfit(503, "Its disk doesn't answer.")
         if reading is None or source is None:
-            raise Unfit(503, refusal(watched.why) if watched.why else "The page has only just begun. Try again in a moment.")
+            raise Unfit(
+                503, refusal(watched.why) if watched.why else "The page has only just begun. Try again in a moment."
+            )
         return watched, reading, source
 
     def clips(self) -> list[dict]:
@@ -284,16 +342,31 @@ class Laboratory:
         for name, watched in self.cameras.items():
             reading = watched.reading
             for clip in reading.clips if reading else []:
-                found.append({"camera": name, "id": clip.id, "first": clip.first, "last": clip.last, "tag": clip.tag, "frames": clip.count(),
-                              "from_us": clip.since, "to_us": clip.until, "from": words.iso(clip.since), "to": words.iso(clip.until),
-                              "seconds": (clip.until - clip.since) / 1e6 + 1 / reading.geometry.rate(),
-                              "bytes": clip.count() * (reading.geometry.size + 6) + len(layout.text_front(reading.geometry)),
-                              "note": self.notes.of(watched.camera.store, clip.id, clip.since), "fetched": self.fetching[name, clip.id] > 0})
+                found.append(
+                    {
+                        "camera": name,
+                        "id": clip.id,
+                        "first": clip.first,
+                        "last": clip.last,
+                        "tag": clip.tag,
+                        "frames": clip.count(),
+                        "from_us": clip.since,
+                        "to_us": clip.until,
+                        "from": words.iso(clip.since),
+                        "to": words.iso(clip.until),
+                        "seconds": (clip.until - clip.since) / 1e6 + 1 / reading.geometry.rate(),
+                        "bytes": clip.count() * (reading.geometry.size + 6) + len(layout.text_front(reading.geometry)),
+                        "note": self.notes.of(watched.camera.store, clip.id, clip.since),
+                        "fetched": self.fetching[name, clip.id] > 0,
+                    }
+                )
         return sorted(found, key=lambda clip: (clip["to_us"], clip["camera"]), reverse=True)
 
     # ------------------------------------------------------------------------------------------- what is asked for
 
-    async def keep(self, camera: str | None, seconds: int | None, span: tuple[int, int] | None, note: str) -> list[Kept]:
+    async def keep(
+        self, camera: str | None, seconds: int | None, span: tuple[int, int] | None, note: str
+    ) -> list[Kept]:
         """Locks the last seconds, or a span of time, of one camera or of all."""
         names = [self.watched(camera).camera.name] if camera is not None else list(self.cameras)
         what = f" from {words.iso(span[0])} to {words.iso(span[1])}" if span else f" {seconds}"
@@ -324,10 +397,14 @@ class Laboratory:
             if match := words.KEPT.fullmatch(line):
                 watched = self.cameras.get(match[1])
                 clip = watched and watched.reading and watched.reading.clip(int(match[2]))
-                clips[match[1]].append(clip or Clip(int(match[2]), int(match[3]), int(match[4]), int(match[5] or 0), 0, 0))
+                clips[match[1]].append(
+                    clip or Clip(int(match[2]), int(match[3]), int(match[4]), int(match[5] or 0), 0, 0)
+                )
             else:
                 refused = not_kept(line)
-                found.append(replace(refused, text=refused.text.replace(NOTHING, PART)) if refused.camera in clips else refused)
+                found.append(
+                    replace(refused, text=refused.text.replace(NOTHING, PART)) if refused.camera in clips else refused
+                )
         return [told(name, of_one) for name, of_one in clips.items()] + found
 
     async def keep_unheard(self, order: str, names: list[str]) -> list[Kept]:
@@ -339,11 +416,18 @@ class Laboratory:
         while time.monotonic() < end:
             await asyncio.sleep(0.1)
             await self.look_at(names, is_new=True)
-            new = {name: [clip for clip in self.clips_of(name) if (clip.id, clip.first) not in before[name]] for name in names}
+            new = {
+                name: [clip for clip in self.clips_of(name) if (clip.id, clip.first) not in before[name]]
+                for name in names
+            }
             if all(new.values()) or (any(new.values()) and time.monotonic() > end - limits.ANSWER_SECONDS + 1.5):
                 break
-        nothing = "no new clip is seen in its store. The station's configuration has no `answers`, so the page can't say why"
-        return [told(name, clips) if clips else Kept(name, False, f"{name}: {nothing}.", []) for name, clips in new.items()]
+        nothing = (
+            "no new clip is seen in its store. The station's configuration has no `answers`, so the page can't say why"
+        )
+        return [
+            told(name, clips) if clips else Kept(name, False, f"{name}: {nothing}.", []) for name, clips in new.items()
+        ]
 
     def clips_of(self, name: str) -> list[Clip]:
         """The clips of a camera, as they were seen last."""
@@ -367,7 +451,11 @@ class Laboratory:
 
     def put_note(self, camera: str, clip: Clip, text: str) -> None:
         """Writes a note beside a clip."""
-        keys = {key_of(watched.camera.store, it.id, it.since) for name, watched in self.cameras.items() for it in self.clips_of(name)}
+        keys = {
+            key_of(watched.camera.store, it.id, it.since)
+            for name, watched in self.cameras.items()
+            for it in self.clips_of(name)
+        }
         self.notes.put(self.watched(camera).camera.store, clip.id, clip.since, text, keys.__contains__)
 
     def clip(self, camera: object, id_: int, first: int | None = None) -> tuple[Watched, Reading, Source, Clip]:
@@ -399,8 +487,13 @@ class Laboratory:
             return f"{camera}: clip {id_} is released. Its room is used again."
         if self.orders.has_answers:
             raise Unfit(409, f"{camera}: clip {id_} isn't released: {words.meaning(' '.join(lines) or 'no answer')}.")
-        if any((clip.id, clip.first) == (id_, first if first is not None else clip.first) for clip in self.clips_of(camera)):
-            raise Unfit(409, f"{camera}: clip {id_} still stands. The configuration has no `answers`, so the page can't say why.")
+        if any(
+            (clip.id, clip.first) == (id_, first if first is not None else clip.first) for clip in self.clips_of(camera)
+        ):
+            raise Unfit(
+                409,
+                f"{camera}: clip {id_} still stands. The configuration has no `answers`, so the page can't say why.",
+            )
         return f"{camera}: clip {id_} is released, as its store shows."
 
     @contextlib.contextmanager
@@ -447,7 +540,10 @@ def refusal(why: str) -> str:
 
 def told(name: str, clips: list[Clip]) -> Kept:
     """That clips were kept, in a sentence."""
-    spans = " and ".join(f"clip {clip.id} from {words.iso(clip.since)} to {words.iso(clip.until)}, {clip.count()} frames" for clip in clips)
+    spans = " and ".join(
+        f"clip {clip.id} from {words.iso(clip.since)} to {words.iso(clip.until)}, {clip.count()} frames"
+        for clip in clips
+    )
     return Kept(name, True, f"{name}: kept {spans}.", clips)
 
 
@@ -455,9 +551,16 @@ def not_kept(line: str) -> Kept:
     """Why nothing was kept, by the station's line, in a sentence with what to do."""
     verb, *rest = line.split(" ", 2)
     if verb == "kept" and rest[1:] == ["none"]:
-        return Kept(rest[0], False, f"{rest[0]}: {NOTHING}, since no stored frame is of that time. Is the camera recording?", [])
+        return Kept(
+            rest[0], False, f"{rest[0]}: {NOTHING}, since no stored frame is of that time. Is the camera recording?", []
+        )
     if verb in ("refused", "absent") and len(rest) == 2:
         return Kept(rest[0], False, f"{rest[0]}: {NOTHING}, since {words.meaning(rest[1])}.", [])
     if line.startswith("no camera"):
-        return Kept(None, False, "The station has no camera of that name. Was its configuration changed? Start the page again.", [])
+        return Kept(
+            None,
+            False,
+            "The station has no camera of that name. Was its configuration changed? Start the page again.",
+            [],
+        )
     return Kept(None, False, f"The station answers: {line}. Is it older than the page?", [])

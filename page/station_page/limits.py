@@ -43,7 +43,7 @@ PICTURES = 64
 # Films that wait to be made, that are remembered, and the bytes that these may take together.
 FILMS_WAITING = 8
 FILMS = 16
-FILM_BYTES = 2 * 1024 ** 3
+FILM_BYTES = 2 * 1024**3
 # Seconds after which a film that nobody reads any more isn't made on.
 FILM_IDLE_SECONDS = 5.0
 # The bytes of a piece that is read from a store and sent.
@@ -54,4 +54,4 @@ SESSIONS = 1000
 WRONG_TOKENS = 20
 GUESSERS = 1000
 # The largest number of a frame.
-NUMBERS_END = 2 ** 62
+NUMBERS_END = 2**62

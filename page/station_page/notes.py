@@ -40,7 +40,11 @@ class Notes:
         try:
             with open(self.path, encoding="utf-8") as file:
                 found = json.load(file)
-            if not isinstance(found, dict) or found.get("version") != VERSION or not isinstance(found.get("notes"), dict):
+            if (
+                not isinstance(found, dict)
+                or found.get("version") != VERSION
+                or not isinstance(found.get("notes"), dict)
+            ):
                 raise ValueError
             self.notes = {str(key): str(text) for key, text in found["notes"].items()}
         except FileNotFoundError:

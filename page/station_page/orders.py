@@ -63,7 +63,9 @@ class OrderPipe:
     def write(self, line: str) -> None:
         """Gives an order, whole or not at all: a line is shorter than what a pipe takes at once."""
         if self.path is None:
-            raise NoStation("The station's configuration has no `orders`, so the page can't give any. Name a pipe there, and start the station again.")
+            raise NoStation(
+                "The station's configuration has no `orders`, so the page can't give any. Name a pipe there, and start the station again."
+            )
         if not self.is_read():
             raise NoStation(f"The station doesn't run: nobody reads orders at {self.path}. Start it.")
         try:
@@ -124,8 +126,8 @@ class AnswerReader:
         if self.is_cut and whole:
             whole, self.is_cut = whole[1:], False
         if len(self.rest) > limits.LINE_BYTES:
-            whole, self.rest, self.is_cut = [*whole, self.rest[:limits.LINE_BYTES]], b"", True
-        return [line[:limits.LINE_BYTES].decode(errors="replace") for line in whole]
+            whole, self.rest, self.is_cut = [*whole, self.rest[: limits.LINE_BYTES]], b"", True
+        return [line[: limits.LINE_BYTES].decode(errors="replace") for line in whole]
 
 
 class Waiting:
@@ -159,7 +161,9 @@ class Orders:
             self.wake.set()
             await asyncio.wait_for(waiting.done, seconds)
         except asyncio.TimeoutError:
-            raise NoStation(f"The station hasn't answered within {seconds:.0f} seconds. Does it run, and does it write its answers where the page reads them?") from None
+            raise NoStation(
+                f"The station hasn't answered within {seconds:.0f} seconds. Does it run, and does it write its answers where the page reads them?"
+            ) from None
         finally:
             del self.waiting[label]
         return waiting.lines

@@ -21,14 +21,14 @@ def image_of(geometry: layout.Geometry, data: bytes, width: int | None = None) -
     step = max(1, -(-geometry.width // width)) if width else 1
     whole = memoryview(data)
     sizes = layout.planes_of(geometry.width, geometry.height, geometry.format)
-    luma = plane(whole[:sizes[0]], geometry.width, geometry.height, step)
+    luma = plane(whole[: sizes[0]], geometry.width, geometry.height, step)
     if len(sizes) == 1:
         return Image.fromarray(numpy.ascontiguousarray(luma), "L")
     across, down = layout.DIVIDED[geometry.format]
     wide, high = -(-geometry.width // across), -(-geometry.height // down)
     size, bands, at = (luma.shape[1], luma.shape[0]), [Image.fromarray(FULL[luma], "L")], sizes[0]
     for count in sizes[1:]:
-        colour = FULL_COLOUR[plane(whole[at:at + count], wide, high, max(1, step // max(across, down)))]
+        colour = FULL_COLOUR[plane(whole[at : at + count], wide, high, max(1, step // max(across, down)))]
         band = Image.fromarray(numpy.ascontiguousarray(colour), "L")
         bands.append(band if band.size == size else band.resize(size, Image.Resampling.BILINEAR))
         at += count

@@ -59,7 +59,11 @@ class Known:
                 self.blocks.pop(segment.place, None)
                 continue
             block, heads = self.blocks.get(segment.place, (None, []))
-            if heads and (block != segment.block or len(heads) > segment.whole or heads[:1] != layout.read_slots(read_at, geometry, first_slot(segment))):
+            if heads and (
+                block != segment.block
+                or len(heads) > segment.whole
+                or heads[:1] != layout.read_slots(read_at, geometry, first_slot(segment))
+            ):
                 heads = []
             new = layout.read_slots(read_at, geometry, segment, len(heads))
             # Another list, so that readings made before keep theirs.
@@ -72,7 +76,13 @@ class Known:
 def first_slot(segment: layout.Segment) -> layout.Segment:
     """A segment as if it had one frame."""
     short = layout.Segment.__new__(layout.Segment)
-    short.place, short.open, short.block, short.gates, short.whole = segment.place, segment.open, segment.block, segment.gates, min(1, segment.whole)
+    short.place, short.open, short.block, short.gates, short.whole = (
+        segment.place,
+        segment.open,
+        segment.block,
+        segment.gates,
+        min(1, segment.whole),
+    )
     return short
 
 
@@ -81,7 +91,9 @@ class Reading:
 
     def __init__(self, store: layout.Store) -> None:
         self.store, self.geometry, self.frames, self.next = store, store.geometry, store.frames, store.next
-        self.clips = [Clip(id_, first, last, tag, store.times[first], store.times[last]) for id_, first, last, tag in store.clips]
+        self.clips = [
+            Clip(id_, first, last, tag, store.times[first], store.times[last]) for id_, first, last, tag in store.clips
+        ]
 
     def clip(self, id_: int) -> Clip | None:
         """The clip of an id."""
@@ -121,14 +133,26 @@ class Reading:
         frames, period = self.frames, 1_000_000 * self.geometry.den // self.geometry.num
         longest = max(3 * period, period + HOLE)
         # A frame as a tuple, since this is done for each frame, often: its number is the first, and its time the fourth.
-        breaks = [place for place, (old, new) in enumerate(zip(frames, frames[1:]), 1) if new[0] != old[0] + 1 or not 0 <= new[3] - old[3] <= longest]
+        breaks = [
+            place
+            for place, (old, new) in enumerate(zip(frames, frames[1:]), 1)
+            if new[0] != old[0] + 1 or not 0 <= new[3] - old[3] <= longest
+        ]
         spans = zip([0, *breaks], [*breaks, len(frames)])
-        return [Piece(frames[start].number, frames[end - 1].number, frames[start].time, frames[end - 1].time) for start, end in spans if start < end]
+        return [
+            Piece(frames[start].number, frames[end - 1].number, frames[start].time, frames[end - 1].time)
+            for start, end in spans
+            if start < end
+        ]
 
     def at(self, moment: int) -> layout.Frame | None:
         """The frame that was the newest at a time, or the oldest one where none was there yet."""
         before = [frame for frame in self.frames if frame.time <= moment]
-        return max(before, key=lambda frame: (frame.time, frame.number)) if before else (self.frames[0] if self.frames else None)
+        return (
+            max(before, key=lambda frame: (frame.time, frame.number))
+            if before
+            else (self.frames[0] if self.frames else None)
+        )
 
     def near(self, number: int, by: int) -> layout.Frame | None:
         """The held frame that is so many held frames after a number, or the last one on that side."""
@@ -140,7 +164,7 @@ class Reading:
     def frames_of(self, clip: Clip) -> list:
         """The frames of a clip."""
         start = bisect_left(self.frames, clip.first, key=lambda frame: frame.number)
-        return self.frames[start:start + clip.count()]
+        return self.frames[start : start + clip.count()]
 
 
 class OpenStore:
@@ -150,7 +174,9 @@ class OpenStore:
         try:
             self.file = os.open(path, os.O_RDONLY | os.O_NONBLOCK | os.O_CLOEXEC)
         except OSError as fault:
-            raise layout.Refused("missing" if isinstance(fault, FileNotFoundError) else f"cannot open: {fault.strerror}") from None
+            raise layout.Refused(
+                "missing" if isinstance(fault, FileNotFoundError) else f"cannot open: {fault.strerror}"
+            ) from None
         found = os.fstat(self.file)
         if not stat.S_ISREG(found.st_mode):
             raise layout.Refused("not a file")

@@ -25,10 +25,23 @@ from .words import Unfit
 
 log = logging.getLogger("loop_page")
 STATIC = Path(__file__).parent / "static"
-STATIC_FILES = {"page.html": "text/html", "page.js": "text/javascript", "timeline.js": "text/javascript", "page.css": "text/css", "sign_in.html": "text/html", "icon.svg": "image/svg+xml"}
+STATIC_FILES = {
+    "page.html": "text/html",
+    "page.js": "text/javascript",
+    "timeline.js": "text/javascript",
+    "page.css": "text/css",
+    "sign_in.html": "text/html",
+    "icon.svg": "image/svg+xml",
+}
 RANGE = re.compile(r"bytes=(\d{0,19})-(\d{0,19})")
 ISO_TIME = re.compile(r"\d{4}-\d\d-\d\dT\d\d:\d\d:\d\d(\.\d{1,6})?(Z|[+-]\d\d:\d\d)")
-KINDS = {"mp4": "video/mp4", "y4m": "video/x-yuv4mpeg2", "zip": "application/zip", "csv": "text/csv", "jpg": "image/jpeg"}
+KINDS = {
+    "mp4": "video/mp4",
+    "y4m": "video/x-yuv4mpeg2",
+    "zip": "application/zip",
+    "csv": "text/csv",
+    "jpg": "image/jpeg",
+}
 
 
 class Pictures:
@@ -43,7 +56,9 @@ class Pictures:
         key = (source.opened.identity, frame.number, frame.time, width)
         async with self.turn:
             if key not in self.made:
-                self.made[key] = await asyncio.to_thread(lambda: pictures.jpeg(source.geometry, source.frame(frame.number), width))
+                self.made[key] = await asyncio.to_thread(
+                    lambda: pictures.jpeg(source.geometry, source.frame(frame.number), width)
+                )
                 while len(self.made) > limits.PICTURES:
                     self.made.popitem(last=False)
             self.made.move_to_end(key)
@@ -163,7 +178,11 @@ class Page:
             if answer.status in (301, 302, 303):
                 self.dress(answer)
                 raise
-            return problem(answer.status, f"{answer.reason}.", {key: answer.headers[key] for key in ("Allow", "Content-Range") if key in answer.headers})
+            return problem(
+                answer.status,
+                f"{answer.reason}.",
+                {key: answer.headers[key] for key in ("Allow", "Content-Range") if key in answer.headers},
+            )
 
     def gate_of(self, request: web.Request) -> None:
         """Refuses who may not pass."""
@@ -176,13 +195,21 @@ class Page:
                 raise web.HTTPSeeOther("/sign-in")
             raise Unfit(401, "Sign in, or bring the token: Authorization: Bearer TOKEN.")
         if request.method not in ("GET", "HEAD") and not self.gate.is_own(request):
-            raise Unfit(403, "A change has to come from this page (Origin), or with the header X-Loop-Page: 1, or with the token as a bearer.")
+            raise Unfit(
+                403,
+                "A change has to come from this page (Origin), or with the header X-Loop-Page: 1, or with the token as a bearer.",
+            )
 
     # ------------------------------------------------------------------------------------------- the page itself
 
     def file(self, name: str) -> web.Response:
         """A file of the page."""
-        return web.Response(body=self.files[name], content_type=STATIC_FILES[name], charset="utf-8", headers={"Cache-Control": "no-cache"})
+        return web.Response(
+            body=self.files[name],
+            content_type=STATIC_FILES[name],
+            charset="utf-8",
+            headers={"Cache-Control": "no-cache"},
+        )
 
     async def front(self, request: web.Request) -> web.Response:
         """The page."""
@@ -213,7 +240,9 @@ class Page:
             page = self.files["sign_in.html"].replace(b'<p id="wrong" hidden>', b'<p id="wrong">')
             return web.Response(status=403, body=page, content_type="text/html", charset="utf-8")
         answer = web.HTTPSeeOther("/")
-        answer.set_cookie(COOKIE, self.gate.sign_in(), httponly=True, samesite="Strict", path="/", max_age=limits.SESSION_SECONDS)
+        answer.set_cookie(
+            COOKIE, self.gate.sign_in(), httponly=True, samesite="Strict", path="/", max_age=limits.SESSION_SECONDS
+        )
         raise answer
 
     async def sign_out(self, request: web.Request) -> web.Response:
@@ -254,7 +283,9 @@ class Page:
     async def metrics(self, request: web.Request) -> web.Response:
         """Prometheus's text."""
         await self.laboratory.fresh()
-        return web.Response(body=metrics.text_of(self.registry), headers={"Content-Type": "text/plain; version=0.0.4; charset=utf-8"})
+        return web.Response(
+            body=metrics.text_of(self.registry), headers={"Content-Type": "text/plain; version=0.0.4; charset=utf-8"}
+        )
 
     async def status(self, request: web.Request) -> web.Response:
         """How all stands, once."""
@@ -282,7 +313,11 @@ class Page:
     async def picture(self, source, frame, width: int | None) -> web.Response:
         """A frame, as JPEG, with its number and time."""
         body = await self.pictures.jpeg(source, frame, width)
-        return web.Response(body=body, content_type="image/jpeg", headers={"X-Frame-Number": str(frame.number), "X-Frame-Time": str(frame.time)})
+        return web.Response(
+            body=body,
+            content_type="image/jpeg",
+            headers={"X-Frame-Number": str(frame.number), "X-Frame-Time": str(frame.time)},
+        )
 
     async def frame(self, request: web.Request) -> web.Response:
         """Which frame was there at a time, or comes so many after another."""
@@ -331,7 +366,9 @@ class Page:
             raise Unfit(400, f"seconds is a whole number from 1 to {limits.KEEP_SECONDS}.")
         kept = await self.laboratory.keep(camera, seconds, span, note)
         is_kept = bool(kept) and any(one.is_kept for one in kept)
-        return web.json_response({"kept": is_kept, "answers": [one.as_object() for one in kept]}, status=200 if is_kept else 409)
+        return web.json_response(
+            {"kept": is_kept, "answers": [one.as_object() for one in kept]}, status=200 if is_kept else 409
+        )
 
     async def of_clip(self, request: web.Request, more: set[str]) -> tuple[dict, str, int, int | None]:
         """A request about a clip: its body, camera, id and first number."""
@@ -389,7 +426,9 @@ class Page:
         self.dress(response)
         return response
 
-    async def send(self, request: web.Request, response: web.StreamResponse, pieces: AsyncIterator[bytes]) -> web.StreamResponse:
+    async def send(
+        self, request: web.Request, response: web.StreamResponse, pieces: AsyncIterator[bytes]
+    ) -> web.StreamResponse:
         """Sends a body. Where it can't go on, the connection is broken off, so that nobody takes a part for the whole."""
         await response.prepare(request)
         if request.method == "HEAD":
@@ -470,12 +509,23 @@ async def serve(settings: Settings) -> None:
     runner = web.AppRunner(page.app(), access_log=None, keepalive_timeout=limits.REQUEST_SECONDS)
     await runner.setup()
     loop = asyncio.get_running_loop()
-    server = await loop.create_server(lambda: Connection(runner.server(), page.gate), settings.host, settings.port, backlog=64)
+    server = await loop.create_server(
+        lambda: Connection(runner.server(), page.gate), settings.host, settings.port, backlog=64
+    )
     ended = asyncio.Event()
     for number in (signal.SIGINT, signal.SIGTERM):
         loop.add_signal_handler(number, ended.set)
-    tasks = [asyncio.create_task(work) for work in (page.laboratory.orders.watch(), page.laboratory.watch(), page.laboratory.ask(),
-                                                     page.laboratory.alerts.deliver(), page.gate.watch(), ended.wait())]
+    tasks = [
+        asyncio.create_task(work)
+        for work in (
+            page.laboratory.orders.watch(),
+            page.laboratory.watch(),
+            page.laboratory.ask(),
+            page.laboratory.alerts.deliver(),
+            page.gate.watch(),
+            ended.wait(),
+        )
+    ]
     port = server.sockets[0].getsockname()[1]
     print(f"loop_page: http://{f'[{settings.host}]' if ':' in settings.host else settings.host}:{port}/", flush=True)
     await asyncio.wait(tasks, return_when=asyncio.FIRST_COMPLETED)

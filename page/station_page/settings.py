@@ -122,13 +122,26 @@ def token_in(path: str) -> str:
 
 def parser() -> argparse.ArgumentParser:
     """The options."""
-    words = argparse.ArgumentParser(prog="loop_page", description="See, press and fetch what a station records, in a browser.",
-                                    epilog="docs/page.md and loop_page(1) describe it.")
+    words = argparse.ArgumentParser(
+        prog="loop_page",
+        description="See, press and fetch what a station records, in a browser.",
+        epilog="docs/page.md and loop_page(1) describe it.",
+    )
     words.add_argument("config", metavar="CONFIG", help="the station's own configuration file")
-    words.add_argument("--listen", metavar="ADDRESS:PORT", help="where the page is (127.0.0.1:8080); another address than this machine's wants a token")
+    words.add_argument(
+        "--listen",
+        metavar="ADDRESS:PORT",
+        help="where the page is (127.0.0.1:8080); another address than this machine's wants a token",
+    )
     words.add_argument("--token", metavar="FILE", help="a file whose first line is the token, of 16 characters or more")
-    words.add_argument("--settings", metavar="FILE", help="more words: listen, token, on_alert, webhook, notes, folder (TOML)")
-    words.add_argument("--folder", metavar="FOLDER", help="the folder in which the station runs, for paths that are relative (this one)")
+    words.add_argument(
+        "--settings", metavar="FILE", help="more words: listen, token, on_alert, webhook, notes, folder (TOML)"
+    )
+    words.add_argument(
+        "--folder",
+        metavar="FOLDER",
+        help="the folder in which the station runs, for paths that are relative (this one)",
+    )
     words.add_argument("--notes", metavar="FILE", help="where notes are kept (loop_page.notes in that folder)")
     return words
 
@@ -152,7 +165,10 @@ def read_settings(words: list[str]) -> Settings:
     given = parser().parse_args(words)
     own = own_words(given.settings)
     config = toml_of(given.config)
-    named = {word: getattr(given, word) or text_at(own, word, given.settings or "") for word in ("listen", "token", "folder", "notes")}
+    named = {
+        word: getattr(given, word) or text_at(own, word, given.settings or "")
+        for word in ("listen", "token", "folder", "notes")
+    }
     folder = str(Path(named["folder"] or ".").absolute())
     host, port = address_of(named["listen"] or "127.0.0.1:8080")
     token = token_in(named["token"]) if named["token"] else None
@@ -161,5 +177,14 @@ def read_settings(words: list[str]) -> Settings:
     place = {word: text_at(config, word, given.config) for word in ("orders", "answers")}
     orders, answers = (path and os.path.join(folder, path) for path in place.values())
     notes = os.path.join(folder, named["notes"] or "loop_page.notes")
-    return Settings(cameras_of(config, folder, given.config), orders, answers, host, port, token, notes,
-                    list(own.get("on_alert", [])), own.get("webhook"))
+    return Settings(
+        cameras_of(config, folder, given.config),
+        orders,
+        answers,
+        host,
+        port,
+        token,
+        notes,
+        list(own.get("on_alert", [])),
+        own.get("webhook"),
+    )

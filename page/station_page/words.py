@@ -7,7 +7,9 @@ EPOCH = datetime.datetime(1970, 1, 1, tzinfo=datetime.timezone.utc)
 STAMP = re.compile(r"(\d{4}-\d\d-\d\dT\d\d:\d\d:\d\d(?:\.\d{1,6})?Z) ")
 LABEL = re.compile(r"@([A-Za-z0-9_-]{1,32}) ")
 KEPT = re.compile(r"kept (\S+) (\d{1,2}) (\d{1,19})\.\.(\d{1,19})(?: tag (\d{1,20}))?")
-STATUS = re.compile(r"status (\S+) stored (\d{1,19}) given up (\d{1,19}) waiting (\d{1,19})(?: behind (\d{1,9}(?:\.\d)?))? room (\d{1,9}) faults (\d{1,19}) source (.{1,100})")
+STATUS = re.compile(
+    r"status (\S+) stored (\d{1,19}) given up (\d{1,19}) waiting (\d{1,19})(?: behind (\d{1,9}(?:\.\d)?))? room (\d{1,9}) faults (\d{1,19}) source (.{1,100})"
+)
 
 # What a refusal, or an absence, means, and what to do.
 WHY = {
@@ -88,9 +90,9 @@ class Status:
 
 def read_line(raw: str) -> Line:
     """A line without its time, and its label apart."""
-    text = raw[stamped.end():] if (stamped := STAMP.match(raw)) else raw
+    text = raw[stamped.end() :] if (stamped := STAMP.match(raw)) else raw
     labelled = LABEL.match(text)
-    return Line(labelled[1], text[labelled.end():]) if labelled else Line(None, text)
+    return Line(labelled[1], text[labelled.end() :]) if labelled else Line(None, text)
 
 
 def read_status(text: str) -> tuple[str, Status] | None:
@@ -99,39 +101,90 @@ def read_status(text: str) -> tuple[str, Status] | None:
     if not found:
         return None
     name, stored, given_up, waiting, behind, room, faults, source = found.groups()
-    return name, Status(int(stored), int(given_up), int(waiting), None if behind is None else float(behind), int(room), int(faults), source)
+    return name, Status(
+        int(stored),
+        int(given_up),
+        int(waiting),
+        None if behind is None else float(behind),
+        int(room),
+        int(faults),
+        source,
+    )
 
 
 def meaning(why: str) -> str:
     """What a refusal means, and what to do: by the first of its words that is known."""
-    if (many := re.search(r"TooManyFrames (\d{1,9}(?:\.\d)?)", why)):
+    if many := re.search(r"TooManyFrames (\d{1,9}(?:\.\d)?)", why):
         return f"the time that is asked for is more than 16,384 frames. {many[1]} minutes fit"
     return next((WHY[word] for word in why.split() if word in WHY), f"{why}. {UNKNOWN}")
 
 
 # The events, each as a pattern of its line, whether it is a warning, and its sentence.
-EVENTS = [(name, re.compile(pattern), is_bad, sentence) for name, pattern, is_bad, sentence in [
-    ("source", r"source (?P<camera>\S+) on (?P<rest>.+)", False, "{camera}: frames come, {rest}."),
-    ("missing", r"source (?P<camera>\S+) missing", True,
-     "{camera}: no frames come from its source. See that the camera is plugged in and its program runs."),
-    ("other", r"other geometry (?P<camera>\S+) (?P<rest>.+)", True,
-     "{camera}: its source gives {rest}, which its store isn't made for, so nothing is stored. Set the camera back, or move the store away."),
-    ("open", r"store (?P<camera>\S+) open holds (?P<rest>.+)", True,
-     "{camera}: its store holds {rest}: less than the configuration asks. Move the file away, and a larger store is made."),
-    ("open", r"store (?P<camera>\S+) open", False, "{camera}: its store is open."),
-    ("absent", r"store (?P<camera>\S+) absent (?P<why>.+)", True, "{camera} isn't recorded: {why}."),
-    ("given up", r"given up (?P<camera>\S+) (?P<rest>\d+) since (?P<time>\S+)", True,
-     "{camera}: {rest} frames were lost since {time}: disk or machine was too busy."),
-    ("locked", r"all locked (?P<camera>\S+)", True, "{camera}: all of its room is locked, and recording stops. Release a clip that you don't need."),
-    ("room", r"room again (?P<camera>\S+)", False, "{camera}: there is room again."),
-    ("behind", r"behind (?P<camera>\S+) (?P<rest>\S+)", True, "{camera}: {rest} seconds of frames wait for the disk. Where that goes on, frames are lost."),
-    ("caught up", r"caught up (?P<camera>\S+)", False, "{camera}: no frames wait for the disk any more."),
-    ("not a store", r"not a store (?P<camera>\S+) (?P<rest>.+?): move it away, and a store is made", True,
-     "{camera}: {rest} isn't a store, so nothing is recorded. Move it away, and a store is made."),
-    ("tie broken", r"tie broken (?P<camera>\S+?):? .*", True, "{camera}: the station found a fault of its own, and opens the store again. Please report it."),
-    ("not saved", r"not saved (?P<camera>\S+) (?P<rest>.+)", True, "{camera}: a clip wasn't saved: {rest}. Is there room in that folder?"),
-    ("saved", r"saved (?P<camera>\S+) (?P<rest>.+)", False, "{camera}: a clip was saved: {rest} frames."),
-]]
+EVENTS = [
+    (name, re.compile(pattern), is_bad, sentence)
+    for name, pattern, is_bad, sentence in [
+        ("source", r"source (?P<camera>\S+) on (?P<rest>.+)", False, "{camera}: frames come, {rest}."),
+        (
+            "missing",
+            r"source (?P<camera>\S+) missing",
+            True,
+            "{camera}: no frames come from its source. See that the camera is plugged in and its program runs.",
+        ),
+        (
+            "other",
+            r"other geometry (?P<camera>\S+) (?P<rest>.+)",
+            True,
+            "{camera}: its source gives {rest}, which its store isn't made for, so nothing is stored. Set the camera back, or move the store away.",
+        ),
+        (
+            "open",
+            r"store (?P<camera>\S+) open holds (?P<rest>.+)",
+            True,
+            "{camera}: its store holds {rest}: less than the configuration asks. Move the file away, and a larger store is made.",
+        ),
+        ("open", r"store (?P<camera>\S+) open", False, "{camera}: its store is open."),
+        ("absent", r"store (?P<camera>\S+) absent (?P<why>.+)", True, "{camera} isn't recorded: {why}."),
+        (
+            "given up",
+            r"given up (?P<camera>\S+) (?P<rest>\d+) since (?P<time>\S+)",
+            True,
+            "{camera}: frames were lost since {time}, {rest} of them: disk or machine was too busy.",
+        ),
+        (
+            "locked",
+            r"all locked (?P<camera>\S+)",
+            True,
+            "{camera}: all of its room is locked, and recording stops. Release a clip that you don't need.",
+        ),
+        ("room", r"room again (?P<camera>\S+)", False, "{camera}: there is room again."),
+        (
+            "behind",
+            r"behind (?P<camera>\S+) (?P<rest>\S+)",
+            True,
+            "{camera}: {rest} seconds of frames wait for the disk. Where that goes on, frames are lost.",
+        ),
+        ("caught up", r"caught up (?P<camera>\S+)", False, "{camera}: no frames wait for the disk any more."),
+        (
+            "not a store",
+            r"not a store (?P<camera>\S+) (?P<rest>.+?): move it away, and a store is made",
+            True,
+            "{camera}: {rest} isn't a store, so nothing is recorded. Move it away, and a store is made.",
+        ),
+        (
+            "tie broken",
+            r"tie broken (?P<camera>\S+?):? .*",
+            True,
+            "{camera}: the station found a fault of its own, and opens the store again. Please report it.",
+        ),
+        (
+            "not saved",
+            r"not saved (?P<camera>\S+) (?P<rest>.+)",
+            True,
+            "{camera}: a clip wasn't saved: {rest}. Is there room in that folder?",
+        ),
+        ("saved", r"saved (?P<camera>\S+) (?P<rest>.+)", False, "{camera}: a clip was saved: {rest} frames."),
+    ]
+]
 
 
 def read_event(text: str) -> Event | None:

@@ -52,13 +52,23 @@ class Laboratory:
 
     def begin(self, *words, **more):
         """Starts a program in the folder."""
-        run = subprocess.Popen(words, cwd=self.folder, stdin=subprocess.DEVNULL, stdout=subprocess.PIPE, stderr=subprocess.STDOUT, text=True, **more)
+        run = subprocess.Popen(
+            words,
+            cwd=self.folder,
+            stdin=subprocess.DEVNULL,
+            stdout=subprocess.PIPE,
+            stderr=subprocess.STDOUT,
+            text=True,
+            **more,
+        )
         self.runs.append(run)
         return run
 
     def start_station(self):
         """Starts the station."""
-        self.station = subprocess.Popen([STATION, "station.toml"], cwd=self.folder, stdin=subprocess.DEVNULL, stdout=open(self.folder / "told", "w"))
+        self.station = subprocess.Popen(
+            [STATION, "station.toml"], cwd=self.folder, stdin=subprocess.DEVNULL, stdout=open(self.folder / "told", "w")
+        )
         self.runs.append(self.station)
         self.until(lambda: all((self.folder / f"{name}.loop").exists() for name in self.names()), "stores")
         return self
@@ -69,7 +79,14 @@ class Laboratory:
 
     def start_page(self, *words):
         """Starts the page, and waits until it has looked at its cameras."""
-        self.page = self.begin(str(PROGRAM), self.config, "--listen", "127.0.0.1:0", *words, env=dict(os.environ, CACHE_DIRECTORY=str(self.folder)))
+        self.page = self.begin(
+            str(PROGRAM),
+            self.config,
+            "--listen",
+            "127.0.0.1:0",
+            *words,
+            env=dict(os.environ, CACHE_DIRECTORY=str(self.folder)),
+        )
         line = self.page.stdout.readline()
         found = re.fullmatch(r"loop_page: http://127\.0\.0\.1:(\d+)/\n", line)
         assert found, line + self.page.stdout.read()
@@ -139,6 +156,7 @@ class Laboratory:
     def text_of(self, name, clip):
         """A clip as YUV4MPEG2, by the layout alone."""
         import layout
+
         recording = layout.read((self.folder / f"{name}.loop").read_bytes())
         assert isinstance(recording, layout.Recording), recording
         return layout.text_of(recording, clip["first"], clip["last"])

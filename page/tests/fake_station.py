@@ -35,7 +35,9 @@ class Film(layout.Ring):
         self.words, self.name, self.is_paused, self.given_up, self.still = words, words["name"], False, 0, None
         # A small image, since the file is written and not an image.
         super().__init__(1, 1, b"GREY", words.get("segments", 8), 1)
-        self.geometry = layout.geometry_of(width, height, form.encode(), num, den, words.get("segments", 8), words.get("slots", 64))
+        self.geometry = layout.geometry_of(
+            width, height, form.encode(), num, den, words.get("segments", 8), words.get("slots", 64)
+        )
         new = words["store"] + ".new"
         self.file = os.open(new, os.O_RDWR | os.O_CREAT | os.O_TRUNC, 0o644)
         os.pwrite(self.file, layout.superblock(self.geometry).ljust(layout.FRONT, b"\0"), 0)
@@ -49,10 +51,12 @@ class Film(layout.Ring):
         width, height = self.geometry.width, self.geometry.height
         down, across = numpy.mgrid[0:height, 0:width]
         luma = (40 + 70 * across / width + 50 * down / height).astype(numpy.uint8)
-        luma[::max(1, height // 6)] = 30
-        luma[:, ::max(1, width // 8)] = 30
-        colours = [numpy.linspace(*ends, size).astype(numpy.uint8).tobytes()
-                   for ends, size in zip(((110, 170), (150, 100)), layout.planes_of(width, height, self.geometry.format)[1:])]
+        luma[:: max(1, height // 6)] = 30
+        luma[:, :: max(1, width // 8)] = 30
+        colours = [
+            numpy.linspace(*ends, size).astype(numpy.uint8).tobytes()
+            for ends, size in zip(((110, 170), (150, 100)), layout.planes_of(width, height, self.geometry.format)[1:])
+        ]
         return luma, b"".join(colours)
 
     def pixels(self, number: int) -> bytes:
@@ -64,8 +68,8 @@ class Film(layout.Ring):
         for part in numpy.linspace(0, 1, height):
             luma[int(arm * part * math.cos(angle)), int(width / 2 + arm * part * math.sin(angle))] = 235
         top, left = int(arm * math.cos(angle)) - ball, int(width / 2 + arm * math.sin(angle)) - ball
-        box = luma[max(0, top):top + 2 * ball, max(0, left):left + 2 * ball]
-        down, across = numpy.mgrid[0:box.shape[0], 0:box.shape[1]]
+        box = luma[max(0, top) : top + 2 * ball, max(0, left) : left + 2 * ball]
+        down, across = numpy.mgrid[0 : box.shape[0], 0 : box.shape[1]]
         box[(down + max(0, top) - top - ball) ** 2 + (across + max(0, left) - left - ball) ** 2 < ball * ball] = 225
         return luma.tobytes() + self.still[1]
 
@@ -81,7 +85,10 @@ class Film(layout.Ring):
                 return False
             index, slot = self.blocks.index(self.next // self.geometry.slots), self.next % self.geometry.slots
             self.times[self.next] = moment = self.due
-            self.write(self.geometry.slot_at(index, slot), layout.head(self.next, self.next, moment, self.geometry.size) + self.pixels(self.next))
+            self.write(
+                self.geometry.slot_at(index, slot),
+                layout.head(self.next, self.next, moment, self.geometry.size) + self.pixels(self.next),
+            )
             self.write(self.geometry.segment_at(index) + layout.GATES_AT + slot, bytes([layout.OPEN]))
             self.next += 1
             self.due += self.period
@@ -96,7 +103,9 @@ class Film(layout.Ring):
                 return [*lines, f"refused {self.name} 11 ClipTableFull"]
             before = set(self.clips)
             self.lock(begin, end, tag)
-            lines.append(f"kept {self.name} {min(set(self.clips) - before)} {begin}..{end}" + (f" tag {tag}" if tag else ""))
+            lines.append(
+                f"kept {self.name} {min(set(self.clips) - before)} {begin}..{end}" + (f" tag {tag}" if tag else "")
+            )
         return lines or [f"kept {self.name} none"]
 
 
@@ -176,8 +185,10 @@ class Station:
             self.full.discard(parts[1])
             return [f"released {parts[1]} {parts[2]}"]
         if order == "status":
-            return [f"status {name} stored {film.next} given up {film.given_up} waiting 0 behind 0.0 room 3 faults 0 source {'missing' if film.is_paused else 'on'}"
-                    for name, film in self.films.items()]
+            return [
+                f"status {name} stored {film.next} given up {film.given_up} waiting 0 behind 0.0 room 3 faults 0 source {'missing' if film.is_paused else 'on'}"
+                for name, film in self.films.items()
+            ]
         if order == "stop":
             self.is_over = True
             return ["stopped"]
@@ -194,12 +205,18 @@ class Station:
             first, last = (self.moment(text) for text in (parts[1], parts[3]))
             tag = int(parts[4]) if len(parts) > 4 else 0
         else:
-            first, last, tag = now - int(parts[0] if parts else 60) * 1_000_000, now, int(parts[1]) if len(parts) > 1 else 0
+            first, last, tag = (
+                now - int(parts[0] if parts else 60) * 1_000_000,
+                now,
+                int(parts[1]) if len(parts) > 1 else 0,
+            )
         return [line for name in names for line in self.films[name].keep(first, last, tag)]
 
     def moment(self, text: str) -> int:
         """The microseconds of a time."""
-        return (datetime.datetime.fromisoformat(text.replace("Z", "+00:00")) - EPOCH) // datetime.timedelta(microseconds=1)
+        return (datetime.datetime.fromisoformat(text.replace("Z", "+00:00")) - EPOCH) // datetime.timedelta(
+            microseconds=1
+        )
 
 
 if __name__ == "__main__":

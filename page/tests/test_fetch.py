@@ -16,6 +16,7 @@ from PIL import Image
 def kept(tmp_path_factory):
     """A laboratory with a clip of each camera."""
     from conftest import Laboratory
+
     lab = Laboratory(tmp_path_factory.mktemp("kept"))
     lab.start_station().start_page().filmed(60)
     answers = lab.post("/api/keep", {"seconds": 2}).json()["answers"]
@@ -28,14 +29,25 @@ def kept(tmp_path_factory):
 def test_yuv4mpeg2_is_byte_for_byte_the_export(kept, camera):
     found = kept.ask(f"/api/clips/{camera}/0.y4m")
     assert found.status == 200 and found.body == kept.text_of(camera, kept.clips[camera])
-    assert int(found.headers["Content-Length"]) == len(found.body) and f'filename="{camera}_' in found.headers["Content-Disposition"]
+    assert (
+        int(found.headers["Content-Length"]) == len(found.body)
+        and f'filename="{camera}_' in found.headers["Content-Disposition"]
+    )
 
 
 def test_each_range_is_that_part_of_the_whole(kept):
     whole = kept.text_of("left", kept.clips["left"])
     size = len(whole)
-    for word, start, end in [("0-0", 0, 1), ("0-", 0, size), ("10-99", 10, 100), ("50-70000", 50, 70001), (f"{size - 1}-", size - 1, size), ("-7", size - 7, size),
-                             (f"5-{size * 9}", 5, size), ("-999999999", 0, size)]:
+    for word, start, end in [
+        ("0-0", 0, 1),
+        ("0-", 0, size),
+        ("10-99", 10, 100),
+        ("50-70000", 50, 70001),
+        (f"{size - 1}-", size - 1, size),
+        ("-7", size - 7, size),
+        (f"5-{size * 9}", 5, size),
+        ("-999999999", 0, size),
+    ]:
         found = kept.ask("/api/clips/left/0.y4m", headers={"Range": f"bytes={word}"})
         assert (found.status, found.body) == (206, whole[start:end]), word
         assert found.headers["Content-Range"] == f"bytes {start}-{end - 1}/{size}"
@@ -63,8 +75,22 @@ def test_the_film_has_each_frame_and_then_its_ranges(kept, camera, tmp_path):
     found = kept.ask(f"/api/clips/{camera}/0.mp4")
     assert found.status == 200
     (tmp_path / "a.mp4").write_bytes(found.body)
-    told = subprocess.run(["ffprobe", "-v", "error", "-count_frames", "-show_entries", "stream=codec_name,pix_fmt,nb_read_frames", "-of", "csv=p=0", tmp_path / "a.mp4"],
-                          capture_output=True, text=True, check=True).stdout.strip()
+    told = subprocess.run(
+        [
+            "ffprobe",
+            "-v",
+            "error",
+            "-count_frames",
+            "-show_entries",
+            "stream=codec_name,pix_fmt,nb_read_frames",
+            "-of",
+            "csv=p=0",
+            tmp_path / "a.mp4",
+        ],
+        capture_output=True,
+        text=True,
+        check=True,
+    ).stdout.strip()
     clip = kept.clips[camera]
     assert told == f"h264,yuv420p,{clip['last'] - clip['first'] + 1}"
     part = kept.ask(f"/api/clips/{camera}/0.mp4", headers={"Range": "bytes=100-199"})
@@ -74,11 +100,32 @@ def test_the_film_has_each_frame_and_then_its_ranges(kept, camera, tmp_path):
 def test_a_film_is_as_bright_as_its_frames(kept, tmp_path):
     """ffmpeg's frames of the film are near the store's: the first one, in grey."""
     (tmp_path / "a.mp4").write_bytes(kept.ask("/api/clips/left/0.mp4").body)
-    luma = subprocess.run(["ffmpeg", "-v", "error", "-i", tmp_path / "a.mp4", "-frames:v", "1", "-f", "rawvideo", "-pix_fmt", "yuv420p", "-"],
-                          capture_output=True, check=True).stdout[:64 * 48]
+    luma = subprocess.run(
+        [
+            "ffmpeg",
+            "-v",
+            "error",
+            "-i",
+            tmp_path / "a.mp4",
+            "-frames:v",
+            "1",
+            "-f",
+            "rawvideo",
+            "-pix_fmt",
+            "yuv420p",
+            "-",
+        ],
+        capture_output=True,
+        check=True,
+    ).stdout[: 64 * 48]
     text = kept.text_of("left", kept.clips["left"])
-    wanted = text[text.index(b"FRAME\n") + 6:][:64 * 48]
-    assert numpy.abs(numpy.frombuffer(luma, numpy.uint8).astype(int)[200:] - numpy.frombuffer(wanted, numpy.uint8)[200:]).mean() < 4
+    wanted = text[text.index(b"FRAME\n") + 6 :][: 64 * 48]
+    assert (
+        numpy.abs(
+            numpy.frombuffer(luma, numpy.uint8).astype(int)[200:] - numpy.frombuffer(wanted, numpy.uint8)[200:]
+        ).mean()
+        < 4
+    )
 
 
 def test_the_zip_has_a_picture_of_each_frame(kept):
@@ -91,7 +138,7 @@ def test_the_zip_has_a_picture_of_each_frame(kept):
         for place, name in enumerate(names[1:]):
             picture = Image.open(io.BytesIO(archive.read(name)))
             at = text.index(b"\n") + 1 + place * (step + 6) + 6
-            assert (picture.size, picture.mode, picture.tobytes()) == ((33, 21), "L", text[at:at + step])
+            assert (picture.size, picture.mode, picture.tobytes()) == ((33, 21), "L", text[at : at + step])
 
 
 def test_the_table_has_each_number_and_time(kept):
@@ -116,8 +163,23 @@ def test_an_id_that_is_used_again_is_no_longer_the_clip_that_was_meant(kept):
     assert kept.post("/api/release", {"camera": "left", "id": 0, "first": first + 1}).status == 404
 
 
-@pytest.mark.parametrize("path", ["left/63.y4m", "left/99.y4m", "left/100.y4m", "left/-1.y4m", "left/0.avi", "none/0.y4m", "../left/0.y4m", "left/0.y4m/../0.y4m",
-                                  "left/%2e%2e/0.y4m", "left%2f0.y4m", "left/0.y4m%00", "left.loop"])
+@pytest.mark.parametrize(
+    "path",
+    [
+        "left/63.y4m",
+        "left/99.y4m",
+        "left/100.y4m",
+        "left/-1.y4m",
+        "left/0.avi",
+        "none/0.y4m",
+        "../left/0.y4m",
+        "left/0.y4m/../0.y4m",
+        "left/%2e%2e/0.y4m",
+        "left%2f0.y4m",
+        "left/0.y4m%00",
+        "left.loop",
+    ],
+)
 def test_no_other_address_leads_to_a_file(kept, path):
     assert kept.ask(f"/api/clips/{path}").status == 404
 
@@ -130,7 +192,9 @@ def test_a_clip_that_is_fetched_cannot_be_released_until_that_has_ended(make):
         found = lab.post("/api/release", {"camera": "left", "id": 0, "first": clip["first"]})
         assert found.status == 409 and "being fetched" in found.json()["error"]
         assert lab.ask("/api/clips").json()["clips"][0]["fetched"]
-    lab.until(lambda: lab.post("/api/release", {"camera": "left", "id": 0, "first": clip["first"]}).status == 200, "release")
+    lab.until(
+        lambda: lab.post("/api/release", {"camera": "left", "id": 0, "first": clip["first"]}).status == 200, "release"
+    )
     assert not lab.camera()["clips"]
 
 

@@ -16,7 +16,10 @@ def test_a_keep_of_all_cameras_is_answered_within_a_second_with_its_times(make):
     answers = found.json()["answers"]
     assert [it["camera"] for it in answers] == ["left", "right"] and found.json()["kept"]
     clip = answers[0]["clips"][0]
-    assert clip["to_us"] - clip["from_us"] == (clip["last"] - clip["first"]) * 10000 and 98 <= clip["last"] - clip["first"] + 1 <= 102
+    assert (
+        clip["to_us"] - clip["from_us"] == (clip["last"] - clip["first"]) * 10000
+        and 98 <= clip["last"] - clip["first"] + 1 <= 102
+    )
     assert {it["note"] for it in lab.ask("/api/clips").json()["clips"]} == {"a note of two lines"}
     notes = json.loads((lab.folder / "loop_page.notes").read_text())["notes"]
     assert sorted(notes.values()) == ["a note of two lines"] * 2
@@ -29,7 +32,9 @@ def test_a_range_is_kept_as_its_times_say(make):
     begin, end = newest[1] - 40 * 10000, newest[1] - 20 * 10000
     clip = lab.post("/api/keep", {"camera": "left", "from": begin, "to": end}).json()["answers"][0]["clips"][0]
     assert (clip["from_us"], clip["to_us"], clip["last"] - clip["first"]) == (begin, end, 20)
-    again = lab.post("/api/keep", {"camera": "left", "from": clip["from"], "to": clip["from"]}).json()["answers"][0]["clips"][0]
+    again = lab.post("/api/keep", {"camera": "left", "from": clip["from"], "to": clip["from"]}).json()["answers"][0][
+        "clips"
+    ][0]
     assert again["first"] == again["last"] == clip["first"]
 
 
@@ -65,12 +70,26 @@ def test_a_file_of_notes_that_cannot_be_read_is_left_as_it_is(make):
     assert (lab.folder / "loop_page.notes").read_text() == "{ damaged"
 
 
-@pytest.mark.parametrize("body, said", [
-    ({"seconds": 0}, "from 1 to"), ({"seconds": 10 ** 30}, "from 1 to"), ({"seconds": "60"}, "from 1 to"), ({"seconds": True}, "from 1 to"),
-    ({"seconds": 1.5}, "from 1 to"), ({}, "from 1 to"), ({"camera": "left"}, "from 1 to"), ({"seconds": 1, "more": 1}, "these words"),
-    ({"from": 5, "to": 4}, "after"), ({"from": 5}, "to isn't a time"), ({"from": "x", "to": "y"}, "isn't a time"), ({"from": -1, "to": 4}, "isn't a time"),
-    ({"from": "2026-13-45T99:00:00Z", "to": 4}, "isn't a time"), ({"from": 1, "to": 2, "seconds": 1}, "seconds, or"), ({"seconds": 1, "note": 7}, "text"),
-])
+@pytest.mark.parametrize(
+    "body, said",
+    [
+        ({"seconds": 0}, "from 1 to"),
+        ({"seconds": 10**30}, "from 1 to"),
+        ({"seconds": "60"}, "from 1 to"),
+        ({"seconds": True}, "from 1 to"),
+        ({"seconds": 1.5}, "from 1 to"),
+        ({}, "from 1 to"),
+        ({"camera": "left"}, "from 1 to"),
+        ({"seconds": 1, "more": 1}, "these words"),
+        ({"from": 5, "to": 4}, "after"),
+        ({"from": 5}, "to isn't a time"),
+        ({"from": "x", "to": "y"}, "isn't a time"),
+        ({"from": -1, "to": 4}, "isn't a time"),
+        ({"from": "2026-13-45T99:00:00Z", "to": 4}, "isn't a time"),
+        ({"from": 1, "to": 2, "seconds": 1}, "seconds, or"),
+        ({"seconds": 1, "note": 7}, "text"),
+    ],
+)
 def test_a_keep_that_says_too_little_or_nonsense_is_refused(shared, body, said):
     found = shared.post("/api/keep", body)
     assert found.status == 400 and said in found.json()["error"]
@@ -153,6 +172,7 @@ def test_without_orders_the_page_shows_and_says_that_it_cannot_keep(make):
 
 def test_many_keeps_at_once_each_have_their_own_answer(make):
     from concurrent.futures import ThreadPoolExecutor
+
     lab = make()
     lab.filmed()
     with ThreadPoolExecutor(12) as pool:
@@ -162,7 +182,18 @@ def test_many_keeps_at_once_each_have_their_own_answer(make):
 
 def test_a_keep_of_which_a_part_was_refused_says_both():
     from station_page.laboratory import Laboratory
-    found = Laboratory.kept_of(type("Nothing", (), {"cameras": {}})(), ["kept left 0 1..5", "kept left 1 9..9 tag 3", "refused left 11 ClipTableFull", "absent right NoStore",
-                                                                     "kept other none", "no camera x", "bad order: keep"])
+
+    found = Laboratory.kept_of(
+        type("Nothing", (), {"cameras": {}})(),
+        [
+            "kept left 0 1..5",
+            "kept left 1 9..9 tag 3",
+            "refused left 11 ClipTableFull",
+            "absent right NoStore",
+            "kept other none",
+            "no camera x",
+            "bad order: keep",
+        ],
+    )
     assert [it.is_kept for it in found] == [True] + [False] * 5 and [clip.count() for clip in found[0].clips] == [5, 1]
     assert "a part was kept" in found[1].text and "plugged in" in found[2].text and "no stored frame" in found[3].text

@@ -70,14 +70,20 @@ def test_frames_are_found_by_time_and_by_steps(tmp_path):
         ring.store()
     put(path, ring)
     reading = Reader(str(path)).read()[0]
-    assert [reading.at(moment).number for moment in (-1, 0, 79_999, 80_000, 10 ** 9)] == [0, 0, 1, 2, 9]
+    assert [reading.at(moment).number for moment in (-1, 0, 79_999, 80_000, 10**9)] == [0, 0, 1, 2, 9]
     assert [reading.near(4, by).number for by in (-99, -1, 0, 3, 99)] == [0, 3, 4, 7, 9]
 
 
-@pytest.mark.parametrize("spoil, why", [
-    (lambda image: b"", "NotFormatted"), (lambda image: b"x" * 5000, "NotFormatted"), (lambda image: image[:-1], "Damaged 1"),
-    (lambda image: image[:2000], "Damaged 1"), (lambda image: image[:8] + b"\7" + image[9:], "Damaged 2"),
-])
+@pytest.mark.parametrize(
+    "spoil, why",
+    [
+        (lambda image: b"", "NotFormatted"),
+        (lambda image: b"x" * 5000, "NotFormatted"),
+        (lambda image: image[:-1], "Damaged 1"),
+        (lambda image: image[:2000], "Damaged 1"),
+        (lambda image: image[:8] + b"\7" + image[9:], "Damaged 2"),
+    ],
+)
 def test_what_is_no_store_is_refused_by_name(tmp_path, spoil, why):
     path, ring = tmp_path / "a.loop", layout.Ring(4, 2, b"GREY", 3, 4)
     path.write_bytes(spoil(bytes(ring.image)))
@@ -133,8 +139,10 @@ def test_a_frame_that_is_overwritten_while_it_is_read_is_gone(tmp_path, moment):
     path, ring = tmp_path / "a.loop", layout.Ring(64, 48, b"GREY", 3, 2)
     put(path, ring)
     with open(path, "r+b") as file:
+
         def write(at, data):
             os.pwrite(file.fileno(), data, at)
+
         for _ in range(6):
             store(ring, write)
         _, source = Reader(str(path)).read()
@@ -160,6 +168,9 @@ def store(ring, write):
         ring.write = write
         assert ring.begin()
     index, slot = ring.blocks.index(ring.next // slots), ring.next % slots
-    write(ring.geometry.slot_at(index, slot), layout.head(ring.next, ring.next, ring.next * 40000, size) + bytes([ring.next % 256]) * size)
+    write(
+        ring.geometry.slot_at(index, slot),
+        layout.head(ring.next, ring.next, ring.next * 40000, size) + bytes([ring.next % 256]) * size,
+    )
     write(ring.geometry.segment_at(index) + layout.GATES_AT + slot, bytes([layout.OPEN]))
     ring.next += 1

@@ -28,7 +28,8 @@ function make(kind, given = {}, ...children) {
 export function clock(microseconds) {
   const moment = new Date(microseconds / 1000);
   const two = (number) => String(number).padStart(2, "0");
-  const time = `${two(moment.getHours())}:${two(moment.getMinutes())}:${two(moment.getSeconds())}.${String(moment.getMilliseconds()).padStart(3, "0")}`;
+  const parts = [moment.getHours(), moment.getMinutes(), moment.getSeconds()].map(two);
+  const time = `${parts.join(":")}.${String(moment.getMilliseconds()).padStart(3, "0")}`;
   const day = `${moment.getFullYear()}-${two(moment.getMonth() + 1)}-${two(moment.getDate())}`;
   return moment.toDateString() === new Date().toDateString() ? time : `${day} ${time}`;
 }
@@ -148,8 +149,8 @@ function showAlerts(alerts) {
       alertRows.set(alert.id, make("div", { className: "alert notice bad" }, make("span"), seen));
       byId("alerts").append(alertRows.get(alert.id));
     }
-    const times = alert.times > 1 ? ` (${alert.times} times, at last ${clock(alert.time * 1e6)})` : "";
-    say(alertRows.get(alert.id).firstChild, `${clock(alert.time * 1e6)} ${alert.text}${times}`.replace(/^(\S+) (.*) \((\d+) times.*$/, `$2 ($3 times, at last $1)`));
+    const when = clock(alert.time * 1e6);
+    say(alertRows.get(alert.id).firstChild, alert.times > 1 ? `${alert.text} (${alert.times} times, at last ${when})` : `${when} ${alert.text}`);
   }
 }
 
@@ -161,20 +162,30 @@ function answered(text, isGood) {
   while (byId("answers").children.length > 6) byId("answers").lastChild.remove();
 }
 
+/** Asks for a change, and says what became of it. */
+function change(path, body) {
+  return ask(path, body).then((found) => answered(found.text, true), (fault) => answered(fault.message, false));
+}
+
 /** Keeps, and says what was kept or why not. */
 async function keep(wish) {
   byId("answers").replaceChildren(make("p", { className: "notice unknown" }, "Asked."));
   try {
     const found = await ask("/api/keep", wish);
     byId("answers").replaceChildren();
-    for (const answer of found.answers) {
-      const spans = answer.clips.filter((clip) => clip.from_us).map((clip) => `clip ${clip.id}, from ${clock(clip.from_us)} to ${clock(clip.to_us)}`);
-      answered(answer.kept && spans.length ? `${answer.camera}: kept as ${spans.join(" and ")}. ${answer.text.split(" frames. ")[1] || ""}` : answer.text, answer.kept);
-    }
+    for (const answer of found.answers) answered(keptWords(answer), answer.kept);
   } catch (fault) {
     byId("answers").replaceChildren();
     answered(fault.message, false);
   }
+}
+
+/** What was kept, with times of the browser's zone; and what the server says besides, of a note that can't be written. */
+function keptWords(answer) {
+  const clips = answer.clips.filter((clip) => clip.from_us);
+  if (!clips.length) return answer.text;
+  const spans = clips.map((clip) => `clip ${clip.id}, from ${clock(clip.from_us)} to ${clock(clip.to_us)}`);
+  return `${answer.camera}: kept as ${spans.join(" and ")}. ${answer.text.split(" frames. ")[1] || ""}`;
 }
 
 /** The button's name has the seconds and the camera. */
@@ -208,8 +219,8 @@ class Tile {
     this.keepRange.disabled = true;
     this.range = make("p", { className: "when", role: "status" });
     const tools = make("div", { className: "tools" }, this.live, this.back, this.on, this.start, this.stop, this.keepRange);
-    this.element = make("article", { className: "tile" }, make("h3", { id: `tile-${name}` }, name), this.state, this.image, this.when, this.canvas, tools,
-      this.range, this.facts);
+    const title = make("h3", { id: `tile-${name}` }, name);
+    this.element = make("article", { className: "tile" }, title, this.state, this.image, this.when, this.canvas, tools, this.range, this.facts);
     this.element.setAttribute("aria-labelledby", `tile-${name}`);
     this.image.onload = () => { this.isLoading = false; };
     this.image.onerror = () => { this.isLoading = false; this.shown = null; };
@@ -255,7 +266,8 @@ class Tile {
   showFacts(camera) {
     const facts = [
       ["Rate", camera.rate ? `${camera.rate.toFixed(1)} of ${camera.asked_rate.toFixed(1)} frames a second` : "unknown"],
-      ["Ring holds", camera.seconds === undefined ? "nothing" : `${length(camera.seconds)}, ${camera.frames} frames, ${Math.round(camera.locked * 100)} % of the room locked`],
+      ["Ring holds", camera.seconds === undefined ? "nothing" : `${length(camera.seconds)}, ${camera.frames} frames`],
+      ["Locked", camera.locked === undefined ? "nothing" : `${Math.round(camera.locked * 100)} % of the room`],
       ["Behind", camera.behind === null ? "unknown" : `${camera.behind.toFixed(1)} s`],
       ["Given up", camera.given_up === null ? "unknown" : `${camera.given_up} frames`],
     ];
@@ -372,11 +384,12 @@ function rowOf(clip) {
   const path = `/api/clips/${encodeURIComponent(clip.camera)}/${clip.id}`;
   const called = `clip ${clip.id} of ${clip.camera}`;
   const note = make("input", { type: "text", value: clip.note, maxLength: 400, autocomplete: "off" });
-  const form = make("form", {}, make("label", {}, "Note ", note), make("button", { type: "submit", ariaLabel: `Write the note of ${called}` }, "Write note"));
+  const write = make("button", { type: "submit", ariaLabel: `Write the note of ${called}` }, "Write note");
+  const form = make("form", {}, make("label", {}, "Note ", note), write);
   form.onsubmit = (event) => {
     event.preventDefault();
     const { camera, id, first } = clip;
-    ask("/api/note", { camera, id, first, note: note.value }).then((found) => answered(found.text, true), (fault) => answered(fault.message, false));
+    change("/api/note", { camera, id, first, note: note.value });
   };
   const play = make("button", { type: "button", ariaLabel: `Play ${called}` }, "Play");
   play.onclick = () => playClip(`${path}.mp4?play&first=${clip.first}`, called);
@@ -384,11 +397,11 @@ function rowOf(clip) {
     make("a", { href: `${path}.${kind}?first=${clip.first}`, download: "", ariaLabel: `${text}: ${called}` }, text));
   const release = make("button", { type: "button", ariaLabel: `Release ${called}` }, "Release");
   release.onclick = () => releaseClip(clip, called);
-  const row = make("li", {}, make("img", { src: `${path}.jpg?first=${clip.first}`, alt: `The middle of ${called}`, loading: "lazy", width: 160, height: 120 }),
-    make("div", {}, make("h3", {}, `${clip.camera}, clip ${clip.id}`),
-      make("p", { className: "when" }, `${clock(clip.from_us)} to ${clock(clip.to_us)}: ${length(clip.seconds)}, ${clip.frames} frames, ${size(clip.bytes)} raw`
-        + (clip.tag ? `, tag ${clip.tag}` : "")),
-      form, make("div", { className: "gets" }, play, ...gets, release)));
+  const image = make("img", { src: `${path}.jpg?first=${clip.first}`, alt: `The middle of ${called}`, loading: "lazy", width: 160, height: 120 });
+  const lasting = `${length(clip.seconds)}, ${clip.frames} frames, ${size(clip.bytes)} raw${clip.tag ? `, tag ${clip.tag}` : ""}`;
+  const times = make("p", { className: "when" }, `${clock(clip.from_us)} to ${clock(clip.to_us)}: ${lasting}`);
+  const title = make("h3", {}, `${clip.camera}, clip ${clip.id}`);
+  const row = make("li", {}, image, make("div", {}, title, times, form, make("div", { className: "gets" }, play, ...gets, release)));
   row.note = note;
   return row;
 }
@@ -415,12 +428,12 @@ function playClip(address, called) {
 /** Releases a clip, once that was asked. */
 function releaseClip(clip, called) {
   const sure = byId("sure");
-  byId("sure-text").textContent = `The ${called} is from ${clock(clip.from_us)} to ${clock(clip.to_us)}. Once it is released, its frames are overwritten, and nobody gets them back.`
-    + (clip.note ? ` Its note: ${clip.note}` : "");
+  byId("sure-text").textContent = `The ${called} is from ${clock(clip.from_us)} to ${clock(clip.to_us)}. `
+    + "Once it is released, its frames are overwritten, and nobody gets them back.";
   sure.returnValue = "no";
   sure.onclose = () => {
     if (sure.returnValue !== "yes") return;
-    ask("/api/release", { camera: clip.camera, id: clip.id, first: clip.first }).then((found) => answered(found.text, true), (fault) => answered(fault.message, false));
+    change("/api/release", { camera: clip.camera, id: clip.id, first: clip.first });
   };
   sure.showModal();
 }

@@ -110,7 +110,8 @@ export class Timeline {
   key(event) {
     if (!this.parts.length || event.ctrlKey || event.altKey || event.metaKey) return;
     const second = Math.max(1, Math.round(this.state.asked_rate));
-    const steps = { ArrowLeft: -1, ArrowDown: -1, ArrowRight: 1, ArrowUp: 1, PageUp: -second, PageDown: second, Home: -999999, End: 999999 }[event.key];
+    const arrows = { ArrowLeft: -1, ArrowDown: -1, ArrowRight: 1, ArrowUp: 1 };
+    const steps = { ...arrows, PageUp: -second, PageDown: second, Home: -999999, End: 999999 }[event.key];
     if (steps !== undefined) {
       if (!event.shiftKey) this.anchor = null;
       this.tile.step(steps, event.shiftKey);
@@ -163,7 +164,9 @@ export class Timeline {
     const [first, last] = this.state.removed_next;
     const piece = this.state.pieces.find((it) => it[0] <= last && it[1] >= first);
     if (!piece) return;
-    const time = (number) => piece[2] + (piece[1] > piece[0] ? (Math.min(Math.max(number, piece[0]), piece[1]) - piece[0]) / (piece[1] - piece[0]) : 0) * (piece[3] - piece[2]);
+    const [begin, end, since, until] = piece;
+    const share = (number) => (end > begin ? (Math.min(Math.max(number, begin), end) - begin) / (end - begin) : 0);
+    const time = (number) => since + share(number) * (until - since);
     fill(time(first), time(last), striped(pen, "#fff", "#a3160f", -1, ratio));
     const x = this.placeOf(time(first)) * width, y = band.top + band.height;
     pen.fillStyle = "#a3160f";
