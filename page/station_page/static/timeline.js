@@ -145,16 +145,24 @@ export class Timeline {
       pen.fillRect(part.x0 * width, band.top, Math.max(1, (part.x1 - part.x0) * width), band.height);
     }
     this.drawNext(fill, pen, width, ratio, band);
-    for (const [id, , , since, until] of this.state.clips) {
-      fill(since, until, striped(pen, "#e4d3f5", "#6b2fa0", 1, ratio));
-      pen.fillStyle = "#4a1a78";
-      pen.font = `${12 * ratio}px system-ui, sans-serif`;
-      pen.fillText(String(id), this.placeOf(since) * width + 2 * ratio, band.top - 3 * ratio);
-    }
+    for (const [, , , since, until] of this.state.clips) fill(since, until, striped(pen, "#e4d3f5", "#6b2fa0", 1, ratio));
+    this.drawNumbers(pen, width, ratio, band);
     if (this.range) this.drawRange(pen, width, height, ratio);
     if (this.at !== null) {
       pen.fillStyle = "#17212b";
       pen.fillRect(this.placeOf(this.at) * width - ratio, 0, 2 * ratio, height);
+    }
+  }
+
+  /** The clips' numbers, above where they begin; one that would stand in another one stands after it. */
+  drawNumbers(pen, width, ratio, band) {
+    pen.fillStyle = "#4a1a78";
+    pen.font = `${12 * ratio}px system-ui, sans-serif`;
+    let free = 0;
+    for (const [id, , , since] of [...this.state.clips].sort((one, other) => one[3] - other[3])) {
+      const text = String(id), x = Math.max(free, this.placeOf(since) * width + 2 * ratio);
+      pen.fillText(text, x, band.top - 3 * ratio);
+      free = x + pen.measureText(text).width + 5 * ratio;
     }
   }
 
