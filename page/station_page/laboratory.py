@@ -241,6 +241,7 @@ class Laboratory:
             station = ["good", "The station runs."]
         return {
             "version": self.version,
+            "has_token": self.settings.token is not None,
             "now": time.time(),
             "station": station,
             "alerts": self.alerts.listed(),

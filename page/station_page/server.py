@@ -321,6 +321,7 @@ class Page:
 
     async def frame(self, request: web.Request) -> web.Response:
         """Which frame was there at a time, or comes so many after another."""
+        await self.laboratory.fresh()
         _, reading, _ = self.laboratory.seen(request.match_info["camera"])
         query = request.query
         number, moment = (number_in(query.get(word), limits.NUMBERS_END, word) for word in ("number", "time"))
@@ -333,6 +334,7 @@ class Page:
 
     async def frame_picture(self, request: web.Request) -> web.Response:
         """A frame by its number, in its full size."""
+        await self.laboratory.fresh()
         _, reading, source = self.laboratory.seen(request.match_info["camera"])
         number = number_in(request.match_info["number"], limits.NUMBERS_END, "number")
         frame = reading.near(number or 0, 0)
@@ -406,6 +408,7 @@ class Page:
     async def fetch(self, request: web.Request) -> web.StreamResponse:
         """A clip as a file."""
         camera, id_, kind = request.match_info["camera"], int(request.match_info["id"]), request.match_info["kind"]
+        await self.laboratory.fresh()
         fetch = self.laboratory.fetch(camera, id_, number_in(request.query.get("first"), limits.NUMBERS_END, "first"))
         if kind == "jpg":
             return await self.picture(fetch.source, fetch.frames[len(fetch.frames) // 2], limits.THUMB_WIDTH)

@@ -104,6 +104,7 @@ function watch() {
 /** Shows how all stands. */
 function show(standing) {
   state(byId("station"), ...standing.station);
+  byId("leave").hidden = !standing.has_token;
   showAlerts(standing.alerts);
   const news = standing.news.at(-1);
   say(byId("news"), news ? `${clock(news.time * 1e6)} ${news.text}` : "");
