@@ -61,8 +61,8 @@ module _ {S D P A : Type 0} (medium : D → Medium) (gives : S → Next → List
       let items = map picture (known_items down) in
       let fed = fed-all (map picture (received from)) keeps.calls given_up keeps.came items keeps.fed in
       let all : map picture (received from) ++ items ≡ map picture (sent to) =
-          ap (λ l. map picture l ++ items) (sym down_looked.1)
-          ∙ (sym (map-append picture (received down) (known_items down)) ∙ ap (map picture) (fifo ∙ up_looked.1)) in
+      ap (λ l. map picture l ++ items) (sym down_looked.1)
+      ∙ (sym (map-append picture (received down) (known_items down)) ∙ ap (map picture) (fifo ∙ up_looked.1)) in
       record {
         given = front.given;
         source = front.source;

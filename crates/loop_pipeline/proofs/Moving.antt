@@ -109,9 +109,9 @@ module _ {S P A : Type 0} (gives : S → Next → List ℕ → S → Type 0) (m 
             (subst (StandsQueue m queue) has.reached has.stands.queue.queue) has.flows
             ∙ ap (λ l. map without_flags l ++ map without_flags (frames_waiting queue last)) (sym has.went);
       }
-      where
-        shape-of : (q : Lined P) (s : QueueState) → StandsQueue m q s → s.body.shape ≡ q.body.shape
-        shape-of q s stands = sym (ap (λ b. b.shape) stands.shown.body)
+    where
+      shape-of : (q : Lined P) (s : QueueState) → StandsQueue m q s → s.body.shape ≡ q.body.shape
+      shape-of q s stands = sym (ap (λ b. b.shape) stands.shown.body)
 
   -- a front whose hand is empty leaves what another one may begin with
   pub again : (seen : SeenFront S P A) (device : SeenDevice S) (queue : Lined P) (table : Fds P) (h : Hand P A)
@@ -120,7 +120,7 @@ module _ {S P A : Type 0} (gives : S → Next → List ℕ → S → Type 0) (m 
   again seen device queue table h to law has none =
       let last = after_all after_event has.first has.events in
       let sound = law.after seen.queue queue has.first has.events has.stood has.sound
-          (each-may has.first has.events has.legal) (subst (StandsQueue m queue) has.reached has.stands.queue.queue) in
+      (each-may has.first has.events has.legal) (subst (StandsQueue m queue) has.reached has.stands.queue.queue) in
       let held : has.now.hand ≡ empty = sym has.stands.hand ∙ ap (hand_state m) none in
       record {
         state = has.now.queue;

@@ -137,12 +137,12 @@ module _ {S P A : Type 0} (gives : S → Next → List ℕ → S → Type 0) (m 
         source = refl;
         shows = refl;
       }
-      where
-        refused : (j : IoctlState) (x : HandState) → IsDequeue j x (Err (Queue e))
-            → EachIn after_event IsCounted j.queue (dqbuf (Err e) ∷ [])
-        refused j empty said = ((said, tt), tt)
-        refused j (full i p planes) said = absurd (cc)
-        refused j (spent i planes) said = absurd (cc)
+    where
+      refused : (j : IoctlState) (x : HandState) → IsDequeue j x (Err (Queue e))
+          → EachIn after_event IsCounted j.queue (dqbuf (Err e) ∷ [])
+      refused j empty said = ((said, tt), tt)
+      refused j (full i p planes) said = absurd (cc)
+      refused j (spent i planes) said = absurd (cc)
 
   -- a buffer was dequeued, and its frame pushed
   pub take-adds : (q r : Lined P) (h k l : Hand P A) (to look up : Producer (Frame A) A AnyItems) (f : Front) (index : ℕ)
@@ -172,14 +172,15 @@ module _ {S P A : Type 0} (gives : S → Next → List ℕ → S → Type 0) (m 
         source = refl;
         shows = ap (map shown) (event-completes (kind_of f.queue) index b);
       }
-      where
-        free-hand : (j : IoctlState) (x : HandState) → IsDequeue j x (Ok index)
-            → IsOneEvent j.queue (dequeue_event j (Ok index))
-        free-hand j empty said = said
-        free-hand j (full i p planes) said = absurd (cc)
-        free-hand j (spent i planes) said = absurd (cc)
-        joined : SameProducer to look → SameProducer look up → SameProducer to up
-        joined a c = ((c.0.0 ∙ a.0.0, c.0.1 ∙ a.0.1, c.0.2 ∙ a.0.2, c.0.3 ∙ a.0.3), c.1 ∙ a.1)
+    where
+      free-hand : (j : IoctlState) (x : HandState) → IsDequeue j x (Ok index)
+          → IsOneEvent j.queue (dequeue_event j (Ok index))
+      free-hand j empty said = said
+      free-hand j (full i p planes) said = absurd (cc)
+      free-hand j (spent i planes) said = absurd (cc)
+
+      joined : SameProducer to look → SameProducer look up → SameProducer to up
+      joined a c = ((c.0.0 ∙ a.0.0, c.0.1 ∙ a.0.1, c.0.2 ∙ a.0.2, c.0.3 ∙ a.0.3), c.1 ∙ a.1)
 
   -- the hand's buffer was queued again, or that was refused
   pub put-adds : (q r : Lined P) (h k : Hand P A) (to : Producer (Frame A) A AnyItems) (f : Front)
@@ -187,29 +188,62 @@ module _ {S P A : Type 0} (gives : S → Next → List ℕ → S → Type 0) (m 
       → TurnsBeside m q h (requeued result) r k → Adds gives m table f.queue.queue d d q r k to to
   put-adds q r h k to f result formed free stands turn =
       let t = turn table f stands in by f.queue f.hand result free t.0 t.1
-      where
-        same : map picture (sent to) ≡ map picture (sent to) ++ []
-        same = sym (append-nil (map picture (sent to)))
-        plain : (j : IoctlState) (x : HandState) → hand_frame x ≡ []
-            → StandsFront m r table k (record { queue = j; hand = x }) → Adds gives m table j.queue d d q r k to to
-        plain j x free stands = record { events = []; legal = tt; flows = refl; now = record { queue = j; hand = x };
-          stands = stands; reached = refl; formed = formed; free = free; ring = ((refl, refl, refl, refl), refl); went = same;
-          given = []; source = refl; shows = refl }
-        by : (j : IoctlState) (x : HandState) (result : Result ℕ LaneFault) → hand_frame x ≡ [] → IsRequeue j x result
-            → StandsFront m r table k (front_after {P = P} {A = A} m (record { queue = j; hand = x }) (requeued result))
-            → Adds gives m table j.queue d d q r k to to
-        by j empty (Ok index) free said stands = absurd (cc)
-        by j (full i p planes) result free said stands = absurd (cc)
-        by j (spent i planes) (Ok index) free said stands = record {
-          events = requeue_event (kind_of j) (spent i planes) (Ok index);
-          legal = ((said.0, tt), tt); flows = refl;
-          now = front_after {P = P} {A = A} m (record { queue = j; hand = spent i planes }) (requeued (Ok index));
-          stands = stands; reached = refl; formed = formed; free = refl; ring = ((refl, refl, refl, refl), refl); went = same;
-          given = []; source = refl; shows = refl }
-        by j (spent i planes) (Err (Queue e)) free said stands = record {
-          events = requeue_event (kind_of j) (spent i planes) (Err (Queue e));
-          legal = ((said.0, tt), tt); flows = refl; now = record { queue = j; hand = spent i planes };
-          stands = stands; reached = refl; formed = formed; free = refl; ring = ((refl, refl, refl, refl), refl); went = same;
-          given = []; source = refl; shows = refl }
-        by j (spent i planes) (Err (Store fault)) free said stands = absurd said.0
-        by j empty (Err fault) free said stands = plain j empty free stands
+    where
+      same : map picture (sent to) ≡ map picture (sent to) ++ []
+      same = sym (append-nil (map picture (sent to)))
+
+      plain : (j : IoctlState) (x : HandState) → hand_frame x ≡ []
+          → StandsFront m r table k (record { queue = j; hand = x }) → Adds gives m table j.queue d d q r k to to
+      plain j x free stands = record {
+        events = [];
+        legal = tt;
+        flows = refl;
+        now = record { queue = j; hand = x };
+        stands = stands;
+        reached = refl;
+        formed = formed;
+        free = free;
+        ring = ((refl, refl, refl, refl), refl);
+        went = same;
+        given = [];
+        source = refl;
+        shows = refl;
+      }
+
+      by : (j : IoctlState) (x : HandState) (result : Result ℕ LaneFault) → hand_frame x ≡ [] → IsRequeue j x result
+          → StandsFront m r table k (front_after {P = P} {A = A} m (record { queue = j; hand = x }) (requeued result))
+          → Adds gives m table j.queue d d q r k to to
+      by j empty (Ok index) free said stands = absurd (cc)
+      by j (full i p planes) result free said stands = absurd (cc)
+      by j (spent i planes) (Ok index) free said stands = record {
+        events = requeue_event (kind_of j) (spent i planes) (Ok index);
+        legal = ((said.0, tt), tt);
+        flows = refl;
+        now = front_after {P = P} {A = A} m (record { queue = j; hand = spent i planes }) (requeued (Ok index));
+        stands = stands;
+        reached = refl;
+        formed = formed;
+        free = refl;
+        ring = ((refl, refl, refl, refl), refl);
+        went = same;
+        given = [];
+        source = refl;
+        shows = refl;
+      }
+      by j (spent i planes) (Err (Queue e)) free said stands = record {
+        events = requeue_event (kind_of j) (spent i planes) (Err (Queue e));
+        legal = ((said.0, tt), tt);
+        flows = refl;
+        now = record { queue = j; hand = spent i planes };
+        stands = stands;
+        reached = refl;
+        formed = formed;
+        free = refl;
+        ring = ((refl, refl, refl, refl), refl);
+        went = same;
+        given = [];
+        source = refl;
+        shows = refl;
+      }
+      by j (spent i planes) (Err (Store fault)) free said stands = absurd said.0
+      by j empty (Err fault) free said stands = plain j empty free stands

@@ -144,8 +144,11 @@ module _ {S P A : Type 0} (gives : S → Next → List ℕ → S → Type 0) (m 
 
   -- the front after a tick for which the source was asked: the queue's events have happened, the rest is as it was
   abbrev after-tick : Tick → Front → Front
-  after-tick tick f = record f { queue = record f.queue {
-    queue = after_all after_event f.queue.queue (tick_events now d.next tick e.frame f.queue.queue) } }
+  after-tick tick f = record f {
+    queue = record f.queue {
+      queue = after_all after_event f.queue.queue (tick_events now d.next tick e.frame f.queue.queue);
+    };
+  }
 
   abbrev stamp-at : Front → Stamp
   stamp-at f = record { sequence = sequence_of d.next f.queue.queue; timestamp = now }

@@ -7,8 +7,8 @@ ghost use Rattle.loop_desk.specs.Front.{hand_state};
 ghost use Rattle.loop_pipeline.specs.Fronts.{FrontKeeps, IsOpen, emptied, frame_of};
 
 use loop_capture::{Device, FrameSource, Tick};
-use loop_desk::laws::{frames_are_kept, queues_stay_sound};
 use loop_desk::front::{dequeue, requeue};
+use loop_desk::laws::{frames_are_kept, queues_stay_sound};
 use loop_desk::{Hand, LaneFault};
 use loop_plane::{FdTable, PlaneMemory};
 use loop_record::Frame;
