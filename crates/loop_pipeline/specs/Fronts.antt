@@ -23,6 +23,8 @@ use Rattle.loop_desk.specs.declared.hand.Hand.{Hand}
 use Rattle.loop_desk.specs.declared.hand.Hand.TheVariants as hand
 use Rattle.loop_desk.specs.Front.{Front, HandState, StandsFront, empty, full, spent}
 use Rattle.loop_desk.specs.Lane.{completed_frame, hand_frame, without_flags}
+use Rattle.loop_pipeline.specs.declared.front.Begun.{Begun}
+use Rattle.loop_pipeline.specs.declared.front.FrontParts.{FrontParts}
 use Rattle.loop_desk.specs.Waiting.{IsCounted, IsSound, frames_of, frames_waiting}
 
 -- ---- ticks of a device
@@ -105,6 +107,15 @@ pub record FrontKeeps {S P A : Type 0} (gives : S → Next → List ℕ → S �
   pub shows : map shown completed ≡ flat_map shown_by given
   pub whole : map without_flags (frames_waiting seen.queue first) ++ completed
       ≡ map without_flags (map picture (sent to)) ++ map without_flags (frames_waiting queue last)
+
+abbrev pub made_of : {S P A : Type 0} → Begun S P A → SeenFront S P A
+made_of begun = record { queue = begun.queue.value; device = begun.device.value; to = begun.to.value }
+
+-- So it is of the parts that a front leaves; and where no buffer is in its hand, another front may begin with them.
+pub record Leaves {S P A : Type 0} (gives : S → Next → List ℕ → S → Type 0) (meaning : P → Plane)
+    (seen : SeenFront S P A) (parts : FrontParts S P A) : Type 0 where
+  pub keeps : FrontKeeps gives meaning seen parts.device parts.queue parts.to
+  pub again : parts.hand ≡ hand.Empty → IsOpen meaning parts.queue parts.table
 
 -- ---- its events (private contracts alone)
 

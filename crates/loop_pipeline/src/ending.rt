@@ -4,9 +4,9 @@ ghost use Rattle.std.specs.Prelude.{◌≡◌, ◌+◌};
 ghost use Rattle.rtrb.specs.Ring.{IsPair};
 ghost use Rattle.loop_desk.specs.declared.hand.Hand.TheVariants.{Empty};
 ghost use Rattle.loop_pipeline.specs.Cameras.{CameraKeeps};
-ghost use Rattle.loop_pipeline.specs.Fronts.{IsOpen};
+ghost use Rattle.loop_pipeline.specs.Fronts.{IsOpen, Leaves, made_of};
 
-use crate::{Back, BackParts, Front, FrontParts};
+use crate::{Back, BackParts, Begun, FrontParts};
 use loop_capture::{Device, FrameSource};
 use loop_desk::{Desk, Hand};
 use loop_disk::Disk;
@@ -39,26 +39,33 @@ pub struct Ended<
 }
 
 /// Ends a camera of which both threads have left: what it kept since its front and its back were made on the two ends
-/// of one ring.
+/// of one ring. The front was made of these.
 pub fn end<S: FrameSource + Drop, D: Disk + Drop, P: PlaneMemory, A: Allocator + Copy>(
-    front: Front<S, P, A>,
+    begun: Begun<S, P, A>,
+    front: FrontParts<S, P, A>,
     back: Back<D, A>,
 ) -> Ended<S, D, P, A>
-    requires pair { IsPair front.to back.from }
+    requires front { Leaves S.next_gives P.plane (made_of begun) front }
+    requires pair { IsPair begun.to.value back.from }
     ensures keeps { CameraKeeps D.medium S.next_gives P.plane
-        (record { device = front.device; queue = front.queue; desk = back.began })
+        (record { device = begun.device.value; queue = begun.queue.value; desk = back.began })
         (record { device = result.device; queue = result.queue; desk = result.desk })
         (result.given_up + result.left) }
     ensures again { result.hand ≡ Empty → IsOpen P.plane result.queue result.table }
     ensures desk { result.desk ≡ back.desk }
 {
+    let Begun {
+        queue: _,
+        device: _,
+        to: _,
+    } = begun;
     let FrontParts {
         device,
         queue,
         table,
         hand,
         mut to,
-    } = front.into_parts();
+    } = front;
     let BackParts {
         desk,
         mut from,

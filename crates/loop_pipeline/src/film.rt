@@ -1,23 +1,20 @@
-//! A camera filmed by two threads: one has its front, the other its back.
+//! What the two threads of a camera do: one has its front, the other its back.
 
-ghost use Rattle.std.specs.Prelude.{◌≡◌, ◌+◌, IfOk};
-ghost use Rattle.loop_pipeline.specs.Cameras.{CameraKeeps};
-ghost use Rattle.loop_pipeline.specs.Fronts.{IsOpen};
+ghost use Rattle.std.specs.Prelude.{◌≡◌, []};
+ghost use Rattle.rtrb.specs.Ring.{sent};
+ghost use Rattle.loop_pipeline.specs.Fronts.{IsOpen, Leaves};
 
 use crate::bell::Bell;
-use crate::{Back, Brought, Ended, Front, Guide, Took, end};
+use crate::{Back, Brought, Front, FrontParts, Guide, Took};
 use loop_capture::{Device, FrameSource, Tick};
-use loop_desk::Desk;
 use loop_disk::Disk;
 use loop_plane::{FdTable, PlaneMemory};
+use loop_record::Frame;
 use loop_vb2::Queue;
-use rtrb::{Consumer, Producer, RingBuffer};
+use rtrb::{Consumer, Producer};
 use std::alloc::Global;
-use std::snapshot::Snapshot;
 use std::sync::Wait;
 use std::sync::atomic::{AtomicBool, Ordering};
-use std::thread;
-use std::thread::{Promise, Threads};
 use std::time::{Clock, Duration};
 
 /// How many frames the ring takes: as many as a flush stores at once.
@@ -31,13 +28,32 @@ const LOOK_AGAIN: u64 = 20;
 
 /// What the two threads tell each other.
 #[derive(Drop)]
-struct Link {
+pub struct Link {
     /// Rings after each frame that went into the ring, and when the front's thread has ended.
     given: Bell,
     /// Rings after frames were taken out of it.
     room: Bell,
     /// The front's thread has ended.
     over: AtomicBool,
+    /// No thread begins, since one couldn't be started.
+    closed: AtomicBool,
+}
+
+impl Link {
+    /// Neither thread has begun.
+    pub fn new() -> Link {
+        Link {
+            given: Bell::new(),
+            room: Bell::new(),
+            over: AtomicBool::new(false),
+            closed: AtomicBool::new(false),
+        }
+    }
+
+    /// Lets no front begin to tick: the other thread couldn't be started.
+    pub fn close(&self) {
+        self.closed.store(true, Ordering::SeqCst);
+    }
 }
 
 // Takes what waits in the queue into the ring, and waits for room there.
@@ -80,6 +96,9 @@ fn run_front<R: Wait + Clock, S: FrameSource + Drop, P: PlaneMemory, G: Guide>(
     ensures { result ≡ front }
 {
     'ticks: for n in 0..u64::MAX {
+        if link.closed.load(Ordering::SeqCst) {
+            break;
+        }
         let Some(now) = guide.next_tick(rt, n) else {
             break;
         };
@@ -127,9 +146,9 @@ fn bring_all<R: Wait, D: Disk + Drop, G: Guide>(
     some
 }
 
-// The back's thread: brings, lets others ask, and flushes, until the front's thread has ended and nothing is left to
-// flush.
-fn run_back<R: Wait + Clock, D: Disk + Drop, G: Guide>(
+/// The whole work of a back's thread: brings, lets others ask, and flushes, until the front's thread has ended and nothing is left to
+/// flush.
+pub fn film_back<R: Wait + Clock, D: Disk + Drop, G: Guide>(
     rt: &R,
     alloc: Global,
     link: &Link,
@@ -166,12 +185,22 @@ fn run_back<R: Wait + Clock, D: Disk + Drop, G: Guide>(
     back
 }
 
-// The front that comes back is the one that was given, as contracts see it.
-#[derive(Drop)]
-struct Same<S: FrameSource + Drop, P: PlaneMemory>(Snapshot<Front<S, P>>);
-
-impl<S: FrameSource + Drop, P: PlaneMemory> Promise<Front<S, P>> for Same<S, P> {
-    ghost use Rattle.std.specs.Prelude.{◌≡◌};
-
-    ghost kept_by = { λ p front. front ≡ p.0.value };
+/// The whole work of a front's thread: a front is made, and ticks until its guide or its source ends it.
+pub fn film_front<R: Wait + Clock, S: FrameSource + Drop, P: PlaneMemory, G: Guide>(
+    rt: &R,
+    alloc: Global,
+    link: &Link,
+    guide: &G,
+    device: Device<S>,
+    queue: Queue<P>,
+    table: FdTable<P>,
+    to: Producer<Frame>,
+    memory: Consumer<Vec<u8>>,
+) -> FrontParts<S, P>
+    requires ready { IsOpen P.plane queue table }
+    requires ring { sent to ≡ [] }
+    ensures { Leaves S.next_gives P.plane (record { queue = queue; device = device; to = to }) result }
+{
+    let front = Front::new(device, queue, table, to);
+    run_front(rt, alloc, link, guide, front, memory).into_parts()
 }

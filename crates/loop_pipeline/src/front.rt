@@ -2,9 +2,8 @@
 
 ghost use Rattle.std.specs.Prelude.{◌≡◌, ◌<◌, ◌++◌, []};
 ghost use Rattle.rtrb.specs.Ring.{SameProducer, known_free, sent};
-ghost use Rattle.loop_desk.specs.declared.hand.Hand.TheVariants.{Empty};
 ghost use Rattle.loop_desk.specs.Front.{hand_state};
-ghost use Rattle.loop_pipeline.specs.Fronts.{FrontKeeps, IsOpen, emptied, frame_of};
+ghost use Rattle.loop_pipeline.specs.Fronts.{IsOpen, Leaves, emptied, frame_of};
 
 use loop_capture::{Device, FrameSource, Tick};
 use loop_desk::front::{dequeue, requeue};
@@ -44,6 +43,17 @@ pub struct Front<S: FrameSource + Drop, P: PlaneMemory, A: Allocator + Copy = Gl
     queue_before: Snapshot<Queue<P, A>>,
     device_before: Snapshot<Device<S, A>>,
     to_before: Snapshot<Producer<Frame<A>, A>>,
+}
+
+/// What a front was made of, as it was then.
+#[derive(Drop)]
+pub struct Begun<S: FrameSource + Drop, P: PlaneMemory, A: Allocator + Copy = Global> {
+    /// Its queue.
+    pub queue: Snapshot<Queue<P, A>>,
+    /// Its device.
+    pub device: Snapshot<Device<S, A>>,
+    /// The end of its ring.
+    pub to: Snapshot<Producer<Frame<A>, A>>,
 }
 
 /// What is left of a front.
@@ -162,8 +172,7 @@ impl<S: FrameSource + Drop, P: PlaneMemory, A: Allocator + Copy> Front<S, P, A> 
 
     /// What is left of it.
     pub fn into_parts(self) -> FrontParts<S, P, A>
-        ensures keeps { FrontKeeps S.next_gives P.plane self result.device result.queue result.to }
-        ensures again { result.hand ≡ Empty → IsOpen P.plane result.queue result.table }
+        ensures { Leaves S.next_gives P.plane self result }
     {
         frames_are_kept::<P>();
         queues_stay_sound::<P>();

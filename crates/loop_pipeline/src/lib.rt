@@ -1,10 +1,16 @@
-//! A camera's front, which one thread has: its device, its queue with the buffers, and the end of a ring to which the
-//! frames go that come out of the queue.
+//! A camera's frames on their way from its device to its disk, by two threads of which each has its half alone.
 //!
-//! `front` has it: a tick of the device, the frame that waits first taken into the ring, its buffer queued again. Whatever
-//! it is asked for, it keeps this (`specs/Fronts`, `FrontKeeps`, said by `Front::into_parts`): the frames that waited and
-//! those that its source gave at ticks that completed a buffer are, in order and with all bytes, those in the ring and
-//! those that still wait.
+//! - `front`: a device, its queue with the buffers, and the end of a ring to which the frames go that come out of the
+//!   queue; `back`: the other end of the ring, and a desk before a store; `ending`: both halves in one hand;
+//! - `film`: what the two threads do; `guide`: what guides them; `bell`: where one sleeps until the other has something
+//!   for it.
+//!
+//! What the halves keep is said where they end: `Front::into_parts`, `Back::into_parts`, and of both by `end`
+//! (`specs/Cameras`, `CameraKeeps`): the frames that waited and those that the source gave at ticks that completed a
+//! buffer are, in order and with all bytes, those that came to the desk and those that still wait; each that came was
+//! accepted or is counted; and of those that were accepted the footage is kept, whenever the power fails.
+//!
+//! No program films by it yet: `wip/README.md` says what is missing.
 #![tactic(auto)]
 
 mod back;
@@ -16,5 +22,6 @@ mod guide;
 
 pub use back::{Back, BackParts, Brought};
 pub use ending::{Ended, end};
-pub use front::{Front, FrontParts, Took};
+pub use film::{Link, film_back, film_front};
+pub use front::{Begun, Front, FrontParts, Took};
 pub use guide::Guide;

@@ -3,10 +3,9 @@ use Rattle.loop_pipeline.specs.Fronts.{FrontKeeps}
 use Rattle.loop_pipeline.proofs.Moving.{again, kept}
 use Rattle.loop_pipeline.proofs.front.Front.into_parts.Goals as goal
 
-pub returns-clause-keeps : goal.returns-clause-keeps
-returns-clause-keeps g c =
-    subst (λ v. FrontKeeps g.S.FrameSource.next_gives g.P.PlaneMemory.plane v c.self.inside.device c.self.inside.queue c.self.inside.to) c.self.view_is
-    (kept g.S.FrameSource.next_gives g.P.PlaneMemory.plane _ _ _ _ _ _ c.frames_are_kept.ensures c.self.invariant)
-
-pub returns-clause-again : goal.returns-clause-again
-returns-clause-again g c = again g.S.FrameSource.next_gives g.P.PlaneMemory.plane _ _ _ _ _ _ c.queues_stay_sound.ensures c.self.invariant
+pub returns : goal.returns
+returns g c = record {
+  keeps = subst (λ v. FrontKeeps g.S.FrameSource.next_gives g.P.PlaneMemory.plane v c.self.inside.device c.self.inside.queue c.self.inside.to) c.self.view_is
+      (kept g.S.FrameSource.next_gives g.P.PlaneMemory.plane _ _ _ _ _ _ c.frames_are_kept.ensures c.self.invariant);
+  again = again g.S.FrameSource.next_gives g.P.PlaneMemory.plane _ _ _ _ _ _ c.queues_stay_sound.ensures c.self.invariant;
+}
