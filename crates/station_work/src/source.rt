@@ -1,6 +1,8 @@
 //! A source's thread: it opens the source again and again, and gives its frames to the camera's feed. A source whose
 //! frames aren't as the store has them is refused, and that is printed once.
 
+ghost use Rattle.std.specs.Prelude.{◌≡◌, IfSome, length};
+
 use crate::link::{Offered, SourceState};
 use crate::outlet::Outlet;
 use crate::places::Places;
@@ -217,7 +219,9 @@ fn row_for<R: AllocGlobal + Wait + Clock>(
     rt: &R,
     state: &CameraState,
     size: u32,
-) -> Option<Vec<u8>> {
+) -> Option<Vec<u8>>
+    ensures { IfSome result (λ bytes. length bytes.items ≡ size) }
+{
     for _ in rt.forever() {
         let spare = state.feed.memory(rt);
         if let Ok(bytes) = frame_memory(rt.alloc(), spare, size as usize) {
