@@ -16,8 +16,8 @@
  *               flock, statx, readlink, pread, pwrite, ftruncate, fsync, fdatasync, rename and unlink. ERRNO 0: the read or write is of one byte alone
  *   LOOP_KILL   COUNT   the program is killed (SIGKILL) before its call of that number, from 0, that writes, cuts, syncs or renames LOOP_FILE or LOOP_TEXT, or
  *               syncs their folder
- *   LOOP_STALL  FROM:EVERY:HOLD   a disk that stalls: from FROM on, and every EVERY after it, each sync of a file NAME.loop that comes within HOLD
- *               ends only after that; all in milliseconds of CLOCK_MONOTONIC
+ *   LOOP_STALL  FROM:EVERY:HOLD:EACH   a disk that stalls: from FROM on, and every EVERY after it, each sync of a file NAME.loop that comes within
+ *               HOLD ends only after that, and each other one takes EACH more; all in milliseconds, FROM of CLOCK_MONOTONIC
  *   LOOP_THREADS   COUNT   the thread of that number, from 0, can't be started (EAGAIN)
  */
 #define _GNU_SOURCE
@@ -264,8 +264,8 @@ int ftruncate64(int fd, off_t size) {
 static void stall(int fd) {
     static const char END[] = ".loop";
     const char *given = getenv("LOOP_STALL");
-    long long from, every, hold;
-    if (!given || sscanf(given, "%lld:%lld:%lld", &from, &every, &hold) != 3 || every <= 0) return;
+    long long from, every, hold, each;
+    if (!given || sscanf(given, "%lld:%lld:%lld:%lld", &from, &every, &hold, &each) != 4 || every <= 0) return;
     char name[4096], link[64];
     snprintf(link, sizeof link, "/proc/self/fd/%d", fd);
     ssize_t length = syscall(SYS_readlink, link, name, sizeof name);
@@ -273,8 +273,8 @@ static void stall(int fd) {
     struct timespec now;
     clock_gettime(CLOCK_MONOTONIC, &now);
     long long at = now.tv_sec * 1000LL + now.tv_nsec / 1000000 - from;
-    if (at < 0 || at % every >= hold) return;
-    long long rest = hold - at % every;
+    if (at < 0) return;
+    long long rest = at % every < hold ? hold - at % every : each;
     struct timespec pause = {rest / 1000, rest % 1000 * 1000000};
     nanosleep(&pause, NULL);
 }

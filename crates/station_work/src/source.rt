@@ -1,6 +1,8 @@
 //! A source's thread: it opens the source again and again, and gives its frames to the camera's feed. A source whose
 //! frames aren't as the store has them is refused, and that is printed once.
 
+ghost use Rattle.std.specs.Prelude.{◌≡◌, IfSome, length};
+
 use crate::link::{Offered, SourceState};
 use crate::outlet::Outlet;
 use crate::places::Places;
@@ -131,7 +133,9 @@ fn offer<R: AllocGlobal + Wait, W: Write + Drop>(
 ) -> bool {
     match state.link.offer(rt, *geometry) {
         Offered::Fits => {
-            state.feed.reserve(rt, frames_before(state.config.memory, geometry));
+            state
+                .feed
+                .reserve(rt, frames_before(state.config.memory, geometry));
             true
         }
         Offered::Refused => {
@@ -213,11 +217,9 @@ fn play_input<R: AllocGlobal + Wait + Clock, I: Read + Drop, W: Write + Drop>(
 
 /// Memory for a frame of so many bytes: that of an earlier one, or new. Where it is refused, that of an earlier frame is
 /// waited for; None where the camera is stopped before.
-fn row_for<R: AllocGlobal + Wait + Clock>(
-    rt: &R,
-    state: &CameraState,
-    size: u32,
-) -> Option<Vec<u8>> {
+fn row_for<R: AllocGlobal + Wait + Clock>(rt: &R, state: &CameraState, size: u32) -> Option<Vec<u8>>
+    ensures { IfSome result (λ bytes. length bytes.items ≡ size) }
+{
     for _ in rt.forever() {
         let spare = state.feed.memory(rt);
         if let Ok(bytes) = frame_memory(rt.alloc(), spare, size as usize) {
