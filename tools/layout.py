@@ -7,6 +7,7 @@ import struct
 import sys
 import time
 from collections import namedtuple
+from operator import attrgetter
 
 OPEN, CLOSED, MAGIC = 0xA5, 0, b"LOOPREC"
 # The bytes of the superblock, of it with the clip table, of a segment's header, of a slot's head and of a clip's entry.
@@ -246,7 +247,7 @@ class Store:
 
     def __init__(self, geometry, version, segments, frames, clips):
         self.geometry, self.version, self.segments, self.clips = geometry, version, segments, clips
-        self.frames = sorted(frames, key=lambda frame: frame.number)
+        self.frames = sorted(frames, key=attrgetter("number"))
         self.numbers = runs_of([frame.number for frame in self.frames])
         self.times = {frame.number: frame.time for frame in self.frames}
         self.next = next_number(geometry, segments)
@@ -273,13 +274,8 @@ def next_number(geometry, segments):
 
 def runs_of(numbers):
     """The longest runs of numbers that follow one another, of a list that rises, as (first, last)."""
-    runs = []
-    for number in numbers:
-        if runs and number == runs[-1][1] + 1:
-            runs[-1] = (runs[-1][0], number)
-        else:
-            runs.append((number, number))
-    return runs
+    breaks = [place for place, (old, new) in enumerate(zip(numbers, numbers[1:]), 1) if new != old + 1]
+    return [(numbers[start], numbers[end - 1]) for start, end in zip([0, *breaks], [*breaks, len(numbers)]) if start < end]
 
 
 def clips_in(table, version):
@@ -321,16 +317,20 @@ def read_geometry(top, size):
     return geometry, 2 if top[VERSION_AT] == OPEN else 1
 
 
+def read_slots(read_at, geometry, segment, first=0):
+    """The heads of a segment's frames before its first closed gate, from a slot on."""
+    frames = []
+    for slot in range(first, segment.whole if segment.open else 0):
+        frame = Frame(*SLOT_HEAD.unpack(read_at(geometry.slot_at(segment.place, slot), HEAD))[:5])
+        if frame.number != segment.block * geometry.slots + slot or frame.length != geometry.size:
+            raise Refused("refused 5 Damaged 5")
+        frames.append(frame)
+    return frames
+
+
 def read_frames(read_at, geometry, segments):
     """The heads of the frames before the first closed gate of each open segment."""
-    frames = []
-    for segment in segments:
-        for slot in range(segment.whole if segment.open else 0):
-            frame = Frame(*SLOT_HEAD.unpack(read_at(geometry.slot_at(segment.place, slot), HEAD))[:5])
-            if frame.number != segment.block * geometry.slots + slot or frame.length != geometry.size:
-                raise Refused("refused 5 Damaged 5")
-            frames.append(frame)
-    return frames
+    return [frame for segment in segments for frame in read_slots(read_at, geometry, segment)]
 
 
 def read_heads(read_at, geometry):
@@ -348,8 +348,9 @@ def same_blocks(old, new):
     return all((a[0] == OPEN, a[8:16]) == (b[0] == OPEN, b[8:16]) for a, b in zip(old, new))
 
 
-def read_once(read_at, size):
+def read_once(read_at, size, frames_of=read_frames):
     """The store of so many bytes, which `read_at` reads from a place on; Unsteady where something that it looked at was changed meanwhile.
+    `frames_of` may be another reader of the frames' heads, which remembers those that it has read.
 
     The headers are read before the slots and after them, the clip table before all and after all. Where each segment keeps its block, the frames
     that were whole at first are still there, whatever came after them. A fault is believed only where no byte of all that has changed."""
@@ -361,7 +362,7 @@ def read_once(read_at, size):
     fault = store = None
     try:
         check_segments(geometry, segments)
-        store = Store(geometry, version, segments, read_frames(read_at, geometry, segments), clips)
+        store = Store(geometry, version, segments, frames_of(read_at, geometry, segments), clips)
         check_clips(clips, store.numbers)
     except Refused as refused:
         fault = refused
@@ -428,11 +429,15 @@ def answer(found):
     return (1, "", found.text + "\n") if isinstance(found, Refused) else (0, listed(found), "")
 
 
+def text_front(geometry):
+    """The header of an export, as docs/y4m.md has it."""
+    it = geometry
+    return f"YUV4MPEG2 W{it.width} H{it.height} F{it.num}:{it.den} Ip A0:0 C{COLOURS[it.format]}\n".encode()
+
+
 def text_of(recording, first, last):
     """The frames of an export from one number to another, as docs/y4m.md has them: a header and a line `FRAME` before each."""
-    it = recording.geometry
-    front = f"YUV4MPEG2 W{it.width} H{it.height} F{it.num}:{it.den} Ip A0:0 C{COLOURS[it.format]}\n".encode()
-    return front + b"".join(b"FRAME\n" + recording.frames[number] for number in sorted(recording.frames) if first <= number <= last)
+    return text_front(recording.geometry) + b"".join(b"FRAME\n" + recording.frames[number] for number in sorted(recording.frames) if first <= number <= last)
 
 
 def main():
