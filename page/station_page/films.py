@@ -1,0 +1,334 @@
+"""Clips as files: MP4 by ffmpeg, sent while it is made; YUV4MPEG2, byte for byte as `loop_cli export` writes it; PNGs in a zip; numbers and times."""
+import asyncio
+import contextlib
+import io
+import os
+import tempfile
+import zipfile
+from collections.abc import AsyncIterator, Iterator
+from dataclasses import dataclass
+
+import layout
+
+from . import limits, pictures
+from .reader import Clip, Gone, Reading, Source
+from .words import Unfit, iso
+
+FRAME_LINE = b"FRAME\n"
+# A film that plays while it is made: it needs no end to be read.
+ENCODER = [
+    "-an",
+    "-c:v",
+    "libx264",
+    "-preset",
+    "veryfast",
+    "-crf",
+    "20",
+    "-threads",
+    "2",
+    "-pix_fmt",
+    "yuv420p",
+    "-vf",
+    "pad=ceil(iw/2)*2:ceil(ih/2)*2",
+    "-movflags",
+    "frag_keyframe+empty_moov+default_base_moof",
+    "-f",
+    "mp4",
+    "pipe:1",
+]
+
+
+class FilmFault(Exception):
+    """Why there is no film, in a sentence."""
+
+
+@dataclass(frozen=True)
+class Fetch:
+    """A clip that is fetched: which one, and the frames."""
+
+    camera: str
+    clip: Clip
+    source: Source
+    frames: tuple
+
+    def name(self, ending: str) -> str:
+        """A file's name for it."""
+        when = iso(self.clip.since)[:19].replace(":", "-") + "Z"
+        return f"{self.camera}_{when}_{self.clip.id}.{ending}"
+
+    def tag(self, kind: str) -> str:
+        """What names these bytes and no others."""
+        return f'"{kind}-{self.clip.first}-{self.clip.last}-{self.clip.since}"'
+
+
+def fetch_of(camera: str, reading: Reading, source: Source, clip: Clip) -> Fetch:
+    """A clip, with the frames that a reading has of it."""
+    return Fetch(camera, clip, source, tuple(reading.frames_of(clip)))
+
+
+# ----------------------------------------------------------------------------------------------- YUV4MPEG2
+
+
+class Text:
+    """A clip as YUV4MPEG2, whose length and whose bytes from any place on are known."""
+
+    def __init__(self, fetch: Fetch) -> None:
+        self.source, self.first = fetch.source, fetch.clip.first
+        self.front = layout.text_front(fetch.source.geometry)
+        self.step = len(FRAME_LINE) + fetch.source.geometry.size
+        self.length = len(self.front) + self.step * fetch.clip.count()
+
+    def part(self, at: int, count: int) -> bytes:
+        """Bytes from a place on."""
+        found, end = [], min(at + count, self.length)
+        while at < end:
+            piece = self.piece(at, end - at)
+            found.append(piece)
+            at += len(piece)
+        return b"".join(found)
+
+    def piece(self, at: int, count: int) -> bytes:
+        """Bytes from a place on, up to the end of what stands there: the header, a frame's line, or its pixels."""
+        if at < len(self.front):
+            return self.front[at : at + count]
+        index, place = divmod(at - len(self.front), self.step)
+        if place < len(FRAME_LINE):
+            return FRAME_LINE[place : place + count]
+        place -= len(FRAME_LINE)
+        return self.source.part(self.first + index, place, min(count, self.source.geometry.size - place))
+
+    async def pieces(self, start: int, end: int) -> AsyncIterator[bytes]:
+        """The bytes from a place to another, a piece at a time."""
+        for at in range(start, end, limits.PIECE):
+            yield await asyncio.to_thread(self.part, at, min(limits.PIECE, end - at))
+
+
+# ----------------------------------------------------------------------------------------------- numbers, PNGs
+
+
+def csv_of(fetch: Fetch) -> bytes:
+    """The numbers and times of a clip's frames."""
+    lines = ["number,time_us,time,sequence"]
+    lines += [f"{frame.number},{frame.time},{iso(frame.time)},{frame.sequence}" for frame in fetch.frames]
+    return ("\r\n".join(lines) + "\r\n").encode()
+
+
+class Gathered(io.RawIOBase):
+    """What a zip writes, until it is taken."""
+
+    def __init__(self) -> None:
+        super().__init__()
+        self.parts: list[bytes] = []
+
+    def writable(self) -> bool:
+        """It is written to."""
+        return True
+
+    def write(self, data) -> int:
+        """Keeps bytes."""
+        self.parts.append(bytes(data))
+        return len(data)
+
+    def take(self) -> bytes:
+        """What was written since the last call."""
+        whole, self.parts = b"".join(self.parts), []
+        return whole
+
+
+def zip_pieces(fetch: Fetch) -> Iterator[bytes]:
+    """A zip with a PNG for each frame and the table of times, a frame at a time."""
+    out = Gathered()
+    with zipfile.ZipFile(out, "w", zipfile.ZIP_STORED) as archive:
+        archive.writestr("frames.csv", csv_of(fetch))
+        for frame in fetch.frames:
+            picture = pictures.png(fetch.source.geometry, fetch.source.frame(frame.number))
+            archive.writestr(f"{frame.number:010}_{iso(frame.time).replace(':', '-')}.png", picture)
+            yield out.take()
+    yield out.take()
+
+
+async def zip_stream(fetch: Fetch) -> AsyncIterator[bytes]:
+    """The same, from a thread, in pieces that aren't long."""
+    pieces = zip_pieces(fetch)
+    while (piece := await asyncio.to_thread(next, pieces, None)) is not None:
+        for at in range(0, len(piece), limits.PIECE):
+            yield piece[at : at + limits.PIECE]
+
+
+# ----------------------------------------------------------------------------------------------- MP4
+
+
+class Film:
+    """A film that is made, or was: its file, how long it is so far, and who reads it."""
+
+    def __init__(self, path: str) -> None:
+        self.path, self.size, self.is_done, self.fault = path, 0, False, ""
+        self.readers, self.changed, self.why = 0, asyncio.Condition(), "The film wasn't made."
+        self.task: asyncio.Task | None = None
+
+    async def grow(self, size: int = 0, is_done: bool = False, fault: str = "") -> None:
+        """It has become longer, or has ended."""
+        async with self.changed:
+            self.size, self.is_done, self.fault = self.size + size, self.is_done or is_done, fault
+            self.changed.notify_all()
+
+    async def until(self, reached) -> None:
+        """Waits until it has a size, has ended, or has failed."""
+        async with self.changed:
+            await self.changed.wait_for(lambda: self.is_done or self.fault or self.size > reached)
+        if self.fault:
+            raise FilmFault(self.fault)
+
+    async def pieces(self) -> AsyncIterator[bytes]:
+        """Its bytes, as they come."""
+        with open(self.path, "rb") as file:
+            while True:
+                await self.until(file.tell())
+                while piece := file.read(limits.PIECE):
+                    yield piece
+                if self.is_done and file.tell() >= self.size:
+                    return
+
+
+class Films:
+    """The films that are made, one at a time, and those that were, in a folder that ends with the page."""
+
+    def __init__(self) -> None:
+        self.folder = tempfile.TemporaryDirectory(
+            prefix="loop_page.", dir=os.environ.get("CACHE_DIRECTORY") or "/var/tmp"
+        )
+        self.films: dict[str, Film] = {}
+        self.turn, self.count = asyncio.Semaphore(1), 0
+
+    def film(self, store: str, fetch: Fetch, busy) -> Film:
+        """The film of a clip, which begins to be made where it isn't there yet. `busy` is a context in which the clip can't be released."""
+        key = f"{store} {fetch.camera} {fetch.tag('mp4')}"
+        film = self.films.get(key)
+        if film and not film.fault:
+            self.films[key] = self.films.pop(key)
+            return film
+        if sum(not film.is_done for film in self.films.values()) >= limits.FILMS_WAITING:
+            raise FilmFault("Too many films are being made. Try again in a minute.")
+        self.count += 1
+        film = self.films[key] = Film(os.path.join(self.folder.name, f"{self.count}.mp4"))
+        with open(film.path, "xb"):
+            pass
+        film.task = asyncio.create_task(self.make(key, film, fetch, busy))
+        self.tidy()
+        return film
+
+    @contextlib.contextmanager
+    def reading(self, film: Film):
+        """Somebody reads a film. One that is read by nobody for a while isn't made on."""
+        film.readers += 1
+        try:
+            yield
+        finally:
+            film.readers -= 1
+            if not film.readers and not film.is_done:
+                asyncio.get_running_loop().call_later(limits.FILM_IDLE_SECONDS, self.leave, film)
+
+    def leave(self, film: Film) -> None:
+        """Ends a film that nobody reads."""
+        if not film.readers and not film.is_done and film.task:
+            film.task.cancel()
+
+    def tidy(self) -> None:
+        """Removes the films that were asked for longest ago, where there are too many, or they are too large."""
+
+        def spare() -> list[str]:
+            return [key for key, film in self.films.items() if film.is_done and not film.readers]
+
+        while (keys := spare()) and (
+            len(self.films) > limits.FILMS or sum(film.size for film in self.films.values()) > limits.FILM_BYTES
+        ):
+            self.remove(keys[0])
+
+    def remove(self, key: str) -> None:
+        """Removes a film."""
+        with contextlib.suppress(FileNotFoundError):
+            os.unlink(self.films.pop(key).path)
+
+    async def make(self, key: str, film: Film, fetch: Fetch, busy) -> None:
+        """Makes a film, once those before it are made."""
+        try:
+            with busy:
+                async with self.turn:
+                    await self.encode(film, Text(fetch))
+            await film.grow(is_done=True)
+            self.tidy()
+        except (FilmFault, Gone, OSError, Unfit) as fault:
+            film.why = str(fault) or type(fault).__name__
+        finally:
+            # Also where nobody reads it any more, and it was told to end.
+            if not film.is_done:
+                self.remove(key)
+                await film.grow(fault=film.why)
+
+    async def encode(self, film: Film, text: Text) -> None:
+        """Runs ffmpeg over a clip."""
+        try:
+            run = await asyncio.create_subprocess_exec(
+                "nice",
+                "-n",
+                "10",
+                "ffmpeg",
+                "-v",
+                "error",
+                "-f",
+                "yuv4mpegpipe",
+                "-i",
+                "pipe:0",
+                *ENCODER,
+                stdin=asyncio.subprocess.PIPE,
+                stdout=asyncio.subprocess.PIPE,
+                stderr=asyncio.subprocess.PIPE,
+            )
+        except FileNotFoundError:
+            raise FilmFault("ffmpeg isn't installed, so there are no films. Install it, or fetch YUV4MPEG2.") from None
+        feeder = asyncio.create_task(feed(run, text))
+        told = asyncio.create_task(last_words(run))
+        try:
+            with open(film.path, "ab", buffering=0) as file:
+                while piece := await run.stdout.read(65536):
+                    file.write(piece)
+                    await film.grow(len(piece))
+                    if film.size > limits.FILM_BYTES:
+                        raise FilmFault("The film is too large. Keep a shorter time, or fetch YUV4MPEG2.")
+            await feeder
+            if await run.wait():
+                raise FilmFault(f"ffmpeg made no film: {await told}. Is it installed?")
+        finally:
+            for task in (feeder, told):
+                task.cancel()
+            with contextlib.suppress(ProcessLookupError):
+                run.kill()
+            await run.wait()
+
+    async def close(self) -> None:
+        """Ends all films, and removes their folder."""
+        for film in list(self.films.values()):
+            if film.task and not film.is_done:
+                film.task.cancel()
+                await asyncio.gather(film.task, return_exceptions=True)
+        self.folder.cleanup()
+
+
+async def feed(run: asyncio.subprocess.Process, text: Text) -> None:
+    """Gives ffmpeg the frames. Where it ends early, its status says so; where frames are gone, it ends with them."""
+    try:
+        async for piece in text.pieces(0, text.length):
+            run.stdin.write(piece)
+            await run.stdin.drain()
+    except (BrokenPipeError, ConnectionResetError):
+        return
+    finally:
+        run.stdin.close()
+
+
+async def last_words(run: asyncio.subprocess.Process) -> str:
+    """What ffmpeg says last."""
+    words = b""
+    while piece := await run.stderr.read(4096):
+        words = (words + piece)[-500:]
+    return " ".join(words.decode(errors="replace").split()) or "it says nothing"

@@ -1,0 +1,175 @@
+"""Which connections and requests are let in: bounds for slow and many clients, names of hosts, tokens, sessions, and the origin of changes."""
+import asyncio
+import hmac
+import secrets
+import socket
+import time
+from urllib.parse import urlsplit
+
+from aiohttp import web
+
+from . import limits
+from .settings import Settings, is_loopback
+
+COOKIE = "loop_page"
+# Scripts, styles and pictures come from this server alone, and none of them from within the page's text.
+POLICY = (
+    "default-src 'none'; script-src 'self'; style-src 'self'; img-src 'self'; media-src 'self'; connect-src 'self'; form-action 'self'; "
+    "base-uri 'none'; frame-ancestors 'none'"
+)
+HEADERS = {
+    "Content-Security-Policy": POLICY,
+    "X-Content-Type-Options": "nosniff",
+    "X-Frame-Options": "DENY",
+    "Referrer-Policy": "same-origin",
+    "Cross-Origin-Resource-Policy": "same-origin",
+    "Cross-Origin-Opener-Policy": "same-origin",
+}
+# What is answered to anybody.
+OPEN = {"/sign-in", "/healthz", "/static/page.css", "/static/icon.svg", "/favicon.ico"}
+OWN_HEADER = "X-Loop-Page"
+
+
+class Connection(asyncio.Protocol):
+    """A connection, before aiohttp's own: it is closed where its request isn't whole in time, or its client reads nothing."""
+
+    def __init__(self, inner: asyncio.Protocol, gate: "Gate") -> None:
+        self.inner, self.gate = inner, gate
+        self.transport: asyncio.Transport | None = None
+        self.working, self.since = 0, time.monotonic()
+        self.paused: float | None = None
+        self.is_in = False
+
+    def connection_made(self, transport: asyncio.BaseTransport) -> None:
+        """It has begun; one too many ends at once."""
+        self.transport = transport
+        if len(self.gate.connections) >= limits.CONNECTIONS:
+            self.gate.refused += 1
+            transport.abort()
+            return
+        self.gate.connections.add(self)
+        self.is_in = True
+        transport.set_write_buffer_limits(high=limits.PIECE)
+        # What a client that never reads can make the system hold.
+        transport.get_extra_info("socket").setsockopt(socket.SOL_SOCKET, socket.SO_SNDBUF, limits.PIECE)
+        self.inner.connection_made(transport)
+
+    def connection_lost(self, exc: Exception | None) -> None:
+        """It has ended."""
+        if self.is_in:
+            self.gate.connections.discard(self)
+            self.inner.connection_lost(exc)
+
+    def data_received(self, data: bytes) -> None:
+        """The client has sent something."""
+        if self.is_in:
+            self.inner.data_received(data)
+
+    def eof_received(self) -> bool | None:
+        """The client sends no more."""
+        return self.inner.eof_received() if self.is_in else None
+
+    def pause_writing(self) -> None:
+        """The client doesn't read."""
+        self.paused = time.monotonic()
+        self.inner.pause_writing()
+
+    def resume_writing(self) -> None:
+        """The client reads again."""
+        self.paused = None
+        self.inner.resume_writing()
+
+    def begin(self) -> None:
+        """A request is whole, and is worked on."""
+        self.working += 1
+
+    def end(self) -> None:
+        """A request was answered."""
+        self.working -= 1
+        self.since = time.monotonic()
+
+    def is_late(self, now: float) -> bool:
+        """Whether nothing has come of it in time."""
+        if self.paused is not None:
+            return now - self.paused > limits.READ_SECONDS
+        return not self.working and now - self.since > limits.REQUEST_SECONDS
+
+
+class Gate:
+    """All connections, and who may pass."""
+
+    def __init__(self, settings: Settings) -> None:
+        self.settings, self.refused, self.late = settings, 0, 0
+        self.connections: set[Connection] = set()
+        self.sessions: dict[str, float] = {}
+        self.wrong: dict[str, list[float]] = {}
+
+    async def watch(self) -> None:
+        """Closes connections that are late, without end."""
+        while True:
+            await asyncio.sleep(1)
+            now = time.monotonic()
+            for connection in [it for it in self.connections if it.is_late(now)]:
+                self.late += 1
+                connection.transport.abort()
+
+    def is_host(self, request: web.Request) -> bool:
+        """Whether the request names this host: a page without a token answers to this machine's names alone, whatever name leads here."""
+        try:
+            name = urlsplit("//" + request.headers.get("Host", "")).hostname or ""
+        except ValueError:
+            return False
+        return bool(self.settings.token) or is_loopback(name) or name == self.settings.host
+
+    def is_let_in(self, request: web.Request) -> bool:
+        """Whether a request comes from somebody who knows the token."""
+        if self.settings.token is None or request.path in OPEN:
+            return True
+        return self.is_bearer(request) or self.is_signed_in(request)
+
+    def is_bearer(self, request: web.Request) -> bool:
+        """Whether a request brings the token itself."""
+        kind, _, token = request.headers.get("Authorization", "").partition(" ")
+        return self.settings.token is not None and kind.lower() == "bearer" and self.is_token(token, request)
+
+    def is_token(self, given: str, request: web.Request) -> bool:
+        """Whether a text is the token, in a time that doesn't depend on where they differ. Wrong ones are counted, by the address that sent them."""
+        if self.settings.token is None:
+            return False
+        is_right = hmac.compare_digest(given.strip().encode(errors="replace"), self.settings.token.encode())
+        if given and not is_right:
+            address = str(request.remote)
+            self.wrong[address] = [*self.wrong.pop(address, []), time.monotonic()][-limits.WRONG_TOKENS :]
+            while len(self.wrong) > limits.GUESSERS:
+                del self.wrong[next(iter(self.wrong))]
+        return is_right
+
+    def has_guessed(self, request: web.Request) -> bool:
+        """Whether too many wrong tokens came from an address in the last minute for another one to be looked at."""
+        times = self.wrong.get(str(request.remote), [])
+        return len(times) >= limits.WRONG_TOKENS and time.monotonic() - times[0] < 60
+
+    def is_signed_in(self, request: web.Request) -> bool:
+        """Whether a request has the cookie of somebody who has signed in."""
+        end = self.sessions.get(request.cookies.get(COOKIE, ""))
+        return end is not None and end > time.monotonic()
+
+    def sign_in(self) -> str:
+        """A new session, by its secret name. The oldest one ends where there are too many."""
+        now = time.monotonic()
+        self.sessions = {name: end for name, end in self.sessions.items() if end > now}
+        while len(self.sessions) >= limits.SESSIONS:
+            del self.sessions[next(iter(self.sessions))]
+        name = secrets.token_urlsafe(32)
+        self.sessions[name] = now + limits.SESSION_SECONDS
+        return name
+
+    def is_own(self, request: web.Request) -> bool:
+        """Whether a change is asked for by this page, or by no page at all: a browser names the page that asks as the origin, and lets no other page
+        send a header of our own."""
+        origin, site = request.headers.get("Origin"), request.headers.get("Sec-Fetch-Site")
+        if site not in (None, "same-origin", "none"):
+            return False
+        if origin is not None:
+            return origin in (f"http://{request.host}", f"https://{request.host}")
+        return OWN_HEADER in request.headers or self.is_bearer(request)

@@ -1,0 +1,93 @@
+"""What people write beside clips, in a file of the page's own: by the store's path, the clip's id and the time of its first frame, so that a note
+never comes to stand beside another clip. The file is written anew, synced, and put in the old one's place."""
+import json
+import os
+import tempfile
+import threading
+from pathlib import Path
+
+from . import limits
+
+VERSION = 1
+
+
+class NotesFault(Exception):
+    """Why a note can't be written, in a sentence."""
+
+
+def tidy(text: str) -> str:
+    """A note in one line, without control characters."""
+    line = " ".join("".join(sign if sign.isprintable() else " " for sign in text).split())
+    if len(line.encode()) > limits.NOTE_BYTES:
+        raise NotesFault(f"A note has at most {limits.NOTE_BYTES} bytes.")
+    return line
+
+
+def key_of(store: str, id_: int, since: int) -> str:
+    """By what a note is found."""
+    return f"{id_} {since} {store}"
+
+
+class Notes:
+    """All notes, as the file has them."""
+
+    def __init__(self, path: str) -> None:
+        self.path, self.lock = path, threading.Lock()
+        self.notes: dict[str, str] = {}
+        self.fault = self.load()
+
+    def load(self) -> str | None:
+        """Reads the file. Answers why it can't be, if so; then it is never written over."""
+        try:
+            with open(self.path, encoding="utf-8") as file:
+                found = json.load(file)
+            if (
+                not isinstance(found, dict)
+                or found.get("version") != VERSION
+                or not isinstance(found.get("notes"), dict)
+            ):
+                raise ValueError
+            self.notes = {str(key): str(text) for key, text in found["notes"].items()}
+        except FileNotFoundError:
+            return None
+        except (OSError, ValueError, RecursionError):
+            return f"The file of notes can't be read: {self.path}. Move it away, and start the page again."
+        return None
+
+    def of(self, store: str, id_: int, since: int) -> str:
+        """The note of a clip."""
+        return self.notes.get(key_of(store, id_, since), "")
+
+    def put(self, store: str, id_: int, since: int, text: str, is_held) -> None:
+        """Writes a note, or takes it away where it is empty. `is_held` says of a key whether its clip still stands: notes of others make room."""
+        line = tidy(text)
+        with self.lock:
+            if self.fault:
+                raise NotesFault(self.fault)
+            changed = {key: value for key, value in self.notes.items() if key != key_of(store, id_, since)}
+            if line and len(changed) >= limits.NOTES:
+                changed = {key: value for key, value in changed.items() if is_held(key)}
+            if line:
+                changed[key_of(store, id_, since)] = line
+            self.write(changed)
+            self.notes = changed
+
+    def write(self, notes: dict[str, str]) -> None:
+        """Writes the file: a new one, synced, in the old one's place."""
+        folder, new = Path(self.path).parent, ""
+        try:
+            descriptor, new = tempfile.mkstemp(prefix=".loop_page.", dir=folder)
+            with os.fdopen(descriptor, "w", encoding="utf-8") as file:
+                json.dump({"version": VERSION, "notes": notes}, file, ensure_ascii=False, indent=1)
+                file.flush()
+                os.fsync(file.fileno())
+            os.replace(new, self.path)
+            descriptor = os.open(folder, os.O_RDONLY)
+            try:
+                os.fsync(descriptor)
+            finally:
+                os.close(descriptor)
+        except OSError as fault:
+            if new and os.path.exists(new):
+                os.unlink(new)
+            raise NotesFault(f"The note can't be written: {self.path}: {fault.strerror}.") from None

@@ -1,0 +1,513 @@
+"""The page's addresses, and the program."""
+import asyncio
+import collections
+import json
+import logging
+import re
+import signal
+import sys
+from collections.abc import AsyncIterator
+from pathlib import Path
+
+from aiohttp import web
+
+from . import limits, metrics, pictures
+from .asked import moment_in, number_in, problem, range_of
+from .films import FilmFault, Text, csv_of, zip_stream
+from .guard import COOKIE, HEADERS, Connection, Gate
+from .laboratory import Laboratory
+from .notes import NotesFault
+from .orders import NoStation
+from .reader import Gone
+from .settings import BadSettings, Settings, read_settings
+from .words import Unfit
+
+log = logging.getLogger("loop_page")
+STATIC = Path(__file__).parent / "static"
+STATIC_FILES = {
+    "page.html": "text/html",
+    "page.js": "text/javascript",
+    "timeline.js": "text/javascript",
+    "page.css": "text/css",
+    "sign_in.html": "text/html",
+    "icon.svg": "image/svg+xml",
+}
+KINDS = {
+    "mp4": "video/mp4",
+    "y4m": "video/x-yuv4mpeg2",
+    "zip": "application/zip",
+    "csv": "text/csv",
+    "jpg": "image/jpeg",
+}
+
+
+class Pictures:
+    """The pictures that were made last, so that several pages cost as much as one."""
+
+    def __init__(self) -> None:
+        self.made: collections.OrderedDict[tuple, bytes] = collections.OrderedDict()
+        self.turn = asyncio.Lock()
+
+    async def jpeg(self, source, frame, width: int | None) -> bytes:
+        """A frame as JPEG, made once."""
+        key = (source.opened.identity, frame.number, frame.time, width)
+        async with self.turn:
+            if key not in self.made:
+                self.made[key] = await asyncio.to_thread(
+                    lambda: pictures.jpeg(source.geometry, source.frame(frame.number), width)
+                )
+                while len(self.made) > limits.PICTURES:
+                    self.made.popitem(last=False)
+            self.made.move_to_end(key)
+            return self.made[key]
+
+
+class Page:
+    """The addresses, each with what answers it."""
+
+    def __init__(self, settings: Settings) -> None:
+        self.laboratory, self.gate = Laboratory(settings), Gate(settings)
+        self.registry = metrics.registry_of(self.laboratory, self.gate)
+        self.pictures, self.fetches = Pictures(), 0
+        self.files = {name: (STATIC / name).read_bytes() for name in STATIC_FILES}
+
+    def app(self) -> web.Application:
+        """All of them."""
+        app = web.Application(middlewares=[self.let_in], client_max_size=limits.BODY_BYTES)
+        get, post, camera = app.router.add_get, app.router.add_post, r"{camera:[A-Za-z0-9_-]{1,32}}"
+        get("/", self.front)
+        get("/static/{name}", self.static)
+        get("/favicon.ico", self.icon, allow_head=False)
+        get("/sign-in", self.sign_in_page)
+        post("/sign-in", self.sign_in)
+        post("/sign-out", self.sign_out)
+        get("/events", self.events, allow_head=False)
+        get("/healthz", self.healthz)
+        get("/metrics", self.metrics)
+        get("/api/status", self.status)
+        get("/api/clips", self.clips)
+        get(f"/api/cameras/{camera}/newest.jpg", self.newest)
+        get(f"/api/cameras/{camera}/frame", self.frame)
+        get(rf"/api/cameras/{camera}/frames/{{number:\d{{1,19}}}}.jpg", self.frame_picture)
+        get(rf"/api/clips/{camera}/{{id:\d{{1,2}}}}.{{kind:mp4|y4m|zip|csv|jpg}}", self.fetch)
+        post("/api/keep", self.keep)
+        post("/api/release", self.release)
+        post("/api/note", self.note)
+        post("/api/seen", self.seen)
+        return app
+
+    # ------------------------------------------------------------------------------------------- who is let in
+
+    @web.middleware
+    async def let_in(self, request: web.Request, handler) -> web.StreamResponse:
+        """What stands before each request, and after it."""
+        connection = request.transport.get_protocol() if request.transport else None
+        if connection is None:
+            raise web.HTTPBadRequest()
+        connection.begin()
+        try:
+            response = await self.judged(request, handler)
+        finally:
+            connection.end()
+        if not response.prepared:
+            self.dress(response)
+        return response
+
+    def dress(self, response: web.StreamResponse) -> None:
+        """The headers of each answer."""
+        response.headers.update(HEADERS)
+        response.headers.setdefault("Cache-Control", "no-store")
+
+    async def judged(self, request: web.Request, handler) -> web.StreamResponse:
+        """Lets a request in, and answers what it can't do in words."""
+        try:
+            self.gate_of(request)
+            return await handler(request)
+        except Unfit as unfit:
+            return problem(unfit.status, str(unfit))
+        except (NoStation, FilmFault) as fault:
+            return problem(503, str(fault))
+        except Gone as gone:
+            return problem(404, f"{gone}.")
+        except NotesFault as fault:
+            return problem(507, str(fault))
+        except asyncio.TimeoutError:
+            return problem(408, "The request's body didn't come in time.")
+        except web.HTTPException as answer:
+            if answer.status in (301, 302, 303):
+                self.dress(answer)
+                raise
+            return problem(
+                answer.status,
+                f"{answer.reason}.",
+                {key: answer.headers[key] for key in ("Allow", "Content-Range") if key in answer.headers},
+            )
+
+    def gate_of(self, request: web.Request) -> None:
+        """Refuses who may not pass."""
+        if not self.gate.is_host(request):
+            raise Unfit(421, "This page answers to the names of its own machine alone. Another name wants a token.")
+        if self.gate.has_guessed(request) and request.path != "/healthz" and not self.gate.is_signed_in(request):
+            raise Unfit(429, "Too many wrong tokens came from your address. Wait a minute.")
+        if not self.gate.is_let_in(request):
+            if request.method == "GET" and request.path == "/":
+                raise web.HTTPSeeOther("/sign-in")
+            raise Unfit(401, "Sign in, or bring the token: Authorization: Bearer TOKEN.")
+        if request.method not in ("GET", "HEAD") and not self.gate.is_own(request):
+            raise Unfit(
+                403,
+                "A change has to come from this page (Origin), or with the header X-Loop-Page: 1, or with the token as a bearer.",
+            )
+
+    # ------------------------------------------------------------------------------------------- the page itself
+
+    def file(self, name: str) -> web.Response:
+        """A file of the page."""
+        return web.Response(
+            body=self.files[name],
+            content_type=STATIC_FILES[name],
+            charset="utf-8",
+            headers={"Cache-Control": "no-cache"},
+        )
+
+    async def front(self, request: web.Request) -> web.Response:
+        """The page."""
+        return self.file("page.html")
+
+    async def static(self, request: web.Request) -> web.Response:
+        """Its script and its style."""
+        if request.match_info["name"] not in STATIC_FILES:
+            raise web.HTTPNotFound()
+        return self.file(request.match_info["name"])
+
+    async def icon(self, request: web.Request) -> web.Response:
+        """The icon, for browsers that ask by the old name."""
+        return self.file("icon.svg")
+
+    async def sign_in_page(self, request: web.Request) -> web.Response:
+        """Where people give the token."""
+        return self.file("sign_in.html")
+
+    async def sign_in(self, request: web.Request) -> web.Response:
+        """A person gives the token."""
+        if request.content_type != "application/x-www-form-urlencoded":
+            raise Unfit(415, "Send the form.")
+        form = await asyncio.wait_for(request.post(), limits.REQUEST_SECONDS)
+        token = form.get("token", "")
+        if not isinstance(token, str) or not self.gate.is_token(token, request):
+            await asyncio.sleep(0.5)
+            page = self.files["sign_in.html"].replace(b'<p id="wrong" hidden>', b'<p id="wrong">')
+            return web.Response(status=403, body=page, content_type="text/html", charset="utf-8")
+        answer = web.HTTPSeeOther("/")
+        answer.set_cookie(
+            COOKIE, self.gate.sign_in(), httponly=True, samesite="Strict", path="/", max_age=limits.SESSION_SECONDS
+        )
+        raise answer
+
+    async def sign_out(self, request: web.Request) -> web.Response:
+        """A person ends the session."""
+        self.gate.sessions.pop(request.cookies.get(COOKIE, ""), None)
+        answer = web.HTTPSeeOther("/sign-in")
+        answer.del_cookie(COOKIE)
+        raise answer
+
+    async def events(self, request: web.Request) -> web.StreamResponse:
+        """How all stands, again and again. A client that is slow is sent the newest state once it reads, and none in between."""
+        if self.laboratory.streams >= limits.STREAMS:
+            raise Unfit(503, "Too many pages are open.")
+        response = web.StreamResponse(headers={"Content-Type": "text/event-stream"})
+        self.dress(response)
+        self.laboratory.streams += 1
+        try:
+            await response.prepare(request)
+            self.laboratory.hurry.set()
+            await response.write(b"retry: 1000\n\n")
+            version = -1
+            while True:
+                async with self.laboratory.changed:
+                    await self.laboratory.changed.wait_for(lambda: self.laboratory.version != version)
+                    version, state = self.laboratory.version, self.laboratory.state
+                await response.write(b"data: " + state + b"\n\n")
+        except (ConnectionResetError, ConnectionAbortedError):
+            return response
+        finally:
+            self.laboratory.streams -= 1
+
+    # ------------------------------------------------------------------------------------------- for instruments
+
+    async def healthz(self, request: web.Request) -> web.Response:
+        """The server runs."""
+        return web.Response(text="ok\n")
+
+    async def metrics(self, request: web.Request) -> web.Response:
+        """Prometheus's text."""
+        await self.laboratory.fresh()
+        return web.Response(
+            body=metrics.text_of(self.registry), headers={"Content-Type": "text/plain; version=0.0.4; charset=utf-8"}
+        )
+
+    async def status(self, request: web.Request) -> web.Response:
+        """How all stands, once."""
+        await self.laboratory.fresh()
+        standing = self.laboratory.standing()
+        for camera in standing["cameras"]:
+            camera.pop("pieces", None)
+        return web.json_response(standing)
+
+    async def clips(self, request: web.Request) -> web.Response:
+        """All clips."""
+        await self.laboratory.fresh()
+        return web.json_response({"clips": self.laboratory.clips()})
+
+    async def newest(self, request: web.Request) -> web.Response:
+        """The newest stored frame; or the one of a number, so that pages that look at the same time cost one picture."""
+        await self.laboratory.fresh()
+        watched, reading, source = self.laboratory.seen(request.match_info["camera"])
+        if not reading.frames:
+            raise Unfit(503, "No frame is stored yet.")
+        wished = number_in(request.query.get("number"), limits.NUMBERS_END, "number")
+        frame = reading.near(wished, 0) if wished is not None else reading.frames[-1]
+        return await self.picture(source, frame, limits.TILE_WIDTH)
+
+    async def picture(self, source, frame, width: int | None) -> web.Response:
+        """A frame, as JPEG, with its number and time."""
+        body = await self.pictures.jpeg(source, frame, width)
+        return web.Response(
+            body=body,
+            content_type="image/jpeg",
+            headers={"X-Frame-Number": str(frame.number), "X-Frame-Time": str(frame.time)},
+        )
+
+    async def frame(self, request: web.Request) -> web.Response:
+        """Which frame was there at a time, or comes so many after another."""
+        await self.laboratory.fresh()
+        _, reading, _ = self.laboratory.seen(request.match_info["camera"])
+        query = request.query
+        number, moment = (number_in(query.get(word), limits.NUMBERS_END, word) for word in ("number", "time"))
+        if not re.fullmatch(r"-?[0-9]{1,6}", query.get("by", "0")) or (number is None) == (moment is None):
+            raise Unfit(400, "Ask for time=MICROSECONDS, or for number=N and by=M.")
+        found = reading.at(moment) if moment is not None else reading.near(number or 0, int(query.get("by", "0")))
+        if found is None:
+            raise Unfit(404, "No frame is stored.")
+        return web.json_response({"number": found.number, "time": found.time})
+
+    async def frame_picture(self, request: web.Request) -> web.Response:
+        """A frame by its number, in its full size."""
+        await self.laboratory.fresh()
+        _, reading, source = self.laboratory.seen(request.match_info["camera"])
+        number = number_in(request.match_info["number"], limits.NUMBERS_END, "number")
+        frame = reading.near(number or 0, 0)
+        if frame is None or frame.number != number:
+            raise Unfit(404, "That frame isn't held any more.")
+        return await self.picture(source, frame, None)
+
+    async def body(self, request: web.Request, words: set[str]) -> dict:
+        """A request's JSON: an object that has no other words than these."""
+        if request.content_type != "application/json":
+            raise Unfit(415, "Send JSON: Content-Type: application/json.")
+        try:
+            found = json.loads(await asyncio.wait_for(request.read(), limits.REQUEST_SECONDS))
+        except (ValueError, RecursionError):
+            raise Unfit(400, "The body isn't JSON.") from None
+        if not isinstance(found, dict) or set(found) - words:
+            raise Unfit(400, f"The body is an object with these words: {', '.join(sorted(words))}.")
+        return found
+
+    async def keep(self, request: web.Request) -> web.Response:
+        """Locks the last seconds, or a span of time."""
+        body = await self.body(request, {"camera", "seconds", "from", "to", "note"})
+        note, camera, seconds, span = body.get("note", ""), body.get("camera"), body.get("seconds"), None
+        if not isinstance(note, str):
+            raise Unfit(400, "note isn't a text.")
+        if "from" in body or "to" in body:
+            span = moment_in(body.get("from"), "from"), moment_in(body.get("to"), "to")
+            if seconds is not None or span[0] > span[1]:
+                raise Unfit(400, "Give seconds, or from and to, where from isn't after to.")
+        elif not isinstance(seconds, int) or isinstance(seconds, bool) or not 1 <= seconds <= limits.KEEP_SECONDS:
+            raise Unfit(400, f"seconds is a whole number from 1 to {limits.KEEP_SECONDS}.")
+        kept = await self.laboratory.keep(camera, seconds, span, note)
+        is_kept = bool(kept) and any(one.is_kept for one in kept)
+        return web.json_response(
+            {"kept": is_kept, "answers": [one.as_object() for one in kept]}, status=200 if is_kept else 409
+        )
+
+    async def of_clip(self, request: web.Request, more: set[str]) -> tuple[dict, str, int, int | None]:
+        """A request about a clip: its body, camera, id and first number."""
+        body = await self.body(request, {"camera", "id", "first"} | more)
+        camera, id_, first = body.get("camera"), body.get("id"), body.get("first")
+        for value, what in ((id_, "id"), (first if first is not None else 0, "first")):
+            if not isinstance(value, int) or isinstance(value, bool) or not 0 <= value < limits.NUMBERS_END:
+                raise Unfit(400, f"{what} isn't a number.")
+        return body, self.laboratory.watched(camera).camera.name, id_, first
+
+    async def release(self, request: web.Request) -> web.Response:
+        """Releases a clip."""
+        _, camera, id_, first = await self.of_clip(request, set())
+        return web.json_response({"text": await self.laboratory.release(camera, id_, first)})
+
+    async def note(self, request: web.Request) -> web.Response:
+        """Writes a note beside a clip."""
+        body, camera, id_, first = await self.of_clip(request, {"note"})
+        if not isinstance(body.get("note"), str):
+            raise Unfit(400, "note isn't a text.")
+        *_, clip = self.laboratory.clip(camera, id_, first)
+        await asyncio.to_thread(self.laboratory.put_note, camera, clip, body["note"])
+        return web.json_response({"text": "The note is written."})
+
+    async def seen(self, request: web.Request) -> web.Response:
+        """Somebody has seen a warning."""
+        body = await self.body(request, {"id"})
+        if not isinstance(body.get("id"), int) or not self.laboratory.alerts.seen(body["id"]):
+            raise Unfit(404, "There is no such warning any more.")
+        self.laboratory.hurry.set()
+        return web.json_response({"text": "Seen."})
+
+    # ------------------------------------------------------------------------------------------- clips as files
+
+    async def fetch(self, request: web.Request) -> web.StreamResponse:
+        """A clip as a file."""
+        camera, id_, kind = request.match_info["camera"], int(request.match_info["id"]), request.match_info["kind"]
+        await self.laboratory.fresh()
+        fetch = self.laboratory.fetch(camera, id_, number_in(request.query.get("first"), limits.NUMBERS_END, "first"))
+        if kind == "jpg":
+            return await self.picture(fetch.source, fetch.frames[len(fetch.frames) // 2], limits.THUMB_WIDTH)
+        if self.fetches >= limits.FETCHES:
+            raise Unfit(503, "Too many clips are being fetched. Try again in a minute.")
+        self.fetches += 1
+        try:
+            with self.laboratory.busy(camera, id_):
+                return await getattr(self, f"fetch_{kind}")(request, fetch)
+        finally:
+            self.fetches -= 1
+
+    def file_response(self, request: web.Request, fetch, kind: str) -> web.StreamResponse:
+        """An answer that is a file: it is saved under a name, or played where `play` is asked for."""
+        response = web.StreamResponse(headers={"Content-Type": KINDS[kind], "ETag": fetch.tag(kind)})
+        if "play" not in request.query:
+            response.headers["Content-Disposition"] = f'attachment; filename="{fetch.name(kind)}"'
+        self.dress(response)
+        return response
+
+    async def send(
+        self, request: web.Request, response: web.StreamResponse, pieces: AsyncIterator[bytes]
+    ) -> web.StreamResponse:
+        """Sends a body. Where it can't go on, the connection is broken off, so that nobody takes a part for the whole."""
+        await response.prepare(request)
+        if request.method == "HEAD":
+            return response
+        try:
+            async for piece in pieces:
+                await response.write(piece)
+            await response.write_eof()
+        except (Gone, FilmFault, OSError) as fault:
+            if not isinstance(fault, ConnectionError):
+                log.warning("%s broke off: %s", request.path, fault)
+            if request.transport:
+                request.transport.abort()
+        return response
+
+    async def send_known(self, request: web.Request, fetch, kind: str, length: int, pieces) -> web.StreamResponse:
+        """Sends a file whose length is known, or the range of it that is asked for. `pieces` gives the bytes from a place to another."""
+        found = range_of(request, length, fetch.tag(kind))
+        response = self.file_response(request, fetch, kind)
+        start, end = found or (0, length)
+        response.headers["Accept-Ranges"] = "bytes"
+        response.content_length = end - start
+        if found:
+            response.set_status(206)
+            response.headers["Content-Range"] = f"bytes {start}-{end - 1}/{length}"
+        return await self.send(request, response, pieces(start, end))
+
+    async def fetch_y4m(self, request: web.Request, fetch) -> web.StreamResponse:
+        """Byte for byte as `loop_cli export`."""
+        text = Text(fetch)
+        return await self.send_known(request, fetch, "y4m", text.length, text.pieces)
+
+    async def fetch_csv(self, request: web.Request, fetch) -> web.StreamResponse:
+        """Numbers and times."""
+        data = csv_of(fetch)
+
+        async def pieces(start: int, end: int) -> AsyncIterator[bytes]:
+            """A part of the table."""
+            yield data[start:end]
+
+        return await self.send_known(request, fetch, "csv", len(data), pieces)
+
+    async def fetch_zip(self, request: web.Request, fetch) -> web.StreamResponse:
+        """PNGs. How long the zip is isn't known before it ends."""
+        return await self.send(request, self.file_response(request, fetch, "zip"), zip_stream(fetch))
+
+    async def fetch_mp4(self, request: web.Request, fetch) -> web.StreamResponse:
+        """A film: as it is made, or, once it is, any range of it."""
+        films, store = self.laboratory.films, self.laboratory.cameras[fetch.camera].camera.store
+        film = films.film(store, fetch, self.laboratory.busy(fetch.camera, fetch.clip.id))
+        with films.reading(film):
+            if not film.is_done and request.method == "GET" and request.headers.get("Range") in (None, "bytes=0-"):
+                await film.until(0)
+                return await self.send(request, self.file_response(request, fetch, "mp4"), film.pieces())
+            while not film.is_done:
+                await film.until(film.size)
+
+            async def pieces(start: int, end: int) -> AsyncIterator[bytes]:
+                """A part of the film."""
+                with open(film.path, "rb") as file:
+                    file.seek(start)
+                    while (left := end - file.tell()) > 0:
+                        yield file.read(min(limits.PIECE, left))
+
+            return await self.send_known(request, fetch, "mp4", film.size, pieces)
+
+
+async def serve(settings: Settings) -> None:
+    """Runs the page until it is told to end."""
+    page = Page(settings)
+    runner = web.AppRunner(page.app(), access_log=None, keepalive_timeout=limits.REQUEST_SECONDS)
+    await runner.setup()
+    loop = asyncio.get_running_loop()
+    server = await loop.create_server(
+        lambda: Connection(runner.server(), page.gate), settings.host, settings.port, backlog=64
+    )
+    ended = asyncio.Event()
+    for number in (signal.SIGINT, signal.SIGTERM):
+        loop.add_signal_handler(number, ended.set)
+    tasks = [
+        asyncio.create_task(work)
+        for work in (
+            page.laboratory.orders.watch(),
+            page.laboratory.watch(),
+            page.laboratory.ask(),
+            page.laboratory.alerts.deliver(),
+            page.gate.watch(),
+            ended.wait(),
+        )
+    ]
+    port = server.sockets[0].getsockname()[1]
+    print(f"loop_page: http://{f'[{settings.host}]' if ':' in settings.host else settings.host}:{port}/", flush=True)
+    await asyncio.wait(tasks, return_when=asyncio.FIRST_COMPLETED)
+    server.close()
+    for connection in list(page.gate.connections):
+        connection.transport.abort()
+    await page.laboratory.close()
+    faults = [task.exception() for task in tasks if task.done() and not task.cancelled()]
+    for task in tasks:
+        task.cancel()
+    await asyncio.gather(*tasks, return_exceptions=True)
+    await runner.cleanup()
+    for fault in faults:
+        if fault:
+            raise fault
+
+
+def main(words: list[str]) -> int:
+    """Reads the words; answers the status."""
+    logging.basicConfig(format="loop_page: %(message)s", level=logging.WARNING)
+    try:
+        settings = read_settings(words)
+        asyncio.run(serve(settings))
+    except BadSettings as fault:
+        print(f"loop_page: {fault}", file=sys.stderr)
+        return 1
+    except OSError as fault:
+        print(f"loop_page: {fault}", file=sys.stderr)
+        return 1
+    return 0

@@ -1,0 +1,190 @@
+"""The station's configuration file, and the page's own words: its options and its file of settings."""
+import argparse
+import ipaddress
+import os
+import re
+import tomllib
+from dataclasses import dataclass, field
+from pathlib import Path
+
+NAME = re.compile(r"[A-Za-z0-9_-]{1,32}")
+WORDS = {"listen", "token", "on_alert", "webhook", "notes", "folder"}
+TOKEN_LEAST = 16
+
+
+class BadSettings(Exception):
+    """What is wrong with a file or an option, in words for the one who wrote it."""
+
+
+@dataclass(frozen=True)
+class Camera:
+    """A camera of the station: its name, the path of its store, the seconds of its button and its source in words."""
+
+    name: str
+    store: str
+    keep: int
+    source: str
+
+
+@dataclass(frozen=True)
+class Settings:
+    """All that the page was told."""
+
+    cameras: list[Camera]
+    orders: str | None
+    answers: str | None
+    host: str
+    port: int
+    token: str | None
+    notes: str
+    on_alert: list[str] = field(default_factory=list)
+    webhook: str | None = None
+
+    def is_loopback(self) -> bool:
+        """Whether this machine alone can reach the page."""
+        return is_loopback(self.host)
+
+
+def is_loopback(host: str) -> bool:
+    """Whether an address is one that only this machine reaches."""
+    if host == "localhost":
+        return True
+    try:
+        return ipaddress.ip_address(host).is_loopback
+    except ValueError:
+        return False
+
+
+def toml_of(path: str) -> dict:
+    """A file of TOML."""
+    try:
+        with open(path, "rb") as file:
+            return tomllib.load(file)
+    except OSError as fault:
+        raise BadSettings(f"{path}: {fault.strerror}") from None
+    except (tomllib.TOMLDecodeError, UnicodeDecodeError) as fault:
+        raise BadSettings(f"{path}: {fault}") from None
+
+
+def text_at(table: dict, word: str, path: str) -> str | None:
+    """A word of a table that is a text, where it is there."""
+    value = table.get(word)
+    if value is not None and (not isinstance(value, str) or not value):
+        raise BadSettings(f"{path}: {word} isn't a text")
+    return value
+
+
+def camera_of(table: object, folder: str, path: str) -> Camera:
+    """A camera of the station's file. What else stands there is the station's own business."""
+    if not isinstance(table, dict):
+        raise BadSettings(f"{path}: a camera isn't a table")
+    name, store = text_at(table, "name", path), text_at(table, "store", path)
+    if not name or not NAME.fullmatch(name) or name.isdigit() or not store:
+        raise BadSettings(f"{path}: a camera needs a name, of letters, digits, - or _, and a store")
+    keep = table.get("keep", 60)
+    if not isinstance(keep, int) or isinstance(keep, bool) or keep < 0:
+        raise BadSettings(f"{path}: keep of {name} isn't a number of seconds")
+    return Camera(name, os.path.join(folder, store), keep, str(table.get("source", "")))
+
+
+def cameras_of(config: dict, folder: str, path: str) -> list[Camera]:
+    """The cameras of the station's file."""
+    tables = config.get("camera")
+    if not isinstance(tables, list) or not 1 <= len(tables) <= 16:
+        raise BadSettings(f"{path}: there are 1 to 16 cameras, each as [[camera]]")
+    cameras = [camera_of(table, folder, path) for table in tables]
+    if len({camera.name for camera in cameras}) < len(cameras):
+        raise BadSettings(f"{path}: two cameras have one name")
+    return cameras
+
+
+def address_of(listen: str) -> tuple[str, int]:
+    """The host and the port of an address such as 127.0.0.1:8080 or [::1]:8080."""
+    found = re.fullmatch(r"(?:\[([0-9A-Fa-f:.%]+)\]|([^:\[\]]+)):(\d{1,5})", listen)
+    if not found or int(found[3]) > 65535:
+        raise BadSettings(f"listen: {listen} isn't an address and a port, such as 127.0.0.1:8080")
+    return found[1] or found[2], int(found[3])
+
+
+def token_in(path: str) -> str:
+    """The token in a file: its first line."""
+    try:
+        with open(path, encoding="ascii") as file:
+            token = file.readline(1024).strip()
+    except OSError as fault:
+        raise BadSettings(f"token: {path}: {fault.strerror}") from None
+    except UnicodeDecodeError:
+        raise BadSettings(f"token: {path}: a token has letters, digits and signs of ASCII alone") from None
+    if len(token) < TOKEN_LEAST:
+        raise BadSettings(f"token: {path}: its first line needs {TOKEN_LEAST} characters or more")
+    return token
+
+
+def parser() -> argparse.ArgumentParser:
+    """The options."""
+    words = argparse.ArgumentParser(
+        prog="loop_page",
+        description="See, press and fetch what a station records, in a browser.",
+        epilog="docs/page.md and loop_page(1) describe it.",
+    )
+    words.add_argument("config", metavar="CONFIG", help="the station's own configuration file")
+    words.add_argument(
+        "--listen",
+        metavar="ADDRESS:PORT",
+        help="where the page is (127.0.0.1:8080); another address than this machine's wants a token",
+    )
+    words.add_argument("--token", metavar="FILE", help="a file whose first line is the token, of 16 characters or more")
+    words.add_argument(
+        "--settings", metavar="FILE", help="more words: listen, token, on_alert, webhook, notes, folder (TOML)"
+    )
+    words.add_argument(
+        "--folder",
+        metavar="FOLDER",
+        help="the folder in which the station runs, for paths that are relative (this one)",
+    )
+    words.add_argument("--notes", metavar="FILE", help="where notes are kept (loop_page.notes in that folder)")
+    return words
+
+
+def own_words(path: str | None) -> dict:
+    """The page's own file of settings, where one is given."""
+    own = toml_of(path) if path else {}
+    if unknown := sorted(set(own) - WORDS):
+        raise BadSettings(f"{path}: unknown words: {', '.join(unknown)}")
+    command = own.get("on_alert", [])
+    if not isinstance(command, list) or not all(isinstance(word, str) and word for word in command):
+        raise BadSettings(f"{path}: on_alert is a list of texts, a command and its words")
+    webhook = text_at(own, "webhook", path or "")
+    if webhook and not re.match(r"https?://", webhook):
+        raise BadSettings(f"{path}: webhook is an address that begins with http:// or https://")
+    return own
+
+
+def read_settings(words: list[str]) -> Settings:
+    """Reads options and files."""
+    given = parser().parse_args(words)
+    own = own_words(given.settings)
+    config = toml_of(given.config)
+    named = {
+        word: getattr(given, word) or text_at(own, word, given.settings or "")
+        for word in ("listen", "token", "folder", "notes")
+    }
+    folder = str(Path(named["folder"] or ".").absolute())
+    host, port = address_of(named["listen"] or "127.0.0.1:8080")
+    token = token_in(named["token"]) if named["token"] else None
+    if token is None and not is_loopback(host):
+        raise BadSettings(f"listen: {host} can be reached from elsewhere, so the page wants a token: --token FILE")
+    place = {word: text_at(config, word, given.config) for word in ("orders", "answers")}
+    orders, answers = (path and os.path.join(folder, path) for path in place.values())
+    notes = os.path.join(folder, named["notes"] or "loop_page.notes")
+    return Settings(
+        cameras_of(config, folder, given.config),
+        orders,
+        answers,
+        host,
+        port,
+        token,
+        notes,
+        list(own.get("on_alert", [])),
+        own.get("webhook"),
+    )

@@ -1,0 +1,225 @@
+#!/usr/bin/python3
+"""A station for the page's tests: it writes stores as the layout says, takes the orders that the page gives, and prints what docs/station.md says.
+
+    fake_station.py CONFIG
+
+It films a pendulum into each camera's store of the configuration, in the size, format and rate of `pattern`. Beside the station's
+orders it takes `!print LINE`, which prints a line; `!pause CAMERA` and `!go CAMERA`, which stop and start its frames; and `!mute`, after which
+nothing is answered any more."""
+import datetime
+import math
+import os
+import re
+import select
+import sys
+import time
+import tomllib
+from pathlib import Path
+
+import numpy
+
+sys.path.insert(1, str(Path(__file__).resolve().parent.parent.parent / "tools"))
+import layout
+
+EPOCH = datetime.datetime(1970, 1, 1, tzinfo=datetime.timezone.utc)
+LABELLED = re.compile(r"(?:@([A-Za-z0-9_-]{1,32}) )?(.*)")
+
+
+class Film(layout.Ring):
+    """A store in a file, whose frames show a pendulum."""
+
+    def __init__(self, words: dict) -> None:
+        size, form, rate = words.get("pattern", "64x48 YM12 25:1").split()
+        width, height = map(int, size.split("x"))
+        num, den = map(int, rate.split(":"))
+        self.words, self.name, self.is_paused, self.given_up, self.still = words, words["name"], False, 0, None
+        # A small image, since the file is written and not an image.
+        super().__init__(1, 1, b"GREY", words.get("segments", 8), 1)
+        self.geometry = layout.geometry_of(
+            width, height, form.encode(), num, den, words.get("segments", 8), words.get("slots", 64)
+        )
+        new = words["store"] + ".new"
+        self.file = os.open(new, os.O_RDWR | os.O_CREAT | os.O_TRUNC, 0o644)
+        os.pwrite(self.file, layout.superblock(self.geometry).ljust(layout.FRONT, b"\0"), 0)
+        os.ftruncate(self.file, self.geometry.disk_size())
+        os.rename(new, words["store"])
+        self.write = lambda at, data: os.pwrite(self.file, data, at)
+        self.period, self.due = 1_000_000 * den // num, int(time.time() * 1e6)
+
+    def scene(self) -> tuple:
+        """What stands still: the brightness of each pixel, and both colours."""
+        width, height = self.geometry.width, self.geometry.height
+        down, across = numpy.mgrid[0:height, 0:width]
+        luma = (40 + 70 * across / width + 50 * down / height).astype(numpy.uint8)
+        luma[:: max(1, height // 6)] = 30
+        luma[:, :: max(1, width // 8)] = 30
+        colours = [
+            numpy.linspace(*ends, size).astype(numpy.uint8).tobytes()
+            for ends, size in zip(((110, 170), (150, 100)), layout.planes_of(width, height, self.geometry.format)[1:])
+        ]
+        return luma, b"".join(colours)
+
+    def pixels(self, number: int) -> bytes:
+        """The bytes of a frame: a pendulum."""
+        if self.still is None:
+            self.still = self.scene()
+        luma, width, height = self.still[0].copy(), self.geometry.width, self.geometry.height
+        angle, arm, ball = 0.9 * math.cos(number * 0.12), height * 0.7, max(2, height // 10)
+        for part in numpy.linspace(0, 1, height):
+            luma[int(arm * part * math.cos(angle)), int(width / 2 + arm * part * math.sin(angle))] = 235
+        top, left = int(arm * math.cos(angle)) - ball, int(width / 2 + arm * math.sin(angle)) - ball
+        box = luma[max(0, top) : top + 2 * ball, max(0, left) : left + 2 * ball]
+        down, across = numpy.mgrid[0 : box.shape[0], 0 : box.shape[1]]
+        box[(down + max(0, top) - top - ball) ** 2 + (across + max(0, left) - left - ball) ** 2 < ball * ball] = 225
+        return luma.tobytes() + self.still[1]
+
+    def film(self) -> bool:
+        """Stores the frames that are due, a few at a time, since orders come too; answers whether there was room."""
+        for _ in range(8):
+            if self.due > time.time() * 1e6:
+                break
+            if self.is_paused:
+                self.due += self.period
+                continue
+            if self.next % self.geometry.slots == 0 and not self.begin():
+                self.due += self.period
+                self.given_up += 1
+                return False
+            index, slot = self.blocks.index(self.next // self.geometry.slots), self.next % self.geometry.slots
+            self.times[self.next] = moment = self.due
+            self.write(
+                self.geometry.slot_at(index, slot),
+                layout.head(self.next, self.next, moment, self.geometry.size) + self.pixels(self.next),
+            )
+            self.write(self.geometry.segment_at(index) + layout.GATES_AT + slot, bytes([layout.OPEN]))
+            self.next += 1
+            self.due += self.period
+        return True
+
+    def keep(self, first: int, last: int, tag: int) -> list[str]:
+        """Locks the frames of a time."""
+        numbers = [number for number in sorted(self.held()) if first <= self.times[number] <= last]
+        lines = []
+        for begin, end in layout.runs_of(numbers):
+            if len(self.clips) == layout.CLIPS:
+                return [*lines, f"refused {self.name} 11 ClipTableFull"]
+            before = set(self.clips)
+            self.lock(begin, end, tag)
+            lines.append(
+                f"kept {self.name} {min(set(self.clips) - before)} {begin}..{end}" + (f" tag {tag}" if tag else "")
+            )
+        return lines or [f"kept {self.name} none"]
+
+
+class Station:
+    """The station: its cameras, its orders and its answers."""
+
+    def __init__(self, path: str) -> None:
+        self.config = tomllib.loads(Path(path).read_text(encoding="utf-8"))
+        self.answers = self.config.get("answers")
+        self.films = {words["name"]: Film(words) for words in self.config["camera"]}
+        self.orders = os.open(self.config["orders"], os.O_RDWR | os.O_NONBLOCK)
+        self.rest, self.is_mute, self.is_over = b"", False, False
+        self.out = None
+        self.full: set[str] = set()
+
+    def say(self, text: str) -> None:
+        """Prints a line, with its time."""
+        line = f"{datetime.datetime.now(datetime.timezone.utc).strftime('%Y-%m-%dT%H:%M:%S.%f')[:-3]}Z {text}"
+        print(line, flush=True)
+        if not self.answers or self.is_mute:
+            return
+        try:
+            file = os.open(self.answers, os.O_WRONLY | os.O_APPEND | os.O_NONBLOCK | os.O_CREAT, 0o644)
+            os.write(file, line.encode() + b"\n")
+            self.out, old = file, self.out
+            if old is not None:
+                os.close(old)
+        except OSError:
+            # Nobody reads, and nothing waits for it.
+            return
+
+    def run(self) -> None:
+        """Films and takes orders until it is told to stop."""
+        while not self.is_over:
+            ready, _, _ = select.select([self.orders], [], [], 0.02)
+            for name, film in self.films.items():
+                has_room = film.film()
+                if not has_room and name not in self.full:
+                    self.full.add(name)
+                    self.say(f"all locked {name}")
+            if ready:
+                *lines, self.rest = (self.rest + os.read(self.orders, 65536)).split(b"\n")
+                for line in lines:
+                    self.take(line.decode(errors="replace"))
+
+    def take(self, line: str) -> None:
+        """Does an order."""
+        label, order = LABELLED.fullmatch(line).groups()
+        if order.startswith("!"):
+            self.command(order[1:])
+            return
+        for text in [*self.answer(order), *(["done"] if label else [])]:
+            self.say(f"@{label} {text}" if label else text)
+
+    def command(self, order: str) -> None:
+        """What a test asks for."""
+        verb, _, rest = order.partition(" ")
+        if verb == "print":
+            self.say(rest)
+        elif verb == "mute":
+            self.is_mute = True
+        elif verb in ("pause", "go"):
+            self.films[rest].is_paused = verb == "pause"
+
+    def answer(self, order: str) -> list[str]:
+        """The lines that answer an order."""
+        parts = order.split(" ")
+        if parts[0] == "keep":
+            return self.keep(parts[1:])
+        if parts[0] == "release" and len(parts) == 3:
+            film = self.films.get(parts[1])
+            if film is None:
+                return [f"no camera {parts[1]}"]
+            if int(parts[2]) not in film.clips:
+                return [f"refused {parts[1]} 12 NoSuchClip"]
+            film.unlock(int(parts[2]))
+            self.full.discard(parts[1])
+            return [f"released {parts[1]} {parts[2]}"]
+        if order == "status":
+            return [
+                f"status {name} stored {film.next} given up {film.given_up} waiting 0 behind 0.0 room 3 faults 0 source {'missing' if film.is_paused else 'on'}"
+                for name, film in self.films.items()
+            ]
+        if order == "stop":
+            self.is_over = True
+            return ["stopped"]
+        return [f"bad order: {order[:200]}"]
+
+    def keep(self, parts: list[str]) -> list[str]:
+        """Does a keep."""
+        now, names = int(time.time() * 1e6), list(self.films)
+        if parts and not parts[0].isdigit() and parts[0] != "from":
+            if parts[0] not in self.films:
+                return [f"no camera {parts[0]}"]
+            names, parts = parts[:1], parts[1:]
+        if parts[:1] == ["from"] and parts[2:3] == ["to"]:
+            first, last = (self.moment(text) for text in (parts[1], parts[3]))
+            tag = int(parts[4]) if len(parts) > 4 else 0
+        else:
+            first, last, tag = (
+                now - int(parts[0] if parts else 60) * 1_000_000,
+                now,
+                int(parts[1]) if len(parts) > 1 else 0,
+            )
+        return [line for name in names for line in self.films[name].keep(first, last, tag)]
+
+    def moment(self, text: str) -> int:
+        """The microseconds of a time."""
+        return (datetime.datetime.fromisoformat(text.replace("Z", "+00:00")) - EPOCH) // datetime.timedelta(
+            microseconds=1
+        )
+
+
+if __name__ == "__main__":
+    Station(sys.argv[1]).run()

@@ -1,0 +1,174 @@
+"""Warnings."""
+import http.server
+import json
+import threading
+
+
+def test_an_event_is_a_warning_until_it_is_seen(make):
+    lab = make()
+    lab.filmed()
+    lab.order("!print given up left 12 since 2026-11-22T15:38:00.123Z")
+    alert = lab.until(lambda: lab.status()["alerts"], "alert", 2)[0]
+    assert "12 of them" in alert["text"] and alert["times"] == 1
+    lab.order("!print given up left 7 since 2026-11-22T15:38:01.123Z")
+    lab.until(lambda: lab.status()["alerts"][0]["times"] == 2, "second time", 2)
+    assert lab.post("/api/seen", {"id": alert["id"]}).status == 200
+    assert lab.status()["alerts"] == []
+    assert lab.post("/api/seen", {"id": alert["id"]}).status == 404
+    for body in ({}, {"id": "x"}, {"id": None}, {"id": 10**40}):
+        assert lab.post("/api/seen", body).status == 404
+
+
+def test_a_source_that_comes_at_once_is_no_warning_and_one_that_stays_away_is(make):
+    lab = make()
+    lab.filmed()
+    for line in (
+        "source left missing",
+        "store left absent NoStore",
+        "source right missing",
+        "source left on 64x48 YM12 100:1",
+        "store left open",
+    ):
+        lab.order(f"!print {line}")
+    lab.until(lambda: lab.status()["alerts"], "warning", 6)
+    assert [(it["kind"], it["camera"]) for it in lab.status()["alerts"]] == [("missing", "right")]
+
+
+def test_good_news_and_unknown_lines_are_no_warnings(make):
+    lab = make()
+    lab.filmed()
+    for line in (
+        "source left on 640x480 YM12 25:1",
+        "room again left",
+        "a word that nobody knows",
+        "\x1b[31m",
+        "x" * 3000,
+    ):
+        lab.order(f"!print {line}")
+    lab.until(lambda: len(lab.status()["news"]) == 2, "news", 3)
+    assert lab.status()["alerts"] == []
+
+
+def test_a_warning_goes_to_the_command_and_the_webhook(make):
+    heard = []
+
+    class Hook(http.server.BaseHTTPRequestHandler):
+        def do_POST(self):
+            heard.append(json.loads(self.rfile.read(int(self.headers["Content-Length"]))))
+            self.send_response(204)
+            self.end_headers()
+
+        def log_message(self, *args):
+            """Is silent."""
+
+    server = http.server.HTTPServer(("127.0.0.1", 0), Hook)
+    threading.Thread(target=server.serve_forever, daemon=True).start()
+    lab = make(page=False)
+    (lab.folder / "page.toml").write_text(
+        f'on_alert = ["tee", "a file; true"]\nwebhook = "http://127.0.0.1:{server.server_port}/x"\n'
+    )
+    lab.start_page("--settings", str(lab.folder / "page.toml")).filmed()
+    lab.order("!print all locked left")
+    lab.until(lambda: heard, "post", 5)
+    assert heard[0]["camera"] == "left" and "Release" in heard[0]["text"]
+    assert (lab.folder / "a file; true").read_text() == heard[0]["text"] + "\n"
+    server.shutdown()
+    server.server_close()
+
+
+def test_a_command_that_is_not_there_stops_nothing(make):
+    lab = make(page=False)
+    (lab.folder / "page.toml").write_text('on_alert = ["/no/such/command"]\n')
+    lab.start_page("--settings", str(lab.folder / "page.toml")).filmed()
+    lab.order("!print all locked left")
+    lab.until(lambda: b"loop_alerts_not_told_total 1.0" in lab.ask("/metrics").body, "count", 5)
+    lab.keep()
+
+
+def test_a_page_that_is_open_hears_of_a_warning_at_once(make):
+    import http.client
+    import time
+
+    lab = make()
+    lab.filmed()
+    connection = http.client.HTTPConnection("127.0.0.1", lab.port, timeout=10)
+    connection.request("GET", "/events")
+    stream = connection.getresponse()
+    assert stream.headers["Content-Type"] == "text/event-stream"
+    stream.readline()
+    lab.order("!print behind left 1.4")
+    start = time.monotonic()
+    while b'"kind":"behind"' not in stream.readline():
+        assert time.monotonic() - start < 2
+    connection.close()
+
+
+def test_a_store_that_is_damaged_or_taken_away_is_told_and_found_again(make):
+    lab = make()
+    lab.filmed()
+    path = lab.folder / "left.loop"
+    path.rename(lab.folder / "away")
+    lab.until(
+        lambda: lab.camera()["level"] == "bad" and "There is no store" in lab.camera()["state"], "missing store", 4
+    )
+    assert any("its store was there" in it["text"] for it in lab.status()["alerts"])
+    path.write_bytes(b"no store at all" * 1000)
+    lab.until(lambda: "isn't a store" in lab.camera()["state"], "no store", 4)
+    assert lab.ask("/api/cameras/left/newest.jpg").status == 503
+    path.write_bytes((lab.folder / "right.loop").read_bytes()[:-1])
+    lab.until(lambda: "damaged" in lab.camera()["state"], "damage", 4)
+    path.unlink()
+    (lab.folder / "away").rename(path)
+    lab.until(lambda: lab.camera()["level"] == "good", "the store again", 4)
+    assert lab.camera("right")["level"] == "good"
+
+
+def test_a_camera_without_new_frames_is_seen_to_stand_still(make):
+    lab = make()
+    lab.filmed()
+    lab.order("!pause left")
+    lab.until(lambda: "No new frame for" in lab.camera()["state"], "a camera that stands still", 6)
+    assert lab.camera("right")["level"] == "good"
+    lab.order("!go left")
+    lab.until(lambda: lab.camera()["level"] == "good", "frames again", 4)
+
+
+def test_a_disk_that_does_not_answer_holds_up_no_other_camera(monkeypatch):
+    import asyncio
+    import threading
+    import time
+    import types
+
+    import layout
+    from station_page import laboratory, limits
+
+    monkeypatch.setattr(limits, "DISK_SECONDS", 0.1)
+    let_go = threading.Event()
+
+    def hang():
+        let_go.wait(5)
+        raise layout.Refused("missing")
+
+    async def look():
+        reader = types.SimpleNamespace(read=hang)
+        watched = laboratory.Watched(types.SimpleNamespace(name="left"), reader)
+        start = time.monotonic()
+        for _ in range(4):
+            watched.begin()
+            await laboratory.settle([watched])
+        took = time.monotonic() - start
+        asked = types.SimpleNamespace(
+            cameras={"left": watched},
+            wanted=0,
+            watched=lambda name: watched,
+            orders=types.SimpleNamespace(has_answers=False),
+        )
+        state = laboratory.Laboratory.camera_state(asked, watched)
+        let_go.set()
+        await laboratory.settle([watched])
+        return took, state, watched.hangs(), watched.why
+
+    took, state, hangs, why = asyncio.run(look())
+    assert (
+        0.3 < took < 2 and state[0] == "bad" and "disk hasn't answered" in state[1] and hangs == 0 and why == "missing"
+    )
