@@ -1,4 +1,4 @@
-# bash completion for loop_cli, loop_station, store_info and store_picture
+# bash completion for loop_cli, loop_station, loop_page, store_info and store_picture
 
 _loop_cli() {
     local word=${COMP_WORDS[COMP_CWORD]} command=${COMP_WORDS[1]}
@@ -26,6 +26,14 @@ _loop_station() {
     fi
 }
 
+_loop_page() {
+    local word=${COMP_WORDS[COMP_CWORD]}
+    case $word in
+        -*) mapfile -t COMPREPLY < <(compgen -W "--listen --token --settings --folder --notes --help" -- "$word") ;;
+        *) _loop_files "$word" ;;
+    esac
+}
+
 _store_info() {
     local word=${COMP_WORDS[COMP_CWORD]}
     COMPREPLY=()
@@ -42,5 +50,6 @@ _store_picture() {
 
 complete -o filenames -F _loop_cli loop_cli
 complete -o filenames -F _loop_station loop_station
+complete -o filenames -F _loop_page loop_page
 complete -o filenames -F _store_info store_info
 complete -o filenames -F _store_picture store_picture
