@@ -9,8 +9,11 @@ neither hold the recorder up nor weaken what is proved of it.
     orders      the pipe of orders, and the answers
     notes       what people write beside clips
     alerts      what went wrong, until somebody has seen it
+    watched     a camera, and what was seen of it last
+    kept        what became of a keep
     laboratory  all of these together: how each camera stands
     guard       which connections and requests are let in
+    asked       what stands in a request, within its bounds
     server      the addresses
     metrics     Prometheus's text
     limits      every bound

@@ -36,7 +36,8 @@ class Connection(asyncio.Protocol):
     def __init__(self, inner: asyncio.Protocol, gate: "Gate") -> None:
         self.inner, self.gate = inner, gate
         self.transport: asyncio.Transport | None = None
-        self.working, self.since, self.paused = 0, time.monotonic(), None
+        self.working, self.since = 0, time.monotonic()
+        self.paused: float | None = None
         self.is_in = False
 
     def connection_made(self, transport: asyncio.BaseTransport) -> None:
@@ -98,7 +99,8 @@ class Gate:
     """All connections, and who may pass."""
 
     def __init__(self, settings: Settings) -> None:
-        self.settings, self.connections, self.refused, self.late = settings, set(), 0, 0
+        self.settings, self.refused, self.late = settings, 0, 0
+        self.connections: set[Connection] = set()
         self.sessions: dict[str, float] = {}
         self.wrong: dict[str, list[float]] = {}
 

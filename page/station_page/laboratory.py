@@ -6,18 +6,20 @@ import json
 import logging
 import time
 from collections.abc import Iterator
-from dataclasses import dataclass, field, replace
+from dataclasses import replace
 
 import layout
 
 from . import limits, words
 from .alerts import Alerts
 from .films import Fetch, Films, fetch_of
+from .kept import NOTHING, PART, Kept, not_kept, told
 from .notes import Notes, NotesFault, key_of
 from .orders import NoStation, Orders
 from .reader import Clip, Gone, Reader, Reading, Source
-from .settings import Camera, Settings
-from .words import Event, Status, Unfit
+from .settings import Settings
+from .watched import Watched, refusal, settle
+from .words import Event, Unfit
 
 log = logging.getLogger("loop_page")
 # Pieces of a timeline that a page is sent, the newest.
@@ -26,79 +28,6 @@ PIECES = 300
 PASSING = {"missing": "source", "absent": "open"}
 # A camera that gives less of its rate is shown as one to look at.
 LEAST_RATE = 0.8
-REFUSALS = {
-    "missing": "There is no store yet. It is made when the camera's source comes",
-    "refused 4 NotFormatted": "Its file isn't a store. Move it away, and a store is made",
-    "not a file": "Its store isn't a file. Name another path in the configuration",
-}
-# How a keep is told of which nothing became, or a part.
-NOTHING, PART = "nothing was kept", "a part was kept, and no more"
-
-
-@dataclass
-class Watched:
-    """A camera, and what was seen of it last."""
-
-    camera: Camera
-    reader: Reader
-    reading: Reading | None = None
-    source: Source | None = None
-    why: str = ""
-    was_there: bool = False
-    status: Status | None = None
-    newest: int | None = None
-    changed: float = field(default_factory=time.monotonic)
-    looking: asyncio.Task | None = None
-    began: float = 0.0
-
-    def begin(self) -> None:
-        """Begins to look, in a thread, where it isn't being looked at: a disk may need long."""
-        if self.looking is None or self.looking.done():
-            self.looking, self.began = asyncio.create_task(asyncio.to_thread(self.look)), time.monotonic()
-
-    def hangs(self) -> float:
-        """For how many seconds its disk hasn't answered, where that is long; else 0."""
-        waited = time.monotonic() - self.began
-        return waited if self.looking and not self.looking.done() and waited > 2 * limits.DISK_SECONDS else 0.0
-
-    def look(self) -> None:
-        """Reads the store."""
-        try:
-            reading, source = self.reader.read()
-        except (layout.Refused, OSError) as fault:
-            self.reading, self.source, self.why = None, None, str(fault)
-            return
-        newest = reading.frames[-1].number if reading.frames else None
-        if newest != self.newest:
-            self.newest, self.changed = newest, time.monotonic()
-        reading.pieces()
-        self.reading, self.source, self.why = reading, source, ""
-
-
-@dataclass(frozen=True)
-class Kept:
-    """What became of a keep for one camera."""
-
-    camera: str | None
-    is_kept: bool
-    text: str
-    clips: list[Clip]
-
-    def as_object(self) -> dict:
-        """For JSON."""
-        clips = [
-            {
-                "id": clip.id,
-                "first": clip.first,
-                "last": clip.last,
-                "from_us": clip.since,
-                "to_us": clip.until,
-                "from": words.iso(clip.since),
-                "to": words.iso(clip.until),
-            }
-            for clip in self.clips
-        ]
-        return {"camera": self.camera, "kept": self.is_kept, "text": self.text, "clips": clips}
 
 
 class Laboratory:
@@ -374,7 +303,7 @@ class Laboratory:
         order = "keep" + (f" {camera}" if camera is not None else "") + what
         self.wanted = time.monotonic()
         if self.orders.has_answers:
-            lines = await self.orders.ask(order)
+            lines = await self.orders.ask(order, limits.CHANGE_SECONDS)
             await self.look_at(names, is_new=True)
             kept = self.kept_of(lines)
         else:
@@ -476,7 +405,11 @@ class Laboratory:
             raise Unfit(409, "The clip is being fetched, or released already. Wait until that has ended.")
         self.releasing.add(key)
         try:
-            lines = await self.orders.ask(f"release {camera} {id_}") if self.orders.has_answers else []
+            lines = (
+                await self.orders.ask(f"release {camera} {id_}", limits.CHANGE_SECONDS)
+                if self.orders.has_answers
+                else []
+            )
             if not self.orders.has_answers:
                 self.orders.give(f"release {camera} {id_}")
                 await asyncio.sleep(0.5)
@@ -523,45 +456,3 @@ class Laboratory:
         await self.films.close()
         self.orders.pipe.close()
         self.orders.reader.close()
-
-
-async def settle(chosen: list[Watched]) -> None:
-    """Waits for the looks that are under way, but not for a disk that doesn't answer."""
-    tasks = [watched.looking for watched in chosen if watched.looking and not watched.looking.done()]
-    if tasks:
-        await asyncio.wait(tasks, timeout=limits.DISK_SECONDS)
-
-
-def refusal(why: str) -> str:
-    """Why a store can't be shown, in a sentence."""
-    if "Damaged" in why:
-        return "Its store is damaged. Move its file away, and a new one is made."
-    return REFUSALS.get(why, f"Its store can't be read: {why}") + "."
-
-
-def told(name: str, clips: list[Clip]) -> Kept:
-    """That clips were kept, in a sentence."""
-    spans = " and ".join(
-        f"clip {clip.id} from {words.iso(clip.since)} to {words.iso(clip.until)}, {clip.count()} frames"
-        for clip in clips
-    )
-    return Kept(name, True, f"{name}: kept {spans}.", clips)
-
-
-def not_kept(line: str) -> Kept:
-    """Why nothing was kept, by the station's line, in a sentence with what to do."""
-    verb, *rest = line.split(" ", 2)
-    if verb == "kept" and rest[1:] == ["none"]:
-        return Kept(
-            rest[0], False, f"{rest[0]}: {NOTHING}, since no stored frame is of that time. Is the camera recording?", []
-        )
-    if verb in ("refused", "absent") and len(rest) == 2:
-        return Kept(rest[0], False, f"{rest[0]}: {NOTHING}, since {words.meaning(rest[1])}.", [])
-    if line.startswith("no camera"):
-        return Kept(
-            None,
-            False,
-            "The station has no camera of that name. Was its configuration changed? Start the page again.",
-            [],
-        )
-    return Kept(None, False, f"The station answers: {line}. Is it older than the page?", [])

@@ -19,7 +19,9 @@ ASK_SECONDS = 5.0
 IDLE_ASK_SECONDS = 60.0
 # How long a disk may need for a look before nobody waits for it.
 DISK_SECONDS = 1.0
-# How long an order may wait for its answer, and how often the answers are looked at while one is awaited, and else.
+# How long a keep or a release may wait for its answer: what waits for a slow disk is stored first.
+CHANGE_SECONDS = 15.0
+# How long another order may wait for its answer, and how often the answers are looked at while one is awaited, and else.
 ANSWER_SECONDS = 5.0
 WATCH_SECONDS = 0.02
 REST_SECONDS = 0.1

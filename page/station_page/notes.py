@@ -32,7 +32,8 @@ class Notes:
     """All notes, as the file has them."""
 
     def __init__(self, path: str) -> None:
-        self.path, self.lock, self.notes = path, threading.Lock(), {}
+        self.path, self.lock = path, threading.Lock()
+        self.notes: dict[str, str] = {}
         self.fault = self.load()
 
     def load(self) -> str | None:

@@ -162,7 +162,8 @@ class Orders:
             await asyncio.wait_for(waiting.done, seconds)
         except asyncio.TimeoutError:
             raise NoStation(
-                f"The station hasn't answered within {seconds:.0f} seconds. Does it run, and does it write its answers where the page reads them?"
+                f"The station hasn't answered within {seconds:.0f} seconds. It may still do what was asked: look at the clips. "
+                "Does it run, is its disk slow, and does it write its answers where the page reads them?"
             ) from None
         finally:
             del self.waiting[label]
@@ -183,6 +184,13 @@ class Orders:
         elif waiting:
             waiting.lines.append(line.text)
 
+    def give_up(self) -> None:
+        """Tells those who wait that the station has ended."""
+        for waiting in self.waiting.values():
+            if not waiting.done.done():
+                text = "The station ended before it answered. It may have done what was asked: look at the clips once it runs."
+                waiting.done.set_exception(NoStation(text))
+
     async def watch(self) -> None:
         """Reads what the station prints, without end."""
         while True:
@@ -191,6 +199,8 @@ class Orders:
                     self.take(read_line(line))
                 await asyncio.sleep(0)
             self.wake.clear()
+            if self.waiting and not self.pipe.is_read():
+                self.give_up()
             if self.waiting:
                 await asyncio.sleep(limits.WATCH_SECONDS)
             else:

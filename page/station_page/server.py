@@ -1,8 +1,6 @@
 """The page's addresses, and the program."""
 import asyncio
 import collections
-import contextlib
-import datetime
 import json
 import logging
 import re
@@ -14,6 +12,7 @@ from pathlib import Path
 from aiohttp import web
 
 from . import limits, metrics, pictures
+from .asked import moment_in, number_in, problem, range_of
 from .films import FilmFault, Text, csv_of, zip_stream
 from .guard import COOKIE, HEADERS, Connection, Gate
 from .laboratory import Laboratory
@@ -33,8 +32,6 @@ STATIC_FILES = {
     "sign_in.html": "text/html",
     "icon.svg": "image/svg+xml",
 }
-RANGE = re.compile(r"bytes=(\d{0,19})-(\d{0,19})")
-ISO_TIME = re.compile(r"\d{4}-\d\d-\d\dT\d\d:\d\d:\d\d(\.\d{1,6})?(Z|[+-]\d\d:\d\d)")
 KINDS = {
     "mp4": "video/mp4",
     "y4m": "video/x-yuv4mpeg2",
@@ -63,44 +60,6 @@ class Pictures:
                     self.made.popitem(last=False)
             self.made.move_to_end(key)
             return self.made[key]
-
-
-def number_in(text: str | None, end: int, what: str) -> int | None:
-    """A number of a request, below an end; none where it isn't given."""
-    if text is None:
-        return None
-    if not re.fullmatch(r"[0-9]{1,19}", text) or int(text) >= end:
-        raise Unfit(400, f"{what} isn't a number, or too large a one.")
-    return int(text)
-
-
-def moment_in(value: object, what: str) -> int:
-    """A time of a request in microseconds since 1970: such a number, or ISO 8601 with its zone."""
-    if isinstance(value, int) and not isinstance(value, bool) and 0 <= value < limits.NUMBERS_END:
-        return value
-    if isinstance(value, str) and ISO_TIME.fullmatch(value):
-        word = re.sub(r"\.(\d{1,6})", lambda found: "." + found[1].ljust(6, "0"), value.replace("Z", "+00:00"))
-        with contextlib.suppress(ValueError, OverflowError):
-            moment = datetime.datetime.fromisoformat(word) - datetime.datetime(1970, 1, 1, tzinfo=datetime.timezone.utc)
-            if moment.days >= 0:
-                return moment // datetime.timedelta(microseconds=1)
-    raise Unfit(400, f"{what} isn't a time: microseconds since 1970, or such as 2026-11-22T15:38:00.250Z.")
-
-
-def range_of(request: web.Request, length: int, tag: str) -> tuple[int, int] | None:
-    """The bytes that are asked for, from a place to before another; none where all are. A range that is malformed is none, as HTTP has it."""
-    found = RANGE.fullmatch(request.headers.get("Range", ""))
-    if not found or not (found[1] or found[2]) or request.headers.get("If-Range", tag) != tag:
-        return None
-    if not found[1]:
-        start, end = max(0, length - int(found[2])), length
-    else:
-        start, end = int(found[1]), min(length, int(found[2]) + 1) if found[2] else length
-    if found[1] and found[2] and int(found[2]) < int(found[1]):
-        return None
-    if start >= length or start >= end:
-        raise web.HTTPRequestRangeNotSatisfiable(headers={"Content-Range": f"bytes */{length}"})
-    return start, end
 
 
 class Page:
@@ -497,13 +456,6 @@ class Page:
                         yield file.read(min(limits.PIECE, left))
 
             return await self.send_known(request, fetch, "mp4", film.size, pieces)
-
-
-def problem(status: int, text: str, headers: dict | None = None) -> web.Response:
-    """What went wrong, in a sentence."""
-    more = {"Retry-After": "10"} if status in (429, 503) else {}
-    more |= {"WWW-Authenticate": "Bearer"} if status == 401 else {}
-    return web.json_response({"error": text}, status=status, headers={**more, **(headers or {})})
 
 
 async def serve(settings: Settings) -> None:

@@ -74,8 +74,10 @@ class Film(layout.Ring):
         return luma.tobytes() + self.still[1]
 
     def film(self) -> bool:
-        """Stores the frames that are due; answers whether there was room."""
-        while self.due <= time.time() * 1e6:
+        """Stores the frames that are due, a few at a time, since orders come too; answers whether there was room."""
+        for _ in range(8):
+            if self.due > time.time() * 1e6:
+                break
             if self.is_paused:
                 self.due += self.period
                 continue

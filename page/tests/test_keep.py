@@ -145,6 +145,19 @@ def test_a_station_that_never_answers_is_said_to(make):
     assert found.status == 503 and "hasn't answered" in found.json()["error"]
 
 
+def test_a_station_that_ends_before_it_answers_is_said_to_at_once(make):
+    lab = make()
+    lab.filmed()
+    lab.order("!mute")
+    time.sleep(0.2)
+    import threading
+
+    threading.Timer(0.5, lambda: lab.end(lab.station)).start()
+    start = time.monotonic()
+    found = lab.post("/api/keep", {"seconds": 1})
+    assert found.status == 503 and "ended before it answered" in found.json()["error"] and time.monotonic() - start < 5
+
+
 def test_answers_may_be_a_file_that_grows_and_is_cut(make):
     lab = make(answers="file")
     lab.filmed().keep()
