@@ -10,6 +10,8 @@ from pathlib import Path
 
 LIBC = ctypes.CDLL(None)
 PARENT_DEATH = 1
+# How the lines begin that tell what happens by itself.
+EVENTS = ("source ", "store ", "given up ", "all locked ", "room again ", "behind ", "caught up ", "no answers ")
 
 
 class Silent(Exception):
@@ -17,10 +19,11 @@ class Silent(Exception):
 
 
 class Station:
-    """The station over `station.toml` of a folder, and the lines that it has printed. Orders go to its standard input, or to the named pipe `orders`."""
+    """The station over `station.toml` of a folder, and the lines that it has printed: the answers, and apart from them the events, what happens by
+    itself. Orders go to its standard input, or to the named pipe `orders`."""
 
     def __init__(self, program, folder, env=None, orders=None, before=None, **outputs):
-        self.lines, self.more, self.orders = [], threading.Condition(), orders
+        self.lines, self.events, self.more, self.orders = [], [], threading.Condition(), orders
 
         def begin():
             # It ends with the check, however that ends.
@@ -38,7 +41,8 @@ class Station:
     def read(self):
         for line in self.run.stdout:
             with self.more:
-                self.lines.append(line.decode().rstrip("\n"))
+                text = line.decode().rstrip("\n")
+                (self.events if text.startswith(EVENTS) else self.lines).append(text)
                 self.more.notify_all()
         with self.more:
             self.more.notify_all()
@@ -84,9 +88,10 @@ class Station:
         seen, end = [], time.monotonic() + seconds
         while time.monotonic() < end:
             at = len(self.lines)
-            self.send("status\n")
-            words = (f"status {camera} ", f"absent {camera} ", f"refused {camera} ")
-            line = self.wait(lambda lines: next((line for line in lines[at:] if line.startswith(words)), None), 10)
+            self.send("@stored status\n")
+            lines = self.wait(lambda lines: lines[at:] if "@stored done" in lines[at:] else None, 10)
+            words = tuple(f"@stored {word} {camera} " for word in ("status", "absent", "refused"))
+            line = next((it.removeprefix("@stored ") for it in lines if it.startswith(words)), "")
             if line not in seen:
                 seen.append(line)
             if line.startswith("status") and int(line.split()[3]) >= least:
@@ -114,8 +119,8 @@ def camera(name, source, **words):
 
 
 def configure(folder, *cameras, orders=None):
-    """Writes `station.toml`."""
-    Path(folder, "station.toml").write_text((f'orders = "{orders}"\n' if orders else "") + "".join(cameras))
+    """Writes `station.toml`, without times before lines."""
+    Path(folder, "station.toml").write_text("times = false\n" + (f'orders = "{orders}"\n' if orders else "") + "".join(cameras))
 
 
 def feed(path, width, height, rate, frame, at_once=1):

@@ -67,7 +67,7 @@ fn run_file<
             return FAILED;
         }
     };
-    match run_station(rt, config, input, out, watched) {
+    match run_station(rt, path, config, input, out, watched) {
         Ok(true) => 0,
         Ok(false) => FAILED,
         Err(NotBegun::NoMemory) => say(err, "out of memory", FAILED),

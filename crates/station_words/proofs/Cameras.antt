@@ -1,5 +1,5 @@
 -- One more camera.
-use Rattle.std.proofs.Common.{◌≡◌, ◌≢◌, ℕ, List, [], ◌∷◌, ◌++◌, false, get_or, sym, subst, ◌∙◌}
+use Rattle.std.proofs.Common.{◌≡◌, ◌≢◌, Bool, ℕ, List, [], ◌∷◌, ◌++◌, false, get_or, sym, subst, ◌∙◌}
 use Rattle.std.specs.Prelude.{IsTrue, string_bytes}
 use Rattle.std.specs.List.{list_any}
 use Rattle.std.specs.Str.{bytes_eq}
@@ -30,3 +30,11 @@ cameras-push cameras camera name store are good called kept names stores buffers
       false≢true (sym stores ∙ here));
   buffers = All-push (λ c. HasBuffers c.buffers) cameras camera are.buffers buffers;
 }
+
+-- no camera has such a text
+pub no-camera : (f : CameraConfig → List ℕ) (found : Bool) (text bytes : List ℕ) (slice items : List CameraConfig)
+    → found ≡ list_any (λ c. bytes_eq (f c) text) slice → found ≡ false → text ≡ bytes → slice ≡ items
+    → list_any (λ c. bytes_eq (f c) bytes) items ≡ false
+no-camera f found text bytes slice items is lacks same all =
+    subst (λ b. list_any (λ c. bytes_eq (f c) b) items ≡ false) same
+    (subst (λ s. list_any (λ c. bytes_eq (f c) text) s ≡ false) all (sym is ∙ lacks))

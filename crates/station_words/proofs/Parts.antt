@@ -1,5 +1,5 @@
 -- The parts of a line, and numbers.
-use Rattle.std.proofs.Common.{◌≡◌, ℕ, zero, suc, ◌<◌, List, [], ◌∷◌, length, true, false, cond, ap, sym, refl, ◌∙◌, Option, Some, None, arith}
+use Rattle.std.proofs.Common.{◌≡◌, ℕ, Bool, zero, suc, ◌<◌, List, [], ◌∷◌, length, true, false, cond, ap, sym, refl, ◌∙◌, Option, Some, None, arith}
 use Rattle.std.specs.Char.{is_ascii_digit}
 use Rattle.std.specs.List.{list_all, list_any, before_first, after_first, position_or_len}
 use denote.Ref.{Bor}
@@ -7,7 +7,7 @@ use Rattle.std.proofs.lemmas.Bool.{false≢true}
 use Rattle.std.proofs.lemmas.Grind.{common_steps}
 use Rattle.loop_script.specs.Script.{number, small_number}
 use Rattle.station_words.specs.Names.{named}
-use Rattle.station_words.specs.Orders.{alone_said, asked, order_behind, is_space, keep_by, keep_of, keep_said, more, order_said, parts, release_of, release_said, save_said, seconds_of, times_of, times_said}
+use Rattle.station_words.specs.Orders.{alone_said, asked, order_behind, is_space, keep_by, keep_of, keep_said, more, parts, plain_said, release_of, release_said, save_said, seconds_of, times_of, times_said}
 
 -- ---- where the first space stands
 
@@ -108,15 +108,16 @@ pub release-parted : (text first : List ℕ) (o : Option (Bor (List ℕ))) (rest
 release-parted text first o rest are is =
     ap release_said (are ∙ ap (λ r. first ∷ more 1 r) is) ∙ release-split first rest.now
 
-pub save-alone : (text first : List ℕ) (o : Option (Bor (List ℕ))) → parts 2 text ≡ first ∷ more 1 o → o ≡ None
-    → save_said (parts 2 text) ≡ None
-save-alone text first o are is = ap save_said (are ∙ ap (λ r. first ∷ more 1 r) is)
+pub save-alone : (replace : Bool) (text first : List ℕ) (o : Option (Bor (List ℕ))) → parts 2 text ≡ first ∷ more 1 o
+    → o ≡ None → save_said replace (parts 2 text) ≡ None
+save-alone replace text first o are is = ap (save_said replace) (are ∙ ap (λ r. first ∷ more 1 r) is)
 
-pub save-parted : (text first id : List ℕ) (o : Option (Bor (List ℕ))) (rest : Bor (List ℕ)) (p : Option (Bor (List ℕ)))
-    → parts 2 text ≡ first ∷ more 1 o → o ≡ Some rest → parts 1 rest.now ≡ id ∷ more 0 p
-    → save_said (parts 2 text) ≡ save_said (first ∷ id ∷ more 0 p)
-save-parted text first id o rest p are is then =
-    ap save_said (are ∙ ap (λ r. first ∷ more 1 r) is ∙ ap (λ (ws : List (List ℕ)). first ∷ ws) then)
+pub save-parted : (replace : Bool) (text first id : List ℕ) (o : Option (Bor (List ℕ))) (rest : Bor (List ℕ))
+    (p : Option (Bor (List ℕ))) → parts 2 text ≡ first ∷ more 1 o → o ≡ Some rest
+    → parts 1 rest.now ≡ id ∷ more 0 p
+    → save_said replace (parts 2 text) ≡ save_said replace (first ∷ id ∷ more 0 p)
+save-parted replace text first id o rest p are is then =
+    ap (save_said replace) (are ∙ ap (λ r. first ∷ more 1 r) is ∙ ap (λ (ws : List (List ℕ)). first ∷ ws) then)
 
 -- a text whose first word is no name
 pub keep-all : (text first : List ℕ) (words : List (List ℕ)) → parts 2 text ≡ first ∷ words → named first ≡ None
@@ -144,10 +145,10 @@ asked-behind : (word rest : List ℕ) → asked (word ∷ parts 2 rest) ≡ orde
 asked-behind word rest = let some = parts-some 2 rest in rw some.2 refl
 
 pub order-alone : (line word : List ℕ) (o : Option (Bor (List ℕ))) → parts 3 line ≡ word ∷ more 2 o → o ≡ None
-    → order_said line ≡ alone_said word
+    → plain_said line ≡ alone_said word
 order-alone line word o are is = ap asked (are ∙ ap (λ r. word ∷ more 2 r) is)
 
 pub order-parted : (line word : List ℕ) (o : Option (Bor (List ℕ))) (rest : Bor (List ℕ))
-    → parts 3 line ≡ word ∷ more 2 o → o ≡ Some rest → order_said line ≡ order_behind word (parts 2 rest.now)
+    → parts 3 line ≡ word ∷ more 2 o → o ≡ Some rest → plain_said line ≡ order_behind word (parts 2 rest.now)
 order-parted line word o rest are is =
     ap asked (are ∙ ap (λ r. word ∷ more 2 r) is) ∙ asked-behind word rest.now

@@ -12,6 +12,10 @@ abbrev pub is_name : List ℕ → Bool
 is_name word = nat_le 1 (length word) && nat_le (length word) 32 && list_all is_name_byte word
     && not (list_all is_ascii_digit word)
 
+-- 1 to 32 of these bytes
+abbrev pub is_label : List ℕ → Bool
+is_label word = nat_le 1 (length word) && nat_le (length word) 32 && list_all is_name_byte word
+
 -- the name that a word is, if it is one
 abbrev pub named : List ℕ → Option (List ℕ)
 named word = if is_name word then Some word else None

@@ -1,12 +1,14 @@
 -- What the lines of orders mean.
-use Rattle.std.specs.Prelude.{ℕ, zero, suc, ◌==◌, Bool, List, [], ◌∷◌, Option, Some, None, if◌then◌else◌, codes}
+use Rattle.std.specs.Prelude.{ℕ, zero, suc, ◌==◌, Bool, true, false, length, nat_le, List, [], ◌∷◌, Option, Some, None, if◌then◌else◌, codes}
 use Rattle.std.specs.List.{list_any, before_first, after_first}
 use Rattle.std.specs.Str.{bytes_eq}
 use denote.Ref.{Bor}
 use Rattle.loop_script.specs.Script.{number, small_number}
 use Rattle.station_words.specs.declared.order.Order.{Order}
-use Rattle.station_words.specs.declared.order.Order.TheVariants.{Keep, Release, List as ListAll, Save, Status, Stop}
-use Rattle.station_words.specs.Names.{named}
+use Rattle.station_words.specs.declared.order.Order.TheVariants.{Help, Keep, KeepBetween, Release, List as ListAll, Save, Status, Stop}
+use Rattle.station_words.specs.Cuts.{cut}
+use Rattle.station_words.specs.Names.{is_label, named}
+use Rattle.station_words.specs.Times.{time_said}
 
 -- a space
 abbrev pub is_space : ℕ → Bool
@@ -66,19 +68,20 @@ release_said (camera ∷ id ∷ []) = release_of (named camera) (small_number id
 release_said _ = None
 
 -- the saving of a camera's clip, where there are both, and some text to save it to
-abbrev pub save_of : Option (List ℕ) → Option ℕ → List ℕ → Option Order
-save_of (Some camera) (Some id) (b ∷ out) = Some (Save camera id (b ∷ out))
-save_of _ _ _ = None
+abbrev pub save_of : Bool → Option (List ℕ) → Option ℕ → List ℕ → Option Order
+save_of replace (Some camera) (Some id) (b ∷ out) = Some (Save camera id (b ∷ out) replace)
+save_of _ _ _ _ = None
 
--- the words behind `save`: a camera, the id of a clip, and what is left
-abbrev pub save_said : List (List ℕ) → Option Order
-save_said (camera ∷ id ∷ out ∷ []) = save_of (named camera) (small_number id) out
-save_said _ = None
+-- the words behind `save`, or `save!` which replaces a file: a camera, the id of a clip, and what is left
+abbrev pub save_said : Bool → List (List ℕ) → Option Order
+save_said replace (camera ∷ id ∷ out ∷ []) = save_of replace (named camera) (small_number id) out
+save_said _ _ = None
 
 -- what a word alone asks for
 abbrev pub alone_said : List ℕ → Option Order
 alone_said word =
     if bytes_eq word (codes "keep") then keep_said []
+    else if bytes_eq word (codes "help") then Some Help
     else if bytes_eq word (codes "list") then Some ListAll
     else if bytes_eq word (codes "status") then Some Status
     else if bytes_eq word (codes "stop") then Some Stop else None
@@ -88,7 +91,8 @@ abbrev pub order_behind : List ℕ → List (List ℕ) → Option Order
 order_behind word words =
     if bytes_eq word (codes "keep") then keep_said words
     else if bytes_eq word (codes "release") then release_said words
-    else if bytes_eq word (codes "save") then save_said words else None
+    else if bytes_eq word (codes "save") then save_said false words
+    else if bytes_eq word (codes "save!") then save_said true words else None
 
 -- what the parts of a line ask for
 abbrev pub asked : List (List ℕ) → Option Order
@@ -96,6 +100,87 @@ asked [] = None
 asked (word ∷ []) = alone_said word
 asked (word ∷ first ∷ words) = order_behind word (first ∷ words)
 
--- what a line asks for, if it can be read: its first three words, and what is left
+-- what a line without times of day asks for: its first three words, and what is left
+abbrev pub plain_said : List ℕ → Option Order
+plain_said line = asked (parts 3 line)
+
+-- the keeping of what a camera, or all, held from one time to another, with a tag
+abbrev pub between_of : Option (List ℕ) → Option ℕ → Option ℕ → Option (Option ℕ) → Option Order
+between_of camera (Some since) (Some until) (Some tag) =
+    if nat_le since until then Some (KeepBetween camera since until tag) else None
+between_of _ _ _ _ = None
+
+-- a tag, where there is a number
+abbrev pub tag_of : Option ℕ → Option (Option ℕ)
+tag_of (Some tag) = Some (Some tag)
+tag_of None = None
+
+-- the second time, and the tag behind it, if there is one
+abbrev pub until_cut : Option (List ℕ) → Option ℕ → List ℕ → Option (List ℕ × List ℕ) → Option Order
+until_cut camera since text None = between_of camera since (time_said text) (Some None)
+until_cut camera since text (Some last) = between_of camera since (time_said last.0) (tag_of (number last.1))
+
+-- what stands behind the first time: `to T`, and a tag
+abbrev pub to_cut : Option (List ℕ) → Option ℕ → Option (List ℕ × List ℕ) → Option Order
+to_cut camera since None = None
+to_cut camera since (Some more) =
+    if bytes_eq more.0 (codes "to") then until_cut camera since more.1 (cut 32 more.1) else None
+
+-- what stands behind `from `: `T to T`, and a tag
+abbrev pub since_cut : Option (List ℕ) → Option (List ℕ × List ℕ) → Option Order
+since_cut camera None = None
+since_cut camera (Some more) = to_cut camera (time_said more.0) (cut 32 more.1)
+
+-- `from T to T`, and a tag
+abbrev pub from_cut : Option (List ℕ) → Option (List ℕ × List ℕ) → Option Order
+from_cut camera None = None
+from_cut camera (Some more) =
+    if bytes_eq more.0 (codes "from") then since_cut camera (cut 32 more.1) else None
+
+-- `from T to T`, and a tag
+unfoldable pub from_said : Option (List ℕ) → List ℕ → Option Order
+from_said camera text = from_cut camera (cut 32 text)
+
+-- the first of both, if there is one
+abbrev pub or_else : Option Order → Option Order → Option Order
+or_else (Some order) other = Some order
+or_else None other = other
+
+-- a camera, and `from T to T` behind it
+abbrev pub camera_from : Option (List ℕ) → List ℕ → Option Order
+camera_from None text = None
+camera_from (Some camera) text = from_said (Some camera) text
+
+abbrev pub camera_cut : Option (List ℕ × List ℕ) → Option Order
+camera_cut None = None
+camera_cut (Some more) = camera_from (named more.0) more.1
+
+-- what stands behind `keep `: `from T to T`, with a camera before it or without
+unfoldable pub times_kept : List ℕ → Option Order
+times_kept text = or_else (from_said None text) (camera_cut (cut 32 text))
+
+abbrev pub keep_cut : Option (List ℕ × List ℕ) → Option Order
+keep_cut None = None
+keep_cut (Some more) = if bytes_eq more.0 (codes "keep") then times_kept more.1 else None
+
+-- what a line with times of day asks for
+unfoldable pub timed_said : List ℕ → Option Order
+timed_said line = keep_cut (cut 32 line)
+
+-- what a line asks for, if it can be read
 abbrev pub order_said : List ℕ → Option Order
-order_said line = asked (parts 3 line)
+order_said line = or_else (timed_said line) (plain_said line)
+
+-- ---- labels
+
+abbrev pub label_in : Option (List ℕ × List ℕ) → Option (List ℕ × List ℕ)
+label_in None = None
+label_in (Some more) = if is_label more.0 then Some (more.0, more.1) else None
+
+abbrev pub label_cut : Option (List ℕ × List ℕ) → Option (List ℕ × List ℕ)
+label_cut None = None
+label_cut (Some more) = if length more.0 == 0 then label_in (cut 32 more.1) else None
+
+-- the label of a line that begins `@LABEL `, and what stands behind that
+unfoldable pub label_said : List ℕ → Option (List ℕ × List ℕ)
+label_said line = label_cut (cut 64 line)

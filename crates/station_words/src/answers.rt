@@ -1,11 +1,30 @@
 // The lines that are printed.
 
+use crate::calendar::moment_of;
+use loop_record::Geometry;
 use loop_script::{Listing, print_line, print_parts};
 use loop_store::{Clip, StoreFault};
 use std::alloc::Allocator;
 use std::fmt::Display;
-use std::io;
 use std::io::Write;
+use std::{io, str};
+
+/// The most bytes of a line that is told as a bad order.
+const MOST_OF_LINE: usize = 200;
+
+/// The orders, as `help` lists them.
+const ORDERS: [&str; 10] = [
+    "keep [CAMERA] [SECONDS [TAG]]",
+    "keep [CAMERA] from T to T [TAG]",
+    "release CAMERA ID",
+    "list",
+    "save CAMERA ID OUT",
+    "save! CAMERA ID OUT",
+    "status",
+    "help",
+    "stop",
+    "@LABEL ORDER",
+];
 
 /// How a camera stands.
 #[derive(Clone, Copy, Debug, PartialEq, Eq)]
@@ -16,12 +35,67 @@ pub struct CameraStatus<'a> {
     pub given_up: u64,
     /// How many wait at the desk.
     pub waiting: u64,
+    /// How long the frames last that came and aren't stored, in microseconds.
+    pub behind: u64,
     /// How many blocks may still be locked.
     pub room: u64,
     /// How often its store was opened again, or couldn't be.
     pub faults: u64,
     /// How its source is.
     pub source: &'a str,
+}
+
+/// What stands before each line: the time of day, in UTC with milliseconds, and a label, if there are any.
+pub fn print_head<W: Write>(out: &mut W, time: Option<u64>, label: Option<&str>) -> io::Result<()> {
+    if let Some(micros) = time {
+        print_time(out, micros)?;
+        write!(out, " ")?;
+    }
+    match label {
+        Some(label) => write!(out, "@{label} "),
+        None => Ok(()),
+    }
+}
+
+// A time in microseconds since 1970, as `2026-11-22T15:38:00.123Z`.
+fn print_time<W: Write>(out: &mut W, micros: u64) -> io::Result<()> {
+    let at = moment_of(micros);
+    let (year, month, day) = (at.year, at.month, at.day);
+    let (hour, minute, second) = (at.hour, at.minute, at.second);
+    let milli = at.micro / 1_000;
+    write!(
+        out,
+        "{year:04}-{month:02}-{day:02}T{hour:02}:{minute:02}:{second:02}.{milli:03}Z"
+    )
+}
+
+/// The name of the file that a clip is written to by itself, `FOLDER/NAME_2026-11-22T15-38-00Z_ID.y4m`, by the time of
+/// its first frame; `ID-2` and so on in place of `ID` for a further clip of that name.
+pub fn print_clip_path<W: Write>(
+    out: &mut W,
+    folder: &str,
+    camera: &str,
+    micros: u64,
+    id: u32,
+    place: u32,
+) -> io::Result<()> {
+    let at = moment_of(micros);
+    let (year, month, day) = (at.year, at.month, at.day);
+    let (hour, minute, second) = (at.hour, at.minute, at.second);
+    write!(
+        out,
+        "{folder}/{camera}_{year:04}-{month:02}-{day:02}T{hour:02}-{minute:02}-{second:02}Z_{id}"
+    )?;
+    if place > 1 {
+        write!(out, "-{place}")?;
+    }
+    write!(out, ".y4m")
+}
+
+// Seconds with one decimal, of microseconds.
+fn print_seconds<W: Write>(out: &mut W, micros: u64) -> io::Result<()> {
+    let tenths = micros / 100_000;
+    write!(out, "{}.{}", tenths / 10, tenths % 10)
 }
 
 /// `kept NAME ID A..B`, with its tag behind it where that isn't 0; `kept NAME none` where there was nothing to keep.
@@ -94,7 +168,7 @@ pub fn print_camera<W: Write, A: Allocator + Copy>(
     listing.print(out)
 }
 
-/// `status NAME stored N given up G waiting W room B faults X source S`.
+/// `status NAME stored N given up G waiting W behind S room B faults X source WORDS`.
 pub fn print_status<W: Write>(
     out: &mut W,
     camera: &str,
@@ -108,16 +182,21 @@ pub fn print_status<W: Write>(
             (" stored ", status.stored),
             (" given up ", status.given_up),
             (" waiting ", status.waiting),
-            (" room ", status.room),
-            (" faults ", status.faults),
         ],
+    )?;
+    print_parts(out, " behind ", &[])?;
+    print_seconds(out, status.behind)?;
+    print_parts(
+        out,
+        "",
+        &[(" room ", status.room), (" faults ", status.faults)],
     )?;
     print_parts(out, " source ", &[])?;
     print_line(out, status.source, &[])
 }
 
 /// `absent NAME WHY`: the camera's store isn't there.
-pub fn print_absent<W: Write>(out: &mut W, camera: &str, why: &str) -> io::Result<()> {
+pub fn print_absent<W: Write, Y: Display>(out: &mut W, camera: &str, why: &Y) -> io::Result<()> {
     writeln!(out, "absent {camera} {why}")
 }
 
@@ -155,7 +234,117 @@ pub fn print_no_camera<W: Write>(out: &mut W, camera: &str) -> io::Result<()> {
     writeln!(out, "no camera {camera}")
 }
 
-/// `bad order`: a line that can't be read.
-pub fn print_bad_order<W: Write>(out: &mut W) -> io::Result<()> {
-    writeln!(out, "bad order")
+/// `bad order: LINE`: a line that can't be read, or its first 200 bytes, each that can't be printed as `?`.
+pub fn print_bad_order<W: Write>(out: &mut W, line: &[u8]) -> io::Result<()> {
+    write!(out, "bad order: ")?;
+    for byte in line.iter().take(MOST_OF_LINE) {
+        let printed = if byte.is_ascii_graphic() || *byte == b' ' {
+            *byte
+        } else {
+            b'?'
+        };
+        out.write_all(&[printed])?;
+    }
+    writeln!(out)
+}
+
+/// The orders, a line each.
+pub fn print_help<W: Write>(out: &mut W) -> io::Result<()> {
+    for order in &ORDERS {
+        writeln!(out, "{order}")?;
+    }
+    Ok(())
+}
+
+/// `done`: a labelled order has been answered.
+pub fn print_done<W: Write>(out: &mut W) -> io::Result<()> {
+    writeln!(out, "done")
+}
+
+/// `stopped`: the end of all.
+pub fn print_stopped<W: Write>(out: &mut W) -> io::Result<()> {
+    writeln!(out, "stopped")
+}
+
+/// `source NAME on 640x480 YM12 25:1`: a camera's source gives frames that its store takes.
+pub fn print_source_on<W: Write>(out: &mut W, camera: &str, geometry: &Geometry) -> io::Result<()> {
+    let letters = geometry.format.name();
+    let format = str::from_utf8(&letters).unwrap_or("");
+    let (width, height) = (geometry.width, geometry.height);
+    let (num, den) = (geometry.rate_num, geometry.rate_den);
+    writeln!(
+        out,
+        "source {camera} on {width}x{height} {format} {num}:{den}"
+    )
+}
+
+/// `source NAME missing`: a camera's source can't be opened, or has ended.
+pub fn print_source_missing<W: Write>(out: &mut W, camera: &str) -> io::Result<()> {
+    writeln!(out, "source {camera} missing")
+}
+
+/// `store NAME open`; `store NAME open holds 30.8 s of 300.0 s` where it holds less than its file asks, both in
+/// microseconds.
+pub fn print_store_open<W: Write>(
+    out: &mut W,
+    camera: &str,
+    less: Option<(u64, u64)>,
+) -> io::Result<()> {
+    write!(out, "store {camera} open")?;
+    if let Some((held, asked)) = less {
+        write!(out, " holds ")?;
+        print_seconds(out, held)?;
+        write!(out, " s of ")?;
+        print_seconds(out, asked)?;
+        write!(out, " s")?;
+    }
+    writeln!(out)
+}
+
+/// `store NAME absent WHY`: a camera's store isn't there any more, or not yet.
+pub fn print_store_absent<W: Write, Y: Display>(
+    out: &mut W,
+    camera: &str,
+    why: &Y,
+) -> io::Result<()> {
+    writeln!(out, "store {camera} absent {why}")
+}
+
+/// `given up NAME K since T`: so many frames were lost since a time, in microseconds since 1970.
+pub fn print_given_up<W: Write>(
+    out: &mut W,
+    camera: &str,
+    frames: u64,
+    since: u64,
+) -> io::Result<()> {
+    write!(out, "given up {camera} {frames} since ")?;
+    print_time(out, since)?;
+    writeln!(out)
+}
+
+/// `all locked NAME`: frames wait, since every block is locked.
+pub fn print_all_locked<W: Write>(out: &mut W, camera: &str) -> io::Result<()> {
+    writeln!(out, "all locked {camera}")
+}
+
+/// `room again NAME`: a block may be recorded into again.
+pub fn print_room_again<W: Write>(out: &mut W, camera: &str) -> io::Result<()> {
+    writeln!(out, "room again {camera}")
+}
+
+/// `behind NAME S`: frames of so many seconds wait, in microseconds.
+pub fn print_behind<W: Write>(out: &mut W, camera: &str, micros: u64) -> io::Result<()> {
+    write!(out, "behind {camera} ")?;
+    print_seconds(out, micros)?;
+    writeln!(out)
+}
+
+/// `caught up NAME`: no more frames wait than usual.
+pub fn print_caught_up<W: Write>(out: &mut W, camera: &str) -> io::Result<()> {
+    writeln!(out, "caught up {camera}")
+}
+
+/// `no answers PATH`: the file for answers can't be written.
+pub fn print_no_answers<W: Write>(out: &mut W, path: &str) -> io::Result<()> {
+    writeln!(out, "no answers {path}: what is printed doesn't go there")
 }

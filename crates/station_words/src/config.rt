@@ -19,7 +19,7 @@ use toml::{Table, Value};
 pub const MAX_CAMERAS: usize = 16;
 
 /// The keys of the file.
-const KEYS: [&str; 4] = ["orders", "answers", "times", "camera"];
+const KEYS: [&str; 5] = ["orders", "answers", "times", "events", "camera"];
 
 /// What the file says.
 #[derive(Drop)]
@@ -30,6 +30,8 @@ pub struct Config {
     pub answers: Option<String>,
     /// Each line begins with the date and time of day.
     pub times: bool,
+    /// What happens by itself is printed.
+    pub events: bool,
     /// The cameras, in their order.
     pub cameras: Vec<CameraConfig>,
 }
@@ -129,6 +131,7 @@ fn config_of(alloc: Global, table: &Table) -> Result<Config, ConfigFault>
         orders: copied(alloc, orders)?,
         answers: copied(alloc, answers)?,
         times: truth_at(table, "times", true).ok_or(ConfigFault::BadTimes)?,
+        events: truth_at(table, "events", true).ok_or(ConfigFault::BadEvents)?,
         cameras,
     })
 }
@@ -153,7 +156,7 @@ fn camera_tables(table: &Table) -> Result<&[Value], ConfigFault>
 
 // A text of its own for what a table says.
 fn copied(alloc: Global, text: Option<&str>) -> Result<Option<String>, AllocError>
-    ensures { IfOk result (λ copy. option_map string_bytes copy ≡ option_map (λ t. t.now) text) }
+    ensures { IfOk result (λ copy. option_map string_bytes copy ≡ option_map (λ t. t.now) text.entry) }
 {
     match text {
         Some(text) => Ok(Some(String::from_str(alloc, text)?)),

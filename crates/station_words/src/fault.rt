@@ -12,8 +12,8 @@ pub enum ConfigFault {
     /// The text is no TOML, on the line of this number, from 1.
     #[error("line {0} can't be read as TOML")]
     BadToml(u64),
-    /// A key beside `orders`, `answers`, `times` and `camera`.
-    #[error("there is a key other than orders, answers, times and [[camera]]")]
+    /// A key beside `orders`, `answers`, `times`, `events` and `camera`.
+    #[error("there is a key other than orders, answers, times, events and [[camera]]")]
     UnknownKey,
     /// `orders` is no text, or an empty one.
     #[error("orders is a path")]
@@ -27,6 +27,9 @@ pub enum ConfigFault {
     /// `times` is neither true nor false.
     #[error("times is true or false")]
     BadTimes,
+    /// `events` is neither true nor false.
+    #[error("events is true or false")]
+    BadEvents,
     /// `camera` is no array of tables.
     #[error("cameras are written below [[camera]]")]
     BadCameras,

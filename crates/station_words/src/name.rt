@@ -2,7 +2,7 @@
 ghost use Rattle.std.specs.Prelude.{◌≡◌};
 ghost use Rattle.std.specs.Char.{is_ascii_digit};
 ghost use Rattle.std.specs.List.{list_all};
-ghost use Rattle.station_words.specs.Names.{is_name, is_name_byte, named};
+ghost use Rattle.station_words.specs.Names.{is_label, is_name, is_name_byte, named};
 
 use std::marker::Model;
 
@@ -68,6 +68,16 @@ fn is_name_byte(byte: u8) -> bool
     ensures { result ≡ is_name_byte byte }
 {
     byte.is_ascii_alphanumeric() || byte == b'-' || byte == b'_'
+}
+
+/// Whether an order may be labelled so: 1 to 32 letters, digits, `-` and `_`.
+pub(crate) fn is_label(word: &str) -> bool
+    ensures { result ≡ is_label word.now }
+{
+    if word.is_empty() || word.len() > MAX_NAME {
+        return false;
+    }
+    has_name_bytes(word)
 }
 
 /// The name that a word is, if it is one.

@@ -2,6 +2,16 @@
 
 use loop_file::FileFault;
 use loop_store::StoreFault;
+use std::fmt;
+use std::fmt::{Display, Formatter};
+
+/// The most bytes of a file's name, and of a path.
+const MOST_OF_NAME: usize = 255;
+
+const MOST_OF_PATH: usize = 4_095;
+
+/// What is added to the name of a store while it is made.
+const UNFINISHED: usize = 4;
 
 /// Why a camera's store isn't there, so that it can't be asked.
 #[derive(Clone, Copy)]
@@ -14,7 +24,13 @@ pub enum Absent {
     Store(StoreFault),
     /// What stands under the name of an unfinished store can't be opened as one.
     Unfinished,
-    /// No store holds as much as it is to keep, or its source says no rate.
+    /// Its path, or the name of its file, is longer than may be.
+    TooLong,
+    /// No store holds so many frames as its minutes are. So many tenths of a minute would fit.
+    TooManyFrames(u64),
+    /// Its bytes are too few for two blocks of a frame.
+    TooFewBytes,
+    /// Its source says no rate, or another thing that no store may have.
     NoGeometry,
     /// There is no memory for the buffers of its frames.
     NoBuffers,
@@ -31,17 +47,64 @@ impl From<FileFault> for Absent {
 }
 
 impl Absent {
-    /// Its name.
-    pub fn name(&self) -> &'static str {
+    /// Why the file of a path can't be had.
+    pub fn of(path: &str, fault: FileFault) -> Absent {
+        let name = match path.rsplit_once('/') {
+            Some((_, name)) => name,
+            None => path,
+        };
+        let long = path.len().saturating_add(UNFINISHED) > MOST_OF_PATH
+            || name.len().saturating_add(UNFINISHED) > MOST_OF_NAME;
+        match fault {
+            FileFault::Failed if long => Absent::TooLong,
+            _ => Absent::File(fault),
+        }
+    }
+
+    // Its name.
+    fn name(&self) -> &'static str {
         match self {
             Absent::NoStore => "NoStore",
-            Absent::File(_) => "CannotOpen",
+            Absent::File(fault) => file_name(*fault),
             Absent::Store(fault) => fault.name(),
             Absent::Unfinished => "Unfinished",
+            Absent::TooLong => "TooLong",
+            Absent::TooManyFrames(_) => "TooManyFrames",
+            Absent::TooFewBytes => "TooFewBytes",
             Absent::NoGeometry => "NoGeometry",
             Absent::NoBuffers => "NoBuffers",
             Absent::TieBroken => "TieBroken",
             Absent::Stopped => "Stopped",
+        }
+    }
+
+    /// Whether it is for the same cause as another one.
+    pub fn is_like(&self, other: &Absent) -> bool {
+        self.name() == other.name()
+    }
+}
+
+/// The name of why a file can't be had.
+pub fn file_name(fault: FileFault) -> &'static str {
+    match fault {
+        FileFault::Busy => "Busy",
+        FileFault::Folder => "Folder",
+        FileFault::Missing => "MissingFolder",
+        FileFault::Denied => "Denied",
+        FileFault::NotRegular => "NotRegular",
+        FileFault::NoRoom => "NoRoom",
+        FileFault::NoMemory => "NoMemory",
+        FileFault::Failed => "CannotOpen",
+    }
+}
+
+// Its name, and how many minutes fit where that is why.
+impl Display for Absent {
+    fn fmt<W: fmt::Write>(&self, f: &mut Formatter<W>) -> fmt::Result {
+        f.write_str(self.name())?;
+        match self {
+            Absent::TooManyFrames(tenths) => write!(f, " {}.{}", tenths / 10, tenths % 10),
+            _ => Ok(()),
         }
     }
 }

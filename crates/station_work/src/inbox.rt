@@ -76,6 +76,16 @@ impl<Q: Drop, A: Drop, N: Drop + Copy> Inbox<Q, A, N> {
         self.desk.lock(rt).question = Some(question);
     }
 
+    /// Whether someone answers now, or why nobody does; None while another one comes.
+    pub fn attended<R: Wait>(&self, rt: &R) -> Option<Result<(), N>> {
+        let desk = self.desk.lock(rt);
+        match desk.nobody {
+            Some(why) => Some(Err(why)),
+            None if desk.over => None,
+            None => Some(Ok(())),
+        }
+    }
+
     /// Answers the question that was taken.
     pub fn reply<R: Wait>(&self, rt: &R, answer: A) {
         let mut desk = self.desk.lock(rt);

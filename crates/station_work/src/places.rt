@@ -1,13 +1,30 @@
 //! The files and pipes of a station.
 
 use crate::absent::Absent;
-use loop_file::{FileDisk, FileFault, FilePlace, TextFile, open_to_read};
+use loop_file::{FileDisk, FileFault, FilePlace, TextFile, open_file, open_to_read};
 use loop_record::Geometry;
 use loop_store::{OpenRefused, Store, StoreFault, format};
 use std::alloc::AllocGlobal;
-use std::fs::File;
-use std::io;
+use std::fs::{File, OpenOptions};
+use std::io::ErrorKind;
+use std::os::unix::fs::{FileTypeExt, MetadataExt};
 use std::rt::Files;
+use std::{fs, io};
+
+/// What a path leads to.
+#[derive(Clone, Copy, Debug, PartialEq, Eq)]
+pub enum Found {
+    /// Nothing is there, and a file may be made.
+    Nothing,
+    /// A regular file.
+    File,
+    /// A named pipe.
+    Pipe,
+    /// A device, a folder or the like.
+    Other,
+    /// A link to nothing, or it can't be told.
+    Unknown,
+}
 
 /// What opens the files and pipes of a station, in whichever thread. It is a trait of its own, since a bound on all that
 /// files can do isn't taken along into a thread.
@@ -18,6 +35,18 @@ pub trait Places {
     /// Opens a file or pipe that a clip is written to. A file that is in use, as a store that is recorded into, is left
     /// alone (`Busy`).
     fn open_output(&self, path: &str) -> Result<TextFile, FileFault>;
+
+    /// What a path leads to.
+    fn found(&self, path: &str) -> Found;
+
+    /// Whether two paths lead to the same file, or would.
+    fn is_same(&self, path: &str, other: &str) -> bool;
+
+    /// Removes a file.
+    fn remove(&self, path: &str) -> io::Result<()>;
+
+    /// Opens the file or pipe to which all that is printed goes too. That of a pipe waits until someone reads.
+    fn open_answers(&self, path: &str) -> io::Result<File>;
 
     /// Opens the file of a store.
     fn open_store(&self, path: &str) -> Result<FileDisk, FileFault>;
@@ -36,6 +65,22 @@ impl Places for HostRuntime {
         TextFile::open(self, path)
     }
 
+    fn found(&self, path: &str) -> Found {
+        found_at(self, path)
+    }
+
+    fn is_same(&self, path: &str, other: &str) -> bool {
+        lead_to_one(self, path, other)
+    }
+
+    fn remove(&self, path: &str) -> io::Result<()> {
+        fs::remove_file(self, path)
+    }
+
+    fn open_answers(&self, path: &str) -> io::Result<File> {
+        open_file(self, OpenOptions::new().append(true).create(true), path)
+    }
+
     fn open_store(&self, path: &str) -> Result<FileDisk, FileFault> {
         FileDisk::open(self, path)
     }
@@ -45,17 +90,68 @@ impl Places for HostRuntime {
     }
 }
 
+/// What a path leads to.
+fn found_at<R: Files>(rt: &R, path: &str) -> Found {
+    let metadata = match fs::metadata(rt, path) {
+        Ok(metadata) => metadata,
+        Err(fault) if fault.kind() == ErrorKind::NotFound => {
+            return match fs::symlink_metadata(rt, path) {
+                Err(_) => Found::Nothing,
+                Ok(_) => Found::Unknown,
+            };
+        }
+        Err(_) => return Found::Unknown,
+    };
+    let kind = metadata.file_type();
+    if kind.is_file() {
+        Found::File
+    } else if kind.is_fifo() {
+        Found::Pipe
+    } else {
+        Found::Other
+    }
+}
+
+/// Whether two paths lead to one file; or, where neither does to any, to one name in one folder.
+fn lead_to_one<R: Files>(rt: &R, path: &str, other: &str) -> bool {
+    match (fs::metadata(rt, path), fs::metadata(rt, other)) {
+        (Ok(a), Ok(b)) => (a.dev(), a.ino()) == (b.dev(), b.ino()),
+        (Err(_), Err(_)) => {
+            let ((folder, name), (others, called)) = (parted(path), parted(other));
+            match (fs::metadata(rt, folder), fs::metadata(rt, others)) {
+                (Ok(a), Ok(b)) => name == called && (a.dev(), a.ino()) == (b.dev(), b.ino()),
+                _ => false,
+            }
+        }
+        _ => false,
+    }
+}
+
+/// The folder of a path, and the name in it.
+fn parted(path: &str) -> (&str, &str) {
+    match path.rsplit_once('/') {
+        Some(("", name)) => ("/", name),
+        Some(parts) => parts,
+        None => (".", path),
+    }
+}
+
 /// Makes a store where there is no file, under another name first, and opens it.
 fn make_at<R: AllocGlobal + Files<File = File>>(
     rt: &R,
     path: &str,
     geometry: Geometry,
 ) -> Result<Store<FileDisk>, Absent> {
-    let place = FilePlace::of(rt, path)?;
+    let place = match FilePlace::of(rt, path) {
+        Ok(place) => place,
+        Err(fault) => return Err(Absent::of(path, fault)),
+    };
     let mut made = place.unfinished(rt)?;
-    let store = match left_at(rt, &made, &geometry)? {
-        Some(store) => store,
-        None => format_at(rt, &mut made, geometry)?,
+    let store = match left_at(rt, &made, &geometry) {
+        Ok(Some(store)) => store,
+        Ok(None) => format_at(rt, &mut made, geometry)?,
+        Err(Absent::File(fault)) => return Err(Absent::of(path, fault)),
+        Err(why) => return Err(why),
     };
     place.finish(rt, &made)?;
     Ok(store)

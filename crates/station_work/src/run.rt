@@ -1,18 +1,20 @@
 //! The program: threads for each camera, and orders meanwhile.
 
 use crate::clock::Timeline;
+use crate::events::{Told, tell_events};
 use crate::orders::{Station, status, take_orders};
 use crate::outlet::Outlet;
-use crate::places::Places;
+use crate::places::{Found, Places};
 use crate::save::Saves;
 use crate::sessions::run_camera;
 use crate::source::run_source;
 use crate::state::CameraState;
+use crate::tap::{Tap, run_tap};
 use loop_script::MAX_LINE;
-use station_words::Config;
+use station_words::{Config, Source};
 use std::alloc::{AllocError, AllocGlobal, Global};
 use std::io::{BufReader, Read, Write};
-use std::sync::{Arc, Wait};
+use std::sync::{Arc, Mutex, Wait};
 use std::thread;
 use std::thread::{JoinHandle, Scope, Threads};
 use std::time::{Clock, Duration};
@@ -35,20 +37,22 @@ impl From<AllocError> for NotBegun {
     }
 }
 
-/// Records from each camera of a configuration into its store, and does the orders that come from the input, or from
-/// the pipe or file that the configuration names, until one says `stop`. Each answer is printed to `out`; where someone
-/// watches, a line for each camera tells every second how it stands. Where the input ends, it goes on. It answers whether
-/// all could be printed.
+/// Records from each camera of a configuration, the file of this path, into its store, and does the orders that come from
+/// the input, or from the pipe or file that the configuration names, until one says `stop`. What is printed goes to `out`;
+/// where someone watches, a line for each camera stands below it and tells every second how it does. Where the input
+/// ends, it goes on. It answers whether all could be printed.
 pub fn run_station<
     R: AllocGlobal + Places + Threads + Wait + Clock + Clone + Drop + Send + Sync + 'static,
     I: Read + Drop,
     W: Write + Drop + Send + 'static,
->(rt: &R, config: Config, input: I, out: W, watched: bool) -> Result<bool, NotBegun> {
+>(rt: &R, path: &str, config: Config, input: I, out: W, watched: bool) -> Result<bool, NotBegun> {
     let alloc = rt.alloc();
+    let taken = taken_paths(alloc, path, &config)?;
     let Config {
         orders,
-        answers: _,
-        times: _,
+        answers,
+        times,
+        events,
         cameras,
     } = config;
     let Ok(timeline) = Timeline::new(rt) else {
@@ -61,12 +65,22 @@ pub fn run_station<
             return Err(NotBegun::NoMemory);
         }
     }
+    let tap = tap_of(rt, answers)?;
+    let ours = match &tap {
+        Some(tap) => Some(Arc::try_clone(tap)?),
+        None => None,
+    };
+    let clock = if times { Some(timeline) } else { None };
     let station = Station {
+        alloc,
         cameras: states,
-        outlet: shared(alloc, Outlet::new(out))?,
-        saves: shared(alloc, Saves::new(alloc)?)?,
+        outlet: shared(alloc, Outlet::new(alloc, out, clock, ours))?,
+        saves: shared(alloc, Saves::new(alloc, taken)?)?,
+        events,
+        last: Mutex::new(None),
     };
     start_sources(rt, &station)?;
+    start_tap(rt, &station, &tap)?;
     let line = Vec::with_capacity(alloc, MAX_LINE + 1)?;
     let Ok(input) = BufReader::new(alloc, input) else {
         return Err(NotBegun::NoMemory);
@@ -75,8 +89,72 @@ pub fn run_station<
     if !run_behind(rt, &station, orders, input, line, handles, watched) {
         return Err(NotBegun::NoMemory);
     }
-    station.outlet.put(rt, b"stopped\n");
+    station.tell_end(rt);
+    if let Some(tap) = &tap {
+        tap.end(rt);
+    }
     Ok(!station.outlet.has_failed())
+}
+
+// The files and pipes that no clip is written to: the configuration and all that it names.
+fn taken_paths(alloc: Global, path: &str, config: &Config) -> Result<Vec<String>, NotBegun> {
+    let mut taken = Vec::new(alloc);
+    add_path(alloc, &mut taken, path)?;
+    if let Some(orders) = &config.orders {
+        add_path(alloc, &mut taken, orders.as_str())?;
+    }
+    if let Some(answers) = &config.answers {
+        add_path(alloc, &mut taken, answers.as_str())?;
+    }
+    for camera in config.cameras.as_slice() {
+        add_path(alloc, &mut taken, camera.store.as_str())?;
+        let made = format!(in alloc; "{}.new", camera.store.as_str())?;
+        add_path(alloc, &mut taken, made.as_str())?;
+        if let Source::Path(source) = &camera.source {
+            add_path(alloc, &mut taken, source.as_str())?;
+        }
+    }
+    Ok(taken)
+}
+
+// Adds a path to others.
+fn add_path(alloc: Global, paths: &mut Vec<String>, path: &str) -> Result<(), NotBegun> {
+    let path = String::from_str(alloc, path)?;
+    match paths.push(path) {
+        Ok(()) => Ok(()),
+        Err(_) => Err(NotBegun::NoMemory),
+    }
+}
+
+// What is printed, on its way to the file or pipe of a path, if there is one.
+fn tap_of<R: AllocGlobal + Places>(
+    rt: &R,
+    answers: Option<String>,
+) -> Result<Option<Arc<Tap>>, NotBegun> {
+    let Some(path) = answers else {
+        return Ok(None);
+    };
+    let is_pipe = rt.found(path.as_str()) == Found::Pipe;
+    let tap = shared(rt.alloc(), Tap::new(rt.alloc(), path, is_pipe)?)?;
+    Ok(Some(tap))
+}
+
+// Starts the thread of a tap, which a pipe may keep waiting for ever: it ends with the program.
+fn start_tap<
+    R: AllocGlobal + Places + Threads + Wait + Clock + Clone + Drop + Send + Sync + 'static,
+    W: Write + Drop + Send + 'static,
+>(rt: &R, station: &Station<W>, tap: &Option<Arc<Tap>>) -> Result<(), NotBegun> {
+    let Some(tap) = tap else {
+        return Ok(());
+    };
+    let (tap, outlet) = (Arc::try_clone(tap)?, Arc::try_clone(&station.outlet)?);
+    let Ok(theirs) = rt.clone() else {
+        return Err(NotBegun::NoMemory);
+    };
+    match thread::spawn(rt, move || run_tap(&theirs, &tap, &outlet)) {
+        Ok(_) => Ok(()),
+        Err(_) => Err(NotBegun::NoMemory),
+    }
 }
 
 // A value that threads share.
@@ -157,8 +235,7 @@ fn run_in<
     all
 }
 
-// Starts a thread for each camera, and one that tells how they stand where someone watches; whether all could be
-// started.
+// Starts a thread for each camera, and one that tells what happens to them; whether all could be started.
 fn start_cameras<
     's,
     E,
@@ -179,8 +256,8 @@ fn start_cameras<
             return false;
         }
     }
-    if watched {
-        let Ok(handle) = scope.spawn(move || show(rt, station)) else {
+    if watched || station.events {
+        let Ok(handle) = scope.spawn(move || watch(rt, station, watched)) else {
             return false;
         };
         return handles.push(handle).is_ok();
@@ -188,19 +265,57 @@ fn start_cameras<
     true
 }
 
-// Tells every second how each camera stands, until the program comes to its end.
-fn show<R: AllocGlobal + Wait + Clock, W: Write + Drop>(rt: &R, station: &Station<W>) {
+// Tells what happens to the cameras by itself, and every second how each stands where someone watches, until the program
+// comes to its end.
+fn watch<R: AllocGlobal + Wait + Clock, W: Write + Drop>(
+    rt: &R,
+    station: &Station<W>,
+    watched: bool,
+) {
+    let mut told = Vec::new(rt.alloc());
+    for state in station.cameras.as_slice() {
+        if told.push(Told::new(state.timeline.now(rt))).is_err() {
+            return;
+        }
+    }
     for _ in rt.forever() {
         for _ in 0..STATUS_STEPS {
-            if station.cameras.iter().all(|state| state.is_stopped()) {
+            let over = station.cameras.iter().all(|state| state.is_stopped());
+            if station.events {
+                tell_all(rt, station, told.as_mut_slice());
+            }
+            if over {
                 return;
             }
             thread::sleep(rt, Duration::from_millis(100));
         }
-        let mut lines = Vec::new(rt.alloc());
-        if status(rt, station, &mut lines).is_ok() {
-            station.outlet.put(rt, &lines);
+        let over = station.cameras.iter().all(|state| state.is_stopped());
+        if watched && !over {
+            show(rt, station);
         }
+    }
+}
+
+// Tells what happened to each camera since it was looked at before.
+fn tell_all<R: AllocGlobal + Wait + Clock, W: Write + Drop>(
+    rt: &R,
+    station: &Station<W>,
+    told: &mut [Told],
+) {
+    let mut place = 0usize;
+    for state in station.cameras.as_slice() {
+        if let Some(told) = told.get_mut(place) {
+            tell_events(rt, state, told, &station.outlet);
+        }
+        place = place.saturating_add(1);
+    }
+}
+
+// Shows how each camera stands.
+fn show<R: AllocGlobal + Wait + Clock, W: Write + Drop>(rt: &R, station: &Station<W>) {
+    let mut lines = Vec::new(rt.alloc());
+    if status(rt, station, &mut lines).is_ok() {
+        station.outlet.show(rt, lines);
     }
 }
 

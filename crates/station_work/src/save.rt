@@ -1,26 +1,28 @@
-//! Clips that are written as YUV4MPEG2 while their cameras record.
+//! Clips that are written as YUV4MPEG2 while their cameras record, by loop_y4m's proved writer.
 //!
 //! There are places for so many saves at once, and a thread for each that was ever taken, which stays. A save has its
 //! place from when its order is read until what came of it is told. Whoever tells that gives the place back, under one
 //! lock: the save's own thread, or a stop of the program where that thread hangs in a pipe that nobody reads.
 
-use crate::absent::Absent;
+use crate::absent::{Absent, file_name};
 use crate::clerk::{Answer, FoundClip, Request};
 use crate::outlet::Outlet;
-use crate::places::Places;
+use crate::places::{Found, Places};
 use crate::state::CameraState;
-use loop_file::TextFile;
+use crate::told::tell_released;
+use loop_file::{FileFault, TextFile};
 use loop_record::Geometry;
 use loop_recorder::SessionFault;
 use loop_y4m::{write_frame, write_header};
-use station_words::{print_not_saved, print_saved};
+use station_words::{print_clip_path, print_done, print_not_saved, print_saved};
 use std::alloc::{AllocError, AllocGlobal, Global};
+use std::fmt::{Display, Formatter};
 use std::io::{BufWriter, Write};
 use std::sync::atomic::{AtomicBool, Ordering};
 use std::sync::{Arc, Condvar, Mutex, Wait};
-use std::thread;
 use std::thread::Threads;
 use std::time::{Clock, Duration};
+use std::{fmt, io, thread};
 
 /// How many clips may be saved at once.
 const MOST_SAVES: usize = 16;
@@ -30,6 +32,9 @@ const AT_ONCE: usize = 262_144;
 
 /// How often a stop waits ten milliseconds for saves that are about to end.
 const STOP_STEPS: u32 = 70;
+
+/// How many clips that are written by themselves may have one name but for their place.
+const MOST_NAMES: u32 = 100;
 
 /// Why a clip wasn't written, or not to its end.
 #[derive(Clone, Copy)]
@@ -42,7 +47,13 @@ pub(crate) enum NotSaved {
     Absent(Absent),
     /// The store refused a read.
     Refused(SessionFault),
-    /// The file can't be opened, or is in use.
+    /// A file is there, and wasn't to be replaced.
+    Exists,
+    /// The file or pipe is one that the station has open, or another program has locked.
+    InUse,
+    /// The file can't be opened.
+    File(FileFault),
+    /// The path leads to nothing through a link, or it can't be told what is there.
     CannotOpen,
     /// The file can't be written to its end, or the disk can't be asked to keep it.
     CannotWrite,
@@ -52,27 +63,49 @@ pub(crate) enum NotSaved {
     Stopped,
 }
 
-impl NotSaved {
-    /// Its name.
-    pub fn name(&self) -> &'static str {
-        match self {
+// Its name, as it is told.
+impl Display for NotSaved {
+    fn fmt<W: fmt::Write>(&self, f: &mut Formatter<W>) -> fmt::Result {
+        f.write_str(match self {
             NotSaved::NoSuchClip => "NoSuchClip",
-            NotSaved::TooMany => "TooMany",
-            NotSaved::Absent(why) => why.name(),
+            NotSaved::TooMany => "too many saves",
+            NotSaved::Absent(why) => return why.fmt(f),
             NotSaved::Refused(SessionFault::Desk(fault)) => fault.name(),
             NotSaved::Refused(SessionFault::SessionFull) => "SessionFull",
             NotSaved::Refused(SessionFault::NoMemory) => "NoMemory",
+            NotSaved::Exists => "Exists",
+            NotSaved::InUse => "InUse",
+            NotSaved::File(fault) => file_name(*fault),
             NotSaved::CannotOpen => "CannotOpen",
             NotSaved::CannotWrite => "CannotWrite",
             NotSaved::NoMemory => "NoMemory",
             NotSaved::Stopped => "Stopped",
-        }
+        })
     }
 }
 
 impl From<AllocError> for NotSaved {
     fn from(_: AllocError) -> Self {
         NotSaved::NoMemory
+    }
+}
+
+/// Where a clip is to be written to.
+#[derive(Clone, Copy)]
+pub(crate) enum Target<'a> {
+    /// There, and whether a file that is there is replaced.
+    Path(&'a str, bool),
+    /// Into a folder, under a name of its own.
+    Folder(&'a str),
+}
+
+impl<'a> Target<'a> {
+    /// The path as far as it is known before the clip is.
+    pub fn path(&self) -> &'a str {
+        match self {
+            Target::Path(path, _) => path,
+            Target::Folder(folder) => folder,
+        }
     }
 }
 
@@ -83,24 +116,45 @@ struct Save {
     geometry: Geometry,
     found: FoundClip,
     path: String,
+    // A file that is there is replaced.
+    replace: bool,
+    // The clip is released once it is saved.
+    release: bool,
+    // That of its order.
+    label: Option<String>,
 }
 
 impl Save {
-    // Prints what came of it.
-    fn print<R: AllocGlobal + Wait, W: Write + Drop>(
+    // Prints what came of it, and of its release, if that was asked for too.
+    fn print<R: AllocGlobal + Wait + Clock, W: Write + Drop>(
         &self,
         rt: &R,
         outlet: &Outlet<W>,
         came: Result<u64, NotSaved>,
+        released: &[u8],
     ) {
-        let mut line = Vec::new(rt.alloc());
+        let mut lines = Vec::new(rt.alloc());
+        if self.write_lines(&mut lines, came, released).is_ok() {
+            outlet.answer(rt, self.label.as_deref(), &lines);
+        }
+    }
+
+    // The lines of what came of it.
+    fn write_lines<L: Write>(
+        &self,
+        lines: &mut L,
+        came: Result<u64, NotSaved>,
+        released: &[u8],
+    ) -> io::Result<()> {
         let (name, id) = (self.state.config.name.as_str(), self.found.clip.id);
-        let printed = match came {
-            Ok(count) => print_saved(&mut line, name, id, self.path.as_str(), count),
-            Err(why) => print_not_saved(&mut line, name, id, self.path.as_str(), &why.name()),
-        };
-        if printed.is_ok() {
-            outlet.put(rt, &line);
+        match came {
+            Ok(count) => print_saved(lines, name, id, self.path.as_str(), count)?,
+            Err(why) => print_not_saved(lines, name, id, self.path.as_str(), &why)?,
+        }
+        lines.write_all(released)?;
+        match self.label {
+            Some(_) => print_done(lines),
+            None => Ok(()),
         }
     }
 }
@@ -122,11 +176,13 @@ pub(crate) struct Saves {
     places: Mutex<Vec<Place>>,
     changed: Condvar,
     stopped: AtomicBool,
+    /// The files and pipes of the station, which no clip is written to.
+    taken: Vec<String>,
 }
 
 impl Saves {
-    /// None yet.
-    pub fn new(alloc: Global) -> Result<Saves, AllocError> {
+    /// None yet. No clip is written to these files and pipes.
+    pub fn new(alloc: Global, taken: Vec<String>) -> Result<Saves, AllocError> {
         let mut places = Vec::with_capacity(alloc, MOST_SAVES)?;
         for _ in 0..MOST_SAVES {
             places.push(Place {
@@ -139,7 +195,18 @@ impl Saves {
             places: Mutex::new(places),
             changed: Condvar::new(),
             stopped: AtomicBool::new(false),
+            taken,
         })
+    }
+
+    // Whether a path leads to a file or pipe of the station.
+    fn is_taken<R: Places>(&self, rt: &R, path: &str) -> bool {
+        for taken in self.taken.as_slice() {
+            if rt.is_same(path, taken.as_str()) {
+                return true;
+            }
+        }
+        false
     }
 
     /// Whether the clip of an id of a camera is being saved.
@@ -197,19 +264,20 @@ impl Saves {
     }
 
     // Tells what came of the save of a place, and gives the place back, unless a stop did.
-    fn end<R: AllocGlobal + Wait, W: Write + Drop>(
+    fn end<R: AllocGlobal + Wait + Clock, W: Write + Drop>(
         &self,
         rt: &R,
         outlet: &Outlet<W>,
         at: usize,
         came: Result<u64, NotSaved>,
+        released: &[u8],
     ) {
         let mut places = self.places.lock(rt);
         let Some(place) = places.get_mut(at) else {
             return;
         };
         if let Some(save) = place.save.take() {
-            save.print(rt, outlet, came);
+            save.print(rt, outlet, came, released);
         }
     }
 
@@ -233,7 +301,7 @@ impl Saves {
         let mut places = self.places.lock(rt);
         for place in places.as_mut_slice() {
             if let Some(save) = place.save.take() {
-                save.print(rt, outlet, Err(NotSaved::Stopped));
+                save.print(rt, outlet, Err(NotSaved::Stopped), &[]);
             }
         }
     }
@@ -242,26 +310,18 @@ impl Saves {
 /// Begins to write a clip as its camera has it now. What comes of it is printed by a thread of the save's place; `TooMany`,
 /// `NoSuchClip` and what else ends it before are answered.
 pub(crate) fn begin_save<
-    R: AllocGlobal + Places + Threads + Wait + Clone + Drop + Send + Sync + 'static,
+    R: AllocGlobal + Places + Threads + Wait + Clock + Clone + Drop + Send + Sync + 'static,
     W: Write + Drop + Send + 'static,
 >(
     rt: &R,
     saves: &Arc<Saves>,
     outlet: &Arc<Outlet<W>>,
     state: &Arc<CameraState>,
+    label: Option<&str>,
     id: u32,
-    path: &str,
+    to: Target<'_>,
 ) -> Result<(), NotSaved> {
-    let found = find(rt, state, id)?;
-    let Some(geometry) = state.link.store(rt) else {
-        return Err(NotSaved::Absent(Absent::NoStore));
-    };
-    let save = Save {
-        state: Arc::try_clone(state)?,
-        geometry,
-        found,
-        path: String::from_str(rt.alloc(), path)?,
-    };
+    let save = save_of(rt, state, label, id, to)?;
     let Ok(save) = Arc::new(rt.alloc(), save) else {
         return Err(NotSaved::NoMemory);
     };
@@ -279,6 +339,78 @@ pub(crate) fn begin_save<
     Ok(())
 }
 
+// What is to be saved, and where.
+fn save_of<R: AllocGlobal + Places + Wait>(
+    rt: &R,
+    state: &Arc<CameraState>,
+    label: Option<&str>,
+    id: u32,
+    to: Target<'_>,
+) -> Result<Save, NotSaved> {
+    let alloc = rt.alloc();
+    let found = find(rt, state, id)?;
+    let Some(geometry) = state.link.store(rt) else {
+        return Err(NotSaved::Absent(Absent::NoStore));
+    };
+    let (path, replace, release) = match to {
+        Target::Path(path, replace) => (String::from_str(alloc, path)?, replace, false),
+        Target::Folder(folder) => (
+            path_in(rt, folder, state.config.name.as_str(), &found)?,
+            false,
+            state.config.release,
+        ),
+    };
+    let label = match label {
+        Some(label) => Some(String::from_str(alloc, label)?),
+        None => None,
+    };
+    Ok(Save {
+        state: Arc::try_clone(state)?,
+        geometry,
+        found,
+        path,
+        replace,
+        release,
+        label,
+    })
+}
+
+// The path of a clip's file in a folder, by its camera, the time of its first frame, and its id; another one where a file
+// has that name.
+fn path_in<R: AllocGlobal + Places>(
+    rt: &R,
+    folder: &str,
+    camera: &str,
+    found: &FoundClip,
+) -> Result<String, NotSaved> {
+    for place in 1..MOST_NAMES {
+        let path = path_of(rt.alloc(), folder, camera, found, place)?;
+        if rt.found(path.as_str()) == Found::Nothing {
+            return Ok(path);
+        }
+    }
+    path_of(rt.alloc(), folder, camera, found, MOST_NAMES)
+}
+
+// That path, for the clip at this place of those with one name, from 1.
+fn path_of(
+    alloc: Global,
+    folder: &str,
+    camera: &str,
+    found: &FoundClip,
+    place: u32,
+) -> Result<String, NotSaved> {
+    let mut path = Vec::new(alloc);
+    let (began, id) = (found.began(), found.clip.id);
+    if print_clip_path(&mut path, folder, camera, began, id, place).is_err() {
+        return Err(NotSaved::NoMemory);
+    }
+    match String::from_utf8(path) {
+        Ok(path) => Ok(path),
+        Err(_) => Err(NotSaved::CannotOpen),
+    }
+}
+
 // The clip of an id, as its camera has it now.
 fn find<R: Wait>(rt: &R, state: &CameraState, id: u32) -> Result<FoundClip, NotSaved> {
     state.clerk.ask(rt, Request::Find(id));
@@ -291,32 +423,74 @@ fn find<R: Wait>(rt: &R, state: &CameraState, id: u32) -> Result<FoundClip, NotS
 }
 
 // A place's thread: it writes the clips that come to the place, one after the other.
-fn run_saves<R: AllocGlobal + Places + Wait, W: Write + Drop>(
+fn run_saves<R: AllocGlobal + Places + Wait + Clock, W: Write + Drop>(
     rt: &R,
     saves: &Saves,
     outlet: &Outlet<W>,
     at: usize,
 ) {
     for _ in rt.forever() {
+        let mut released = Vec::new(rt.alloc());
         let came = match saves.next(rt, at) {
-            Some(save) => write(rt, saves, &save),
+            Some(save) => {
+                let came = write(rt, saves, &save);
+                if came.is_ok() && save.release {
+                    // Where memory is refused the release is told by no line; `list` has the clip no more.
+                    let _ = release(rt, &save, &mut released);
+                }
+                came
+            }
             None => Err(NotSaved::NoMemory),
         };
-        saves.end(rt, outlet, at, came);
+        saves.end(rt, outlet, at, came, &released);
         if saves.stopped.load(Ordering::SeqCst) {
             break;
         }
     }
 }
 
-// Writes a clip, and answers how many frames it has, once a file that they went to stays through a loss of power.
+// Releases a clip that is saved.
+fn release<R: Wait, L: Write>(rt: &R, save: &Save, lines: &mut L) -> io::Result<()> {
+    let (state, id) = (&save.state, save.found.clip.id);
+    state.clerk.ask(rt, Request::Release(id));
+    tell_released(state, id, state.clerk.answer(rt), lines)
+}
+
+// Writes a clip, and answers how many frames it has, once a file that they went to stays through a loss of power. A file
+// that was made for it is removed where it can't be written to its end.
 fn write<R: AllocGlobal + Places + Wait>(
     rt: &R,
     saves: &Saves,
     save: &Save,
 ) -> Result<u64, NotSaved> {
-    let Ok(mut file) = rt.open_output(save.path.as_str()) else {
-        return Err(NotSaved::CannotOpen);
+    let path = save.path.as_str();
+    let found = rt.found(path);
+    if saves.is_taken(rt, path) {
+        return Err(NotSaved::InUse);
+    }
+    match found {
+        Found::File if !save.replace => return Err(NotSaved::Exists),
+        Found::Unknown => return Err(NotSaved::CannotOpen),
+        Found::Nothing | Found::File | Found::Pipe | Found::Other => {}
+    }
+    let came = write_file(rt, saves, save);
+    if came.is_err() && found == Found::Nothing {
+        // What can't be removed either stays, as after a stop.
+        let _ = rt.remove(path);
+    }
+    came
+}
+
+// Writes a clip into the file or pipe of its path.
+fn write_file<R: AllocGlobal + Places + Wait>(
+    rt: &R,
+    saves: &Saves,
+    save: &Save,
+) -> Result<u64, NotSaved> {
+    let mut file = match rt.open_output(save.path.as_str()) {
+        Ok(file) => file,
+        Err(FileFault::Busy) => return Err(NotSaved::InUse),
+        Err(fault) => return Err(NotSaved::File(fault)),
     };
     if file.empty().is_err() {
         return Err(NotSaved::CannotWrite);

@@ -4,6 +4,7 @@ ghost use Rattle.std.specs.Prelude.{◌≡◌, ◌<◌, ◌∷◌, [], IfOk, IfS
 ghost use Rattle.loop_sessions.specs.Opened.{IsReady};
 
 use crate::absent::Absent;
+use crate::asked::asked_ring;
 use crate::feed::FeedSource;
 use crate::outlet::Outlet;
 use crate::places::Places;
@@ -20,9 +21,7 @@ use loop_recorder::{
 };
 use loop_script::LIMITS;
 use loop_store::{OpenRefused, Store, StoreFault};
-use station_words::{
-    RingSize, Room, frames_in, print_broken_tie, print_not_a_store, ring_for, ring_within,
-};
+use station_words::{RingSize, Room, print_broken_tie, print_not_a_store};
 use std::alloc::{AllocGlobal, Global};
 use std::io::Write;
 use std::sync::atomic::Ordering;
@@ -121,7 +120,7 @@ fn rest<R: Wait + Clock>(rt: &R, state: &CameraState, why: Absent) {
 
 /// Prints why a store isn't there where someone has to know at once: a broken tie each time, and once that what stands
 /// there, or where it is made, isn't a store. Whether it isn't one.
-fn tell_absence<R: AllocGlobal + Wait, W: Write + Drop>(
+fn tell_absence<R: AllocGlobal + Wait + Clock, W: Write + Drop>(
     rt: &R,
     state: &CameraState,
     outlet: &Outlet<W>,
@@ -151,10 +150,11 @@ fn open_store<R: AllocGlobal + Places + Wait + Clock>(
     rt: &R,
     state: &CameraState,
 ) -> Result<Store<FileDisk>, Absent> {
-    let disk = match rt.open_store(state.config.store.as_str()) {
+    let path = state.config.store.as_str();
+    let disk = match rt.open_store(path) {
         Ok(disk) => disk,
         Err(FileFault::Missing) => return make_store(rt, state),
-        Err(fault) => return Err(Absent::File(fault)),
+        Err(fault) => return Err(Absent::of(path, fault)),
     };
     match Store::open(rt.alloc(), disk) {
         Ok(store) => Ok(store),
@@ -171,9 +171,7 @@ fn make_store<R: AllocGlobal + Places + Wait + Clock>(
     let Some(header) = wait_header(rt, state) else {
         return Err(Absent::Stopped);
     };
-    let Some(geometry) = geometry_for(&header, &state.config.room) else {
-        return Err(Absent::NoGeometry);
-    };
+    let geometry = geometry_for(&header, &state.config.room)?;
     rt.make_store(state.config.store.as_str(), geometry)
 }
 
@@ -191,23 +189,16 @@ fn wait_header<R: Wait + Clock>(rt: &R, state: &CameraState) -> Option<Geometry>
 }
 
 /// The geometry of a store for a header, with room for as much as is to be kept.
-fn geometry_for(header: &Geometry, room: &Room) -> Option<Geometry> {
-    let RingSize { segments, slots } = match room {
-        Room::Seconds(seconds) => ring_for(frames_in(
-            *seconds,
-            header.rate_num,
-            header.rate_den.max(1),
-        )),
-        Room::Bytes(bytes) => ring_within(size_of(header)?, *bytes),
-    }?;
+fn geometry_for(header: &Geometry, room: &Room) -> Result<Geometry, Absent> {
+    let RingSize { segments, slots } = asked_ring(header, room)?;
     let geometry = Geometry {
         segments,
         slots,
         ..*header
     };
     match geometry.check() {
-        Ok(()) => Some(geometry),
-        Err(_) => None,
+        Ok(()) => Ok(geometry),
+        Err(_) => Err(Absent::NoGeometry),
     }
 }
 

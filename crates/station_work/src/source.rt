@@ -125,7 +125,7 @@ fn play_pattern<R: AllocGlobal + Wait + Clock, W: Write + Drop>(
 
 /// Tells what a source's header says; whether the store takes its frames. That it doesn't is printed, but not again
 /// while nothing else comes of it.
-fn offer<R: AllocGlobal + Wait, W: Write + Drop>(
+fn offer<R: AllocGlobal + Wait + Clock, W: Write + Drop>(
     rt: &R,
     state: &CameraState,
     outlet: &Outlet<W>,
@@ -147,7 +147,7 @@ fn offer<R: AllocGlobal + Wait, W: Write + Drop>(
 }
 
 /// Prints what frames a camera's source has, which aren't as its store has them.
-fn tell_other<R: AllocGlobal + Wait, W: Write + Drop>(
+fn tell_other<R: AllocGlobal + Wait + Clock, W: Write + Drop>(
     rt: &R,
     state: &CameraState,
     outlet: &Outlet<W>,

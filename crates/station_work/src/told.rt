@@ -19,18 +19,18 @@ use std::sync::Wait;
 use std::sync::atomic::Ordering;
 
 /// What an inbox answers.
-type Answered = Option<Result<Answer, Absent>>;
+pub(crate) type Answered = Option<Result<Answer, Absent>>;
 
 /// Tells what a keep locked, a line for each clip, and why not all was.
 pub(crate) fn tell_kept<L: Write>(
     state: &CameraState,
-    answered: Answered,
+    answered: &Answered,
     lines: &mut L,
 ) -> io::Result<()> {
     let name = state.config.name.as_str();
     let (kept, refused) = match answered {
-        Some(Ok(Answer::Kept(kept, refused))) => (kept, refused),
-        Some(Err(why)) => return print_absent(lines, name, why.name()),
+        Some(Ok(Answer::Kept(kept, refused))) => (kept, *refused),
+        Some(Err(why)) => return print_absent(lines, name, why),
         _ => return Ok(()),
     };
     for clip in kept.clips.as_slice() {
@@ -53,7 +53,7 @@ fn tell_fault<L: Write>(name: &str, fault: SessionFault, lines: &mut L) -> io::R
     match fault {
         SessionFault::Desk(fault) => print_refused(lines, name, fault),
         SessionFault::NoMemory => print_refused(lines, name, StoreFault::NoMemory),
-        SessionFault::SessionFull => print_absent(lines, name, "SessionFull"),
+        SessionFault::SessionFull => print_absent(lines, name, &"SessionFull"),
     }
 }
 
@@ -68,7 +68,7 @@ pub(crate) fn tell_released<L: Write>(
     match answered {
         Some(Ok(Answer::Released(Ok(())))) => print_released(lines, name, id),
         Some(Ok(Answer::Released(Err(fault)))) => tell_fault(name, fault, lines),
-        Some(Err(why)) => print_absent(lines, name, why.name()),
+        Some(Err(why)) => print_absent(lines, name, &why),
         _ => Ok(()),
     }
 }
@@ -85,7 +85,7 @@ pub(crate) fn tell_listed<L: Write>(
             print_camera(lines, name, &Listing::of_outline(outline))
         }
         Some(Ok(Answer::Looked(Err(fault)))) => tell_fault(name, fault, lines),
-        Some(Err(why)) => print_absent(lines, name, why.name()),
+        Some(Err(why)) => print_absent(lines, name, &why),
         _ => Ok(()),
     }
 }
@@ -101,7 +101,7 @@ pub(crate) fn tell_status<R: Wait, L: Write>(
     let outline = match answered {
         Some(Ok(Answer::Looked(Ok(outline)))) => outline,
         Some(Ok(Answer::Looked(Err(fault)))) => return tell_fault(name, fault, lines),
-        Some(Err(why)) => return print_absent(lines, name, why.name()),
+        Some(Err(why)) => return print_absent(lines, name, &why),
         _ => return Ok(()),
     };
     let room = match state.link.store(rt) {
@@ -120,6 +120,7 @@ pub(crate) fn tell_status<R: Wait, L: Write>(
             stored: outline.next,
             given_up: state.counts.given_up.load(Ordering::SeqCst),
             waiting: u64::from(outline.pending),
+            behind: state.behind_micros(rt),
             room,
             faults: state.counts.faults.load(Ordering::SeqCst),
             source,

@@ -9,7 +9,7 @@ use std::alloc::Global;
 use std::process::Abort;
 
 // A configuration, and why it is refused.
-const ROWS: [(&str, Option<ConfigFault>); 47] = [
+const ROWS: [(&str, Option<ConfigFault>); 48] = [
     (
         "[[camera]]\nname='a'\nsource='p'\nstore='s'\nminutes=5\n",
         None,
@@ -186,6 +186,10 @@ const ROWS: [(&str, Option<ConfigFault>); 47] = [
         "times=1\n[[camera]]\nname='a'\nsource='p'\nstore='s'\nminutes=1\n",
         Some(ConfigFault::BadTimes),
     ),
+    (
+        "events='no'\n[[camera]]\nname='a'\nsource='p'\nstore='s'\nminutes=1\n",
+        Some(ConfigFault::BadEvents),
+    ),
 ];
 
 // Minutes as they are written, and the seconds that they are.
@@ -244,7 +248,7 @@ fn minutes_are_seconds_rounded_up(rt: HostRuntime) {
 }
 
 // Every word of the file, each with a value of its own.
-const WHOLE: &str = "orders='from'\nanswers='to'\ntimes=false\n\
+const WHOLE: &str = "orders='from'\nanswers='to'\ntimes=false\nevents=false\n\
 [[camera]]\nname='left'\nsource='pattern'\npattern='4x2 GREY 30:7'\nstore='l.loop'\nminutes=3\nkeep=11\ntag=12\n\
 buffers=13\nmemory=14\nsave_to='clips'\nrelease=true\n\
 [[camera]]\nname='right'\nsource='r.y4m'\nstore='r.loop'\nbytes=15\nkeep=16\ntag=17\nbuffers=18\nmemory='19 s'\nsave_to='more'\n";
@@ -265,6 +269,7 @@ fn says_all(config: &Config) -> bool {
             config.orders.as_deref() == Some("from")
                 && config.answers.as_deref() == Some("to")
                 && !config.times
+                && !config.events
                 && is_left(left)
                 && is_right(right)
         }
@@ -301,6 +306,7 @@ fn says_least(config: &Config) -> bool {
             config.orders.is_none()
                 && config.answers.is_none()
                 && config.times
+                && config.events
                 && (camera.seconds, camera.tag, camera.buffers) == (60, 0, 8)
                 && camera.memory.is_none()
                 && camera.save_to.is_none()

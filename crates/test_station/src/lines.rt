@@ -5,9 +5,12 @@ use loop_record::{Geometry, PixelFormat};
 use loop_script::{Likeness, compare_frames, print_other_geometry, print_other_rate};
 use loop_store::{Clip, StoreFault};
 use station_words::{
-    CameraStatus, RingSize, print_absent, print_bad_order, print_broken_tie, print_kept,
-    print_no_camera, print_not_a_store, print_not_saved, print_refused, print_released,
-    print_saved, print_saving, print_status, print_too_many_saves, ring_for, ring_within,
+    CameraStatus, RingSize, print_absent, print_all_locked, print_bad_order, print_behind,
+    print_broken_tie, print_caught_up, print_clip_path, print_done, print_given_up, print_head,
+    print_help, print_kept, print_no_answers, print_no_camera, print_not_a_store, print_not_saved,
+    print_refused, print_released, print_room_again, print_saved, print_saving,
+    print_source_missing, print_source_on, print_status, print_stopped, print_store_absent,
+    print_store_open, print_too_many_saves, ring_for, ring_within,
 };
 use std::alloc::Global;
 use std::process::Abort;
@@ -23,7 +26,7 @@ saved left 3 a clip.y4m 7\n\
 not saved left 3 a clip.y4m CannotOpen\n\
 refused left saving\n\
 refused left too many saves\n\
-status left stored 1 given up 2 waiting 3 room 4 faults 5 source on\n\
+status left stored 1 given up 2 waiting 3 behind 12.3 room 4 faults 5 source on\n\
 other geometry left 320x240 GREY 30000:1001\n\
 other rate left 30000:1001\n\
 not a store left a store.loop: move it away, and a store is made\n\
@@ -31,7 +34,21 @@ not a store left a store.loop.new: move it away, and a store is made\n\
 tie broken left: its store is opened again\n\
 no camera left\n\
 absent left NoStore\n\
-bad order\n";
+bad order: ke?p \"\n\
+done\n\
+stopped\n\
+source left on 320x240 GREY 30000:1001\n\
+source left missing\n\
+store left open\n\
+store left open holds 30.8 s of 300.0 s\n\
+store left absent NoRoom\n\
+given up left 7 since 2000-02-29T23:59:59.999Z\n\
+all locked left\n\
+room again left\n\
+behind left 1.2\n\
+caught up left\n\
+no answers a pipe: what is printed doesn't go there\n\
+1970-01-01T00:00:00.000Z @a-1 @b 2026-11-22T15:38:00.123Z out/left_2026-11-22T15-38-00Z_7.y4m out/left_2026-11-22T15-38-00Z_7-2.y4m";
 
 const fn clip(id: u32, to: u64, tag: u64) -> Clip {
     Clip {
@@ -41,6 +58,9 @@ const fn clip(id: u32, to: u64, tag: u64) -> Clip {
         tag,
     }
 }
+
+// 22 November 2026, 15:38:00.123456, in microseconds since 1970.
+const NOVEMBER: u64 = 1_795_361_880_123_456;
 
 // What a source may have.
 const OTHER: Geometry = Geometry {
@@ -59,6 +79,7 @@ fn prints(out: &mut Vec<u8>) -> bool {
         stored: 1,
         given_up: 2,
         waiting: 3,
+        behind: 12_399_999,
         room: 4,
         faults: 5,
         source: "on",
@@ -77,8 +98,36 @@ fn prints(out: &mut Vec<u8>) -> bool {
         && print_not_a_store(out, "left", "a store.loop", ".new").is_ok()
         && print_broken_tie(out, "left").is_ok()
         && print_no_camera(out, "left").is_ok()
-        && print_absent(out, "left", "NoStore").is_ok()
-        && print_bad_order(out).is_ok()
+        && print_absent(out, "left", &"NoStore").is_ok()
+        && print_bad_order(out, b"ke\x7fp \"").is_ok()
+        && prints_events(out)
+        && prints_heads(out)
+}
+
+// Prints what happens by itself.
+fn prints_events(out: &mut Vec<u8>) -> bool {
+    print_done(out).is_ok()
+        && print_stopped(out).is_ok()
+        && print_source_on(out, "left", &OTHER).is_ok()
+        && print_source_missing(out, "left").is_ok()
+        && print_store_open(out, "left", None).is_ok()
+        && print_store_open(out, "left", Some((30_800_000, 300_000_000))).is_ok()
+        && print_store_absent(out, "left", &"NoRoom").is_ok()
+        && print_given_up(out, "left", 7, 951_868_799_999_999).is_ok()
+        && print_all_locked(out, "left").is_ok()
+        && print_room_again(out, "left").is_ok()
+        && print_behind(out, "left", 1_299_999).is_ok()
+        && print_caught_up(out, "left").is_ok()
+        && print_no_answers(out, "a pipe").is_ok()
+}
+
+// Prints what stands before lines, and the name of a clip's file.
+fn prints_heads(out: &mut Vec<u8>) -> bool {
+    print_head(out, Some(0), Some("a-1")).is_ok()
+        && print_head(out, None, Some("b")).is_ok()
+        && print_head(out, Some(NOVEMBER), None).is_ok()
+        && print_clip_path(out, "out", "left", NOVEMBER, 7, 1).is_ok()
+        && print_clip_path(out, " out", "left", NOVEMBER, 7, 2).is_ok()
 }
 
 // Prints what becomes of saves.
@@ -160,4 +209,22 @@ fn stores_are_as_large_as_has_to_be(rt: HostRuntime) {
     for (bytes, segments, slots) in &WITHIN {
         same!(rt; sizes(ring_within(12, *bytes)), (*segments, *slots), *bytes);
     }
+}
+
+// Each line that `help` lists is the shape of an order, or of a labelled one.
+#[test]
+fn help_lists_each_order(rt: HostRuntime) {
+    let mut out = Vec::new(rt.alloc());
+    holds!(rt; print_help(&mut out).is_ok());
+    let words: &[u8] = b"keep [CAMERA] [SECONDS [TAG]]\n\
+keep [CAMERA] from T to T [TAG]\n\
+release CAMERA ID\n\
+list\n\
+save CAMERA ID OUT\n\
+save! CAMERA ID OUT\n\
+status\n\
+help\n\
+stop\n\
+@LABEL ORDER\n";
+    same!(rt; out.as_slice(), words);
 }

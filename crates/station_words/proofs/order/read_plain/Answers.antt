@@ -1,6 +1,6 @@
 use Rattle.std.proofs.Common.{refl, sym, ◌∙◌}
 use Rattle.station_words.proofs.Parts.{order-alone, order-parted}
-use Rattle.station_words.proofs.order.read_order.Goals as goal
+use Rattle.station_words.proofs.order.read_plain.Goals as goal
 
 pub returns-in-None : goal.returns-in-None
 returns-in-None c =
@@ -24,5 +24,10 @@ returns-in-Some-3 c =
 
 pub returns-in-Some-4 : goal.returns-in-Some-4
 returns-in-Some-4 c =
-    let said = order-parted c.args.line.now c.first_part.result.0.now c.first_part.result.1 c.in-Some-4.field-0 (c.first_part.ensures 2) c.in-Some-4.is in
-    sym (said ∙ rw (sym c.if-eq.ensures, sym c.if-eq-2.ensures, sym c.if-eq-3.ensures) refl)
+    let said = order-parted c.args.line.now c.first_part.result.0.now c.first_part.result.1 c.in-Some-4.rest (c.first_part.ensures 2) c.in-Some-4.is in
+    c.read_save-in-Some-4.ensures ∙ sym (said ∙ rw (sym c.if-eq.ensures, sym c.if-eq-2.ensures, sym c.if-eq-3.ensures, sym c.if-eq-4.ensures) refl)
+
+pub returns-in-Some-5 : goal.returns-in-Some-5
+returns-in-Some-5 c =
+    let said = order-parted c.args.line.now c.first_part.result.0.now c.first_part.result.1 c.in-Some-5.field-0 (c.first_part.ensures 2) c.in-Some-5.is in
+    sym (said ∙ rw (sym c.if-eq.ensures, sym c.if-eq-2.ensures, sym c.if-eq-3.ensures, sym c.if-eq-4.ensures) refl)
