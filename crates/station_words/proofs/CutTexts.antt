@@ -1,6 +1,6 @@
 -- Texts that are cut at a byte.
-use Rattle.std.proofs.Common.{◌≡◌, ◌==◌, ℕ, Bool, ◌<◌, List, [], ◌∷◌, length, true, false, sym, refl, ◌∙◌, Option, Some, None, arith, option_map, ap}
-use Rattle.std.specs.List.{list_any, before_first, after_first, position_or_len}
+use Rattle.std.proofs.Common.{◌≡◌, ◌==◌, ℕ, Bool, ◌<◌, List, [], ◌∷◌, length, true, false, refl, Option, Some, None, arith, option_map}
+use Rattle.std.specs.List.{list_any, position_or_len}
 use denote.Ref.{Bor}
 use Rattle.std.proofs.lemmas.Grind.{common_steps}
 use Rattle.std.proofs.lemmas.Str.Pattern.{IsSplitOnceResult, split_once_first}

@@ -1,5 +1,5 @@
 -- Years and months.
-use Rattle.std.proofs.Common.{◌≡◌, ℕ, ◌+◌, ◌≤◌, ◌<◌, ◌-◌, suc, zero, true, false, Bool, refl, arith, add-one, if◌then◌else◌}
+use Rattle.std.proofs.Common.{◌≡◌, ℕ, ◌+◌, ◌≤◌, true, false, refl, arith, add-one, if◌then◌else◌}
 use Rattle.std.proofs.lemmas.Grind.{common_steps}
 use Rattle.station_words.specs.Calendar.{is_leap, days_to_year, days_to_month, year_length, month_length}
 

@@ -1,4 +1,4 @@
-use Rattle.std.proofs.Common.{◌≤◌, ◌≡◌, ◌+◌, arith, subst}
+use Rattle.std.proofs.Common.{◌≡◌, ◌+◌, arith, subst}
 use Rattle.station_words.specs.Calendar.{days_to_month}
 use Rattle.station_words.proofs.Dates.{month_more, month_none, twelve}
 use Rattle.station_words.proofs.calendar.month_of.Goals as goal

@@ -1,4 +1,4 @@
-use Rattle.std.proofs.Common.{◌+◌, ◌≤◌, ◌≡◌, arith}
+use Rattle.std.proofs.Common.{◌+◌, arith}
 use Rattle.station_words.proofs.Dates.{year_more, year_none, year_long}
 use Rattle.station_words.proofs.calendar.year_of.Goals as goal
 
