@@ -1,6 +1,6 @@
 //! A camera before a store.
 
-ghost use Rattle.std.specs.Prelude.{◌≡◌, IfOk};
+ghost use Rattle.std.specs.Prelude.{◌≡◌, ◌≤◌, IfOk};
 ghost use Rattle.loop_sessions.specs.Opened.{IsReady};
 
 use crate::Camera;
@@ -22,6 +22,8 @@ pub fn camera_before<D: Disk + Drop, P: PlaneMemory>(
     store: Store<D>,
     limits: DeskLimits,
 ) -> Result<Camera<D, P>, StoreFault>
+    requires pending { (1 ≤ limits.pending) × (limits.pending ≤ 64) }
+    requires group { (1 ≤ limits.group) × (limits.group ≤ 8) }
     ensures { IfOk result (IsReady P.plane) }
 {
     if store.must_reopen() {
