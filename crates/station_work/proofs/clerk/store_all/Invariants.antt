@@ -1,5 +1,5 @@
 use Rattle.std.proofs.Common.{◌≡◌}
-use Rattle.loop_recorder.specs.Receipts.{pass_number}
+use Rattle.loop_sessions.specs.Receipts.{pass_number}
 use Rattle.station_work.proofs.clerk.store_all.Given as goal
 
 abbrev pub invariant-loop : goal.invariant-loop
