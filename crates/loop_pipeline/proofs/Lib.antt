@@ -1,4 +1,5 @@
 mod Bringing
+pub mod Crossing
 mod Joining
 mod Moving
 mod Taking

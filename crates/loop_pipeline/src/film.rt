@@ -2,19 +2,21 @@
 
 ghost use Rattle.std.specs.Prelude.{◌≡◌, []};
 ghost use Rattle.rtrb.specs.Ring.{sent};
-ghost use Rattle.loop_pipeline.specs.Fronts.{IsOpen, Leaves};
+ghost use Rattle.loop_pipeline.specs.Fronts.{IsOpen, Leaves, made_of};
 
 use crate::bell::Bell;
-use crate::{Back, Brought, Front, FrontParts, Guide, Took};
+use crate::{Back, Begun, Brought, Front, FrontParts, Guide, Took};
 use loop_capture::{Device, FrameSource, Tick};
+use loop_desk::Hand;
 use loop_disk::Disk;
 use loop_plane::{FdTable, PlaneMemory};
 use loop_record::Frame;
 use loop_vb2::Queue;
-use rtrb::{Consumer, Producer};
-use std::alloc::Global;
-use std::sync::Wait;
+use rtrb::Producer;
+use std::alloc::{AllocError, Global};
 use std::sync::atomic::{AtomicBool, Ordering};
+use std::sync::{Mutex, Wait};
+use std::thread::{Promise, Scope, Threads};
 use std::time::{Clock, Duration};
 
 /// How many frames the ring takes: as many as a flush stores at once.
@@ -37,16 +39,32 @@ pub struct Link {
     over: AtomicBool,
     /// No thread begins, since one couldn't be started.
     closed: AtomicBool,
+    /// Memory of frames that were stored, for later ones.
+    memory: Mutex<Vec<Vec<u8>>>,
 }
 
 impl Link {
     /// Neither thread has begun.
-    pub fn new() -> Link {
-        Link {
+    pub fn new(alloc: Global) -> Result<Link, AllocError> {
+        Ok(Link {
             given: Bell::new(),
             room: Bell::new(),
             over: AtomicBool::new(false),
             closed: AtomicBool::new(false),
+            memory: Mutex::new(Vec::with_capacity(alloc, SPARES)?),
+        })
+    }
+
+    // Memory of a frame that was stored, if there is some.
+    fn take_memory<R: Wait>(&self, rt: &R) -> Option<Vec<u8>> {
+        self.memory.lock(rt).pop()
+    }
+
+    // Keeps memory for a later frame, where there is a place for it.
+    fn keep_memory<R: Wait>(&self, rt: &R, bytes: Vec<u8>) {
+        let mut memory = self.memory.lock(rt);
+        if memory.len() < memory.capacity() {
+            memory.push_reserved(bytes);
         }
     }
 
@@ -63,7 +81,6 @@ fn take_all<R: Wait, S: FrameSource + Drop, P: PlaneMemory, G: Guide>(
     link: &Link,
     guide: &G,
     front: &mut Front<S, P>,
-    memory: &mut Consumer<Vec<u8>>,
 )
     ensures { front.new ≡ front.old }
 {
@@ -72,7 +89,7 @@ fn take_all<R: Wait, S: FrameSource + Drop, P: PlaneMemory, G: Guide>(
         // A buffer that can't be queued again stays in the hand, and the next frame isn't taken.
         let _refused = front.put_back();
         if spare.is_none() {
-            spare = memory.pop().ok();
+            spare = link.take_memory(rt);
         }
         let seen = link.room.count(rt);
         match front.take(alloc, &mut spare) {
@@ -91,7 +108,6 @@ fn run_front<R: Wait + Clock, S: FrameSource + Drop, P: PlaneMemory, G: Guide>(
     link: &Link,
     guide: &G,
     mut front: Front<S, P>,
-    mut memory: Consumer<Vec<u8>>,
 ) -> Front<S, P>
     ensures { result ≡ front }
 {
@@ -103,7 +119,7 @@ fn run_front<R: Wait + Clock, S: FrameSource + Drop, P: PlaneMemory, G: Guide>(
             break;
         };
         let tick = front.tick(now);
-        take_all(rt, alloc, link, guide, &mut front, &mut memory);
+        take_all(rt, alloc, link, guide, &mut front);
         guide.ticked(rt, tick);
         if matches!(tick, Tick::Ended | Tick::Idle | Tick::WrongSize) {
             break;
@@ -154,7 +170,6 @@ pub fn film_back<R: Wait + Clock, D: Disk + Drop, G: Guide>(
     link: &Link,
     guide: &G,
     mut back: Back<D>,
-    mut memory: Producer<Vec<u8>>,
 ) -> Back<D>
     ensures { result ≡ record back { desk = result.desk } }
 {
@@ -164,11 +179,8 @@ pub fn film_back<R: Wait + Clock, D: Disk + Drop, G: Guide>(
         let over = link.over.load(Ordering::SeqCst);
         let some = bring_all(rt, link, guide, &mut back, refused);
         guide.visit(rt, alloc, &mut back);
-        if !memory.is_full() {
-            if let Some(bytes) = back.spare_memory() {
-                // A place is free, so it isn't refused.
-                let _pushed = memory.push(bytes);
-            }
+        if let Some(bytes) = back.spare_memory() {
+            link.keep_memory(rt, bytes);
         }
         if !refused && back.status().pending > 0 {
             if let Err(fault) = back.flush() {
@@ -195,12 +207,177 @@ pub fn film_front<R: Wait + Clock, S: FrameSource + Drop, P: PlaneMemory, G: Gui
     queue: Queue<P>,
     table: FdTable<P>,
     to: Producer<Frame>,
-    memory: Consumer<Vec<u8>>,
 ) -> FrontParts<S, P>
     requires ready { IsOpen P.plane queue table }
     requires ring { sent to ≡ [] }
     ensures { Leaves S.next_gives P.plane (record { queue = queue; device = device; to = to }) result }
 {
     let front = Front::new(device, queue, table, to);
-    run_front(rt, alloc, link, guide, front, memory).into_parts()
+    run_front(rt, alloc, link, guide, front).into_parts()
+}
+
+// Carries the end of a ring to another thread and back: behind a type parameter it is one thing that may go there.
+trait Carrier: Drop {
+    ghost use Rattle.std.specs.Global.{Global};
+    ghost use Rattle.rtrb.specs.declared.AnyItems.{AnyItems};
+    ghost use Rattle.rtrb.specs.declared.producer.Producer.{Producer};
+    ghost use Rattle.loop_record.specs.declared.frame.Frame.{Frame};
+
+    ghost inside: { Self → Producer (Frame Global) Global AnyItems };
+
+    fn open(self) -> Producer<Frame>
+        ensures { result ≡ inside self };
+
+    fn close(to: Producer<Frame>) -> Self
+        ensures { inside result ≡ to };
+}
+
+// It carries just that.
+#[derive(Drop)]
+struct Carried {
+    to: Producer<Frame>,
+}
+
+impl Carrier for Carried {
+    ghost inside = { λ c. c.to };
+
+    fn open(self) -> Producer<Frame> {
+        let Carried { to } = self;
+        to
+    }
+
+    fn close(to: Producer<Frame>) -> Self {
+        Carried { to }
+    }
+}
+
+// What a front leaves, on its way back.
+#[derive(Drop)]
+struct Left<S: FrameSource + Drop, P: PlaneMemory, W: Carrier> {
+    device: Device<S>,
+    queue: Queue<P>,
+    table: FdTable<P>,
+    hand: Hand<P>,
+    to: W,
+}
+
+// What comes back is what a front leaves that was made of these.
+impl<S: FrameSource + Drop, P: PlaneMemory, W: Carrier> Promise<Left<S, P, W>> for Begun<S, P> {
+    ghost use Rattle.loop_pipeline.specs.Fronts.{Leaves, made_of};
+
+    ghost kept_by = { λ begun left. Leaves S.next_gives P.plane (made_of begun)
+        (record { device = left.device; queue = left.queue; table = left.table; hand = left.hand; to = W.inside left.to }) };
+}
+
+// A front's whole life in one thread, from what was carried there to what is carried back.
+fn film_carried<R: Wait + Clock, S: FrameSource + Drop, P: PlaneMemory, G: Guide, W: Carrier>(
+    rt: &R,
+    alloc: Global,
+    link: &Link,
+    guide: &G,
+    device: Device<S>,
+    queue: Queue<P>,
+    table: FdTable<P>,
+    to: W,
+) -> Left<S, P, W>
+    requires ready { IsOpen P.plane queue table }
+    requires ring { sent (W.inside to) ≡ [] }
+    ensures { Leaves S.next_gives P.plane (record { queue = queue; device = device; to = W.inside to })
+        (record {
+          device = result.device;
+          queue = result.queue;
+          table = result.table;
+          hand = result.hand;
+          to = W.inside result.to;
+        }) }
+{
+    let FrontParts {
+        device,
+        queue,
+        table,
+        hand,
+        to,
+    } = film_front(rt, alloc, link, guide, device, queue, table, to.open());
+    Left {
+        device,
+        queue,
+        table,
+        hand,
+        to: W::close(to),
+    }
+}
+
+// What both threads leave, and whether the front's could be started.
+#[derive(Drop)]
+struct Both<S: FrameSource + Drop, D: Disk + Drop, P: PlaneMemory, W: Carrier> {
+    front: Left<S, P, W>,
+    back: Back<D>,
+    began: bool,
+}
+
+// Runs a front in a thread of its own, and the back in this one. Where no thread can be had, neither begins.
+fn run_in<
+    's,
+    E,
+    R: Threads + Wait + Clock + Sync,
+    S: FrameSource + Drop + Send + 's,
+    D: Disk + Drop,
+    P: PlaneMemory + Send + 's,
+    G: Guide + Sync,
+    W: Carrier + Send + 's,
+>(
+    rt: &'s R,
+    alloc: Global,
+    scope: &Scope<'s, E>,
+    link: &'s Link,
+    guide: &'s G,
+    begun: Begun<S, P>,
+    device: Device<S>,
+    queue: Queue<P>,
+    table: FdTable<P>,
+    to: W,
+    back: Back<D>,
+) -> Both<S, D, P, W>
+    requires begun { made_of begun ≡ record { queue = queue; device = device; to = W.inside to } }
+    requires ready { IsOpen P.plane queue table }
+    requires ring { sent (W.inside to) ≡ [] }
+    ensures front { Leaves S.next_gives P.plane (made_of begun)
+        (record {
+          device = result.front.device;
+          queue = result.front.queue;
+          table = result.front.table;
+          hand = result.front.hand;
+          to = W.inside result.front.to;
+        }) }
+    ensures back { result.back ≡ record back { desk = result.back.desk } }
+{
+    let work = move || -> Left<S, P, W>
+        requires { IsOpen P.plane queue table × (sent (W.inside to) ≡ []) }
+        ensures { Leaves S.next_gives P.plane (record { queue = queue; device = device; to = W.inside to })
+            (record {
+              device = result.device;
+              queue = result.queue;
+              table = result.table;
+              hand = result.hand;
+              to = W.inside result.to;
+            }) }
+    { film_carried(rt, alloc, link, guide, device, queue, table, to) };
+    match scope.spawn_with(begun, work) {
+        Ok(handle) => {
+            let back = film_back(rt, alloc, link, guide, back);
+            Both {
+                front: handle.join(rt),
+                back,
+                began: true,
+            }
+        }
+        Err(refused) => {
+            link.close();
+            Both {
+                front: (refused.value)(),
+                back,
+                began: false,
+            }
+        }
+    }
 }
