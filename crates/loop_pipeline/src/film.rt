@@ -1,18 +1,20 @@
 //! What the two threads of a camera do: one has its front, the other its back.
 
-ghost use Rattle.std.specs.Prelude.{◌≡◌, []};
+ghost use Rattle.std.specs.Prelude.{◌≡◌, ◌+◌, [], IfOk};
+ghost use Rattle.loop_desk.specs.declared.hand.Hand.TheVariants.{Empty};
+ghost use Rattle.loop_pipeline.specs.Cameras.{CameraKeeps};
 ghost use Rattle.rtrb.specs.Ring.{sent};
 ghost use Rattle.loop_pipeline.specs.Fronts.{IsOpen, Leaves, made_of};
 
 use crate::bell::Bell;
-use crate::{Back, Begun, Brought, Front, FrontParts, Guide, Took};
+use crate::{Back, Begun, Brought, Ended, Front, FrontParts, Guide, Took, end};
 use loop_capture::{Device, FrameSource, Tick};
-use loop_desk::Hand;
+use loop_desk::{Desk, Hand};
 use loop_disk::Disk;
 use loop_plane::{FdTable, PlaneMemory};
 use loop_record::Frame;
 use loop_vb2::Queue;
-use rtrb::Producer;
+use rtrb::{Producer, RingBuffer};
 use std::alloc::{AllocError, Global};
 use std::sync::atomic::{AtomicBool, Ordering};
 use std::sync::{Mutex, Wait};
@@ -379,5 +381,73 @@ fn run_in<
                 began: false,
             }
         }
+    }
+}
+
+/// Why a camera wasn't filmed.
+#[derive(Drop)]
+pub enum Unfilmed<S: FrameSource + Drop, D: Disk + Drop, P: PlaneMemory> {
+    /// Memory was refused before it began, and all comes back.
+    NoMemory(Device<S>, Queue<P>, FdTable<P>, Desk<D>),
+    /// A thread couldn't be started: what is left of the camera, of which nothing was filmed.
+    NoThread(Ended<S, D, P>),
+}
+
+/// Films a camera whose queue streams, by a thread of its own in this scope for the front and the caller's for the back,
+/// until its guide or its source ends it and nothing is left to flush. The link is a new one.
+pub fn film_camera<
+    's,
+    E,
+    R: Threads + Wait + Clock + Sync,
+    S: FrameSource + Drop + Send + 's,
+    D: Disk + Drop,
+    P: PlaneMemory + Send + 's,
+    G: Guide + Sync,
+>(
+    rt: &'s R,
+    alloc: Global,
+    scope: &Scope<'s, E>,
+    link: &'s Link,
+    guide: &'s G,
+    device: Device<S>,
+    queue: Queue<P>,
+    table: FdTable<P>,
+    desk: Desk<D>,
+) -> Result<Ended<S, D, P>, Unfilmed<S, D, P>>
+    requires { IsOpen P.plane queue table }
+    ensures keeps { IfOk result (λ e. CameraKeeps D.medium S.next_gives P.plane
+        (record { device = device; queue = queue; desk = desk })
+        (record { device = e.device; queue = e.queue; desk = e.desk }) (e.given_up + e.left)) }
+    ensures again { IfOk result (λ e. e.hand ≡ Empty → IsOpen P.plane e.queue e.table) }
+{
+    let Ok((to, from)) = RingBuffer::new(alloc, RING) else {
+        return Err(Unfilmed::NoMemory(device, queue, table, desk));
+    };
+    let begun = Begun::of(&queue, &device, &to);
+    let again = Begun::of(&queue, &device, &to);
+    let back = Back::new(desk, from);
+    let to = Carried { to };
+    let Both { front, back, began } = run_in(
+        rt, alloc, scope, link, guide, begun, device, queue, table, to, back,
+    );
+    let Left {
+        device,
+        queue,
+        table,
+        hand,
+        to,
+    } = front;
+    let parts = FrontParts {
+        device,
+        queue,
+        table,
+        hand,
+        to: to.open(),
+    };
+    let ended = end(again, parts, back);
+    if began {
+        Ok(ended)
+    } else {
+        Err(Unfilmed::NoThread(ended))
     }
 }

@@ -3,7 +3,7 @@
 ghost use Rattle.std.specs.Prelude.{◌≡◌, ◌<◌, ◌++◌, []};
 ghost use Rattle.rtrb.specs.Ring.{SameProducer, known_free, sent};
 ghost use Rattle.loop_desk.specs.Front.{hand_state};
-ghost use Rattle.loop_pipeline.specs.Fronts.{IsOpen, Leaves, emptied, frame_of};
+ghost use Rattle.loop_pipeline.specs.Fronts.{IsOpen, Leaves, emptied, frame_of, made_of};
 
 use loop_capture::{Device, FrameSource, Tick};
 use loop_desk::front::{dequeue, requeue};
@@ -54,6 +54,19 @@ pub struct Begun<S: FrameSource + Drop, P: PlaneMemory, A: Allocator + Copy = Gl
     pub device: Snapshot<Device<S, A>>,
     /// The end of its ring.
     pub to: Snapshot<Producer<Frame<A>, A>>,
+}
+
+impl<S: FrameSource + Drop, P: PlaneMemory, A: Allocator + Copy> Begun<S, P, A> {
+    /// These, as they are now.
+    pub fn of(queue: &Queue<P, A>, device: &Device<S, A>, to: &Producer<Frame<A>, A>) -> Self
+        ensures { made_of result ≡ record { queue = queue.now; device = device.now; to = to.now } }
+    {
+        Begun {
+            queue: Snapshot::of(queue),
+            device: Snapshot::of(device),
+            to: Snapshot::of(to),
+        }
+    }
 }
 
 /// What is left of a front.

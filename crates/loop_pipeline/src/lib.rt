@@ -2,10 +2,10 @@
 //!
 //! - `front`: a device, its queue with the buffers, and the end of a ring to which the frames go that come out of the
 //!   queue; `back`: the other end of the ring, and a desk before a store; `ending`: both halves in one hand;
-//! - `film`: what the two threads do; `guide`: what guides them; `bell`: where one sleeps until the other has something
-//!   for it.
+//! - `film`: `film_camera`, which runs both, and what each does; `guide`: what guides them; `bell`: where one sleeps until
+//!   the other has something for it.
 //!
-//! What the halves keep is said where they end: `Front::into_parts`, `Back::into_parts`, and of both by `end`
+//! What the halves keep is said where they end: `Front::into_parts`, `Back::into_parts`, and of both by `film_camera`
 //! (`specs/Cameras`, `CameraKeeps`): the frames that waited and those that the source gave at ticks that completed a
 //! buffer are, in order and with all bytes, those that came to the desk and those that still wait; each that came was
 //! accepted or is counted; and of those that were accepted the footage is kept, whenever the power fails.
@@ -22,6 +22,6 @@ mod guide;
 
 pub use back::{Back, BackParts, Brought};
 pub use ending::{Ended, end};
-pub use film::{Link, film_back, film_front};
+pub use film::{Link, Unfilmed, film_back, film_camera, film_front};
 pub use front::{Begun, Front, FrontParts, Took};
 pub use guide::Guide;
