@@ -286,7 +286,7 @@ class Laboratory:
                         "to": words.iso(clip.until),
                         "seconds": (clip.until - clip.since) / 1e6 + 1 / reading.geometry.rate(),
                         "bytes": clip.count() * (reading.geometry.size + 6) + len(layout.text_front(reading.geometry)),
-                        "note": self.notes.of(watched.camera.store, clip.id, clip.since),
+                        "note": self.notes.of(watched.camera.store, clip),
                         "fetched": self.fetching[name, clip.id] > 0,
                     }
                 )
@@ -382,11 +382,11 @@ class Laboratory:
     def put_note(self, camera: str, clip: Clip, text: str) -> None:
         """Writes a note beside a clip."""
         keys = {
-            key_of(watched.camera.store, it.id, it.since)
+            key_of(watched.camera.store, it)
             for name, watched in self.cameras.items()
             for it in self.clips_of(name)
         }
-        self.notes.put(self.watched(camera).camera.store, clip.id, clip.since, text, keys.__contains__)
+        self.notes.put(self.watched(camera).camera.store, clip, text, keys.__contains__)
 
     def clip(self, camera: object, id_: int, first: int | None = None) -> tuple[Watched, Reading, Source, Clip]:
         """A clip by its id, and by its first number where that is given: ids are used again."""

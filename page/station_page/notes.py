@@ -1,5 +1,5 @@
-"""What people write beside clips, in a file of the page's own: by the store's path, the clip's id and the time of its first frame, so that a note
-never comes to stand beside another clip. The file is written anew, synced, and put in the old one's place."""
+"""What people write beside clips, in a file of the page's own: by the store's path, the clip's id and the times of its first and last frame, so
+that a note never comes to stand beside other frames. The file is written anew, synced, and put in the old one's place."""
 import json
 import os
 import tempfile
@@ -7,6 +7,7 @@ import threading
 from pathlib import Path
 
 from . import limits
+from .reader import Clip
 
 VERSION = 1
 
@@ -23,9 +24,9 @@ def tidy(text: str) -> str:
     return line
 
 
-def key_of(store: str, id_: int, since: int) -> str:
-    """By what a note is found."""
-    return f"{id_} {since} {store}"
+def key_of(store: str, clip: Clip) -> str:
+    """By what a note is found: ids are used again, also for a clip that begins where an earlier one did."""
+    return f"{clip.id} {clip.since} {clip.until} {store}"
 
 
 class Notes:
@@ -54,21 +55,21 @@ class Notes:
             return f"The file of notes can't be read: {self.path}. Move it away, and start the page again."
         return None
 
-    def of(self, store: str, id_: int, since: int) -> str:
+    def of(self, store: str, clip: Clip) -> str:
         """The note of a clip."""
-        return self.notes.get(key_of(store, id_, since), "")
+        return self.notes.get(key_of(store, clip), "")
 
-    def put(self, store: str, id_: int, since: int, text: str, is_held) -> None:
+    def put(self, store: str, clip: Clip, text: str, is_held) -> None:
         """Writes a note, or takes it away where it is empty. `is_held` says of a key whether its clip still stands: notes of others make room."""
         line = tidy(text)
         with self.lock:
             if self.fault:
                 raise NotesFault(self.fault)
-            changed = {key: value for key, value in self.notes.items() if key != key_of(store, id_, since)}
+            changed = {key: value for key, value in self.notes.items() if key != key_of(store, clip)}
             if line and len(changed) >= limits.NOTES:
                 changed = {key: value for key, value in changed.items() if is_held(key)}
             if line:
-                changed[key_of(store, id_, since)] = line
+                changed[key_of(store, clip)] = line
             self.write(changed)
             self.notes = changed
 

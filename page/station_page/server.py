@@ -458,6 +458,14 @@ class Page:
             return await self.send_known(request, fetch, "mp4", film.size, pieces)
 
 
+async def end_all(tasks: list[asyncio.Task]) -> None:
+    """Ends all tasks. Before Python 3.12 `wait_for` loses a cancellation that comes together with what it waits for: then there is another one."""
+    while left := [task for task in tasks if not task.done()]:
+        for task in left:
+            task.cancel()
+        await asyncio.wait(left, timeout=0.1)
+
+
 async def serve(settings: Settings) -> None:
     """Runs the page until it is told to end."""
     page = Page(settings)
@@ -489,9 +497,7 @@ async def serve(settings: Settings) -> None:
         connection.transport.abort()
     await page.laboratory.close()
     faults = [task.exception() for task in tasks if task.done() and not task.cancelled()]
-    for task in tasks:
-        task.cancel()
-    await asyncio.gather(*tasks, return_exceptions=True)
+    await end_all(tasks)
     await runner.cleanup()
     for fault in faults:
         if fault:
