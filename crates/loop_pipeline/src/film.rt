@@ -27,13 +27,16 @@ const RING: usize = 8;
 /// How much memory of stored frames goes back to the front at most.
 const SPARES: usize = 16;
 
-/// How many milliseconds a desk's thread sleeps at most before it looks what others ask of it.
-const LOOK_AGAIN: u64 = 20;
+/// How many milliseconds a desk's thread sleeps at most before it looks what others ask of it, unless it is woken.
+const LOOK_AGAIN: u64 = 250;
 
-/// What the two threads tell each other.
+/// How many milliseconds a flush that was refused is left alone at most, unless the thread is woken.
+const FLUSH_AGAIN: u64 = 100;
+
+/// What the two threads of a camera tell each other, and how others wake them. It serves one filming after another.
 #[derive(Drop)]
 pub struct Link {
-    /// Rings after each frame that went into the ring, and when the front's thread has ended.
+    /// Rings after each frame that went into the ring, when the front's thread has ended, and when others ask something.
     given: Bell,
     /// Rings after frames were taken out of it.
     room: Bell,
@@ -46,7 +49,7 @@ pub struct Link {
 }
 
 impl Link {
-    /// Neither thread has begun.
+    /// One of which no thread has begun.
     pub fn new(alloc: Global) -> Result<Link, AllocError> {
         Ok(Link {
             given: Bell::new(),
@@ -55,6 +58,17 @@ impl Link {
             closed: AtomicBool::new(false),
             memory: Mutex::new(Vec::with_capacity(alloc, SPARES)?),
         })
+    }
+
+    /// Wakes the desk's thread, so that it looks what others ask of it.
+    pub fn wake<R: Wait>(&self, rt: &R) {
+        self.given.ring(rt);
+    }
+
+    // The threads of another filming begin.
+    fn begin(&self) {
+        self.over.store(false, Ordering::SeqCst);
+        self.closed.store(false, Ordering::SeqCst);
     }
 
     // Memory of a frame that was stored, if there is some.
@@ -70,8 +84,8 @@ impl Link {
         }
     }
 
-    /// Lets no front begin to tick: the other thread couldn't be started.
-    pub fn close(&self) {
+    // Lets no front begin to tick: its thread couldn't be started.
+    fn close(&self) {
         self.closed.store(true, Ordering::SeqCst);
     }
 }
@@ -100,6 +114,9 @@ fn take_all<R: Wait, S: FrameSource + Drop, P: PlaneMemory, G: Guide>(
             Took::RingFull => link.room.wait(rt, seen),
             Took::Refused(_) => break,
         }
+    }
+    if let Some(bytes) = spare {
+        link.keep_memory(rt, bytes);
     }
 }
 
@@ -146,7 +163,7 @@ fn bring_all<R: Wait, D: Disk + Drop, G: Guide>(
     let mut some = false;
     'frames: for _ in 0..RING {
         match back.bring() {
-            Brought::Submitted(_) => {}
+            Brought::Submitted(_) => guide.brought(),
             Brought::GivenUp(_) => guide.gave_up(),
             Brought::DeskFull if refused => {
                 if !back.give_up() {
@@ -164,8 +181,20 @@ fn bring_all<R: Wait, D: Disk + Drop, G: Guide>(
     some
 }
 
-/// The whole work of a back's thread: brings, lets others ask, and flushes, until the front's thread has ended and nothing is left to
-/// flush.
+// Gives memory of frames that were stored back to the front.
+fn give_memory<R: Wait, D: Disk + Drop>(rt: &R, link: &Link, back: &mut Back<D>)
+    ensures { back.new ≡ back.old }
+{
+    'rows: for _ in 0..RING {
+        let Some(bytes) = back.spare_memory() else {
+            break;
+        };
+        link.keep_memory(rt, bytes);
+    }
+}
+
+/// The whole work of a back's thread: it brings, lets others ask, and flushes, until the front's thread has ended and
+/// nothing is left to flush.
 pub fn film_back<R: Wait + Clock, D: Disk + Drop, G: Guide>(
     rt: &R,
     alloc: Global,
@@ -181,19 +210,28 @@ pub fn film_back<R: Wait + Clock, D: Disk + Drop, G: Guide>(
         let over = link.over.load(Ordering::SeqCst);
         let some = bring_all(rt, link, guide, &mut back, refused);
         guide.visit(rt, alloc, &mut back);
-        if let Some(bytes) = back.spare_memory() {
-            link.keep_memory(rt, bytes);
-        }
-        if !refused && back.status().pending > 0 {
-            if let Err(fault) = back.flush() {
-                refused = !guide.flushes_again(rt, fault);
+        give_memory(rt, link, &mut back);
+        let rest = if !refused && back.status().pending > 0 {
+            match back.flush() {
+                Ok(flushed) => {
+                    guide.stored(flushed.stored);
+                    0
+                }
+                Err(fault) => {
+                    refused = !guide.flushes_again(fault);
+                    if refused { 0 } else { FLUSH_AGAIN }
+                }
             }
-        } else if !some {
+        } else if some {
+            0
+        } else {
             if over {
                 break;
             }
-            link.given
-                .wait_for(rt, seen, Duration::from_millis(LOOK_AGAIN));
+            LOOK_AGAIN
+        };
+        if rest > 0 {
+            link.given.wait_for(rt, seen, Duration::from_millis(rest));
         }
     }
     back
@@ -394,7 +432,7 @@ pub enum Unfilmed<S: FrameSource + Drop, D: Disk + Drop, P: PlaneMemory> {
 }
 
 /// Films a camera whose queue streams, by a thread of its own in this scope for the front and the caller's for the back,
-/// until its guide or its source ends it and nothing is left to flush. The link is a new one.
+/// until its guide or its source ends it and nothing is left to flush. No other camera is filmed by the link meanwhile.
 pub fn film_camera<
     's,
     E,
@@ -420,6 +458,7 @@ pub fn film_camera<
         (record { device = e.device; queue = e.queue; desk = e.desk }) (e.given_up + e.left)) }
     ensures again { IfOk result (λ e. e.hand ≡ Empty → IsOpen P.plane e.queue e.table) }
 {
+    link.begin();
     let Ok((to, from)) = RingBuffer::new(alloc, RING) else {
         return Err(Unfilmed::NoMemory(device, queue, table, desk));
     };

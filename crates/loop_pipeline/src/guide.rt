@@ -18,12 +18,18 @@ pub trait Guide {
     /// What a tick did.
     fn ticked<R: Wait>(&self, rt: &R, tick: Tick);
 
+    /// A frame was taken in by the desk.
+    fn brought(&self);
+
     /// A frame was given up.
     fn gave_up(&self);
 
-    /// A flush was refused so; whether it is tried again. Where it isn't, frames for which the desk has no room are given
-    /// up.
-    fn flushes_again<R: Wait + Clock>(&self, rt: &R, fault: StoreFault) -> bool;
+    /// A flush stored so many frames.
+    fn stored(&self, count: u32);
+
+    /// A flush was refused so; whether it is tried again, after a while or once the desk's thread is woken. Where it isn't,
+    /// frames for which the desk has no room are given up.
+    fn flushes_again(&self, fault: StoreFault) -> bool;
 
     /// What others ask of the desk. It is called between flushes, by the desk's own thread.
     fn visit<R: Wait + Clock, D: Disk + Drop>(&self, rt: &R, alloc: Global, back: &mut Back<D>)

@@ -214,11 +214,6 @@ pub fn print_not_a_store<W: Write>(
     )
 }
 
-/// `tie broken NAME: ..`: a session's history isn't that of what its callers were answered.
-pub fn print_broken_tie<W: Write>(out: &mut W, camera: &str) -> io::Result<()> {
-    writeln!(out, "tie broken {camera}: its store is opened again")
-}
-
 /// `refused NAME saving`: a clip that is being saved isn't unlocked.
 pub fn print_saving<W: Write>(out: &mut W, camera: &str) -> io::Result<()> {
     writeln!(out, "refused {camera} saving")

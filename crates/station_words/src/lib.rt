@@ -26,9 +26,9 @@ mod shape;
 mod time;
 
 pub use answers::{
-    CameraStatus, print_absent, print_all_locked, print_bad_order, print_behind, print_broken_tie,
-    print_camera, print_caught_up, print_clip_path, print_done, print_given_up, print_head,
-    print_help, print_kept, print_no_answers, print_no_camera, print_not_a_store, print_not_saved,
+    CameraStatus, print_absent, print_all_locked, print_bad_order, print_behind, print_camera,
+    print_caught_up, print_clip_path, print_done, print_given_up, print_head, print_help,
+    print_kept, print_no_answers, print_no_camera, print_not_a_store, print_not_saved,
     print_refused, print_released, print_room_again, print_saved, print_saving,
     print_source_missing, print_source_on, print_status, print_stopped, print_store_absent,
     print_store_open, print_too_many_saves,

@@ -34,8 +34,6 @@ pub enum Absent {
     NoGeometry,
     /// There is no memory for the buffers of its frames.
     NoBuffers,
-    /// The last session's history isn't that of what its callers were answered.
-    TieBroken,
     /// The program comes to its end.
     Stopped,
 }
@@ -73,7 +71,6 @@ impl Absent {
             Absent::TooFewBytes => "TooFewBytes",
             Absent::NoGeometry => "NoGeometry",
             Absent::NoBuffers => "NoBuffers",
-            Absent::TieBroken => "TieBroken",
             Absent::Stopped => "Stopped",
         }
     }

@@ -1,6 +1,5 @@
 //! What is counted of a camera.
 
-use loop_recorder::Step;
 use std::sync::atomic::{AtomicU64, Ordering};
 
 /// What is counted of a camera since the program began.
@@ -16,8 +15,6 @@ pub struct Counts {
     pub given_up: AtomicU64,
     /// How often the disk or the store failed, and the store was opened again.
     pub faults: AtomicU64,
-    /// Entries in the history of this session, or more than there are.
-    pub entries: AtomicU64,
 }
 
 impl Counts {
@@ -29,22 +26,13 @@ impl Counts {
             left: AtomicU64::new(0),
             given_up: AtomicU64::new(0),
             faults: AtomicU64::new(0),
-            entries: AtomicU64::new(0),
         }
     }
 
-    /// A step of a worker. Each frame that is dequeued is submitted once at most, and that is an entry.
-    pub fn reached(&self, step: Step) {
-        match step {
-            Step::Submitted => {
-                self.submitted.fetch_add(1, Ordering::SeqCst);
-                self.brought.fetch_add(1, Ordering::SeqCst);
-            }
-            Step::Dequeued | Step::FlushLocked | Step::Read => {
-                self.entries.fetch_add(1, Ordering::SeqCst);
-            }
-            Step::Ticked | Step::Flushed => {}
-        }
+    /// A frame was taken in by the desk.
+    pub fn bring(&self) {
+        self.submitted.fetch_add(1, Ordering::SeqCst);
+        self.brought.fetch_add(1, Ordering::SeqCst);
     }
 
     /// A frame was given up before it came to the desk.

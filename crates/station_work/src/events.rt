@@ -126,7 +126,7 @@ impl Told {
     ) -> io::Result<()> {
         let name = state.config.name.as_str();
         match state.clerk.attended(rt) {
-            // A session has ended, and the next one begins.
+            // It is still to be opened for the first time.
             None => Ok(()),
             Some(Ok(())) => {
                 if matches!(self.store, Store::Open) {

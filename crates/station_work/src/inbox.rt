@@ -1,6 +1,7 @@
 //! Where one thread asks another, which answers.
 
 use std::sync::{Condvar, Mutex, Wait};
+use std::time::{Clock, Duration};
 
 /// What stands between who asks and who answers: one question at a time, and its answer.
 #[derive(Drop)]
@@ -11,8 +12,8 @@ struct Desk<Q: Drop, A: Drop, N: Drop + Copy> {
     answer: Option<Result<A, N>>,
     /// Nobody answers now, and why.
     nobody: Option<N>,
-    /// Who answers is to leave.
-    over: bool,
+    /// Someone answers now.
+    open: bool,
 }
 
 /// One thread asks and waits, another answers. Where nobody does, that is the answer, as an `N` that says why.
@@ -31,7 +32,7 @@ impl<Q: Drop, A: Drop, N: Drop + Copy> Inbox<Q, A, N> {
                 question: None,
                 answer: None,
                 nobody: None,
-                over: true,
+                open: false,
             }),
             changed: Condvar::new(),
         }
@@ -60,14 +61,14 @@ impl<Q: Drop, A: Drop, N: Drop + Copy> Inbox<Q, A, N> {
         desk.answer.take()
     }
 
-    /// Waits for a question; None where who answers is to leave. A question that stands then waits for the next one.
-    pub fn next<R: Wait>(&self, rt: &R) -> Option<Q> {
-        let mut desk = self.changed.wait_while(rt, self.desk.lock(rt), |desk| {
-            desk.question.is_none() && !desk.over
-        });
-        if desk.over {
-            return None;
-        }
+    /// Takes a question; waits for one, for so long at most.
+    pub fn take<R: Wait + Clock>(&self, rt: &R, most: Duration) -> Option<Q> {
+        let (mut desk, _) = self.changed.wait_timeout_while(
+            rt,
+            self.desk.lock(rt),
+            most,
+            |desk| desk.question.is_none(),
+        );
         desk.question.take()
     }
 
@@ -76,13 +77,13 @@ impl<Q: Drop, A: Drop, N: Drop + Copy> Inbox<Q, A, N> {
         self.desk.lock(rt).question = Some(question);
     }
 
-    /// Whether someone answers now, or why nobody does; None while another one comes.
+    /// Whether someone answers now, or why nobody does; None where someone is still to come.
     pub fn attended<R: Wait>(&self, rt: &R) -> Option<Result<(), N>> {
         let desk = self.desk.lock(rt);
         match desk.nobody {
             Some(why) => Some(Err(why)),
-            None if desk.over => None,
-            None => Some(Ok(())),
+            None if desk.open => Some(Ok(())),
+            None => None,
         }
     }
 
@@ -96,21 +97,14 @@ impl<Q: Drop, A: Drop, N: Drop + Copy> Inbox<Q, A, N> {
     /// From now on someone answers.
     pub fn open<R: Wait>(&self, rt: &R) {
         let mut desk = self.desk.lock(rt);
-        desk.over = false;
+        desk.open = true;
         desk.nobody = None;
-    }
-
-    /// Who answers is to leave, and another one comes.
-    pub fn close<R: Wait>(&self, rt: &R) {
-        let mut desk = self.desk.lock(rt);
-        desk.over = true;
-        self.changed.notify_all();
     }
 
     /// Nobody answers from now on; a question that stands is answered so too.
     pub fn leave<R: Wait>(&self, rt: &R, why: N) {
         let mut desk = self.desk.lock(rt);
-        desk.over = true;
+        desk.open = false;
         desk.nobody = Some(why);
         if desk.question.take().is_some() {
             desk.answer = Some(Err(why));

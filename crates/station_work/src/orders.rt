@@ -7,7 +7,7 @@ use crate::places::Places;
 use crate::save::{NotSaved, Saves, Target, begin_save};
 use crate::state::CameraState;
 use crate::told::{Answered, tell_kept, tell_listed, tell_released, tell_status};
-use loop_recorder::Times;
+use loop_record::Times;
 use loop_script::{MAX_LINE, next_line};
 use station_words::{
     Name, Order, label_of, print_bad_order, print_done, print_help, print_no_camera,
@@ -250,7 +250,7 @@ fn keep<
     let mut some = false;
     for state in station.cameras.as_slice() {
         if is_meant(state, name) {
-            state.clerk.ask(rt, keep_of(rt, state, span, tag));
+            state.ask(rt, keep_of(rt, state, span, tag));
             some = true;
         }
     }
@@ -326,7 +326,7 @@ fn release<R: Wait, W: Write + Drop, L: Write>(
     if station.saves.holds(rt, name, id) {
         return print_saving(lines, name);
     }
-    state.clerk.ask(rt, Request::Release(id));
+    state.ask(rt, Request::Release(id));
     tell_released(state, id, state.clerk.answer(rt), lines)
 }
 
@@ -337,7 +337,7 @@ fn list<R: Wait, W: Write + Drop, L: Write>(
     lines: &mut L,
 ) -> io::Result<()> {
     for state in station.cameras.as_slice() {
-        state.clerk.ask(rt, Request::Look);
+        state.ask(rt, Request::Look);
         tell_listed(state, state.clerk.answer(rt), lines)?;
     }
     Ok(())
@@ -350,7 +350,7 @@ pub(crate) fn status<R: Wait, W: Write + Drop, L: Write>(
     lines: &mut L,
 ) -> io::Result<()> {
     for state in station.cameras.as_slice() {
-        state.clerk.ask(rt, Request::Look);
+        state.ask(rt, Request::Look);
         let answer = state.clerk.answer(rt);
         tell_status(rt, state, answer, lines)?;
     }

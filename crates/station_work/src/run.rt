@@ -2,11 +2,11 @@
 
 use crate::clock::Timeline;
 use crate::events::{Told, tell_events};
+use crate::filming::run_camera;
 use crate::orders::{Station, status, take_orders};
 use crate::outlet::Outlet;
 use crate::places::{Found, Places};
 use crate::save::Saves;
-use crate::sessions::run_camera;
 use crate::source::run_source;
 use crate::state::CameraState;
 use crate::tap::{Tap, run_tap};

@@ -12,7 +12,7 @@ use crate::state::CameraState;
 use crate::told::tell_released;
 use loop_file::{FileFault, TextFile};
 use loop_record::Geometry;
-use loop_recorder::SessionFault;
+use loop_store::StoreFault;
 use loop_y4m::{write_frame, write_header};
 use station_words::{print_clip_path, print_done, print_not_saved, print_saved};
 use std::alloc::{AllocError, AllocGlobal, Global};
@@ -46,7 +46,7 @@ pub(crate) enum NotSaved {
     /// The camera's store isn't there.
     Absent(Absent),
     /// The store refused a read.
-    Refused(SessionFault),
+    Refused(StoreFault),
     /// A file is there, and wasn't to be replaced.
     Exists,
     /// The file or pipe is one that the station has open, or another program has locked.
@@ -70,9 +70,7 @@ impl Display for NotSaved {
             NotSaved::NoSuchClip => "NoSuchClip",
             NotSaved::TooMany => "too many saves",
             NotSaved::Absent(why) => return why.fmt(f),
-            NotSaved::Refused(SessionFault::Desk(fault)) => fault.name(),
-            NotSaved::Refused(SessionFault::SessionFull) => "SessionFull",
-            NotSaved::Refused(SessionFault::NoMemory) => "NoMemory",
+            NotSaved::Refused(fault) => fault.name(),
             NotSaved::Exists => "Exists",
             NotSaved::InUse => "InUse",
             NotSaved::File(fault) => file_name(*fault),
@@ -413,7 +411,7 @@ fn path_of(
 
 // The clip of an id, as its camera has it now.
 fn find<R: Wait>(rt: &R, state: &CameraState, id: u32) -> Result<FoundClip, NotSaved> {
-    state.clerk.ask(rt, Request::Find(id));
+    state.ask(rt, Request::Find(id));
     match state.clerk.answer(rt) {
         Some(Ok(Answer::Found(Ok(Some(found))))) => Ok(found),
         Some(Ok(Answer::Found(Err(fault)))) => Err(NotSaved::Refused(fault)),
@@ -452,7 +450,7 @@ fn run_saves<R: AllocGlobal + Places + Wait + Clock, W: Write + Drop>(
 // Releases a clip that is saved.
 fn release<R: Wait, L: Write>(rt: &R, save: &Save, lines: &mut L) -> io::Result<()> {
     let (state, id) = (&save.state, save.found.clip.id);
-    state.clerk.ask(rt, Request::Release(id));
+    state.ask(rt, Request::Release(id));
     tell_released(state, id, state.clerk.answer(rt), lines)
 }
 
@@ -543,7 +541,7 @@ fn write_one<R: Wait, W: Write>(
     out: &mut W,
 ) -> Result<(), NotSaved> {
     let state = &save.state;
-    state.reader.ask(rt, number);
+    state.ask_frame(rt, number);
     match state.reader.answer(rt) {
         Some(Ok(Ok(frame))) => {
             if !save.found.fits(number, frame.head.timestamp) {

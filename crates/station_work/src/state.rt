@@ -1,43 +1,27 @@
-//! What the threads of one camera share, and how it leads its recordings.
+//! What the threads of one camera share, and how it guides them.
 
-ghost use Rattle.std.specs.Prelude.{◌≡◌, ◌<◌, length};
-ghost use Rattle.loop_sessions.specs.Receipts.{pass_number};
+ghost use Rattle.std.specs.Prelude.{◌≡◌};
 
 use crate::absent::Absent;
-use crate::clerk::{Answer, Request, attend, lend};
+use crate::clerk::{Answer, Keeping, Request, attend};
 use crate::clock::Timeline;
 use crate::counts::Counts;
 use crate::feed::Feed;
 use crate::inbox::Inbox;
 use crate::link::Link;
 use crate::size::micros_of;
-use crate::turn::Turn;
 use loop_capture::Tick;
 use loop_disk::Disk;
-use loop_plane::PlaneMemory;
-use loop_record::Geometry;
-use loop_recorder::{Lead, Pace, Pass, Recorder, SessionFault, Step};
-use loop_script::LIMITS;
+use loop_pipeline::{Back, Guide, Link as Threads};
 use loop_store::{ReadFrame, StoreFault};
 use station_words::CameraConfig;
 use std::alloc::{AllocError, Global};
 use std::sync::atomic::{AtomicBool, Ordering};
-use std::sync::{Arc, Wait};
-use std::thread;
+use std::sync::{Arc, Mutex, Wait};
 use std::time::{Clock, Duration};
 
-/// How many milliseconds a device waits for a frame before it looks whether its session is over.
+/// How many milliseconds a device waits for a frame before it looks whether its filming is over.
 const LOOK_AGAIN: u64 = 50;
-
-/// How many milliseconds a flush that found no room is left alone.
-const FLUSH_AGAIN: u64 = 100;
-
-/// A session ends once so few frames are in the queue and at the desk that all have room there: `DeskLimits::pending`.
-const ROOM_AT_DESK: u64 = LIMITS.pending as u64;
-
-/// With so many entries in its history a session ends, and the next one begins: far below the most calls that a history
-/// may have, so that what is under way finds room, and few enough that a session's memory is small from the first on.
-const MOST_ENTRIES: u64 = 8_000;
 
 /// What the threads of one camera share.
 #[derive(Drop)]
@@ -50,36 +34,25 @@ pub struct CameraState {
     pub feed: Arc<Feed>,
     /// What its source and its store know of each other.
     pub link: Link,
+    /// What the threads that film it tell each other.
+    pub threads: Threads,
     /// Where orders go.
     pub clerk: Inbox<Request, Answer, Absent>,
     /// Where frames are read for a save.
-    pub reader: Inbox<u64, Result<ReadFrame, SessionFault>, Absent>,
+    pub reader: Inbox<u64, Result<ReadFrame, StoreFault>, Absent>,
     /// What is counted.
     pub counts: Counts,
-    /// Whether its session may end.
-    pub turn: Turn,
-    /// The session is over.
+    /// The keep that waits for frames, if one does.
+    keeping: Mutex<Option<Keeping>>,
+    /// The filming is over: desk or queue is broken, and the store is opened again.
     over: AtomicBool,
-    /// The queue takes no frames any more.
-    broken: AtomicBool,
     /// Every block is locked, as the last flush was answered.
     locked: AtomicBool,
     stopped: AtomicBool,
 }
 
-/// What a device does next.
-#[derive(Clone, Copy)]
-enum Next {
-    /// It takes the next frame.
-    Tick,
-    /// It waits until all that it took has room at the desk.
-    Rest,
-    /// It leaves its session.
-    Leave,
-}
-
 impl CameraState {
-    /// A camera that isn't recorded yet.
+    /// A camera that isn't filmed yet.
     pub fn new(
         alloc: Global,
         config: CameraConfig,
@@ -90,12 +63,12 @@ impl CameraState {
             timeline,
             feed: Arc::new(alloc, Feed::new(alloc)?)?,
             link: Link::new(),
+            threads: Threads::new(alloc)?,
             clerk: Inbox::new(),
             reader: Inbox::new(),
             counts: Counts::new(),
-            turn: Turn::new(),
+            keeping: Mutex::new(None),
             over: AtomicBool::new(false),
-            broken: AtomicBool::new(false),
             locked: AtomicBool::new(false),
             stopped: AtomicBool::new(false),
         })
@@ -111,30 +84,44 @@ impl CameraState {
         self.stopped.load(Ordering::SeqCst)
     }
 
-    /// A session begins: orders are taken.
-    pub fn begin_session<R: Wait>(&self, rt: &R) {
+    /// Asks for something; the answer has to be taken from the clerk.
+    pub fn ask<R: Wait>(&self, rt: &R, request: Request) {
+        self.clerk.ask(rt, request);
+        self.threads.wake(rt);
+    }
+
+    /// Asks for the frame of a number; the answer has to be taken from the reader.
+    pub fn ask_frame<R: Wait>(&self, rt: &R, number: u64) {
+        self.reader.ask(rt, number);
+        self.threads.wake(rt);
+    }
+
+    /// Its store is there, and the camera is filmed from now on: orders are taken.
+    pub fn begin<R: Wait>(&self, rt: &R) {
         self.over.store(false, Ordering::SeqCst);
-        self.counts.entries.store(0, Ordering::SeqCst);
-        self.turn.begin(rt);
+        self.locked.store(false, Ordering::SeqCst);
         self.clerk.open(rt);
         self.reader.open(rt);
     }
 
-    /// The store isn't there.
+    /// The store isn't there. An order that stands, or a keep that waits, is answered so.
     pub fn leave<R: Wait>(&self, rt: &R, why: Absent) {
+        if let Some(keeping) = self.take_keeping(rt) {
+            self.clerk
+                .again(rt, Request::Keep(keeping.times, keeping.tag));
+        }
         self.clerk.leave(rt, why);
         self.reader.leave(rt, why);
     }
 
-    /// A queue that was just made takes frames.
-    pub fn begin_queue(&self) {
-        self.broken.store(false, Ordering::SeqCst);
-        self.locked.store(false, Ordering::SeqCst);
+    /// The keep that waits, if one does.
+    pub fn take_keeping<R: Wait>(&self, rt: &R) -> Option<Keeping> {
+        self.keeping.lock(rt).take()
     }
 
-    /// Whether the queue takes no frames any more.
-    pub fn is_broken(&self) -> bool {
-        self.broken.load(Ordering::SeqCst)
+    /// A keep waits.
+    pub fn put_keeping<R: Wait>(&self, rt: &R, keeping: Keeping) {
+        *self.keeping.lock(rt) = Some(keeping);
     }
 
     /// Whether frames wait because every block is locked.
@@ -142,15 +129,15 @@ impl CameraState {
         self.locked.load(Ordering::SeqCst)
     }
 
-    /// Whether the camera is to end, and no frame that its source gave before waits for its device, or none can be
-    /// stored.
-    pub fn is_done<R: Wait>(&self, rt: &R) -> bool {
+    /// Whether the filming is to end: desk or queue is broken, or the program ends and no frame that the source gave before
+    /// waits for the device.
+    fn is_done<R: Wait>(&self, rt: &R) -> bool {
         let (come, taken) = self.feed.counts(rt);
-        self.is_stopped() && (come == taken || self.over.load(Ordering::SeqCst))
+        self.over.load(Ordering::SeqCst) || self.is_stopped() && come == taken
     }
 
     /// Desk and queue are given up: what was in them and isn't stored is lost, and counted. The camera's thread calls it,
-    /// when no worker is left.
+    /// when neither thread films it.
     pub fn lose_rest<R: Wait>(&self, rt: &R) {
         let (_, taken) = self.feed.counts(rt);
         let ready = u64::from(self.feed.is_ready(rt));
@@ -166,124 +153,64 @@ impl CameraState {
         }
     }
 
-    /// What the device does next. A session that is old enough goes on while a keep waits for frames, and until all that
-    /// its device took has room at the desk: that, and what is there, is the next session's. One that the program stops
-    /// goes on until no frame waits.
-    fn next_step<R: Wait>(&self, rt: &R) -> Next {
-        if self.over.load(Ordering::SeqCst) || self.is_done(rt) {
-            self.turn.leave(rt);
-            return Next::Leave;
-        }
-        if self.is_stopped() || self.counts.entries.load(Ordering::SeqCst) < MOST_ENTRIES {
-            return Next::Tick;
-        }
-        let (_, taken) = self.feed.counts(rt);
-        if self.counts.behind(taken) > ROOM_AT_DESK {
-            return Next::Rest;
-        }
-        if self.turn.leave_unawaited(rt) {
-            Next::Leave
-        } else {
-            Next::Tick
-        }
-    }
-}
-
-impl Pace for CameraState {
-    fn reached(&self, _camera: u32, step: Step) {
-        self.counts.reached(step);
-    }
-}
-
-impl Lead for CameraState {
-    // A tick for each frame of the source, at the time when it was there.
-    fn next_tick<R: Wait + Clock>(
-        &self,
-        rt: &R,
-        _camera: u32,
-        _n: u64,
-        _geometry: &Geometry,
-    ) -> Option<u64> {
-        let most = Duration::from_millis(LOOK_AGAIN);
-        for _ in rt.forever() {
-            match self.next_step(rt) {
-                Next::Leave => {
-                    self.clerk.close(rt);
-                    self.reader.close(rt);
-                    return None;
-                }
-                Next::Rest => thread::sleep(rt, most),
-                Next::Tick => {
-                    if let Some(time) = self.feed.make_ready(rt, most) {
-                        return Some(time);
-                    }
-                }
-            }
-        }
-        unreachable!()
-    }
-
-    fn ticked<R: Wait>(&self, _rt: &R, _camera: u32, tick: Tick) {
-        match tick {
-            Tick::Completed(_) | Tick::Failed(_) => {}
-            Tick::Missed => self.counts.give_up(),
-            Tick::Idle | Tick::Ended | Tick::WrongSize => {
-                self.broken.store(true, Ordering::SeqCst);
-                self.over.store(true, Ordering::SeqCst);
-            }
-        }
-    }
-
-    fn gave_up(&self, _camera: u32) {
-        self.counts.give_up();
-    }
-
-    fn stored(&self, _camera: u32, count: u32) {
+    /// So many frames were stored.
+    pub fn store(&self, count: u32) {
         self.counts.store(count);
         if count > 0 {
             self.locked.store(false, Ordering::SeqCst);
         }
     }
+}
 
-    // No frame is given up for a slow disk: the source's frames wait.
-    fn is_patient(&self) -> bool {
-        true
+impl Guide for CameraState {
+    // A tick for each frame of the source, at the time when it was there.
+    fn next_tick<R: Wait + Clock>(&self, rt: &R, _n: u64) -> Option<u64> {
+        for _ in rt.forever() {
+            if self.is_done(rt) {
+                return None;
+            }
+            if let Some(time) = self.feed.make_ready(rt, Duration::from_millis(LOOK_AGAIN)) {
+                return Some(time);
+            }
+        }
+        unreachable!()
     }
 
-    // Where each block is locked, or memory is short, the frames wait; where the disk failed, the session ends, and the
+    fn ticked<R: Wait>(&self, _rt: &R, tick: Tick) {
+        match tick {
+            Tick::Completed(_) | Tick::Failed(_) => {}
+            Tick::Missed => self.counts.give_up(),
+            Tick::Idle | Tick::Ended | Tick::WrongSize => self.over.store(true, Ordering::SeqCst),
+        }
+    }
+
+    fn brought(&self) {
+        self.counts.bring();
+    }
+
+    fn gave_up(&self) {
+        self.counts.give_up();
+    }
+
+    fn stored(&self, count: u32) {
+        self.store(count);
+    }
+
+    // Where each block is locked the frames wait, until the program ends; where the disk failed, the filming ends, and the
     // store is opened again.
-    fn flushes_again<R: Wait + Clock>(&self, rt: &R, _camera: u32, fault: SessionFault) -> bool {
-        match fault {
-            SessionFault::NoMemory | SessionFault::Desk(StoreFault::AllLocked) => {
-                let locked = fault != SessionFault::NoMemory;
-                self.locked.store(locked, Ordering::SeqCst);
-                thread::sleep(rt, Duration::from_millis(FLUSH_AGAIN));
-                !self.is_stopped() && !self.turn.has_left(rt)
-            }
-            _ => {
-                self.over.store(true, Ordering::SeqCst);
-                false
-            }
+    fn flushes_again(&self, fault: StoreFault) -> bool {
+        if fault == StoreFault::AllLocked {
+            self.locked.store(true, Ordering::SeqCst);
+            return !self.is_stopped();
         }
+        self.over.store(true, Ordering::SeqCst);
+        false
     }
 
-    fn visit<R: Wait + Clock, D: Disk + Drop, P: PlaneMemory>(
-        &self,
-        rt: &R,
-        alloc: Global,
-        recorder: &Recorder<D, P>,
-        count: u32,
-        pass: Pass,
-    ) -> Pass {
-        let mut pass = pass;
-        if count == 0 {
-            return pass;
+    // A store that is opened again answers what is asked when its desk is broken.
+    fn visit<R: Wait + Clock, D: Disk + Drop>(&self, rt: &R, alloc: Global, back: &mut Back<D>) {
+        if !self.over.load(Ordering::SeqCst) {
+            attend(rt, alloc, self, back);
         }
-        match pass.number().checked_sub(count) {
-            Some(2) => attend(rt, alloc, self, recorder, &mut pass),
-            Some(3) => lend(rt, alloc, self, recorder, &mut pass),
-            _ => {}
-        }
-        pass
     }
 }

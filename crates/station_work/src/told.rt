@@ -6,9 +6,8 @@ use crate::link::SourceState;
 use crate::state::CameraState;
 use loop_desk::Outline;
 use loop_record::Geometry;
-use loop_recorder::SessionFault;
 use loop_script::Listing;
-use loop_store::{Clip, StoreFault};
+use loop_store::Clip;
 use station_words::{
     CameraStatus, print_absent, print_camera, print_kept, print_refused, print_released,
     print_status,
@@ -40,20 +39,11 @@ pub(crate) fn tell_kept<L: Write>(
         print_kept(lines, name, None)?;
     }
     if let Some(fault) = refused {
-        tell_fault(name, fault, lines)?;
+        print_refused(lines, name, fault)?;
     }
     match kept.fault {
-        Some(fault) => tell_fault(name, fault, lines),
+        Some(fault) => print_refused(lines, name, fault),
         None => Ok(()),
-    }
-}
-
-// Tells a refusal.
-fn tell_fault<L: Write>(name: &str, fault: SessionFault, lines: &mut L) -> io::Result<()> {
-    match fault {
-        SessionFault::Desk(fault) => print_refused(lines, name, fault),
-        SessionFault::NoMemory => print_refused(lines, name, StoreFault::NoMemory),
-        SessionFault::SessionFull => print_absent(lines, name, &"SessionFull"),
     }
 }
 
@@ -67,7 +57,7 @@ pub(crate) fn tell_released<L: Write>(
     let name = state.config.name.as_str();
     match answered {
         Some(Ok(Answer::Released(Ok(())))) => print_released(lines, name, id),
-        Some(Ok(Answer::Released(Err(fault)))) => tell_fault(name, fault, lines),
+        Some(Ok(Answer::Released(Err(fault)))) => print_refused(lines, name, fault),
         Some(Err(why)) => print_absent(lines, name, &why),
         _ => Ok(()),
     }
@@ -84,7 +74,7 @@ pub(crate) fn tell_listed<L: Write>(
         Some(Ok(Answer::Looked(Ok(outline)))) => {
             print_camera(lines, name, &Listing::of_outline(outline))
         }
-        Some(Ok(Answer::Looked(Err(fault)))) => tell_fault(name, fault, lines),
+        Some(Ok(Answer::Looked(Err(fault)))) => print_refused(lines, name, fault),
         Some(Err(why)) => print_absent(lines, name, &why),
         _ => Ok(()),
     }
@@ -100,7 +90,7 @@ pub(crate) fn tell_status<R: Wait, L: Write>(
     let name = state.config.name.as_str();
     let outline = match answered {
         Some(Ok(Answer::Looked(Ok(outline)))) => outline,
-        Some(Ok(Answer::Looked(Err(fault)))) => return tell_fault(name, fault, lines),
+        Some(Ok(Answer::Looked(Err(fault)))) => return print_refused(lines, name, fault),
         Some(Err(why)) => return print_absent(lines, name, &why),
         _ => return Ok(()),
     };

@@ -6,8 +6,8 @@ use loop_script::{Likeness, compare_frames, print_other_geometry, print_other_ra
 use loop_store::{Clip, StoreFault};
 use station_words::{
     CameraStatus, RingSize, print_absent, print_all_locked, print_bad_order, print_behind,
-    print_broken_tie, print_caught_up, print_clip_path, print_done, print_given_up, print_head,
-    print_help, print_kept, print_no_answers, print_no_camera, print_not_a_store, print_not_saved,
+    print_caught_up, print_clip_path, print_done, print_given_up, print_head, print_help,
+    print_kept, print_no_answers, print_no_camera, print_not_a_store, print_not_saved,
     print_refused, print_released, print_room_again, print_saved, print_saving,
     print_source_missing, print_source_on, print_status, print_stopped, print_store_absent,
     print_store_open, print_too_many_saves, ring_for, ring_within,
@@ -96,7 +96,6 @@ fn prints(out: &mut Vec<u8>) -> bool {
         && print_other_rate(out, "left", &OTHER).is_ok()
         && print_not_a_store(out, "left", "a store.loop", "").is_ok()
         && print_not_a_store(out, "left", "a store.loop", ".new").is_ok()
-        && print_broken_tie(out, "left").is_ok()
         && print_no_camera(out, "left").is_ok()
         && print_absent(out, "left", &"NoStore").is_ok()
         && print_bad_order(out, b"ke\x7fp \"").is_ok()
