@@ -1,36 +1,31 @@
-// Cameras: each with a queue of its own, whose memory its start gives it.
-ghost use Rattle.std.specs.Prelude.{◌≡◌, ◌<◌, ◌≤◌, ◌^◌, ◌+◌, All, IfOk, IfSome, length, vec_len};
-ghost use Rattle.loop_sessions.specs.Opened.{IsReady};
-
-use loop_capture::Device;
+// Cameras that are filmed into stores in files, each by threads of its own.
+use crate::record::Source;
+use loop_capture::{Device, Tick};
+use loop_desk::Desk;
 use loop_disk::Disk;
+use loop_file::FileDisk;
 use loop_pages::PageFault;
-use loop_plane::{MmapPlane, PlaneMemory};
-use loop_recorder::{
-    Camera, EndRefused, Ended, Pace, Recorder, Start, Step, camera_before, mapped_start, record,
-    start_queue,
+use loop_pipeline::{
+    Back, Camera, Ended, Guide, Link, Unfilmed, film_camera, mapped_start, new_queue, start_queue,
 };
-use loop_script::LIMITS;
+use loop_plane::MmapPlane;
+use loop_record::Geometry;
+use loop_script::{LIMITS, pattern_timestamp};
 use loop_store::{Store, StoreFault};
 use std::alloc::{AllocError, Global};
 use std::sync::Wait;
-use std::thread::Threads;
+use std::sync::atomic::{AtomicBool, Ordering};
+use std::thread;
+use std::thread::{Scope, Threads};
 use std::time::Clock;
 
-/// The most cameras that are recorded at once: a number for each of their passes, and for two more.
-const MOST_CAMERAS: usize = 1 << 30;
-
-/// Why nothing was recorded.
+/// Why nothing was recorded, or not all.
 #[derive(Clone, Copy, Debug, PartialEq, Eq)]
 pub enum Unrecorded {
     /// The buffers of the camera of this number need more pages than a ledger has.
     TooLarge(u32),
     /// A store that must be reopened; or memory was refused, or a thread.
     Refused(StoreFault),
-    /// So many passes of so many came back.
-    PassesMissing(u32, u32),
-    /// The history of the camera of this number isn't that of the receipts.
-    TieBroken(u32),
 }
 
 /// Want of memory, or of threads.
@@ -42,116 +37,165 @@ impl From<AllocError> for Unrecorded {
     }
 }
 
-impl From<StoreFault> for Unrecorded {
-    fn from(fault: StoreFault) -> Self {
-        Unrecorded::Refused(fault)
-    }
-}
+/// A camera of a source before a store in a file.
+type FileCamera = Camera<Source, FileDisk, MmapPlane>;
 
-impl<D: Disk + Drop, P: PlaneMemory> From<EndRefused<D, P>> for Unrecorded {
-    fn from(refused: EndRefused<D, P>) -> Self {
-        match refused {
-            EndRefused::PassesMissing(given, made, _, _) => Unrecorded::PassesMissing(given, made),
-            EndRefused::TieBroken(camera, _) => Unrecorded::TieBroken(camera),
-            EndRefused::NoMemory(_, _) => NO_MEMORY,
-        }
-    }
-}
+/// What came of filming it.
+type Filmed = Result<Ended<Source, FileDisk, MmapPlane>, Unfilmed<Source, FileDisk, MmapPlane>>;
 
-/// Waits nowhere, and notes nothing.
-struct Unwatched;
-
-impl Pace for Unwatched {
-    fn reached(&self, _camera: u32, _step: Step) {}
-}
-
-// What the queue of the camera of this number is started with.
-fn start_for<D: Disk + Drop>(
-    alloc: Global,
-    camera: &Camera<D, MmapPlane>,
-    number: u32,
-) -> Result<Start<MmapPlane>, Unrecorded> {
-    match mapped_start(alloc, camera) {
-        Ok(start) => Ok(start),
-        Err(PageFault::BadCount | PageFault::NoPages) => Err(Unrecorded::TooLarge(number)),
-        Err(PageFault::NoMemory) => Err(NO_MEMORY),
-    }
-}
-
-// A camera before each store, and what its queue is started with.
-fn cameras_before<D: Disk + Drop>(
-    alloc: Global,
-    stores: Vec<Store<D>>,
-) -> Result<(Vec<Camera<D, MmapPlane>>, Vec<Start<MmapPlane>>), Unrecorded>
-    requires few { vec_len stores < 2 ^ 31 }
-    ensures ready { IfOk result (λ made. All (IsReady ⟦<MmapPlane as PlaneMemory>⟧.plane) made.0.items) }
-    ensures cameras { IfOk result (λ made. vec_len made.0 ≡ vec_len stores) }
-    ensures starts { IfOk result (λ made. vec_len made.1 ≡ vec_len stores) }
-{
-    let count = stores.len();
-    let mut cameras = Vec::with_capacity(alloc, count)?;
-    let mut starts = Vec::with_capacity(alloc, count)?;
-    for store in stores {
-        let camera = camera_before(alloc, store, LIMITS)?;
-        starts.push_reserved(start_for(alloc, &camera, starts.len() as u32)?);
-        cameras.push_reserved(camera);
-    }
-    Ok((cameras, starts))
-}
-
-// Starts the queue of each camera.
-fn start_all<R: Wait, D: Disk + Drop>(
-    rt: &R,
-    recorder: &Recorder<D, MmapPlane>,
-    starts: Vec<Start<MmapPlane>>,
-) -> Result<(), Unrecorded>
-    requires few { vec_len starts < 2 ^ 31 }
-    requires cameras { vec_len starts ≤ length recorder.now.outlines }
-{
-    let mut camera = 0;
-    for with in starts {
-        start_queue(rt, recorder, camera, with)?;
-        camera += 1;
-    }
-    Ok(())
-}
-
-// How many passes a recording of so many cameras has: one for each, one for the flusher and one for the reader.
-fn passes_for(cameras: usize) -> Option<u32>
-    ensures few { IfSome result (λ _. cameras < 2 ^ 31) }
-    ensures passes { IfSome result (λ passes. passes ≡ cameras + 2) }
-{
-    if cameras > MOST_CAMERAS {
-        return None;
-    }
-    Some(cameras as u32 + 2)
-}
-
-/// Records from each device into the store at its place, so many frame periods or until its source has ended, at the
-/// script's limits: each camera has a queue of four buffers of mapped memory that stream, from pages of its own.
-///
-/// `TooLarge` where these need more than 1,024 pages. What a store refuses is noted in its camera's history, and no
-/// refusal of the recording.
-pub(crate) fn record_stores<R: Threads + Wait + Clock + Sync, D: Disk + Drop + Send + Sync>(
-    rt: &R,
-    alloc: Global,
-    stores: Vec<Store<D>>,
-    devices: &mut [Device],
+/// What the threads of a camera share: so many ticks at the rate of its store, and no flush behind one that was refused.
+#[derive(Drop)]
+struct Post {
+    link: Link,
     frames: u32,
-) -> Result<Ended<D, MmapPlane>, Unrecorded>
-    requires devices { length devices.old ≡ vec_len stores }
-{
-    let Some(passes) = passes_for(stores.len()) else {
+    geometry: Geometry,
+    // Another camera couldn't be filmed.
+    stopped: AtomicBool,
+}
+
+impl Guide for Post {
+    fn next_tick<R: Wait + Clock>(&self, _rt: &R, n: u64) -> Option<u64> {
+        if n >= u64::from(self.frames) || self.stopped.load(Ordering::SeqCst) {
+            return None;
+        }
+        let Geometry {
+            rate_num,
+            rate_den,
+            ..
+        } = self.geometry;
+        Some(pattern_timestamp(n, rate_num.max(1), rate_den))
+    }
+
+    fn ticked<R: Wait>(&self, _rt: &R, _tick: Tick) {}
+
+    fn brought(&self) {}
+
+    fn gave_up(&self) {}
+
+    fn stored(&self, _count: u32) {}
+
+    fn flushes_again(&self, _fault: StoreFault) -> bool {
+        false
+    }
+
+    fn visit<R: Wait + Clock, D: Disk + Drop>(
+        &self,
+        _rt: &R,
+        _alloc: Global,
+        _back: &mut Back<D>,
+    ) {}
+}
+
+// The camera of this number, whose queue of four buffers of mapped memory, from pages of its own, streams.
+fn camera_before(
+    alloc: Global,
+    number: u32,
+    source: Source,
+    store: Store<FileDisk>,
+) -> Result<FileCamera, Unrecorded> {
+    if store.must_reopen() {
+        return Err(Unrecorded::Refused(StoreFault::MustReopen));
+    }
+    let geometry = store.geometry();
+    let Ok(desk) = Desk::new(alloc, store, LIMITS) else {
         return Err(NO_MEMORY);
     };
-    let (cameras, starts) = cameras_before(alloc, stores)?;
-    let (recorder, passes) = match Recorder::new(alloc, cameras, passes) {
-        Ok(made) => made,
-        Err(_) => return Err(NO_MEMORY),
+    let (mut queue, mut table) = new_queue(alloc, &geometry);
+    let start = match mapped_start(alloc, &queue) {
+        Ok(start) => start,
+        Err(PageFault::BadCount | PageFault::NoPages) => return Err(Unrecorded::TooLarge(number)),
+        Err(PageFault::NoMemory) => return Err(NO_MEMORY),
     };
-    start_all(rt, &recorder, starts)?;
-    match record(rt, alloc, recorder, passes, devices, frames, &Unwatched) {
-        Ok(ended) => Ok(ended),
-        Err(refused) => Err(refused.into()),
+    start_queue(&mut queue, &mut table, start)?;
+    match Device::new(alloc, source, geometry.frame_bytes()) {
+        Ok(device) => Ok(Camera::new(device, queue, table, desk)),
+        Err(_) => Err(NO_MEMORY),
     }
+}
+
+// Lets each camera end.
+fn stop_all(posts: &[Post]) {
+    for post in posts {
+        post.stopped.store(true, Ordering::SeqCst);
+    }
+}
+
+// Films a camera. Where it can't be filmed, each other one ends.
+fn film<R: Threads + Wait + Clock + Sync>(
+    rt: &R,
+    alloc: Global,
+    posts: &[Post],
+    post: &Post,
+    camera: FileCamera,
+) -> Filmed {
+    let (rt, post) = (&*rt, &*post);
+    let filmed = thread::scope(thread::scope_env(), rt, move |scope| -> Filmed {
+        film_camera(rt, alloc, scope, &post.link, post, camera)
+    });
+    if filmed.is_err() {
+        stop_all(posts);
+    }
+    filmed
+}
+
+// Films each camera by a thread of its own, and answers the number of its next frame.
+fn film_all<'s, E, R: Threads + Wait + Clock + Sync>(
+    rt: &'s R,
+    alloc: Global,
+    scope: &Scope<'s, E>,
+    posts: &'s [Post],
+    cameras: Vec<FileCamera>,
+) -> Result<Vec<u64>, Unrecorded> {
+    let mut handles = Vec::with_capacity(alloc, cameras.len())?;
+    let mut next = Vec::with_capacity(alloc, cameras.len())?;
+    let mut all = true;
+    for (post, camera) in posts.iter().zip(cameras) {
+        match scope.spawn(move || film(rt, alloc, posts, post, camera)) {
+            Ok(handle) => handles.push(handle)?,
+            Err(_) => {
+                stop_all(posts);
+                all = false;
+                break;
+            }
+        }
+    }
+    for handle in handles {
+        match handle.join(rt) {
+            Ok(ended) => next.push(ended.desk.status().next)?,
+            Err(_) => all = false,
+        }
+    }
+    if all { Ok(next) } else { Err(NO_MEMORY) }
+}
+
+/// Records from each source into the store at its place, so many frame periods or until it has ended, at the script's
+/// limits, and answers the number of each store's next frame.
+///
+/// `TooLarge` where the buffers of a camera need more than 1,024 pages; then nothing was recorded. What a store refuses
+/// is counted by its camera, and no refusal of the recording.
+pub(crate) fn record_stores<R: Threads + Wait + Clock + Sync>(
+    rt: &R,
+    alloc: Global,
+    sources: Vec<Source>,
+    stores: Vec<Store<FileDisk>>,
+    frames: u32,
+) -> Result<Vec<u64>, Unrecorded> {
+    let mut posts = Vec::with_capacity(alloc, stores.len())?;
+    let mut cameras = Vec::with_capacity(alloc, stores.len())?;
+    for (source, store) in sources.into_iter().zip(stores) {
+        let geometry = store.geometry();
+        cameras.push(camera_before(alloc, posts.len() as u32, source, store)?)?;
+        posts.push(Post {
+            link: Link::new(alloc)?,
+            frames,
+            geometry,
+            stopped: AtomicBool::new(false),
+        })?;
+    }
+    let (rt, posts) = (&*rt, posts.as_slice());
+    thread::scope(
+        thread::scope_env(),
+        rt,
+        move |scope| -> Result<Vec<u64>, Unrecorded> { film_all(rt, alloc, scope, posts, cameras) },
+    )
 }

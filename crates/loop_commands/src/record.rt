@@ -2,12 +2,10 @@
 ghost use Rattle.std.specs.Prelude.{◌≡◌, ⊤, IfOk, length, vec_len};
 
 use crate::cameras::{Unrecorded, record_stores};
-use loop_capture::{Device, FrameSource, Next, Pattern, Y4mSource};
+use loop_capture::{FrameSource, Next, Pattern, Y4mSource};
 use loop_disk::Disk;
 use loop_file::{FileDisk, open_to_read};
-use loop_plane::{MmapPlane, PlaneMemory};
 use loop_record::Geometry;
-use loop_recorder::Ended;
 use loop_script::{
     Likeness, Recording, compare_frames, print_line, print_other_geometry, print_other_rate,
     print_parts, print_refusal,
@@ -38,10 +36,6 @@ enum Undone<'a> {
     CannotRecord(&'a str),
     /// A store can't be opened, or memory was refused.
     Refused(StoreFault),
-    /// So many passes of so many came back.
-    PassesMissing(u32, u32),
-    /// The history of this camera isn't that of what its callers were answered.
-    TieBroken(u32),
     /// What was recorded couldn't be printed.
     Write(Error),
 }
@@ -60,7 +54,7 @@ impl From<Error> for Undone<'_> {
 
 /// Where a camera's frames come from.
 #[derive(Drop)]
-enum Source {
+pub(crate) enum Source {
     /// The pattern.
     Pattern(Pattern),
     /// A file or pipe, and what its header says its frames are, with a ring of any size.
@@ -99,14 +93,6 @@ fn tell<E: Write>(undone: Undone<'_>, err: &mut E) -> u8 {
         Undone::CannotOpen(path) => print_path(err, "cannot open ", path),
         Undone::CannotRecord(path) => print_path(err, "cannot record ", path),
         Undone::Refused(fault) => print_refusal(err, fault),
-        Undone::PassesMissing(given, made) => print_line(
-            err,
-            "refused 17 PassesMissing",
-            &[(" ", u64::from(given)), (" ", u64::from(made))],
-        ),
-        Undone::TieBroken(camera) => {
-            print_line(err, "refused 23 TieBroken", &[(" ", u64::from(camera))])
-        }
         Undone::Write(_) => Ok(()),
     };
     1
@@ -134,11 +120,11 @@ fn perform<
     let disks = open_disks(rt, paths)?;
     let stores = find_stores(rt.alloc(), disks, recording.keep)?;
     let told = tell_others(recording.source, &sources, &stores, err);
-    let ended = match record_from(rt, sources, stores, recording.frames) {
-        Ok(ended) => ended,
+    let next = match record_stores(rt, rt.alloc(), sources, stores, recording.frames) {
+        Ok(next) => next,
         Err(unrecorded) => return Err(blame(unrecorded, paths)),
     };
-    print_next(&ended, &mut out)?;
+    print_next(next.as_slice(), &mut out)?;
     out.flush()?;
     told?;
     Ok(())
@@ -176,8 +162,6 @@ fn blame<'a>(unrecorded: Unrecorded, paths: &[&'a str]) -> Undone<'a> {
             None => Undone::Refused(StoreFault::NoMemory),
         },
         Unrecorded::Refused(fault) => Undone::Refused(fault),
-        Unrecorded::PassesMissing(given, made) => Undone::PassesMissing(given, made),
-        Unrecorded::TieBroken(camera) => Undone::TieBroken(camera),
     }
 }
 
@@ -268,40 +252,11 @@ fn find_stores<'a, D: Disk + Drop>(
     Ok(stores)
 }
 
-// Records from each source into the store at its place.
-fn record_from<R: AllocGlobal + Threads + Wait + Clock + Sync, D: Disk + Drop + Send + Sync>(
-    rt: &R,
-    sources: Vec<Source>,
-    stores: Vec<Store<D>>,
-    frames: u32,
-) -> Result<Ended<D, MmapPlane>, Unrecorded>
-    requires { vec_len sources ≡ vec_len stores }
-{
-    let alloc = rt.alloc();
-    let mut devices: Vec<Device> = Vec::with_capacity(alloc, sources.len())?;
-    for source in sources {
-        let size = stores[devices.len()].geometry().frame_bytes();
-        let Ok(source) = Box::new(alloc, source) else {
-            return Err(AllocError.into());
-        };
-        let source: Box<dyn FrameSource + Send> = source;
-        match Device::new(alloc, source, size) {
-            Ok(device) => devices.push_reserved(device),
-            Err(_) => return Err(AllocError.into()),
-        }
-    }
-    record_stores(rt, alloc, stores, &mut devices, frames)
-}
-
 // Prints the number of each camera's next frame.
-fn print_next<D: Disk + Drop, P: PlaneMemory, W: Write>(
-    ended: &Ended<D, P>,
-    out: &mut W,
-) -> io::Result<()> {
+fn print_next<W: Write>(next: &[u64], out: &mut W) -> io::Result<()> {
     let mut camera = 0u64;
-    for recorded in &ended.cameras {
-        let next = recorded.desk.status().next;
-        print_line(out, "camera", &[(" ", camera), (" next ", next)])?;
+    for number in next {
+        print_line(out, "camera", &[(" ", camera), (" next ", *number)])?;
         camera = camera.saturating_add(1);
     }
     Ok(())

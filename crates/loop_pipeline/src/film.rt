@@ -7,9 +7,9 @@ ghost use Rattle.rtrb.specs.Ring.{sent};
 ghost use Rattle.loop_pipeline.specs.Fronts.{IsOpen, Leaves, made_of};
 
 use crate::bell::Bell;
-use crate::{Back, Begun, Brought, Ended, Front, FrontParts, Guide, Took, end};
+use crate::{Back, Begun, Brought, Camera, Ended, Front, FrontParts, Guide, Took, end};
 use loop_capture::{Device, FrameSource, Tick};
-use loop_desk::{Desk, Hand};
+use loop_desk::Hand;
 use loop_disk::Disk;
 use loop_plane::{FdTable, PlaneMemory};
 use loop_record::Frame;
@@ -425,14 +425,14 @@ fn run_in<
 /// Why a camera wasn't filmed.
 #[derive(Drop)]
 pub enum Unfilmed<S: FrameSource + Drop, D: Disk + Drop, P: PlaneMemory> {
-    /// Memory was refused before it began, and all comes back.
-    NoMemory(Device<S>, Queue<P>, FdTable<P>, Desk<D>),
+    /// Memory was refused before it began, and the camera comes back.
+    NoMemory(Camera<S, D, P>),
     /// A thread couldn't be started: what is left of the camera, of which nothing was filmed.
     NoThread(Ended<S, D, P>),
 }
 
-/// Films a camera whose queue streams, by a thread of its own in this scope for the front and the caller's for the back,
-/// until its guide or its source ends it and nothing is left to flush. No other camera is filmed by the link meanwhile.
+/// Films a camera, by a thread of its own in this scope for the front and the caller's for the back, until its guide or
+/// its source ends it and nothing is left to flush. No other camera is filmed by the link meanwhile.
 pub fn film_camera<
     's,
     E,
@@ -447,21 +447,22 @@ pub fn film_camera<
     scope: &Scope<'s, E>,
     link: &'s Link,
     guide: &'s G,
-    device: Device<S>,
-    queue: Queue<P>,
-    table: FdTable<P>,
-    desk: Desk<D>,
+    camera: Camera<S, D, P>,
 ) -> Result<Ended<S, D, P>, Unfilmed<S, D, P>>
-    requires { IsOpen P.plane queue table }
-    ensures keeps { IfOk result (λ e. CameraKeeps D.medium S.next_gives P.plane
-        (record { device = device; queue = queue; desk = desk })
+    ensures keeps { IfOk result (λ e. CameraKeeps D.medium S.next_gives P.plane camera
         (record { device = e.device; queue = e.queue; desk = e.desk }) (e.given_up + e.left)) }
     ensures again { IfOk result (λ e. e.hand ≡ Empty → IsOpen P.plane e.queue e.table) }
 {
     link.begin();
     let Ok((to, from)) = RingBuffer::new(alloc, RING) else {
-        return Err(Unfilmed::NoMemory(device, queue, table, desk));
+        return Err(Unfilmed::NoMemory(camera));
     };
+    let Camera {
+        device,
+        queue,
+        table,
+        desk,
+    } = camera;
     let begun = Begun::of(&queue, &device, &to);
     let again = Begun::of(&queue, &device, &to);
     let back = Back::new(desk, from);

@@ -1,7 +1,8 @@
 //! A camera's frames on their way from its device to its disk, by two threads of which each has its half alone.
 //!
 //! - `front`: a device, its queue with the buffers, and the end of a ring to which the frames go that come out of the
-//!   queue; `back`: the other end of the ring, and a desk before a store; `ending`: both halves in one hand;
+//!   queue; `back`: the other end of the ring, and a desk before a store; `ending`: both halves in one hand; `camera`: what
+//!   is filmed;
 //! - `film`: `film_camera`, which runs both, and what each does; `guide`: what guides them; `bell`: where one sleeps until
 //!   the other has something for it.
 //!
@@ -15,12 +16,14 @@
 
 mod back;
 mod bell;
+mod camera;
 mod ending;
 mod film;
 mod front;
 mod guide;
 
 pub use back::{Back, BackParts, Brought};
+pub use camera::Camera;
 pub use ending::{Ended, end};
 pub use film::{Link, Unfilmed, film_back, film_camera, film_front};
 pub use front::{Begun, Front, FrontParts, Took};

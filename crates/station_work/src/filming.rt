@@ -1,8 +1,5 @@
 //! A camera's thread: its store is opened or made, and the camera is filmed into it, again and again.
 
-ghost use Rattle.std.specs.Prelude.{◌≡◌, IfSome};
-ghost use Rattle.loop_pipeline.specs.Fronts.{IsOpen};
-
 use crate::absent::Absent;
 use crate::asked::asked_ring;
 use crate::feed::FeedSource;
@@ -13,12 +10,11 @@ use crate::state::CameraState;
 use loop_capture::Device;
 use loop_desk::Desk;
 use loop_file::{FileDisk, FileFault};
-use loop_pipeline::{Ended, Unfilmed, film_camera, heap_start, new_queue, start_queue};
-use loop_plane::{FdTable, HeapPlane, PlaneMemory};
+use loop_pipeline::{Camera, Ended, Unfilmed, film_camera, heap_start, new_queue, start_queue};
+use loop_plane::HeapPlane;
 use loop_record::Geometry;
 use loop_script::LIMITS;
 use loop_store::{OpenRefused, Store, StoreFault};
-use loop_vb2::Queue;
 use station_words::{RingSize, Room, print_not_a_store};
 use std::alloc::{AllocGlobal, Global};
 use std::io::Write;
@@ -34,20 +30,14 @@ const OPEN_AGAIN: u64 = 1_000;
 /// How many milliseconds a header is waited for before it is looked whether the program ends.
 const LOOK_AGAIN: u64 = 100;
 
-/// What came of filming a camera.
+/// A camera before a store in a file.
+type FileCamera = Camera<FeedSource, FileDisk, HeapPlane>;
+
+/// What came of filming it.
 type Filmed = Result<
     Ended<FeedSource, FileDisk, HeapPlane>,
     Unfilmed<FeedSource, FileDisk, HeapPlane>,
 >;
-
-/// What a camera is filmed with: its device, its queue with what fds name, and its desk.
-#[derive(Drop)]
-struct Gear {
-    device: Device<FeedSource>,
-    queue: Queue<HeapPlane>,
-    table: FdTable<HeapPlane>,
-    desk: Desk<FileDisk>,
-}
 
 /// Opens a camera's store, or makes it, and films into it, again and again until the camera is stopped. Where the store
 /// can't be had, memory or a thread is refused or the disk fails, that is tried again.
@@ -164,11 +154,11 @@ fn film_into<R: AllocGlobal + Threads + Wait + Clock + Sync>(
     store: Store<FileDisk>,
 ) -> Absent {
     state.link.set_store(rt, store.geometry());
-    let Some(gear) = gear_for(rt.alloc(), state, store) else {
+    let Some(camera) = camera_before(rt.alloc(), state, store) else {
         return Absent::NoBuffers;
     };
     state.begin(rt);
-    let why = match film(rt, state, gear) {
+    let why = match film(rt, state, camera) {
         Ok(Ended { desk, .. }) if state.is_stopped() && !desk.status().must_reopen => {
             Absent::Stopped
         }
@@ -179,61 +169,28 @@ fn film_into<R: AllocGlobal + Threads + Wait + Clock + Sync>(
     why
 }
 
-/// What a camera is filmed with into a store: a queue that streams, and a desk at which nothing waits. None where memory was
-/// refused.
-fn gear_for(alloc: Global, state: &CameraState, store: Store<FileDisk>) -> Option<Gear>
-    ensures { IfSome result (λ gear. IsOpen ⟦<HeapPlane as PlaneMemory>⟧.plane gear.queue gear.table) }
-{
+/// A camera before a store: its queue streams, and nothing waits at its desk. None where memory was refused.
+fn camera_before(alloc: Global, state: &CameraState, store: Store<FileDisk>) -> Option<FileCamera> {
     let geometry = store.geometry();
     let (mut queue, mut table) = new_queue(alloc, &geometry);
     let start = heap_start(alloc, &queue, state.config.buffers).ok()?;
     start_queue(&mut queue, &mut table, start).ok()?;
     let feed = Arc::try_clone(&state.feed).ok()?;
     let device = Device::new(alloc, FeedSource { feed }, size_of(&geometry)?).ok()?;
-    let Ok(desk) = Desk::new(alloc, store, LIMITS) else {
-        return None;
-    };
-    Some(Gear {
-        device,
-        queue,
-        table,
-        desk,
-    })
+    match Desk::new(alloc, store, LIMITS) {
+        Ok(desk) => Some(Camera::new(device, queue, table, desk)),
+        Err(_) => None,
+    }
 }
 
 /// Films a camera until its state ends it.
 fn film<R: AllocGlobal + Threads + Wait + Clock + Sync>(
     rt: &R,
     state: &CameraState,
-    gear: Gear,
-) -> Filmed
-    requires { IsOpen ⟦<HeapPlane as PlaneMemory>⟧.plane gear.queue gear.table }
-{
+    camera: FileCamera,
+) -> Filmed {
     let (rt, state) = (&*rt, &*state);
-    thread::scope(
-        thread::scope_env(),
-        rt,
-        move |scope| -> Filmed
-            requires { IsOpen ⟦<HeapPlane as PlaneMemory>⟧.plane gear.queue gear.table }
-        {
-            let Gear {
-                device,
-                queue,
-                table,
-                desk,
-            } = gear;
-            let alloc = rt.alloc();
-            film_camera(
-                rt,
-                alloc,
-                scope,
-                &state.threads,
-                state,
-                device,
-                queue,
-                table,
-                desk,
-            )
-        },
-    )
+    thread::scope(thread::scope_env(), rt, move |scope| -> Filmed {
+        film_camera(rt, rt.alloc(), scope, &state.threads, state, camera)
+    })
 }

@@ -1,0 +1,46 @@
+//! A camera in one hand: its device, its queue and its desk.
+
+ghost use Rattle.std.specs.Prelude.{◌≡◌};
+ghost use Rattle.loop_pipeline.specs.Fronts.{IsOpen};
+
+use loop_capture::{Device, FrameSource};
+use loop_desk::Desk;
+use loop_disk::Disk;
+use loop_plane::{FdTable, PlaneMemory};
+use loop_vb2::Queue;
+use std::marker::Model;
+
+/// A camera that may be filmed: its device, its queue, of which every buffer is in it, with what fds name, and its desk.
+#[derive(Drop)]
+pub struct Camera<S: FrameSource + Drop, D: Disk + Drop, P: PlaneMemory> {
+    pub(crate) device: Device<S>,
+    pub(crate) queue: Queue<P>,
+    pub(crate) table: FdTable<P>,
+    pub(crate) desk: Desk<D>,
+}
+
+impl<S: FrameSource + Drop, D: Disk + Drop, P: PlaneMemory> Model for Camera<S, D, P> {
+    ghost use Rattle.loop_pipeline.specs.Cameras.{SeenCamera};
+    ghost use Rattle.loop_pipeline.specs.Fronts.{IsOpen};
+
+    ghost Value = { SeenCamera S D P };
+
+    ghost view = { λ c. record { device = c.device; queue = c.queue; desk = c.desk } };
+
+    ghost invariant = { λ c. IsOpen P.plane c.queue c.table };
+}
+
+impl<S: FrameSource + Drop, D: Disk + Drop, P: PlaneMemory> Camera<S, D, P> {
+    /// A camera of these.
+    pub fn new(device: Device<S>, queue: Queue<P>, table: FdTable<P>, desk: Desk<D>) -> Self
+        requires { IsOpen P.plane queue table }
+        ensures { result ≡ record { device = device; queue = queue; desk = desk } }
+    {
+        Camera {
+            device,
+            queue,
+            table,
+            desk,
+        }
+    }
+}
