@@ -101,6 +101,9 @@ fn take_all<R: Wait, S: FrameSource + Drop, P: PlaneMemory, G: Guide>(
             Took::Refused(_) => break,
         }
     }
+    if let Some(bytes) = spare {
+        link.keep_memory(rt, bytes);
+    }
 }
 
 // The front's thread: ticks as its guide has them, or until the source has ended.
