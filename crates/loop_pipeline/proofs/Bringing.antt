@@ -1,5 +1,5 @@
 -- What a back has done, and a call or a frame more.
-use Rattle.std.proofs.Common.{◌≡◌, ◌++◌, ℕ, ◌+◌, true, false, List, [], ◌∷◌, length, map, Result, Ok, Err, refl, sym, ap, ◌∙◌, subst, arith}
+use Rattle.std.proofs.Common.{◌≡◌, ◌++◌, ℕ, ◌+◌, List, [], ◌∷◌, length, map, Result, Ok, Err, refl, sym, ap, ◌∙◌, subst, arith}
 use Rattle.std.proofs.lemmas.Grind.{flat_map-append}
 use Rattle.std.proofs.lemmas.List.{append-nil, length-append, map-append}
 use Rattle.std.proofs.lemmas.List.Elements.{filter-append}
@@ -75,15 +75,15 @@ module _ {D A : Type 0} (medium : D → Medium) where
       fed = subst (λ l. IsFed (map picture l) keeps.calls given_up keeps.came) (sym got) keeps.fed;
     }
 
-    -- a call that submits nothing
-    pub called : (call : DeskCall) → is_submit call ≡ false → DeskGoes medium old new (call ∷ [])
+    -- calls that submit nothing
+    pub called : (more : List DeskCall) → filter is_submit more ≡ [] → DeskGoes medium old new more
         → BackKeeps medium (record { began = began; from = before; desk = new }) from given_up
-    called call none goes = record {
+    called more none goes = record {
       ring = keeps.ring;
-      calls = keeps.calls ++ call ∷ [];
-      goes = desk-joined medium began old new keeps.calls (call ∷ []) keeps.goes goes;
+      calls = keeps.calls ++ more;
+      goes = desk-joined medium began old new keeps.calls more keeps.goes goes;
       came = keeps.came;
-      fed = fed-beside (map picture (received from)) keeps.calls given_up keeps.came (call ∷ []) keeps.fed (rw none refl);
+      fed = fed-beside (map picture (received from)) keeps.calls given_up keeps.came more keeps.fed none;
     }
 
     -- a frame came out of the ring

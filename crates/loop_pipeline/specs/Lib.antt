@@ -1,3 +1,4 @@
 pub mod Backs
 pub mod Cameras
 pub mod Fronts
+pub mod Keeps

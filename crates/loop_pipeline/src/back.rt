@@ -1,15 +1,19 @@
 //! The end of a ring and a desk, in one hand.
 
-ghost use Rattle.std.specs.Prelude.{◌≡◌, ◌∷◌, []};
+ghost use Rattle.std.specs.Prelude.{◌≡◌, ◌∷◌, IfErr, IfOk, None, []};
 ghost use Rattle.rtrb.specs.Ring.{received};
-ghost use Rattle.loop_desk.specs.Desk.{flushed};
-ghost use Rattle.loop_desk.specs.Seen.{DeskGoes, TellsStatus};
+ghost use Rattle.loop_desk.specs.Desk.{clip_unlocked, flushed, frame_read};
+ghost use Rattle.loop_desk.specs.Seen.{DeskGoes, OutlineRefuses, TellsOutline, TellsStatus};
 ghost use Rattle.loop_pipeline.specs.Backs.{BackKeeps};
+ghost use Rattle.loop_pipeline.specs.Keeps.{HaveTime, KeepsTime};
+ghost use Rattle.loop_store.specs.Runs.{read_of};
 
-use loop_desk::{Desk, Flushed, Status};
+use crate::Kept;
+use crate::keep::keep_at;
+use loop_desk::{Desk, Flushed, Outline, Status};
 use loop_disk::Disk;
-use loop_record::Frame;
-use loop_store::StoreFault;
+use loop_record::{Frame, Times};
+use loop_store::{ReadFrame, StoreFault};
 use rtrb::Consumer;
 use std::alloc::{Allocator, Global};
 use std::marker::Model;
@@ -142,6 +146,42 @@ impl<D: Disk + Drop, A: Allocator + Copy> Back<D, A> {
         ensures { self.new ≡ self.old }
     {
         self.desk.spare_memory()
+    }
+
+    /// What the desk holds, as `Desk::outline`.
+    pub fn outline(&self, alloc: A) -> Result<Outline<A>, StoreFault>
+        ensures outline { IfOk result (TellsOutline D.medium self.now.desk) }
+        ensures refused { IfErr result (λ fault. OutlineRefuses self.now.desk fault) }
+    {
+        self.desk.outline(alloc)
+    }
+
+    /// Reads a stored frame, as `Desk::read_frame`.
+    pub fn read_frame(&mut self, alloc: A, number: u64) -> Result<ReadFrame<A>, StoreFault>
+        ensures goes { DeskGoes D.medium self.old.desk self.new.desk
+            (frame_read number (read_of result) ∷ []) }
+        ensures same { self.new ≡ record self.old { desk = self.new.desk } }
+    {
+        self.desk.read_frame(alloc, number)
+    }
+
+    /// Locks the held frames of a time with a tag: a clip for each run of their numbers, in order, until one is refused.
+    /// A frame that waits isn't held yet. `MustReopen` where a call that writes has failed; otherwise `NoMemory` before
+    /// anything is locked, or as `Desk::lock_clip`. The clips that were locked before a refusal stay locked.
+    pub fn keep(&mut self, alloc: A, times: Times, tag: u64) -> Kept<A>
+        ensures goes { KeepsTime D.medium times tag self.old.desk self.new.desk result }
+        ensures whole { result.fault ≡ None → HaveTime times self.old.desk result.clips.items }
+        ensures same { self.new ≡ record self.old { desk = self.new.desk } }
+    {
+        keep_at(alloc, &mut self.desk, times, tag)
+    }
+
+    /// Unlocks the clip of an id, as `Desk::unlock_clip`.
+    pub fn unlock_clip(&mut self, id: u32) -> Result<(), StoreFault>
+        ensures goes { DeskGoes D.medium self.old.desk self.new.desk (clip_unlocked id result ∷ []) }
+        ensures same { self.new ≡ record self.old { desk = self.new.desk } }
+    {
+        self.desk.unlock_clip(id)
     }
 
     /// What is left of it.
