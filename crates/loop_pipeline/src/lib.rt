@@ -3,7 +3,8 @@
 //! - `front`: a device, its queue with the buffers, and the end of a ring to which the frames go that come out of the
 //!   queue; `back`: the other end of the ring, and a desk before a store; `ending`: both halves in one hand;
 //! - `film`: `film_camera`, which runs both, and what each does; `guide`: what guides them; `bell`: where one sleeps until
-//!   the other has something for it.
+//!   the other has something for it;
+//! - `start`: a queue that a front may begin with, and how it is started; `buffers`: the memory of its buffers.
 //!
 //! What the halves keep is said where they end: `Front::into_parts`, `Back::into_parts`, and of both by `film_camera`
 //! (`specs/Cameras`, `CameraKeeps`): the frames that waited and those that the source gave at ticks that completed a
@@ -15,13 +16,17 @@
 
 mod back;
 mod bell;
+mod buffers;
 mod ending;
 mod film;
 mod front;
 mod guide;
+mod start;
 
 pub use back::{Back, BackParts, Brought};
+pub use buffers::{Start, heap_start, mapped_start};
 pub use ending::{Ended, end};
 pub use film::{Link, Unfilmed, film_back, film_camera, film_front};
 pub use front::{Begun, Front, FrontParts, Took};
 pub use guide::Guide;
+pub use start::{new_queue, start_queue};
