@@ -3,6 +3,7 @@ pub mod Crossing
 mod Joining
 mod Keeping
 mod Moving
+mod Starting
 mod Taking
 mod Ticking
 mod Whole

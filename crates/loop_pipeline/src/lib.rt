@@ -5,29 +5,34 @@
 //!   is filmed;
 //! - `keep`: the held frames of a time, locked at a back's desk, a clip for each run of their numbers (`specs/Keeps`);
 //! - `film`: `film_camera`, which runs both, and what each does; `guide`: what guides them; `bell`: where one sleeps until
-//!   the other has something for it.
+//!   the other has something for it;
+//! - `start`: a queue that a front may begin with, and how it is started; `buffers`: the memory of its buffers.
 //!
 //! What the halves keep is said where they end: `Front::into_parts`, `Back::into_parts`, and of both by `film_camera`
 //! (`specs/Cameras`, `CameraKeeps`): the frames that waited and those that the source gave at ticks that completed a
 //! buffer are, in order and with all bytes, those that came to the desk and those that still wait; each that came was
 //! accepted or is counted; and of those that were accepted the footage is kept, whenever the power fails.
 //!
-//! No program films by it yet: `wip/README.md` says what is missing.
+//! Both programs film by it: `loop_cli record` and `loop_station`.
 #![tactic(auto)]
 
 mod back;
 mod bell;
+mod buffers;
 mod camera;
 mod ending;
 mod film;
 mod front;
 mod guide;
 mod keep;
+mod start;
 
 pub use back::{Back, BackParts, Brought};
+pub use buffers::{Start, heap_start, mapped_start};
 pub use camera::Camera;
 pub use ending::{Ended, end};
 pub use film::{Link, Unfilmed, film_back, film_camera, film_front};
 pub use front::{Begun, Front, FrontParts, Took};
 pub use guide::Guide;
 pub use keep::Kept;
+pub use start::{new_queue, start_queue};
