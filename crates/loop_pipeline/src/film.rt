@@ -36,7 +36,8 @@ const FLUSH_AGAIN: u64 = 100;
 /// What the two threads of a camera tell each other, and how others wake them. It serves one filming after another.
 #[derive(Drop)]
 pub struct Link {
-    /// Rings after each frame that went into the ring, when the front's thread has ended, and when others ask something.
+    /// Rings after each frame that went into the ring or was given up before it, when the front's thread has ended, and when
+    /// others ask something.
     given: Bell,
     /// Rings after frames were taken out of it.
     room: Bell,
@@ -110,7 +111,10 @@ fn take_all<R: Wait, S: FrameSource + Drop, P: PlaneMemory, G: Guide>(
         let seen = link.room.count(rt);
         match front.take(alloc, &mut spare) {
             Took::Frame => link.given.ring(rt),
-            Took::NoFrame => guide.gave_up(),
+            Took::NoFrame => {
+                guide.gave_up();
+                link.given.ring(rt);
+            }
             Took::RingFull => link.room.wait(rt, seen),
             Took::Refused(_) => break,
         }
