@@ -1,4 +1,7 @@
 // Cameras that are filmed into stores in files, each by threads of its own.
+ghost use Rattle.std.specs.Prelude.{◌≡◌, ◌<◌};
+ghost use Rattle.loop_script.specs.Pattern.{timestamp_of};
+
 use crate::record::Source;
 use loop_capture::{Device, Tick};
 use loop_desk::Desk;
@@ -51,6 +54,17 @@ struct Post {
     geometry: Geometry,
     // Another camera couldn't be filmed.
     stopped: AtomicBool,
+}
+
+// When tick `n` of a camera is, in microseconds, at the rate of its store.
+fn tick_time(n: u64, geometry: &Geometry) -> u64
+    ensures { 0 < geometry.now.rate_num
+        → result ≡ timestamp_of n geometry.now.rate_num geometry.now.rate_den }
+{
+    if geometry.rate_num == 0 {
+        return 0;
+    }
+    pattern_timestamp(n, geometry.rate_num, geometry.rate_den)
 }
 
 impl Guide for Post {
