@@ -6,6 +6,8 @@ use crate::files::{
 };
 use crate::ran::{run, text};
 use crate::told::{holds, same};
+use loop_file::FileDisk;
+use loop_store::Store;
 use std::alloc::AllocGlobal;
 use std::fs::File;
 use std::process::Abort;
@@ -32,8 +34,7 @@ static FORMATS: [Step; 2] = [
     ("format other.img 4 2 YM12 25:1 3 2", "formatted\n", "", 0),
 ];
 
-// Recordings from footage, each behind the one before it. Four buffers are filled before one is queued again, so a
-// recording of four frames or fewer stores each of them.
+// Recordings from footage, each behind the one before it.
 static FOOTAGES: [Step; 12] = [
     ("record 4 two.y4m taken.img", "camera 0 next 2\n", "", 0),
     ("export taken.img 0 1 again.y4m", "exported 2\n", "", 0),
@@ -244,4 +245,40 @@ fn a_recording_that_cannot_begin_is_told(rt: HostRuntime) {
     each_does_in_use(&rt, "used.y4m", &NOT_HAD);
     has(&rt, "had.img", &image);
     remove_files(&rt, &["had.img", "used.y4m", "bad.y4m"]);
+}
+
+// When the frame of a number of a store in a file was taken.
+fn time_in(rt: &(impl Abort + AllocGlobal + Files<File = File>), path: &str, number: u64) -> u64 {
+    let Ok(disk) = FileDisk::open(rt, path) else {
+        panic!(rt; "no file {path}")
+    };
+    let Ok(mut store) = Store::open(rt.alloc(), disk) else {
+        panic!(rt; "no store {path}")
+    };
+    match store.read_head(number) {
+        Ok(head) => head.timestamp,
+        Err(fault) => panic!(rt; "{path} {number}: {fault}"),
+    }
+}
+
+// Two stores of different rates.
+static RATES: [Step; 3] = [
+    ("format fast.img 4 2 YM12 25:1 3 2", "formatted\n", "", 0),
+    ("format late.img 4 2 YM12 10:3 3 2", "formatted\n", "", 0),
+    (
+        "record 3 - fast.img late.img",
+        "camera 0 next 3\ncamera 1 next 3\n",
+        "",
+        0,
+    ),
+];
+
+#[test]
+fn frames_have_the_times_of_their_own_stores_rate(rt: HostRuntime) {
+    each_does(&rt, &RATES);
+    same!(rt; time_in(&rt, "fast.img", 1), 40_000);
+    same!(rt; time_in(&rt, "fast.img", 2), 80_000);
+    same!(rt; time_in(&rt, "late.img", 1), 300_000);
+    same!(rt; time_in(&rt, "late.img", 2), 600_000);
+    remove_files(&rt, &["fast.img", "late.img"]);
 }
