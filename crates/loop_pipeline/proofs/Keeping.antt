@@ -147,34 +147,34 @@ module _ {D A : Type 0} (medium : D → Medium) (times : Times) (tag : ℕ) wher
     }));
   }
 
-  -- ---- nothing is submitted
+-- ---- nothing is submitted
 
-  none-sought : (place : ℕ) (runs : List Span) → filter is_submit (runs_told times place runs) ≡ []
-  none-sought place [] = refl
-  none-sought place (r ∷ rs) = none-sought (place + 1) rs
+none-sought : (times : Times) (place : ℕ) (runs : List Span) → filter is_submit (runs_told times place runs) ≡ []
+none-sought times place [] = refl
+none-sought times place (r ∷ rs) = none-sought times (place + 1) rs
 
-  none-locked : (clips : List Clip) → filter is_submit (map lock_of clips) ≡ []
-  none-locked [] = refl
-  none-locked (c ∷ cs) = none-locked cs
+none-locked : (clips : List Clip) → filter is_submit (map lock_of clips) ≡ []
+none-locked [] = refl
+none-locked (c ∷ cs) = none-locked cs
 
-  none-ended : (left : List Span) (fault : Option StoreFault) (calls : List DeskCall) → LocksEnd left fault calls
-      → filter is_submit calls ≡ []
-  none-ended [] None calls ends = ap (filter is_submit) ends
-  none-ended [] (Some fault) calls ends = absurd ends
-  none-ended (r ∷ left) None calls ends = absurd ends
-  none-ended (r ∷ left) (Some fault) calls ends = ap (filter is_submit) ends
+none-ended : (left : List Span) (fault : Option StoreFault) (calls : List DeskCall) → LocksEnd left fault calls
+    → filter is_submit calls ≡ []
+none-ended [] None calls ends = ap (filter is_submit) ends
+none-ended [] (Some fault) calls ends = absurd ends
+none-ended (r ∷ left) None calls ends = absurd ends
+none-ended (r ∷ left) (Some fault) calls ends = ap (filter is_submit) ends
 
-  none-both : (xs ys : List DeskCall) → filter is_submit xs ≡ [] → filter is_submit ys ≡ []
-      → filter is_submit (xs ++ ys) ≡ []
-  none-both xs ys first second = filter-append is_submit xs ys ∙ (λ i. first i ++ second i)
+none-both : (xs ys : List DeskCall) → filter is_submit xs ≡ [] → filter is_submit ys ≡ []
+    → filter is_submit (xs ++ ys) ≡ []
+none-both xs ys first second = filter-append is_submit xs ys ∙ (λ i. first i ++ second i)
 
-  pub none-submitted : (desk : SeenDesk D) (calls : List DeskCall) (kept : Kept A) → Keeps times tag desk calls kept
-      → filter is_submit calls ≡ []
-  none-submitted desk calls kept (inl n) = ap (filter is_submit) n.uncalled
-  none-submitted desk calls kept (inr (inl n)) = ap (filter is_submit) n.calls_are ∙ none-sought 0 n.runs
-  none-submitted desk calls kept (inr (inr h)) =
-      let e = h.are in
-      ap (filter is_submit) (h.calls_are ∙ ap (λ l. runs_told times 0 h.runs ++ l) e.calls_are)
-      ∙ none-both (runs_told times 0 h.runs) (map lock_of kept.clips.items ++ e.refusal) (none-sought 0 h.runs)
-      (none-both (map lock_of kept.clips.items) e.refusal (none-locked kept.clips.items)
-      (none-ended e.left kept.fault e.refusal e.ended))
+pub none-submitted : {D A : Type 0} (times : Times) (tag : ℕ) (desk : SeenDesk D) (calls : List DeskCall) (kept : Kept A)
+    → Keeps times tag desk calls kept → filter is_submit calls ≡ []
+none-submitted times tag desk calls kept (inl n) = ap (filter is_submit) n.uncalled
+none-submitted times tag desk calls kept (inr (inl n)) = ap (filter is_submit) n.calls_are ∙ none-sought times 0 n.runs
+none-submitted times tag desk calls kept (inr (inr h)) =
+    let e = h.are in
+    ap (filter is_submit) (h.calls_are ∙ ap (λ l. runs_told times 0 h.runs ++ l) e.calls_are)
+    ∙ none-both (runs_told times 0 h.runs) (map lock_of kept.clips.items ++ e.refusal) (none-sought times 0 h.runs)
+    (none-both (map lock_of kept.clips.items) e.refusal (none-locked kept.clips.items)
+    (none-ended e.left kept.fault e.refusal e.ended))

@@ -23,7 +23,7 @@ with_tag tag run = record run { tag = tag }
 abbrev pub lock_of : Clip → DeskCall
 lock_of c = clip_locked (clip_span c) (Ok c.id)
 
--- The locks end because no run is left, and no fault is told; or with the first run that is left, whose lock was refused
+-- The locks end where no run is left, and no fault is told; or with the first run that is left, whose lock was refused
 -- with the fault that is told.
 abbrev pub LocksEnd : List Span → Option StoreFault → List DeskCall → Type 0
 LocksEnd [] None calls = calls ≡ []

@@ -165,9 +165,11 @@ impl<D: Disk + Drop, A: Allocator + Copy> Back<D, A> {
         self.desk.read_frame(alloc, number)
     }
 
-    /// Locks the held frames of a time with a tag: a clip for each run of their numbers, in order, until one is refused.
-    /// A frame that waits isn't held yet. `MustReopen` where a call that writes has failed; otherwise `NoMemory` before
-    /// anything is locked, or as `Desk::lock_clip`. The clips that were locked before a refusal stay locked.
+    /// Locks the held frames of a time with a tag: a clip for each run of their numbers, in order, until one is
+    /// refused. The clips before it stay locked. A frame that waits isn't held yet.
+    ///
+    /// `MustReopen` where a call that writes has failed; then `NoMemory`; both before anything is locked. A lock is
+    /// refused as by `Desk::lock_clip`.
     pub fn keep(&mut self, alloc: A, times: Times, tag: u64) -> Kept<A>
         ensures goes { KeepsTime D.medium times tag self.old.desk self.new.desk result }
         ensures whole { result.fault ≡ None → HaveTime times self.old.desk result.clips.items }

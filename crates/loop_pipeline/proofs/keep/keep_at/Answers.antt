@@ -5,8 +5,8 @@ use Rattle.loop_pipeline.proofs.keep.keep_at.Goals as goal
 
 pub returns-in-Err : goal.returns-in-Err
 returns-in-Err g c =
-    rw c.refused-in-Err.ensures (keeps-none g.D.Disk.medium _ _ _ _ c.in-Err.fault c.opens.ensures.tells
-    (λ honest. g.met.D.Disk.sound _ honest) c.new-in-Err.ensures.items refl c.in-Err.ensures.refused)
+    rw c.refused.ensures (keeps-none g.D.Disk.medium _ _ _ _ c.in-Err.fault c.opens.ensures.tells
+    (λ honest. g.met.D.Disk.sound _ honest) c.new.ensures.items refl c.in-Err.ensures.refused)
 
 pub returns-in_default : goal.returns-in_default
 returns-in_default g c =
