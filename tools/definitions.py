@@ -1,7 +1,8 @@
 #!/usr/bin/env python3
 """Counts the definitions of specs/ that contracts rest on: of the store's public calls and the trait `Disk`, of the
-calls that write and open, of a desk's calls, and of `lane_run`; of the last three also those alone under what a power
-loss leaves, which are the clauses in LOSS, and of the records in FIELDS the fields that stand there.
+calls that write and open, of a desk's calls, of `lane_run`, and of a camera's `film_camera`; of the last four also those
+alone under what a power loss leaves, which are the clauses in LOSS, and of the records in FIELDS the fields that stand
+there.
 
 Run it at the top of the repository: `python3 tools/definitions.py`. With names after it (`after Goes`) it says which
 definitions of these names there are, and what each rests on. It is no part of the gate.
@@ -21,12 +22,13 @@ import glob
 import re
 import sys
 
-STORE, DESK = "crates/loop_store/src/", "crates/loop_desk/src/"
+STORE, DESK, PIPELINE = "crates/loop_store/src/", "crates/loop_desk/src/", "crates/loop_pipeline/src/"
 WHOLE = {STORE + file: None for file in ["make.rt", "reopen.rt", "store.rt", "command.rt"]}
 WRITES = {STORE + "store.rt": ["append", "lock"], STORE + "command.rt": ["run"]}
 WRITES |= {STORE + "make.rt": ["format"], STORE + "reopen.rt": ["open"]}
 KEEPS = ["submit", "flush", "lock_clip", "unlock_clip", "upgrade", "read_frame", "read_head", "sought"]
 LANE = {DESK + "lane.rt": ["lane_run"]}
+CAMERA = {PIPELINE + "film.rt": ["film_camera"]}
 QUESTIONS = {
     "the store's public calls and the trait Disk": (WHOLE, False),
     "append, lock, run, format, open": (WRITES, False),
@@ -35,10 +37,12 @@ QUESTIONS = {
     "a desk's calls, what a power loss leaves": ({DESK + "desk.rt": KEEPS, DESK + "laws.rt": ["calls_keep_footage"]}, True),
     "lane_run": (LANE, False),
     "lane_run, what a power loss leaves": (LANE, True),
+    "a camera: film_camera": (CAMERA, False),
+    "a camera: film_camera, what a power loss leaves": (CAMERA, True),
 }
 # The clauses that say what a power loss leaves, and of the records that say more than that, the fields that do.
-LOSS = {"", "goes", "ran", "moments", "headline", "footage"}
-FIELDS = {"Formats": {"moments"}, "OpensKeeping": {"moments"}, "Goes": {"leaves"}, "DeskGoes": {"store", "pending"}, "LaneRan": {"calls", "shown", "desk"}, "LaneKeeps": {"ran", "footage"}}
+LOSS = {"", "goes", "ran", "moments", "headline", "keeps", "footage"}
+FIELDS = {"Formats": {"moments"}, "OpensKeeping": {"moments"}, "Goes": {"leaves"}, "DeskGoes": {"store", "pending"}, "LaneRan": {"calls", "shown", "desk"}, "LaneKeeps": {"ran", "footage"}, "CameraKeeps": {"calls", "goes", "footage"}}
 BEGIN = re.compile(r"(?:abbrev pub|pub record|pub data|abbrev|record|data|pub(?! mod)) ([^ :({]+)")
 USE = re.compile(r"use Rattle\.(\w+)\.specs\.([\w.]+?)(?:\.\{([^}]*)\}| as (\w+))\s*;?$", re.M)
 WORD = re.compile(r"(?<![\w'.])[A-Za-z_][\w']*(?:\.[A-Za-z_][\w']*)?")
@@ -102,7 +106,7 @@ def asked(calls, loss, own):
     """The definitions that these calls' clauses and the types that they name rest on; of all the store's calls, the trait's."""
     values = {}
     for path in glob.glob("crates/loop_*/src/*.rt"):
-        for name, value in re.findall(r"Model for (\w+)[^{]*\{\s*ghost Value = \{(.*?)\};", open(path).read(), re.S):
+        for name, value in re.findall(r"Model for (\w+)[^{]*\{(?:\s*ghost use [^;]*;)*\s*ghost Value = \{(.*?)\};", open(path).read(), re.S):
             values[name] = set(rests_on(value, scope_of(path, own)))
     for path, names in calls.items():
         text, scope = open(path).read(), scope_of(path, own)

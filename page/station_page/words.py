@@ -21,8 +21,6 @@ WHY = {
     "NoSuchClip": "no clip has that number any more",
     "NumbersSpent": "its store has no number left. Move its file away, and a new one is made",
     "BadGeometry": "its store isn't for these frames. Move its file away, and a new one is made",
-    "SessionFull": "the station begins anew with it. Try again in a moment",
-    "TieBroken": "the station found a fault of its own, and opens the store again. Try again in a moment, and report it",
     "Stopped": "the station ends",
     "OldLayout": "the store has the old layout, without tags. `loop_cli upgrade` makes it anew while the station is stopped",
     "MustReopen": "the disk has failed. The station opens the store again; look at the disk",
@@ -169,12 +167,6 @@ EVENTS = [
             r"not a store (?P<camera>\S+) (?P<rest>.+?): move it away, and a store is made",
             True,
             "{camera}: {rest} isn't a store, so nothing is recorded. Move it away, and a store is made.",
-        ),
-        (
-            "tie broken",
-            r"tie broken (?P<camera>\S+?):? .*",
-            True,
-            "{camera}: the station found a fault of its own, and opens the store again. Please report it.",
         ),
         (
             "not saved",

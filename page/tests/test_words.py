@@ -44,7 +44,6 @@ def test_a_status_is_read_of_old_and_new_stations():
         ("behind left 1.4", "behind", True, "1.4 seconds"),
         ("caught up left", "caught up", False, "wait"),
         ("not a store left left.loop: move it away, and a store is made", "not a store", True, "Move it away"),
-        ("tie broken left: its store is opened again", "tie broken", True, "fault"),
     ],
 )
 def test_each_event_has_a_sentence(line, kind, is_bad, said):
