@@ -51,7 +51,7 @@ module _ {P A : Type 0} (m : P → Plane) where
   turned-on c r q q' t t' type is applies same =
       let step = subst (λ x. Applies m x (Ok r) q t q' t') same applies is.state is.stands in
       ap (λ b. b.streaming) step.1.queue.shown.body
-      ∙ streams-after (refusal_before (call.StreamOn type) is.state) type r is.state step.0.0
+      ∙ streams-after (refusal_before {P = P} {A = A} (call.StreamOn type) is.state) type r is.state step.0.0
 
   -- ---- any ioctl
 
