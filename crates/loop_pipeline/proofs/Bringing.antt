@@ -1,5 +1,5 @@
 -- What a back has done, and a call or a frame more.
-use Rattle.std.proofs.Common.{◌≡◌, ◌++◌, ℕ, ◌+◌, List, [], ◌∷◌, length, map, Result, Ok, Err, refl, sym, ap, ◌∙◌, subst, arith}
+use Rattle.std.proofs.Common.{◌≡◌, ◌++◌, ℕ, ◌+◌, List, [], ◌∷◌, length, map, Result, Ok, refl, sym, ap, ◌∙◌, subst, arith}
 use Rattle.std.proofs.lemmas.Grind.{flat_map-append}
 use Rattle.std.proofs.lemmas.List.{append-nil, length-append, map-append}
 use Rattle.std.proofs.lemmas.List.Elements.{filter-append}
@@ -15,7 +15,7 @@ use Rattle.loop_store.specs.Reopen.{TellsOne}
 use Rattle.loop_desk.specs.Desk.{DeskCall, submitted}
 use Rattle.loop_desk.specs.Seen.{DeskGoes, SeenDesk}
 use Rattle.loop_desk.proofs.Gone.{desk-joined, desk-none}
-use Rattle.loop_pipeline.specs.Backs.{BackKeeps, Came, IsFed, SeenBack, asked, calls_by, is_submit, lost_by, picture_of, unasked}
+use Rattle.loop_pipeline.specs.Backs.{BackKeeps, Came, IsFed, asked, calls_by, is_submit, lost_by, picture_of, unasked}
 
 plus-none : (n : ℕ) → n + 0 ≡ n
 plus-none n = omega arith

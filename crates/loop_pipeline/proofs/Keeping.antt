@@ -1,6 +1,7 @@
 -- What a keep does, put together from its parts.
-use Rattle.std.proofs.Common.{◌≡◌, ℕ, suc, ◌+◌, ◌<◌, inl, inr, Option, Some, None, Result, Ok, Err, List, [], ◌∷◌, ◌++◌, length, map, take, drop, get_or, refl, sym, ap, ◌∙◌, subst, arith}
+use Rattle.std.proofs.Common.{◌≡◌, ◌≢◌, ℕ, suc, ◌+◌, ◌<◌, inl, inr, Option, Some, None, Result, Ok, Err, List, [], ◌∷◌, ◌++◌, length, map, take, drop, get_or, refl, sym, ap, ◌∙◌, subst, arith}
 use Rattle.std.specs.List.{filter}
+use Rattle.std.specs.Prelude.{IsOk}
 use Rattle.std.specs.Result.{result_err}
 use Rattle.std.proofs.lemmas.List.{append-nil, map-append, take-append-drop, take_all, take_more}
 use Rattle.std.proofs.lemmas.List.Elements.{filter-append}
@@ -110,6 +111,12 @@ module _ {D : Type 0} (medium : D → Medium) (tag : ℕ) where
 
 -- ---- both
 
+-- no memory is refused for nothing
+pub not-none : {T E : Type 0} (result : Result T E) (fault : E) (n : ℕ) → (n ≡ 0 → IsOk result) → result ≡ Err fault
+    → n ≢ 0
+not-none (Ok x) fault n succeeds is none = absurd cc
+not-none (Err e) fault n succeeds is none = let never = succeeds none in absurd cc
+
 module _ {D A : Type 0} (medium : D → Medium) (times : Times) (tag : ℕ) where
   -- nothing was told
   pub keeps-none : (desk : SeenDesk D) (kept : Kept A) (fault : StoreFault) → TellsOne desk.store
@@ -122,13 +129,13 @@ module _ {D A : Type 0} (medium : D → Medium) (times : Times) (tag : ℕ) wher
   }
 
   -- the runs were told, and there was no memory for clips
-  pub keeps-crammed : (runs : List Span) (desk : SeenDesk D) (kept : Kept A)
+  pub keeps-crammed : (runs : List Span) (desk : SeenDesk D) (kept : Kept A) → runs ≢ []
       → DeskGoes medium desk desk (runs_told times 0 runs) → kept.clips.items ≡ [] → kept.fault ≡ Some NoMemory
       → KeepsTime medium times tag desk desk kept
-  keeps-crammed runs desk kept goes empty told = record {
+  keeps-crammed runs desk kept some goes empty told = record {
     calls = runs_told times 0 runs;
     goes = goes;
-    keeps = inr (inl (record { runs = runs; calls_are = refl; clips = empty; told = told }));
+    keeps = inr (inl (record { runs = runs; some = some; calls_are = refl; clips = empty; told = told }));
   }
 
   -- and they were locked, or some of them

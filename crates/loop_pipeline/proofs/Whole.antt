@@ -6,14 +6,13 @@ use Rattle.std.proofs.lemmas.List.{append-nil}
 use Rattle.std.proofs.lemmas.Option.{get_or_from_slice_get, none-some, same_Some, slice_get_within}
 use Rattle.std.proofs.Math.ListN.{drop_of_length-le}
 use Rattle.std.proofs.Math.Seq.{drop-cons}
-use Rattle.loop_clips.specs.declared.clip.Clip.{Clip}
 use Rattle.loop_disk.specs.Medium.{Medium}
 use Rattle.loop_record.specs.declared.clip.Span.{Span}
 use Rattle.loop_record.specs.declared.times.Times.{Times}
 use Rattle.loop_record.specs.Times.{AreRuns, RunsFrom, numbers_in_time, numbers_of_span, numbers_of_spans}
 use Rattle.loop_store.specs.declared.fault.StoreFault.{StoreFault}
 use Rattle.loop_desk.specs.Desk.{AreTold, DeskCall, DeskState, IsDeskTold, IsRunAt, Rules, desk_after, run_told, runs_told}
-use Rattle.loop_desk.specs.Seen.{SeenDesk, TellsDesk, rules_of}
+use Rattle.loop_desk.specs.Seen.{SeenDesk, rules_of}
 use Rattle.loop_desk.proofs.Frames.{each-parts}
 use Rattle.loop_pipeline.specs.declared.keep.Kept.{Kept}
 use Rattle.loop_pipeline.specs.Keeps.{HaveTime, Keeps, KeepsTime, LocksEnd, clip_span, with_tag}

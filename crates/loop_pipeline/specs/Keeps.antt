@@ -1,5 +1,5 @@
 -- What a keep locks: the held frames of a time, by their numbers.
-use Rattle.std.specs.Prelude.{◌≡◌, ◌⊎◌, ℕ, Option, None, Some, Ok, Err, List, [], ◌∷◌, ◌++◌, map}
+use Rattle.std.specs.Prelude.{◌≡◌, ◌≢◌, ◌⊎◌, ℕ, Option, None, Some, Ok, Err, List, [], ◌∷◌, ◌++◌, map}
 use Rattle.loop_clips.specs.declared.clip.Clip.{Clip}
 use Rattle.loop_disk.specs.Medium.{Medium}
 use Rattle.loop_record.specs.declared.clip.Span.{Span}
@@ -50,9 +50,10 @@ pub record KeepsNone {D A : Type 0} (desk : SeenDesk D) (calls : List DeskCall) 
   pub told : kept.fault ≡ Some fault
   pub refused : OutlineRefuses desk fault
 
--- the runs of the time were told, and memory for the clips was refused
+-- there are runs of the time, which were told, and memory for their clips was refused
 pub record KeepsCrammed {A : Type 0} (times : Times) (calls : List DeskCall) (kept : Kept A) : Type 0 where
   pub runs : List Span
+  pub some : runs ≢ []
   pub calls_are : calls ≡ runs_told times 0 runs
   pub clips : kept.clips.items ≡ []
   pub told : kept.fault ≡ Some NoMemory

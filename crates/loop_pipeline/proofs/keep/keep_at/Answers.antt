@@ -1,6 +1,6 @@
-use Rattle.std.proofs.Common.{None, Some, Ok, Err, refl}
+use Rattle.std.proofs.Common.{None, Some, Ok, Err, length, refl, ap, arith}
 use Rattle.loop_store.specs.declared.fault.StoreFault.TheVariants.{NoMemory}
-use Rattle.loop_pipeline.proofs.Keeping.{keeps-crammed, keeps-none, keeps-runs}
+use Rattle.loop_pipeline.proofs.Keeping.{keeps-crammed, keeps-none, keeps-runs, not-none}
 use Rattle.loop_pipeline.proofs.keep.keep_at.Goals as goal
 
 pub returns-in-Err : goal.returns-in-Err
@@ -11,7 +11,10 @@ returns-in-Err g c =
 pub returns-in_default : goal.returns-in_default
 returns-in_default g c =
     rw c.refused-in_default.ensures (keeps-crammed g.D.Disk.medium _ _ c.in-Ok.runs.items _
-    (record { clips = c.new-in_default.result; fault = Some NoMemory }) c.in-Ok.ensures.goes c.new-in_default.ensures.items refl)
+    (record { clips = c.new-in_default.result; fault = Some NoMemory })
+    (λ none. not-none c.with_capacity.result c.in_default.field-0 c.len.result c.with_capacity.ensures.succeeds
+    c.in_default.is (omega (arith, c.len.ensures, ap length none)))
+    c.in-Ok.ensures.goes c.new-in_default.ensures.items refl)
 
 pub returns-in-Ok-lock_runs : goal.returns-in-Ok-lock_runs
 returns-in-Ok-lock_runs g c =
