@@ -1,6 +1,6 @@
 //! The memory of a queue's buffers.
 
-ghost use Rattle.std.specs.Prelude.{◌≡◌, IfOk};
+ghost use Rattle.std.specs.Prelude.{IfOk};
 ghost use Rattle.std.specs.Arc.{arc_value};
 ghost use Rattle.loop_pages.specs.Place.{IsIdle};
 
