@@ -127,6 +127,14 @@ fn camera_before(
     }
 }
 
+// Puts one behind others.
+fn add<T: Drop>(list: &mut Vec<T>, one: T) -> Result<(), AllocError> {
+    match list.push(one) {
+        Ok(()) => Ok(()),
+        Err(_) => Err(AllocError),
+    }
+}
+
 // Lets each camera end.
 fn stop_all(posts: &[Post]) {
     for post in posts {
@@ -165,7 +173,7 @@ fn film_all<'s, E, R: Threads + Wait + Clock + Sync>(
     let mut all = true;
     for (post, camera) in posts.iter().zip(cameras) {
         match scope.spawn(move || film(rt, alloc, posts, post, camera)) {
-            Ok(handle) => handles.push(handle)?,
+            Ok(handle) => add(&mut handles, handle)?,
             Err(_) => {
                 stop_all(posts);
                 all = false;
@@ -175,7 +183,7 @@ fn film_all<'s, E, R: Threads + Wait + Clock + Sync>(
     }
     for handle in handles {
         match handle.join(rt) {
-            Ok(ended) => next.push(ended.desk.status().next)?,
+            Ok(ended) => add(&mut next, ended.desk.status().next)?,
             Err(_) => all = false,
         }
     }
@@ -198,13 +206,15 @@ pub(crate) fn record_stores<R: Threads + Wait + Clock + Sync>(
     let mut cameras = Vec::with_capacity(alloc, stores.len())?;
     for (source, store) in sources.into_iter().zip(stores) {
         let geometry = store.geometry();
-        cameras.push(camera_before(alloc, posts.len() as u32, source, store)?)?;
-        posts.push(Post {
+        let camera = camera_before(alloc, posts.len() as u32, source, store)?;
+        add(&mut cameras, camera)?;
+        let post = Post {
             link: Link::new(alloc)?,
             frames,
             geometry,
             stopped: AtomicBool::new(false),
-        })?;
+        };
+        add(&mut posts, post)?;
     }
     let (rt, posts) = (&*rt, posts.as_slice());
     thread::scope(
