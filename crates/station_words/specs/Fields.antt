@@ -1,7 +1,7 @@
 -- What stands at a key of the file.
 use Rattle.std.specs.Prelude.{◌≡◌, ◌≢◌, ℕ, pos, ◌*◌, ◌-◌, ◌^◌, min, Bool, ◌&&◌, nat_le, List, ◌∷◌, Option, Some, None, option_map, option_and_then, if◌then◌else◌, codes}
 use Rattle.std.specs.Float.Ieee as Ieee
-use Rattle.std.specs.Float.{binary64, ceil, float_to_unsigned, float_zero}
+use Rattle.std.specs.Float.{Float, binary64, ceil, float_to_unsigned, float_zero}
 use Rattle.std.specs.Int.{w64}
 use Rattle.std.specs.Str.{bytes_eq}
 use Rattle.toml.specs.Data.{Data, string, integer, float, boolean}
@@ -10,7 +10,6 @@ use Rattle.station_words.specs.declared.config.Memory.{Memory}
 use Rattle.station_words.specs.declared.config.Memory.TheVariants.{Bytes, Seconds}
 use Rattle.station_words.specs.declared.config.Room.{Room}
 use Rattle.station_words.specs.declared.config.Room.TheVariants.{Bytes as RoomBytes, Seconds as RoomSeconds}
-use Rattle.station_words.specs.declared.fields.TheConstants.{MINUTE, MOST_MINUTES}
 use Rattle.station_words.specs.declared.shape.Shape.{Shape}
 use Rattle.station_words.specs.Cuts.{cut}
 use Rattle.station_words.specs.Shapes.{shape_said}
@@ -59,12 +58,20 @@ memory_of (Some (integer (pos n))) = option_map (λ bytes. Some (Bytes bytes)) (
 memory_of (Some (string text)) = option_map (λ seconds. Some (Seconds seconds)) (seconds_cut (cut 32 text))
 memory_of _ = None
 
--- the seconds of so many minutes, rounded up and at most what 64 bits hold
+-- a whole number as a float
+abbrev pub whole_float : ℕ → Float
+whole_float n = Ieee.of_int binary64 (pos n)
+
+-- the seconds of minutes that are no whole number, rounded up
+unfoldable pub part_seconds : Float → Option ℕ
+part_seconds x =
+    if Ieee.lt float_zero x && Ieee.lt x (whole_float (10 ^ 15))
+    then Some (float_to_unsigned w64 (ceil binary64 (Ieee.mul binary64 x (whole_float 60)))) else None
+
+-- the seconds of so many minutes above 0, at most what 64 bits hold
 abbrev pub minutes_of : Data → Option ℕ
 minutes_of (integer (pos n)) = option_map (λ whole. min (whole * 60) (2 ^ 64 - 1)) (positive n)
-minutes_of (float x) =
-    if Ieee.lt float_zero x && Ieee.lt x MOST_MINUTES
-    then Some (float_to_unsigned w64 (ceil binary64 (Ieee.mul binary64 x MINUTE))) else None
+minutes_of (float x) = part_seconds x
 minutes_of _ = None
 
 -- the room of a store, by what stands at `minutes` and at `bytes`: one of them alone

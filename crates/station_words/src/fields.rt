@@ -4,7 +4,7 @@ ghost use Rattle.toml.specs.Data.{get_member, integer};
 ghost use Rattle.toml.specs.View.{table_view, view};
 ghost use Rattle.station_words.specs.Config.{HasBuffers};
 ghost use Rattle.station_words.specs.Cuts.{cut};
-ghost use Rattle.station_words.specs.Fields.{SaysShape, bytes_of, memory_of, minutes_of, number_of, path_of, positive, room_of, seconds_cut, shape_text, text_of, truth_of};
+ghost use Rattle.station_words.specs.Fields.{SaysShape, bytes_of, memory_of, minutes_of, number_of, part_seconds, path_of, positive, room_of, seconds_cut, shape_text, text_of, truth_of};
 
 use crate::config::{Memory, Room};
 use crate::cut::cut;
@@ -161,10 +161,19 @@ fn seconds_of(minutes: &Value) -> Option<u64>
             Some(whole) => Some(whole.saturating_mul(60)),
             None => None,
         },
-        Value::Float(part) if *part > 0.0 && *part < MOST_MINUTES => {
-            Some(saturating_f64_to_u64((*part * MINUTE).ceil()))
-        }
+        Value::Float(part) => part_seconds(*part),
         _ => None,
+    }
+}
+
+// The seconds of minutes that are no whole number, rounded up; `None` where they are not above 0, or too many.
+fn part_seconds(part: f64) -> Option<u64>
+    ensures { result ≡ part_seconds part }
+{
+    if part > 0.0 && part < MOST_MINUTES {
+        Some(saturating_f64_to_u64((part * MINUTE).ceil()))
+    } else {
+        None
     }
 }
 
