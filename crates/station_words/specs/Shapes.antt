@@ -1,5 +1,5 @@
 -- The frames of the pattern.
-use Rattle.std.specs.Prelude.{ℕ, IsTrue, List, Option, Some, None}
+use Rattle.std.specs.Prelude.{ℕ, IsTrue, List, Option, Some, None, if◌then◌else◌}
 use Rattle.loop_record.specs.declared.geometry.Geometry.{Geometry}
 use Rattle.loop_record.specs.declared.geometry.PixelFormat.{PixelFormat}
 use Rattle.loop_record.specs.Geometry.{format_named, is_good}
@@ -25,9 +25,14 @@ shape_geometry shape ring = record {
 abbrev pub IsShape : Shape → Type 0
 IsShape shape = (ring : RingSize) → IsRing ring → IsTrue (is_good (shape_geometry shape ring))
 
+-- a shape, where a store may have such frames; each store may, if the smallest may
+abbrev pub allowed : Shape → Option Shape
+allowed shape =
+    if is_good (shape_geometry shape (record { segments = 2; slots = 1 })) then Some shape else None
+
 -- the shape of these parts, where there is each of them
 abbrev pub shape_of : Option ℕ → Option ℕ → Option PixelFormat → Option (ℕ × ℕ) → Option Shape
-shape_of (Some width) (Some height) (Some format) (Some rate) = Some (record {
+shape_of (Some width) (Some height) (Some format) (Some rate) = allowed (record {
   width = width;
   height = height;
   format = format;
@@ -36,10 +41,14 @@ shape_of (Some width) (Some height) (Some format) (Some rate) = Some (record {
 })
 shape_of _ _ _ _ = None
 
+-- the shape that four words name: width, height, pixel format, rate
+unfoldable pub shape_in : List ℕ → List ℕ → List ℕ → List ℕ → Option Shape
+shape_in width height format rate =
+    shape_of (small_number width) (small_number height) (format_named format) (rate_said rate)
+
 -- `WxH`, and `FORMAT N:D`
 abbrev pub both_cut : Option (List ℕ × List ℕ) → Option (List ℕ × List ℕ) → Option Shape
-both_cut (Some size) (Some rest) =
-    shape_of (small_number size.0) (small_number size.1) (format_named rest.0) (rate_said rest.1)
+both_cut (Some size) (Some rest) = shape_in size.0 size.1 rest.0 rest.1
 both_cut _ _ = None
 
 -- `WxH FORMAT N:D`, cut behind the size

@@ -91,7 +91,8 @@ pub(crate) fn small_at(table: &Table, key: &str, other: u32) -> Option<u32>
 
 // How many buffers a camera has; `None` where that is no whole number from 4 to 32.
 pub(crate) fn buffers_at(table: &Table) -> Option<u32>
-    ensures number { IfSome result (λ n. number_of 8 32 (get_member (codes "buffers") (table_view table.now)) ≡ Some n) }
+    ensures number { IfSome result (λ buffers.
+        number_of 8 32 (get_member (codes "buffers") (table_view table.now)) ≡ Some buffers) }
     ensures few { IfSome result HasBuffers }
 {
     let buffers = number_at(table, "buffers", BUFFERS, MAX_BUFFERS)? as u32;

@@ -1,6 +1,6 @@
 // The frames of the pattern.
-ghost use Rattle.std.specs.Prelude.{◌≡◌, IfSome, Some};
-ghost use Rattle.station_words.specs.Shapes.{IsShape, shape_geometry, shape_said};
+ghost use Rattle.std.specs.Prelude.{◌≡◌, IfSome};
+ghost use Rattle.station_words.specs.Shapes.{IsShape, shape_geometry, shape_in, shape_said};
 
 use crate::cut::cut;
 use crate::ring::RingSize;
@@ -43,11 +43,19 @@ impl Shape {
 /// have such frames.
 pub fn read_shape(text: &str) -> Option<Shape>
     ensures shape { IfSome result IsShape }
-    ensures said { IfSome result (λ shape. shape_said text.now ≡ Some shape) }
+    ensures said { result ≡ shape_said text.now }
 {
     let (size, rest) = cut(text, ' ')?;
     let (width, height) = cut(size, 'x')?;
     let (format, rate) = cut(rest, ' ')?;
+    shape_in(width, height, format, rate)
+}
+
+// The shape that four words name.
+fn shape_in(width: &str, height: &str, format: &str, rate: &str) -> Option<Shape>
+    ensures shape { IfSome result IsShape }
+    ensures said { result ≡ shape_in width.now height.now format.now rate.now }
+{
     let geometry = geometry_in(width, height, format, rate, "2", "1")?;
     if geometry.check().is_err() {
         return None;
