@@ -1,14 +1,19 @@
 -- One more camera.
-use Rattle.std.proofs.Common.{◌≡◌, ◌≢◌, Bool, ℕ, List, [], ◌∷◌, ◌++◌, false, get_or, sym, subst, ◌∙◌}
+use Rattle.std.proofs.Common.{◌≡◌, ◌≢◌, Bool, ℕ, ◌+◌, ◌<◌, List, [], ◌∷◌, ◌++◌, false, get_or, length, take, sym, subst, ◌∙◌}
 use Rattle.std.specs.Prelude.{IsTrue, string_bytes}
 use Rattle.std.specs.List.{list_any}
 use Rattle.std.specs.Str.{bytes_eq}
 use Rattle.std.proofs.lemmas.Bool.{false≢true}
+use Rattle.std.proofs.lemmas.List.{take_more}
 use Rattle.std.proofs.lemmas.List.Elements.{All-push}
 use Rattle.std.proofs.lemmas.List.Folds.{list_any_at}
 use Rattle.std.proofs.lemmas.List.Quantifiers.{all_pairs_push}
 use Rattle.std.proofs.lemmas.Slice.Eq.{bytes_eq-Decides}
-use Rattle.station_words.specs.Config.{AreCameras, HasBuffers}
+use Rattle.toml.proofs.Views.{items_view-push}
+use Rattle.toml.specs.Data.{Data, Items, no_items, item, push_item}
+use Rattle.toml.specs.View.{items_view, view}
+use Rattle.toml.specs.declared.value.Value.{Value}
+use Rattle.station_words.specs.Config.{AreCameras, HasBuffers, SayCameras, SaysOne}
 use Rattle.station_words.specs.Names.{is_name}
 use Rattle.station_words.specs.declared.config.CameraConfig.{CameraConfig}
 
@@ -38,3 +43,19 @@ pub no-camera : (f : CameraConfig → List ℕ) (found : Bool) (text bytes : Lis
 no-camera f found text bytes slice items is lacks same all =
     subst (λ b. list_any (λ c. bytes_eq (f c) b) items ≡ false) same
     (subst (λ s. list_any (λ c. bytes_eq (f c) text) s ≡ false) all (sym is ∙ lacks))
+
+-- one more table, and the camera that it says
+says-push : (tables : Items) (cameras : List CameraConfig) (one : Data) (camera : CameraConfig) → SayCameras tables cameras
+    → SaysOne one camera → SayCameras (push_item tables one) (cameras ++ camera ∷ [])
+says-push no_items [] one camera all says = (says, tt)
+says-push no_items (c ∷ cameras) one camera all says = absurd all
+says-push (item d tables) [] one camera all says = absurd all
+says-push (item d tables) (c ∷ cameras) one camera all says = (all.0, says-push tables cameras one camera all.1 says)
+
+-- the same of tables that are read one by one
+pub says-more : (tables : List Value) (i : ℕ) (v : Value) (cameras : List CameraConfig) (camera : CameraConfig) → i < length tables
+    → v ≡ get_or tables i v → SayCameras (items_view (take i tables)) cameras → SaysOne (view v) camera
+    → SayCameras (items_view (take (i + 1) tables)) (cameras ++ camera ∷ [])
+says-more tables i v cameras camera inside is all says =
+    rw (take_more tables i v inside, items_view-push (take i tables) (get_or tables i v), ← is)
+    (says-push (items_view (take i tables)) cameras (view v) camera all says)

@@ -5,4 +5,5 @@ pub mod Times
 pub mod Orders
 pub mod Rings
 pub mod Shapes
+pub mod Fields
 pub mod Config

@@ -1,14 +1,17 @@
 // The file that says which cameras there are.
-ghost use Rattle.std.specs.Prelude.{◌≡◌, ◌≤◌, ◌+◌, IfOk, IsTrue, OnOk, length, option_map, string_bytes, vec_len};
+ghost use Rattle.std.specs.Prelude.{◌≡◌, ◌≤◌, ◌∷◌, ◌++◌, [], IfOk, IsTrue, OnOk, codes, length, option_map, string_bytes, vec_len};
 ghost use Rattle.std.specs.List.{list_any};
 ghost use Rattle.std.specs.Str.{bytes_eq};
-ghost use Rattle.station_words.specs.Config.{AreCameras, HasBuffers, IsConfig};
+ghost use Rattle.toml.specs.Data.{array, get_member};
+ghost use Rattle.toml.specs.Parse.{parse_document};
+ghost use Rattle.toml.specs.View.{items_view, table_view, view};
+ghost use Rattle.station_words.specs.Config.{AreCameras, HasBuffers, IsConfig, SayCameras, SaysConfig, SaysOne, SaysSource, SaysText};
 ghost use Rattle.station_words.specs.Names.{is_name};
 
 use crate::fault::{CameraFault, ConfigFault};
 use crate::fields::{
     buffers_at, check_keys, memory_at, number_at, path_at, room_at, shape_at, small_at, text_at,
-    truth_at,
+    truth_at, value_at,
 };
 use crate::name::is_name;
 use crate::shape::Shape;
@@ -90,7 +93,8 @@ pub enum Memory {
 
 /// What a file's text says, in TOML. The first fault is told, and nothing is left of the rest.
 pub fn read_config(alloc: Global, text: &str) -> Result<Config, ConfigFault>
-    ensures { IfOk result IsConfig }
+    ensures good { IfOk result IsConfig }
+    ensures says { IfOk result (SaysText text.now) }
 {
     match toml::table_from_str(alloc, text) {
         Ok(table) => config_of(alloc, &table),
@@ -114,7 +118,8 @@ fn line_at(text: &str, at: usize) -> u64 {
 
 // What a table says.
 fn config_of(alloc: Global, table: &Table) -> Result<Config, ConfigFault>
-    ensures { IfOk result IsConfig }
+    ensures good { IfOk result IsConfig }
+    ensures says { IfOk result (SaysConfig (table_view table.now)) }
 {
     for key in table.keys() {
         if !KEYS.contains(&key.as_str()) {
@@ -138,9 +143,11 @@ fn config_of(alloc: Global, table: &Table) -> Result<Config, ConfigFault>
 
 // The tables of the cameras, 1 to 16.
 fn camera_tables(table: &Table) -> Result<&[Value], ConfigFault>
-    ensures { IfOk result (λ tables. (1 ≤ length tables.now) × (length tables.now ≤ 16)) }
+    ensures count { IfOk result (λ tables. (1 ≤ length tables.now) × (length tables.now ≤ 16)) }
+    ensures tables { IfOk result (λ tables.
+        get_member (codes "camera") (table_view table.now) ≡ Some (array (items_view tables.now))) }
 {
-    let tables = match table.get("camera") {
+    let tables = match value_at(table, "camera") {
         None => return Err(ConfigFault::NoCameras),
         Some(Value::Array(tables)) => tables.as_slice(),
         Some(_) => return Err(ConfigFault::BadCameras),
@@ -168,6 +175,7 @@ fn copied(alloc: Global, text: Option<&str>) -> Result<Option<String>, AllocErro
 fn cameras_of(alloc: Global, tables: &[Value]) -> Result<Vec<CameraConfig>, ConfigFault>
     ensures cameras { IfOk result (λ cameras. AreCameras cameras.items) }
     ensures count { IfOk result (λ cameras. vec_len cameras ≡ length tables.now) }
+    ensures says { IfOk result (λ cameras. SayCameras (items_view tables.now) cameras.items) }
 {
     let mut cameras = Vec::new(alloc);
     for (i, table) in tables.iter().enumerate() {
@@ -190,7 +198,7 @@ fn add_camera(
     requires name { IsTrue (is_name (string_bytes camera.name)) }
     requires buffers { HasBuffers camera.buffers }
     ensures cameras { OnOk result (AreCameras cameras.new.items) }
-    ensures count { OnOk result (vec_len cameras.new ≡ vec_len cameras.old + 1) }
+    ensures pushed { OnOk result (cameras.new.items ≡ cameras.old.items ++ camera ∷ []) }
 {
     if has_name(cameras, camera.name.as_str()) {
         return Err(ConfigFault::Camera(place, CameraFault::SameName));
@@ -220,6 +228,7 @@ fn has_store(cameras: &[CameraConfig], store: &str) -> bool
 fn camera_of(alloc: Global, table: &Value) -> Result<CameraConfig, CameraFault>
     ensures name { IfOk result (λ camera. IsTrue (is_name (string_bytes camera.name))) }
     ensures buffers { IfOk result (λ camera. HasBuffers camera.buffers) }
+    ensures says { IfOk result (SaysOne (view table.now)) }
 {
     let table = match table {
         Value::Table(table) => table,
@@ -251,7 +260,9 @@ fn camera_of(alloc: Global, table: &Value) -> Result<CameraConfig, CameraFault>
 }
 
 // Where a camera's frames come from: the pattern of a shape, or a path.
-fn source_of(alloc: Global, table: &Table) -> Result<Source, CameraFault> {
+fn source_of(alloc: Global, table: &Table) -> Result<Source, CameraFault>
+    ensures { IfOk result (SaysSource (table_view table.now)) }
+{
     let path = text_at(table, "source").ok_or(CameraFault::BadSource)?;
     match shape_at(table, path)? {
         Some(shape) => Ok(Source::Pattern(shape)),

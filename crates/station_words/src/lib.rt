@@ -8,8 +8,9 @@
 //!   pattern's frames look like, and `fault` tells what is wrong with that file;
 //! - `answers` prints the lines that the program answers.
 //!
-//! What a line asks for, which moment a text means, which ring is chosen, and that a file's cameras have names and stores
-//! of their own is proved (`specs/`); what else is read of the file, and what is printed, is tested.
+//! What a line asks for, which moment a text means, which ring is chosen, what a file that is read says at each of its
+//! keys, and that its cameras have names and stores of their own is proved (`specs/`); why a file is refused, and what is
+//! printed, is tested.
 #![tactic(auto)]
 
 mod answers;

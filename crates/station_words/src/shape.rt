@@ -1,7 +1,8 @@
 // The frames of the pattern.
 ghost use Rattle.std.specs.Prelude.{◌≡◌, IfSome};
-ghost use Rattle.station_words.specs.Shapes.{IsShape, shape_geometry};
+ghost use Rattle.station_words.specs.Shapes.{IsShape, shape_geometry, shape_in, shape_said};
 
+use crate::cut::cut;
 use crate::ring::RingSize;
 use loop_record::{Geometry, PixelFormat};
 use loop_script::geometry_in;
@@ -41,11 +42,20 @@ impl Shape {
 /// The shape that a text names, `WxH FORMAT N:D`, as `640x480 YM12 25:1`; `None` where it can't be read, or no store may
 /// have such frames.
 pub fn read_shape(text: &str) -> Option<Shape>
-    ensures { IfSome result IsShape }
+    ensures shape { IfSome result IsShape }
+    ensures said { result ≡ shape_said text.now }
 {
-    let (size, rest) = text.split_once(' ')?;
-    let (width, height) = size.split_once('x')?;
-    let (format, rate) = rest.split_once(' ')?;
+    let (size, rest) = cut(text, ' ')?;
+    let (width, height) = cut(size, 'x')?;
+    let (format, rate) = cut(rest, ' ')?;
+    shape_in(width, height, format, rate)
+}
+
+// The shape that four words name.
+fn shape_in(width: &str, height: &str, format: &str, rate: &str) -> Option<Shape>
+    ensures shape { IfSome result IsShape }
+    ensures said { result ≡ shape_in width.now height.now format.now rate.now }
+{
     let geometry = geometry_in(width, height, format, rate, "2", "1")?;
     if geometry.check().is_err() {
         return None;
