@@ -65,6 +65,7 @@ pub record KeepsRuns {A : Type 0} (times : Times) (tag : ℕ) (calls : List Desk
   pub are : AreLocks tag runs kept.clips.items kept.fault locks
   pub calls_are : calls ≡ runs_told times 0 runs ++ locks
 
+-- a keep of one of these three kinds, by these calls
 abbrev pub Keeps : {D A : Type 0} → Times → ℕ → SeenDesk D → List DeskCall → Kept A → Type 0
 Keeps times tag desk calls kept =
     KeepsNone desk calls kept ⊎ (KeepsCrammed times calls kept ⊎ KeepsRuns times tag calls kept)
