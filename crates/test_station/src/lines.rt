@@ -31,7 +31,6 @@ other geometry left 320x240 GREY 30000:1001\n\
 other rate left 30000:1001\n\
 not a store left a store.loop: move it away, and a store is made\n\
 not a store left a store.loop.new: move it away, and a store is made\n\
-tie broken left: its store is opened again\n\
 no camera left\n\
 absent left NoStore\n\
 bad order: ke?p \"\n\

@@ -7,5 +7,5 @@ use Rattle.station_work.proofs.clerk.store_all.Given as goal
 abbrev pub invariant-flushes : goal.invariant-flushes
 invariant-flushes g l = record {
   same : l.back ≡ record l.fn.back { desk = l.back.desk };
-  went : (answers : List (Result Flushed StoreFault)) × Flushes g.row.D.Disk.medium l.fn.back.desk answers l.back.desk;
+  went : (answers : List (Result Flushed StoreFault)) × Flushes g.D.Disk.medium l.fn.back.desk answers l.back.desk;
 }
