@@ -45,16 +45,16 @@ no-camera f found text bytes slice items is lacks same all =
     (subst (λ s. list_any (λ c. bytes_eq (f c) text) s ≡ false) all (sym is ∙ lacks))
 
 -- one more table, and the camera that it says
-says-push : (tables : Items) (cameras : List CameraConfig) (one : Data) (camera : CameraConfig) → SayCameras tables cameras
-    → SaysOne one camera → SayCameras (push_item tables one) (cameras ++ camera ∷ [])
+says-push : (tables : Items) (cameras : List CameraConfig) (one : Data) (camera : CameraConfig)
+    → SayCameras tables cameras → SaysOne one camera → SayCameras (push_item tables one) (cameras ++ camera ∷ [])
 says-push no_items [] one camera all says = (says, tt)
 says-push no_items (c ∷ cameras) one camera all says = absurd all
 says-push (item d tables) [] one camera all says = absurd all
 says-push (item d tables) (c ∷ cameras) one camera all says = (all.0, says-push tables cameras one camera all.1 says)
 
 -- the same of tables that are read one by one
-pub says-more : (tables : List Value) (i : ℕ) (v : Value) (cameras : List CameraConfig) (camera : CameraConfig) → i < length tables
-    → v ≡ get_or tables i v → SayCameras (items_view (take i tables)) cameras → SaysOne (view v) camera
+pub says-more : (tables : List Value) (i : ℕ) (v : Value) (cameras : List CameraConfig) (camera : CameraConfig)
+    → i < length tables → v ≡ get_or tables i v → SayCameras (items_view (take i tables)) cameras → SaysOne (view v) camera
     → SayCameras (items_view (take (i + 1) tables)) (cameras ++ camera ∷ [])
 says-more tables i v cameras camera inside is all says =
     rw (take_more tables i v inside, items_view-push (take i tables) (get_or tables i v), ← is)

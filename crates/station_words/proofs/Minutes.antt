@@ -1,5 +1,5 @@
 -- Minutes that are no whole number.
-use Rattle.std.proofs.Common.{◌≡◌, ℕ, ◌&&◌, Option, Some, None, cond, refl}
+use Rattle.std.proofs.Common.{◌≡◌, ◌&&◌, Some, None, cond, refl}
 use Rattle.std.specs.Int.{w64}
 use Rattle.std.specs.Float.Ieee as Ieee
 use Rattle.std.specs.Float.{Float, binary64, ceil, float_to_unsigned}

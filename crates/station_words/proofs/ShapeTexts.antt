@@ -51,11 +51,13 @@ shape-some width height format rate g is =
     shape-parts (small_number width) (small_number height) (format_named format) (rate_said rate) ∙ ap shape_by is
 
 -- what a check that is answered says of its test
-pub check-passed : {A E : Type 0} (r : Result A E) (good : Bool) → (IsOk r ↔ IsTrue good) → is_err r ≡ false → good ≡ true
+pub check-passed : {A E : Type 0} (r : Result A E) (good : Bool) → (IsOk r ↔ IsTrue good)
+    → is_err r ≡ false → good ≡ true
 check-passed (Ok x) good says is = says.0 refl
 check-passed (Err e) good says is = absurd (false≢true (sym is))
 
-pub check-failed : {A E : Type 0} (r : Result A E) (good : Bool) → (IsOk r ↔ IsTrue good) → is_err r ≡ true → good ≡ false
+pub check-failed : {A E : Type 0} (r : Result A E) (good : Bool) → (IsOk r ↔ IsTrue good)
+    → is_err r ≡ true → good ≡ false
 check-failed (Ok x) good says is = absurd (false≢true is)
 check-failed (Err e) true says is = absurd (false≢true (says.1 refl))
 check-failed (Err e) false says is = refl
