@@ -7,4 +7,3 @@ pub mod Opened
 pub mod Refused
 pub mod Ends
 pub mod Keeps
-pub mod Follows

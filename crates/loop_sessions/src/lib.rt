@@ -2,19 +2,17 @@
 //!
 //! - `entry`: what is noted of a call, and a caller's pass; `session`: a desk and its history, as they lie under a
 //!   lock; `port`: a queue with its table, as they lie under a lock; `pace`: where threads are told how far they are;
-//! - `recorder`: the calls that take a lock, and `end`; `keep`: the held frames of a time, locked; `again`: a camera
-//!   for the next recorder; `laws`: that a keep is whole, and what a session leaves to the next one; `opened`: the
-//!   parts of a new recorder; `ended`: what the end compares; `same`: whether two calls were answered alike; `fault`:
-//!   refusals.
+//! - `recorder`: the calls that take a lock, and `end`; `keep`: the held frames of a time, locked; `laws`: that a keep
+//!   is whole; `opened`: the parts of a new recorder; `ended`: what the end compares; `same`: whether two calls were
+//!   answered alike; `fault`: refusals.
 //!
 //! It starts no thread: loop_recorder does, and exports all that is here too.
 //!
 //! `specs/Histories` says when a history is legal, `specs/Sessions` what a desk's lock keeps, `specs/Ports` what a
 //! queue's lock keeps, `specs/Receipts` what a call leaves, `specs/Keeps` what a keep locks, `specs/Ends` what the end
-//! promises, `specs/Follows` what a session leaves to the next one.
+//! promises.
 #![tactic(auto)]
 
-mod again;
 mod ended;
 mod entry;
 mod fault;
@@ -27,7 +25,6 @@ mod recorder;
 mod same;
 mod session;
 
-pub use again::camera_again;
 pub use ended::EndedCamera;
 pub use entry::{Entry, Noted, Pass, Receipt, Stamp};
 pub use fault::{NewRefused, SessionFault};

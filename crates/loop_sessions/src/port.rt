@@ -36,6 +36,15 @@ pub struct QueueLock<P: PlaneMemory = Box<dyn PlaneMemory + Send>, A: Allocator 
     pub(crate) port: Mutex<Port<P, A>>,
 }
 
+impl<P: PlaneMemory, A: Allocator + Copy> QueueLock<P, A> {
+    /// The queue and its table, where no other thread has the lock. The queue still streams if it did.
+    pub fn into_parts(self) -> (Queue<P, A>, FdTable<P, A>)
+        ensures { StandsPort P.plane result.0 result.1 }
+    {
+        self.port.into_inner().into_parts()
+    }
+}
+
 impl<P: PlaneMemory, A: Allocator + Copy> Port<P, A> {
     /// A queue with its table.
     pub fn new(queue: Queue<P, A>, table: FdTable<P, A>) -> Self

@@ -1,22 +1,20 @@
 //! Recordings of frames of two million bytes, through buffers of the application's memory.
 
-ghost use Rattle.std.specs.Prelude.{◌≡◌, length};
-ghost use Rattle.loop_sessions.specs.Opened.{IsReady};
-
 use crate::told::{holds, same};
-use loop_capture::{Device, FrameSource, Pattern};
+use loop_capture::{Device, FrameSource, Pattern, Tick};
 use loop_desk::Desk;
-use loop_disk::MemDisk;
-use loop_plane::{HeapPlane, PlaneMemory};
-use loop_record::{Geometry, PixelFormat};
-use loop_recorder::{
-    Camera, Ended, Pace, Pass, Recorder, Step, camera_before, heap_start, record, start_queue,
+use loop_disk::{Disk, MemDisk};
+use loop_pipeline::{
+    Back, Camera, Ended, Guide, Link, Unfilmed, film_camera, heap_start, new_queue, start_queue,
 };
+use loop_plane::HeapPlane;
+use loop_record::{Geometry, PixelFormat};
 use loop_script::LIMITS;
-use loop_store::format;
+use loop_store::{StoreFault, format};
 use std::alloc::Global;
 use std::process::Abort;
 use std::sync::Wait;
+use std::thread;
 use std::thread::Threads;
 use std::time::Clock;
 
@@ -26,22 +24,60 @@ const ROWS: [(PixelFormat, u32, u32, u32, u64); 2] = [
     (PixelFormat::Ym12, 1600, 900, 2_160_000, 8_643_712),
 ];
 
-type HeapCamera = Camera<MemDisk, HeapPlane>;
+type Source = Box<dyn FrameSource + Send>;
 
-type HeapRecorder = Recorder<MemDisk, HeapPlane>;
+type HeapCamera = Camera<Source, MemDisk, HeapPlane>;
 
-// Waits nowhere.
-struct AtOnce;
+type HeapEnded = Ended<Source, MemDisk, HeapPlane>;
 
-impl Pace for AtOnce {
-    fn reached(&self, _camera: u32, _step: Step) {}
+type Filmed = Result<HeapEnded, Unfilmed<Source, MemDisk, HeapPlane>>;
+
+// Four ticks at 25 frames a second.
+#[derive(Drop)]
+struct Four;
+
+impl Guide for Four {
+    fn next_tick<R: Wait + Clock>(&self, _rt: &R, n: u64) -> Option<u64> {
+        if n < 4 { Some(n * 40_000) } else { None }
+    }
+
+    fn ticked<R: Wait>(&self, _rt: &R, _tick: Tick) {}
+
+    fn brought(&self) {}
+
+    fn gave_up(&self) {}
+
+    fn stored(&self, _count: u32) {}
+
+    fn flushes_again(&self, _fault: StoreFault) -> bool {
+        false
+    }
+
+    fn visit<R: Wait + Clock, D: Disk + Drop>(
+        &self,
+        _rt: &R,
+        _alloc: Global,
+        _back: &mut Back<D>,
+    ) {}
 }
 
-// A camera of a row.
-fn camera_of(rt: &impl Abort, alloc: Global, row: &(PixelFormat, u32, u32, u32, u64)) -> HeapCamera
-    ensures { IsReady ⟦<HeapPlane as PlaneMemory>⟧.plane result }
-{
-    let (pixels, width, height, _, size) = *row;
+// A device of the pattern's frames.
+fn device_of(rt: &impl Abort, alloc: Global, bytes: u32) -> Device {
+    let source = Box::new(alloc, Pattern::new()).expect(rt, "memory for a source");
+    let source: Source = source;
+    match Device::new(alloc, source, bytes) {
+        Ok(device) => device,
+        Err(_) => panic!(rt; "memory for a frame"),
+    }
+}
+
+// A camera of a row, whose queue of four buffers streams.
+fn camera_of(
+    rt: &impl Abort,
+    alloc: Global,
+    row: &(PixelFormat, u32, u32, u32, u64),
+) -> HeapCamera {
+    let (pixels, width, height, bytes, size) = *row;
     let geometry = Geometry {
         width,
         height,
@@ -55,32 +91,30 @@ fn camera_of(rt: &impl Abort, alloc: Global, row: &(PixelFormat, u32, u32, u32, 
     let Ok(store) = format(alloc, disk, geometry) else {
         panic!(rt; "no store of {width}x{height}")
     };
-    match camera_before(alloc, store, LIMITS) {
-        Ok(camera) => camera,
-        Err(_) => panic!(rt; "no camera of {width}x{height}"),
+    let (mut queue, mut table) = new_queue(alloc, &store.geometry());
+    let Ok(start) = heap_start(alloc, &queue, 4) else {
+        panic!(rt; "memory for buffers")
+    };
+    let started = start_queue(&mut queue, &mut table, start).is_ok();
+    holds!(rt; started);
+    match Desk::new(alloc, store, LIMITS) {
+        Ok(desk) => Camera::new(device_of(rt, alloc, bytes), queue, table, desk),
+        Err(_) => panic!(rt; "memory for a desk"),
     }
 }
 
-// The recorder of one camera, and three passes.
-fn recorder_of(rt: &impl Abort, alloc: Global, camera: HeapCamera) -> (HeapRecorder, Vec<Pass>)
-    requires { IsReady ⟦<HeapPlane as PlaneMemory>⟧.plane camera }
-    ensures { length result.0.outlines ≡ 1 }
-{
-    let cameras = vec![in alloc; camera].expect(rt, "memory for a list");
-    match Recorder::new(alloc, cameras, 3) {
-        Ok(made) => made,
-        Err(_) => panic!(rt; "memory for a recorder"),
-    }
-}
-
-// A device of the pattern's frames.
-fn device_of(rt: &impl Abort, alloc: Global, bytes: u32) -> Device {
-    let source = Box::new(alloc, Pattern::new()).expect(rt, "memory for a source");
-    let source: Box<dyn FrameSource + Send> = source;
-    match Device::new(alloc, source, bytes) {
-        Ok(device) => device,
-        Err(_) => panic!(rt; "memory for a frame"),
-    }
+// Films a camera for four ticks.
+fn film<R: Threads + Wait + Clock + Sync>(
+    rt: &R,
+    alloc: Global,
+    link: &Link,
+    guide: &Four,
+    camera: HeapCamera,
+) -> Filmed {
+    let (rt, link, guide) = (&*rt, &*link, &*guide);
+    thread::scope(thread::scope_env(), rt, move |scope| -> Filmed {
+        film_camera(rt, alloc, scope, link, guide, camera)
+    })
 }
 
 // What a row's camera with four buffers records of four frames.
@@ -88,18 +122,10 @@ fn records<R: Threads + Wait + Clock + Abort + Sync>(
     rt: &R,
     alloc: Global,
     row: &(PixelFormat, u32, u32, u32, u64),
-) -> Ended<MemDisk, HeapPlane> {
+) -> HeapEnded {
     let camera = camera_of(rt, alloc, row);
-    let Ok(start) = heap_start(alloc, &camera, 4) else {
-        panic!(rt; "memory for buffers")
-    };
-    let (recorder, passes) = recorder_of(rt, alloc, camera);
-    holds!(rt; start_queue(rt, &recorder, 0, start).is_ok());
-    let devices = vec![in alloc; device_of(rt, alloc, row.3)];
-    let mut devices = devices.expect(rt, "memory for a list");
-    assert!(rt; devices.len() == 1);
-    assert!(rt; passes.len() == 3);
-    match record(rt, alloc, recorder, passes, &mut devices, 4, &AtOnce) {
+    let link = Link::new(alloc).expect(rt, "memory for a link");
+    match film(rt, alloc, &link, &Four, camera) {
         Ok(ended) => ended,
         Err(_) => panic!(rt; "no end"),
     }
@@ -126,13 +152,11 @@ fn is_held(rt: &impl Abort, alloc: Global, desk: &mut Desk<MemDisk>, number: u8,
 }
 
 // The four frames of a row are stored as the source gave them.
-fn are_stored(rt: &impl Abort, alloc: Global, ended: &mut Ended<MemDisk, HeapPlane>, size: u32) {
-    let Some(camera) = ended.cameras.get_mut(0) else {
-        panic!(rt; "no camera")
-    };
-    same!(rt; camera.desk.status().next, 4, size);
+fn are_stored(rt: &impl Abort, alloc: Global, ended: &mut HeapEnded, size: u32) {
+    same!(rt; ended.desk.status().next, 4, size);
+    same!(rt; (ended.given_up, ended.left), (0, 0), size);
     for number in 0..4u8 {
-        is_held(rt, alloc, &mut camera.desk, number, size);
+        is_held(rt, alloc, &mut ended.desk, number, size);
     }
 }
 
