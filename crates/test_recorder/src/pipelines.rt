@@ -4,6 +4,7 @@
 ghost use Rattle.std.specs.Prelude.{◌≡◌};
 ghost use Rattle.loop_desk.specs.declared.hand.Hand.TheVariants.{Empty};
 ghost use Rattle.loop_pipeline.specs.Fronts.{IsOpen};
+ghost use Rattle.loop_plane.specs.Kinds.{heap_plane};
 
 use crate::common::*;
 use crate::told::{holds, same};
@@ -148,8 +149,7 @@ fn film<R: Threads + Wait + Clock + Abort + Sync>(
         thread::scope_env(),
         rt,
         move |scope| -> TestEnded
-            ensures { result.hand ≡ Empty
-                → IsOpen ⟦<HeapPlane as PlaneMemory>⟧.plane result.queue result.table }
+            ensures { result.hand ≡ Empty → IsOpen heap_plane result.queue result.table }
         {
             match film_camera(rt, alloc, scope, link, guide, camera) {
                 Ok(ended) => ended,
@@ -264,7 +264,7 @@ fn a_front_and_a_back_go_by_turns(rt: HostRuntime) {
     holds!(rt; matches!(front.take(alloc, &mut spare), Took::RingFull));
     holds!(rt; matches!(back.bring(), Brought::Submitted(0)));
     holds!(rt; matches!(back.bring(), Brought::Submitted(1)));
-    holds!(rt; matches!(back.bring(), Brought::Nothing));
+    holds!(rt; matches!(back.bring(), Brought::DeskFull));
     holds!(rt; matches!(front.take(alloc, &mut spare), Took::Frame));
     holds!(rt; matches!(back.bring(), Brought::DeskFull));
     holds!(rt; back.give_up());
