@@ -204,9 +204,11 @@ pub(crate) fn record_stores<R: Threads + Wait + Clock + Sync>(
 ) -> Result<Vec<u64>, Unrecorded> {
     let mut posts = Vec::with_capacity(alloc, stores.len())?;
     let mut cameras = Vec::with_capacity(alloc, stores.len())?;
+    let mut number = 0u32;
     for (source, store) in sources.into_iter().zip(stores) {
         let geometry = store.geometry();
-        let camera = camera_before(alloc, posts.len() as u32, source, store)?;
+        let camera = camera_before(alloc, number, source, store)?;
+        number = number.saturating_add(1);
         add(&mut cameras, camera)?;
         let post = Post {
             link: Link::new(alloc)?,

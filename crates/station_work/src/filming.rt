@@ -158,15 +158,23 @@ fn film_into<R: AllocGlobal + Threads + Wait + Clock + Sync>(
         return Absent::NoBuffers;
     };
     state.begin(rt);
-    let why = match film(rt, state, camera) {
-        Ok(Ended { desk, .. }) if state.is_stopped() && !desk.status().must_reopen => {
-            Absent::Stopped
-        }
-        Ok(_) => Absent::Store(StoreFault::MustReopen),
-        Err(_) => Absent::NoBuffers,
-    };
+    let filmed = film(rt, state, camera);
     state.lose_rest(rt);
-    why
+    why_ended(state, filmed)
+}
+
+/// Why a filming ended.
+fn why_ended(state: &CameraState, filmed: Filmed) -> Absent {
+    match filmed {
+        Ok(ended) => {
+            if state.is_stopped() && !ended.desk.status().must_reopen {
+                Absent::Stopped
+            } else {
+                Absent::Store(StoreFault::MustReopen)
+            }
+        }
+        Err(_refused) => Absent::NoBuffers,
+    }
 }
 
 /// A camera before a store: its queue streams, and nothing waits at its desk. None where memory was refused.
