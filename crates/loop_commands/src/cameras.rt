@@ -46,7 +46,8 @@ type FileCamera = Camera<Source, FileDisk, MmapPlane>;
 /// What came of filming it.
 type Filmed = Result<Ended<Source, FileDisk, MmapPlane>, Unfilmed<Source, FileDisk, MmapPlane>>;
 
-/// What the threads of a camera share: so many ticks at the rate of its store, and no flush behind one that was refused.
+/// What the threads of a camera share: so many ticks at the rate of its store, and no flush behind one that was
+/// refused.
 #[derive(Drop)]
 struct Post {
     link: Link,

@@ -138,8 +138,8 @@ pub fn mapped_start(
     })
 }
 
-/// So many buffers of the application's memory (USERPTR), each plane in a row of its own, for a queue with frames of any
-/// size. A queue has 32 at most.
+/// So many buffers of the application's memory (USERPTR), each plane in a row of its own, for a queue with frames of
+/// any size. A queue has 32 at most.
 pub fn heap_start(
     alloc: Global,
     queue: &Queue<HeapPlane>,

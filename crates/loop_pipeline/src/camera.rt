@@ -10,7 +10,8 @@ use loop_plane::{FdTable, PlaneMemory};
 use loop_vb2::Queue;
 use std::marker::Model;
 
-/// A camera that may be filmed: its device, its queue, of which every buffer is in it, with what fds name, and its desk.
+/// A camera that may be filmed: its device, its queue, of which every buffer is in it, with what fds name, and its
+/// desk.
 #[derive(Drop)]
 pub struct Camera<S: FrameSource + Drop, D: Disk + Drop, P: PlaneMemory> {
     pub(crate) device: Device<S>,

@@ -36,8 +36,8 @@ const FLUSH_AGAIN: u64 = 100;
 /// What the two threads of a camera tell each other, and how others wake them. It serves one filming after another.
 #[derive(Drop)]
 pub struct Link {
-    /// Rings after each frame that went into the ring or was given up before it, when the front's thread has ended, and when
-    /// others ask something.
+    /// Rings after each frame that went into the ring or was given up before it, when the front's thread has ended, and
+    /// when others ask something.
     given: Bell,
     /// Rings after frames were taken out of it.
     room: Bell,
@@ -310,7 +310,13 @@ impl<S: FrameSource + Drop, P: PlaneMemory, W: Carrier> Promise<Left<S, P, W>> f
     ghost use Rattle.loop_pipeline.specs.Fronts.{Leaves, made_of};
 
     ghost kept_by = { λ begun left. Leaves S.next_gives P.plane (made_of begun)
-        (record { device = left.device; queue = left.queue; table = left.table; hand = left.hand; to = W.inside left.to }) };
+        (record {
+          device = left.device;
+          queue = left.queue;
+          table = left.table;
+          hand = left.hand;
+          to = W.inside left.to;
+        }) };
 }
 
 // A front's whole life in one thread, from what was carried there to what is carried back.

@@ -89,7 +89,8 @@ impl<S: FrameSource + Drop, P: PlaneMemory, A: Allocator + Copy> Model for Front
 
     ghost Value = { SeenFront S P A };
 
-    ghost view = { λ f. record { queue = f.queue_before.value; device = f.device_before.value; to = f.to_before.value } };
+    ghost view = { λ f.
+        record { queue = f.queue_before.value; device = f.device_before.value; to = f.to_before.value } };
 
     ghost invariant = { λ f. HasMoved S.next_gives P.plane
         (record { queue = f.queue_before.value; device = f.device_before.value; to = f.to_before.value })
@@ -162,8 +163,8 @@ impl<S: FrameSource + Drop, P: PlaneMemory, A: Allocator + Copy> Front<S, P, A> 
         self.device.tick(&mut self.queue, now)
     }
 
-    /// Takes the frame that waits first into the ring. Its memory is what is spare, or new. The buffer stays in the hand
-    /// until `put_back`.
+    /// Takes the frame that waits first into the ring. Its memory is what is spare, or new. The buffer stays in the
+    /// hand until `put_back`.
     pub fn take(&mut self, alloc: A, spare: &mut Option<Vec<u8, A>>) -> Took
         ensures { self.new ≡ self.old }
     {

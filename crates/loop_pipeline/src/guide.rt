@@ -27,8 +27,8 @@ pub trait Guide {
     /// A flush stored so many frames.
     fn stored(&self, count: u32);
 
-    /// A flush was refused so; whether it is tried again, after a while or once the desk's thread is woken. Where it isn't,
-    /// frames for which the desk has no room are given up.
+    /// A flush was refused so; whether it is tried again, after a while or once the desk's thread is woken. Where it
+    /// isn't, frames for which the desk has no room are given up.
     fn flushes_again(&self, fault: StoreFault) -> bool;
 
     /// What others ask of the desk. It is called between flushes, by the desk's own thread.

@@ -1,11 +1,11 @@
 //! A camera's frames on their way from its device to its disk, by two threads of which each has its half alone.
 //!
 //! - `front`: a device, its queue with the buffers, and the end of a ring to which the frames go that come out of the
-//!   queue; `back`: the other end of the ring, and a desk before a store; `ending`: both halves in one hand; `camera`: what
-//!   is filmed;
+//!   queue; `back`: the other end of the ring, and a desk before a store; `ending`: both halves in one hand; `camera`:
+//!   what is filmed;
 //! - `keep`: the held frames of a time, locked at a back's desk, a clip for each run of their numbers (`specs/Keeps`);
-//! - `film`: `film_camera`, which runs both, and what each does; `guide`: what guides them; `bell`: where one sleeps until
-//!   the other has something for it;
+//! - `film`: `film_camera`, which runs both, and what each does; `guide`: what guides them; `bell`: where one sleeps
+//!   until the other has something for it;
 //! - `start`: a queue that a front may begin with, and how it is started; `buffers`: the memory of its buffers.
 //!
 //! What the halves keep is said where they end: `Front::into_parts`, `Back::into_parts`, and of both by `film_camera`

@@ -45,7 +45,8 @@ fn ask<P: PlaneMemory>(
 ) -> Result<(), AllocError>
     requires { IsOpen P.plane queue.old table.old }
     ensures ready { IsOpen P.plane queue.new table.new }
-    ensures streams { (type : BufferType) → call ≡ StreamOn type → OnOk result (queue.new.body.streaming ≡ true) }
+    ensures streams { (type : BufferType) → call ≡ StreamOn type
+        → OnOk result (queue.new.body.streaming ≡ true) }
 {
     turns_are_events::<P, Global>();
     queues_stay_sound::<P>();
@@ -55,8 +56,8 @@ fn ask<P: PlaneMemory>(
     }
 }
 
-/// Gives a queue that has just been made its buffers, queues them and turns streaming on. If the start was made for this
-/// queue, it is refused for want of memory alone. Refused or not, a front may begin with the queue.
+/// Gives a queue that has just been made its buffers, queues them and turns streaming on. If the start was made for
+/// this queue, it is refused for want of memory alone. Refused or not, a front may begin with the queue.
 pub fn start_queue<P: PlaneMemory>(
     queue: &mut Queue<P>,
     table: &mut FdTable<P>,

@@ -3,8 +3,8 @@
 use std::io;
 use std::time::{Clock, Instant};
 
-/// The time since 1970 in microseconds, as the system's clock had it when the program began, and from then on by a clock
-/// that never goes back.
+/// The time since 1970 in microseconds, as the system's clock had it when the program began, and from then on by a
+/// clock that never goes back.
 #[derive(Clone, Copy)]
 pub struct Timeline {
     start: u64,

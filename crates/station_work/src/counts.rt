@@ -11,7 +11,8 @@ pub struct Counts {
     submitted: AtomicU64,
     /// Frames that left the desk: they were stored, or the desk was given up.
     left: AtomicU64,
-    /// Frames that were given up: no buffer was there for them, no room at the desk, or the disk failed while they waited.
+    /// Frames that were given up: no buffer was there for them, no room at the desk, or the disk failed while they
+    /// waited.
     pub given_up: AtomicU64,
     /// How often the disk or the store failed, and the store was opened again.
     pub faults: AtomicU64,
@@ -51,8 +52,8 @@ impl Counts {
         self.brought.load(Ordering::SeqCst) >= come
     }
 
-    /// Frames that have come from the source, so many in all, and are neither stored nor given up. A frame that comes to
-    /// the desk meanwhile may be counted twice, and never left out.
+    /// Frames that have come from the source, so many in all, and are neither stored nor given up. A frame that comes
+    /// to the desk meanwhile may be counted twice, and never left out.
     pub fn behind(&self, come: u64) -> u64 {
         let brought = self.brought.load(Ordering::SeqCst);
         let left = self.left.load(Ordering::SeqCst);

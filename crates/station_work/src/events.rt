@@ -1,8 +1,8 @@
 //! What happens to a camera by itself, told once each.
 //!
-//! A thread looks ten times a second at how each camera stands, and prints what has changed: its source, its store, frames
-//! that were given up, blocks that are all locked, and a disk that is slow. What stood for less than a tenth of a second
-//! isn't told; frames that were given up always are.
+//! A thread looks ten times a second at how each camera stands, and prints what has changed: its source, its store,
+//! frames that were given up, blocks that are all locked, and a disk that is slow. What stood for less than a tenth of
+//! a second isn't told; frames that were given up always are.
 
 use crate::absent::Absent;
 use crate::asked::held_of_asked;

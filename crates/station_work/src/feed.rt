@@ -39,8 +39,8 @@ struct Ready {
     row: Option<Vec<u8>>,
 }
 
-/// Frames that wait, and memory for further ones. That is taken as it is needed first, for as many frames as may wait and
-/// two more on their way, and used again.
+/// Frames that wait, and memory for further ones. That is taken as it is needed first, for as many frames as may wait
+/// and two more on their way, and used again.
 #[derive(Drop)]
 pub struct Feed {
     waiting: Mutex<Waiting>,
@@ -102,8 +102,8 @@ impl Feed {
         self.changed.notify_all();
     }
 
-    /// Takes the first frame that waits for the next tick, unless one is there, and answers when it was there; None where
-    /// none comes for so long.
+    /// Takes the first frame that waits for the next tick, unless one is there, and answers when it was there; None
+    /// where none comes for so long.
     pub fn make_ready<R: Wait + Clock>(&self, rt: &R, most: Duration) -> Option<u64> {
         let mut ready = self.ready.lock(rt);
         if let Some(frame) = &ready.frame {

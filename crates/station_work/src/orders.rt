@@ -229,8 +229,8 @@ fn keep_of<R: Clock>(rt: &R, state: &CameraState, span: Span, tag: Option<u64>) 
     Request::Keep(times, tag.unwrap_or(state.config.tag))
 }
 
-// Locks what one camera, or all, held in a time: each is asked before the first is waited for. Then the clips begin to be
-// saved that are to be saved by themselves.
+// Locks what one camera, or all, held in a time: each is asked before the first is waited for. Then the clips begin to
+// be saved that are to be saved by themselves.
 fn keep<
     R: AllocGlobal + Places + Threads + Wait + Clock + Clone + Drop + Send + Sync + 'static,
     W: Write + Drop + Send + 'static,

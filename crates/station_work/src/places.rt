@@ -26,8 +26,8 @@ pub enum Found {
     Unknown,
 }
 
-/// What opens the files and pipes of a station, in whichever thread. It is a trait of its own, since a bound on all that
-/// files can do isn't taken along into a thread.
+/// What opens the files and pipes of a station, in whichever thread. It is a trait of its own, since a bound on all
+/// that files can do isn't taken along into a thread.
 pub trait Places {
     /// Opens a file or pipe to be read.
     fn open_input(&self, path: &str) -> io::Result<File>;

@@ -11,7 +11,7 @@ use crate::source::run_source;
 use crate::state::CameraState;
 use crate::tap::{Tap, run_tap};
 use loop_script::MAX_LINE;
-use station_words::{Config, Source};
+use station_words::{CameraConfig, Config, Source};
 use std::alloc::{AllocError, AllocGlobal, Global};
 use std::io::{BufReader, Read, Write};
 use std::sync::{Arc, Mutex, Wait};
@@ -37,10 +37,10 @@ impl From<AllocError> for NotBegun {
     }
 }
 
-/// Records from each camera of a configuration, the file of this path, into its store, and does the orders that come from
-/// the input, or from the pipe or file that the configuration names, until one says `stop`. What is printed goes to `out`;
-/// where someone watches, a line for each camera stands below it and tells every second how it does. Where the input
-/// ends, it goes on. It answers whether all could be printed.
+/// Records from each camera of a configuration, the file of this path, into its store, and does the orders that come
+/// from the input, or from the pipe or file that the configuration names, until one says `stop`. What is printed goes
+/// to `out`; where someone watches, a line for each camera stands below it and tells every second how it does. Where
+/// the input ends, it goes on. It answers whether all could be printed.
 pub fn run_station<
     R: AllocGlobal + Places + Threads + Wait + Clock + Clone + Drop + Send + Sync + 'static,
     I: Read + Drop,
@@ -58,13 +58,7 @@ pub fn run_station<
     let Ok(timeline) = Timeline::new(rt) else {
         return Err(NotBegun::NoClock);
     };
-    let mut states = Vec::new(alloc);
-    for camera in cameras {
-        let state = shared(alloc, CameraState::new(alloc, camera, timeline)?)?;
-        if states.push(state).is_err() {
-            return Err(NotBegun::NoMemory);
-        }
-    }
+    let states = states_of(alloc, cameras, timeline)?;
     let tap = tap_of(rt, answers)?;
     let ours = match &tap {
         Some(tap) => Some(Arc::try_clone(tap)?),
@@ -94,6 +88,22 @@ pub fn run_station<
         tap.end(rt);
     }
     Ok(!station.outlet.has_failed())
+}
+
+// What the threads of each camera share.
+fn states_of(
+    alloc: Global,
+    cameras: Vec<CameraConfig>,
+    timeline: Timeline,
+) -> Result<Vec<Arc<CameraState>>, NotBegun> {
+    let mut states = Vec::new(alloc);
+    for camera in cameras {
+        let state = shared(alloc, CameraState::new(alloc, camera, timeline)?)?;
+        if states.push(state).is_err() {
+            return Err(NotBegun::NoMemory);
+        }
+    }
+    Ok(states)
 }
 
 // The files and pipes that no clip is written to: the configuration and all that it names.
@@ -265,8 +275,8 @@ fn start_cameras<
     true
 }
 
-// Tells what happens to the cameras by itself, and every second how each stands where someone watches, until the program
-// comes to its end.
+// Tells what happens to the cameras by itself, and every second how each stands where someone watches, until the
+// program comes to its end.
 fn watch<R: AllocGlobal + Wait + Clock, W: Write + Drop>(
     rt: &R,
     station: &Station<W>,

@@ -305,8 +305,8 @@ impl Saves {
     }
 }
 
-/// Begins to write a clip as its camera has it now. What comes of it is printed by a thread of the save's place; `TooMany`,
-/// `NoSuchClip` and what else ends it before are answered.
+/// Begins to write a clip as its camera has it now. What comes of it is printed by a thread of the save's place;
+/// `TooMany`, `NoSuchClip` and what else ends it before are answered.
 pub(crate) fn begin_save<
     R: AllocGlobal + Places + Threads + Wait + Clock + Clone + Drop + Send + Sync + 'static,
     W: Write + Drop + Send + 'static,
@@ -373,8 +373,8 @@ fn save_of<R: AllocGlobal + Places + Wait>(
     })
 }
 
-// The path of a clip's file in a folder, by its camera, the time of its first frame, and its id; another one where a file
-// has that name.
+// The path of a clip's file in a folder, by its camera, the time of its first frame, and its id; another one where a
+// file has that name.
 fn path_in<R: AllocGlobal + Places>(
     rt: &R,
     folder: &str,
@@ -454,8 +454,8 @@ fn release<R: Wait, L: Write>(rt: &R, save: &Save, lines: &mut L) -> io::Result<
     tell_released(state, id, state.clerk.answer(rt), lines)
 }
 
-// Writes a clip, and answers how many frames it has, once a file that they went to stays through a loss of power. A file
-// that was made for it is removed where it can't be written to its end.
+// Writes a clip, and answers how many frames it has, once a file that they went to stays through a loss of power. A
+// file that was made for it is removed where it can't be written to its end.
 fn write<R: AllocGlobal + Places + Wait>(
     rt: &R,
     saves: &Saves,

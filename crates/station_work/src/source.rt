@@ -215,8 +215,8 @@ fn play_input<R: AllocGlobal + Wait + Clock, I: Read + Drop, W: Write + Drop>(
     }
 }
 
-/// Memory for a frame of so many bytes: that of an earlier one, or new. Where it is refused, that of an earlier frame is
-/// waited for; None where the camera is stopped before.
+/// Memory for a frame of so many bytes: that of an earlier one, or new. Where it is refused, that of an earlier frame
+/// is waited for; None where the camera is stopped before.
 fn row_for<R: AllocGlobal + Wait + Clock>(rt: &R, state: &CameraState, size: u32) -> Option<Vec<u8>>
     ensures { IfSome result (λ bytes. length bytes.items ≡ size) }
 {

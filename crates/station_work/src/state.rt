@@ -129,15 +129,15 @@ impl CameraState {
         self.locked.load(Ordering::SeqCst)
     }
 
-    /// Whether the filming is to end: desk or queue is broken, or the program ends and no frame that the source gave before
-    /// waits for the device.
+    /// Whether the filming is to end: desk or queue is broken, or the program ends and no frame that the source gave
+    /// before waits for the device.
     fn is_done<R: Wait>(&self, rt: &R) -> bool {
         let (come, taken) = self.feed.counts(rt);
         self.over.load(Ordering::SeqCst) || self.is_stopped() && come == taken
     }
 
-    /// Desk and queue are given up: what was in them and isn't stored is lost, and counted. The camera's thread calls it,
-    /// when neither thread films it.
+    /// Desk and queue are given up: what was in them and isn't stored is lost, and counted. The camera's thread calls
+    /// it, when neither thread films it.
     pub fn lose_rest<R: Wait>(&self, rt: &R) {
         let (_, taken) = self.feed.counts(rt);
         let ready = u64::from(self.feed.is_ready(rt));
@@ -196,8 +196,8 @@ impl Guide for CameraState {
         self.store(count);
     }
 
-    // Where each block is locked the frames wait, until the program ends; where the disk failed, the filming ends, and the
-    // store is opened again.
+    // Where each block is locked the frames wait, until the program ends; where the disk failed, the filming ends, and
+    // the store is opened again.
     fn flushes_again(&self, fault: StoreFault) -> bool {
         if fault == StoreFault::AllLocked {
             self.locked.store(true, Ordering::SeqCst);

@@ -1,8 +1,8 @@
 //! What is printed, for a file or a named pipe too.
 //!
 //! A thread of its own writes there, since a pipe may keep it waiting: for a reader that comes, or for one that doesn't
-//! read. Nobody else ever waits. Of a pipe that nobody has opened to read, and of one whose reader is slow, what doesn't
-//! fit into the memory for it is dropped, whole lines.
+//! read. Nobody else ever waits. Of a pipe that nobody has opened to read, and of one whose reader is slow, what
+//! doesn't fit into the memory for it is dropped, whole lines.
 
 use crate::outlet::Outlet;
 use crate::places::Places;
