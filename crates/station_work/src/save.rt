@@ -4,6 +4,11 @@
 //! place from when its order is read until what came of it is told. Whoever tells that gives the place back, under one
 //! lock: the save's own thread, or a stop of the program where that thread hangs in a pipe that nobody reads.
 
+ghost use Rattle.std.specs.Prelude.{◌≡◌, IfOk, List, OnOk, ℕ};
+ghost use Rattle.std.specs.Io.KnownBytes.{Appends};
+ghost use Rattle.loop_y4m.specs.Text.{frame};
+ghost use Rattle.station_work.specs.Saves.{WroteClip};
+
 use crate::absent::{Absent, file_name};
 use crate::clerk::{Answer, FoundClip, Request};
 use crate::outlet::Outlet;
@@ -12,7 +17,7 @@ use crate::state::CameraState;
 use crate::told::tell_released;
 use loop_file::{FileFault, TextFile};
 use loop_record::Geometry;
-use loop_store::StoreFault;
+use loop_store::{Clip, StoreFault};
 use loop_y4m::{write_frame, write_header};
 use station_words::{print_clip_path, print_done, print_not_saved, print_saved};
 use std::alloc::{AllocError, AllocGlobal, Global};
@@ -500,7 +505,7 @@ fn write_file<R: AllocGlobal + Places + Wait>(
     }
 }
 
-// Writes a header, and then the frames of a clip.
+// Writes the text of a clip into a file.
 fn write_clip<R: AllocGlobal + Wait>(
     rt: &R,
     saves: &Saves,
@@ -510,27 +515,40 @@ fn write_clip<R: AllocGlobal + Wait>(
     let Ok(mut out) = BufWriter::with_capacity(rt.alloc(), AT_ONCE, file) else {
         return Err(NotSaved::NoMemory);
     };
-    if write_header(&save.geometry, &mut out).is_err() {
-        return Err(NotSaved::CannotWrite);
-    }
-    let clip = save.found.clip;
-    let mut count = 0u64;
-    let mut number = clip.from;
-    for _ in 0..u64::MAX {
-        if number > clip.to {
-            break;
-        }
-        if saves.stopped.load(Ordering::SeqCst) {
-            return Err(NotSaved::Stopped);
-        }
-        write_one(rt, save, number, &mut out)?;
-        count = count.saturating_add(1);
-        number = number.saturating_add(1);
-    }
+    let count = write_text(rt, saves, save, &mut out)?;
     match out.flush() {
         Ok(()) => Ok(count),
         Err(_) => Err(NotSaved::CannotWrite),
     }
+}
+
+// Writes the text of a clip: the header of its store, and its frames. How many these are.
+fn write_text<R: Wait, W: Write>(
+    rt: &R,
+    saves: &Saves,
+    save: &Save,
+    out: &mut W,
+) -> Result<u64, NotSaved>
+    ensures { IfOk result
+        (WroteClip (W.contents out.old) (W.contents out.new) save.now.geometry
+        save.now.found.clip.from save.now.found.clip.to) }
+{
+    let Clip { from, to, .. } = save.found.clip;
+    if from > to || to - from == u64::MAX {
+        return Err(NotSaved::NoSuchClip);
+    }
+    let count = to - from + 1;
+    match write_header(&save.geometry, out) {
+        Ok(()) => {}
+        Err(_) => return Err(NotSaved::CannotWrite),
+    }
+    'frames: for at in 0..count {
+        if saves.stopped.load(Ordering::SeqCst) {
+            return Err(NotSaved::Stopped);
+        }
+        write_one(rt, save, from + at, out)?;
+    }
+    Ok(count)
 }
 
 // Reads a frame, and writes it.
@@ -539,7 +557,9 @@ fn write_one<R: Wait, W: Write>(
     save: &Save,
     number: u64,
     out: &mut W,
-) -> Result<(), NotSaved> {
+) -> Result<(), NotSaved>
+    ensures { OnOk result ((bytes : List ℕ) × Appends (W.contents out.old) (W.contents out.new) (frame bytes)) }
+{
     let state = &save.state;
     state.ask_frame(rt, number);
     match state.reader.answer(rt) {
