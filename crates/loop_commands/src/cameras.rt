@@ -143,22 +143,25 @@ fn stop_all(posts: &[Post]) {
     }
 }
 
-// Films a camera. Where it can't be filmed, each other one ends.
+// Films a camera, and answers the number of its next frame. Where it can't be filmed, each other one ends.
 fn film<R: Threads + Wait + Clock + Sync>(
     rt: &R,
     alloc: Global,
     posts: &[Post],
     post: &Post,
     camera: FileCamera,
-) -> Filmed {
+) -> Option<u64> {
     let (rt, post) = (&*rt, &*post);
     let filmed = thread::scope(thread::scope_env(), rt, move |scope| -> Filmed {
         film_camera(rt, alloc, scope, &post.link, post, camera)
     });
-    if filmed.is_err() {
-        stop_all(posts);
+    match filmed {
+        Ok(ended) => Some(ended.desk.status().next),
+        Err(_refused) => {
+            stop_all(posts);
+            None
+        }
     }
-    filmed
 }
 
 // Films each camera by a thread of its own, and answers the number of its next frame.
@@ -184,8 +187,8 @@ fn film_all<'s, E, R: Threads + Wait + Clock + Sync>(
     }
     for handle in handles {
         match handle.join(rt) {
-            Ok(ended) => add(&mut next, ended.desk.status().next)?,
-            Err(_) => all = false,
+            Some(number) => add(&mut next, number)?,
+            None => all = false,
         }
     }
     if all { Ok(next) } else { Err(NO_MEMORY) }
