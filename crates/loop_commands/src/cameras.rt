@@ -16,8 +16,8 @@ use loop_record::Geometry;
 use loop_script::{LIMITS, pattern_timestamp};
 use loop_store::{Store, StoreFault};
 use std::alloc::{AllocError, Global};
-use std::sync::Wait;
 use std::sync::atomic::{AtomicBool, Ordering};
+use std::sync::{Arc, Condvar, Mutex, Wait};
 use std::thread;
 use std::thread::{Scope, Threads};
 use std::time::Clock;
@@ -46,15 +46,53 @@ type FileCamera = Camera<Source, FileDisk, MmapPlane>;
 /// What came of filming it.
 type Filmed = Result<Ended<Source, FileDisk, MmapPlane>, Unfilmed<Source, FileDisk, MmapPlane>>;
 
-/// What the threads of a camera share: so many ticks at the rate of its store, and no flush behind one that was
-/// refused.
+/// Where the cameras wait until each has begun.
+#[derive(Drop)]
+struct Gate {
+    cameras: u32,
+    begun: Mutex<u32>,
+    changed: Condvar,
+    // One of them can't be filmed.
+    stopped: AtomicBool,
+}
+
+impl Gate {
+    // None of so many has begun.
+    fn new(cameras: u32) -> Gate {
+        Gate {
+            cameras,
+            begun: Mutex::new(0),
+            changed: Condvar::new(),
+            stopped: AtomicBool::new(false),
+        }
+    }
+
+    // One has begun, and waits until each has; whether they have.
+    fn pass<R: Wait>(&self, rt: &R) -> bool {
+        let cameras = self.cameras;
+        let mut begun = self.begun.lock(rt);
+        *begun = begun.saturating_add(1);
+        self.changed.notify_all();
+        let _begun = self.changed.wait_while(rt, begun, |begun| *begun < cameras);
+        !self.stopped.load(Ordering::SeqCst)
+    }
+
+    // One can't be filmed: none is.
+    fn stop<R: Wait>(&self, rt: &R) {
+        self.stopped.store(true, Ordering::SeqCst);
+        *self.begun.lock(rt) = u32::MAX;
+        self.changed.notify_all();
+    }
+}
+
+/// What the threads of a camera share: so many ticks at the rate of its store, once each camera has begun, and no flush
+/// behind one that was refused.
 #[derive(Drop)]
 struct Post {
     link: Link,
     frames: u32,
     geometry: Geometry,
-    // Another camera couldn't be filmed.
-    stopped: AtomicBool,
+    gate: Arc<Gate>,
 }
 
 // When tick `n` of a camera is, in microseconds, at the rate of its store.
@@ -69,8 +107,8 @@ fn tick_time(n: u64, geometry: &Geometry) -> u64
 }
 
 impl Guide for Post {
-    fn next_tick<R: Wait + Clock>(&self, _rt: &R, n: u64) -> Option<u64> {
-        if n >= u64::from(self.frames) || self.stopped.load(Ordering::SeqCst) {
+    fn next_tick<R: Wait + Clock>(&self, rt: &R, n: u64) -> Option<u64> {
+        if n == 0 && !self.gate.pass(rt) || n >= u64::from(self.frames) {
             return None;
         }
         let Geometry {
@@ -136,18 +174,10 @@ fn add<T: Drop>(list: &mut Vec<T>, one: T) -> Result<(), AllocError> {
     }
 }
 
-// Lets each camera end.
-fn stop_all(posts: &[Post]) {
-    for post in posts {
-        post.stopped.store(true, Ordering::SeqCst);
-    }
-}
-
-// Films a camera, and answers the number of its next frame. Where it can't be filmed, each other one ends.
+// Films a camera, and answers the number of its next frame. Where it can't be filmed, none is.
 fn film<R: Threads + Wait + Clock + Sync>(
     rt: &R,
     alloc: Global,
-    posts: &[Post],
     post: &Post,
     camera: FileCamera,
 ) -> Option<u64> {
@@ -158,7 +188,7 @@ fn film<R: Threads + Wait + Clock + Sync>(
     match filmed {
         Ok(ended) => Some(ended.desk.status().next),
         Err(_refused) => {
-            stop_all(posts);
+            post.gate.stop(rt);
             None
         }
     }
@@ -176,14 +206,17 @@ fn film_all<'s, E, R: Threads + Wait + Clock + Sync>(
     let mut next = Vec::with_capacity(alloc, cameras.len())?;
     let mut all = true;
     for (post, camera) in posts.iter().zip(cameras) {
-        match scope.spawn(move || film(rt, alloc, posts, post, camera)) {
-            Ok(handle) => add(&mut handles, handle)?,
-            Err(_) => {
-                stop_all(posts);
-                all = false;
-                break;
+        match scope.spawn(move || film(rt, alloc, post, camera)) {
+            Ok(handle) => {
+                if add(&mut handles, handle).is_ok() {
+                    continue;
+                }
             }
+            Err(_refused) => {}
         }
+        post.gate.stop(rt);
+        all = false;
+        break;
     }
     for handle in handles {
         match handle.join(rt) {
@@ -197,8 +230,9 @@ fn film_all<'s, E, R: Threads + Wait + Clock + Sync>(
 /// Records from each source into the store at its place, so many frame periods or until it has ended, at the script's
 /// limits, and answers the number of each store's next frame.
 ///
-/// `TooLarge` where the buffers of a camera need more than 1,024 pages; then nothing was recorded. What a store refuses
-/// is counted by its camera, and no refusal of the recording.
+/// `TooLarge` where the buffers of a camera need more than 1,024 pages; `NoMemory` where memory or a thread is refused.
+/// Then nothing is recorded: no camera ticks before each has begun. What a store refuses is counted by its camera, and
+/// no refusal of the recording.
 pub(crate) fn record_stores<R: Threads + Wait + Clock + Sync>(
     rt: &R,
     alloc: Global,
@@ -208,6 +242,10 @@ pub(crate) fn record_stores<R: Threads + Wait + Clock + Sync>(
 ) -> Result<Vec<u64>, Unrecorded> {
     let mut posts = Vec::with_capacity(alloc, stores.len())?;
     let mut cameras = Vec::with_capacity(alloc, stores.len())?;
+    let count = u32::try_from(stores.len().min(sources.len())).unwrap_or(u32::MAX);
+    let Ok(gate) = Arc::new(alloc, Gate::new(count)) else {
+        return Err(NO_MEMORY);
+    };
     let mut number = 0u32;
     for (source, store) in sources.into_iter().zip(stores) {
         let geometry = store.geometry();
@@ -218,7 +256,7 @@ pub(crate) fn record_stores<R: Threads + Wait + Clock + Sync>(
             link: Link::new(alloc)?,
             frames,
             geometry,
-            stopped: AtomicBool::new(false),
+            gate: Arc::try_clone(&gate)?,
         };
         add(&mut posts, post)?;
     }
