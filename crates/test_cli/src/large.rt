@@ -1,7 +1,7 @@
 //! Recordings of frames of two million bytes, through buffers of the application's memory.
 
 use crate::told::{holds, same};
-use loop_capture::{Device, FrameSource, Pattern, Tick};
+use loop_capture::{Device, Pattern, Tick};
 use loop_desk::Desk;
 use loop_disk::{Disk, MemDisk};
 use loop_pipeline::{
@@ -24,13 +24,11 @@ const ROWS: [(PixelFormat, u32, u32, u32, u64); 2] = [
     (PixelFormat::Ym12, 1600, 900, 2_160_000, 8_643_712),
 ];
 
-type Source = Box<dyn FrameSource + Send>;
+type HeapCamera = Camera<Pattern, MemDisk, HeapPlane>;
 
-type HeapCamera = Camera<Source, MemDisk, HeapPlane>;
+type HeapEnded = Ended<Pattern, MemDisk, HeapPlane>;
 
-type HeapEnded = Ended<Source, MemDisk, HeapPlane>;
-
-type Filmed = Result<HeapEnded, Unfilmed<Source, MemDisk, HeapPlane>>;
+type Filmed = Result<HeapEnded, Unfilmed<Pattern, MemDisk, HeapPlane>>;
 
 // Four ticks at 25 frames a second.
 #[derive(Drop)]
@@ -62,10 +60,8 @@ impl Guide for Four {
 }
 
 // A device of the pattern's frames.
-fn device_of(rt: &impl Abort, alloc: Global, bytes: u32) -> Device {
-    let source = Box::new(alloc, Pattern::new()).expect(rt, "memory for a source");
-    let source: Source = source;
-    match Device::new(alloc, source, bytes) {
+fn device_of(rt: &impl Abort, alloc: Global, bytes: u32) -> Device<Pattern> {
+    match Device::new(alloc, Pattern::new(), bytes) {
         Ok(device) => device,
         Err(_) => panic!(rt; "memory for a frame"),
     }
