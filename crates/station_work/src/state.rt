@@ -212,5 +212,9 @@ impl Guide for CameraState {
         if !self.over.load(Ordering::SeqCst) {
             attend(rt, alloc, self, back);
         }
+        // A lock or an unlock may have failed on the disk while no frame waits for a flush that would tell it.
+        if back.status().must_reopen {
+            self.over.store(true, Ordering::SeqCst);
+        }
     }
 }
