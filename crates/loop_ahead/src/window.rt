@@ -1,6 +1,6 @@
 // The bytes of a disk that were read before they are asked for.
 ghost use Rattle.std.specs.Prelude.{◌≡◌, ◌+◌, ◌-◌, ◌≤◌, ℕ, List, IfOk, OnOk, length};
-ghost use Rattle.loop_disk.specs.Medium.{piece};
+ghost use Rattle.loop_disk.specs.Medium.{MayBe, piece};
 ghost use Rattle.loop_ahead.specs.Windows.{IsAhead, IsCopy, OnlyReads};
 
 use loop_disk::{Disk, DiskFault};
@@ -88,8 +88,8 @@ fn fill_most<D: Disk>(
     requires inside { at + most ≤ (D.medium disk.old).size }
     requires room { (least ≤ most) × (most ≤ length buf.old) }
     ensures count { IfOk result (λ count. (least ≤ count) × (count ≤ most)) }
-    ensures read { (D.medium disk.old).honest
-        → IfOk result (λ count. IsCopy at count (D.medium disk.old).bytes buf.new) }
+    ensures read { (image : List ℕ) → MayBe (D.medium disk.new) image
+        → IfOk result (λ count. IsCopy at count image buf.new) }
     ensures reads { OnlyReads D.medium D.harsh disk.old disk.new result }
 {
     if least < most {
@@ -107,7 +107,7 @@ fn fill_most<D: Disk>(
 fn fill<D: Disk>(disk: &mut D, buf: &mut [u8], at: u64, count: usize) -> Result<(), DiskFault>
     requires inside { at + count ≤ (D.medium disk.old).size }
     requires room { count ≤ length buf.old }
-    ensures read { (D.medium disk.old).honest → OnOk result (IsCopy at count (D.medium disk.old).bytes buf.new) }
+    ensures read { (image : List ℕ) → MayBe (D.medium disk.new) image → OnOk result (IsCopy at count image buf.new) }
     ensures reads { OnlyReads D.medium D.harsh disk.old disk.new result }
 {
     disk.read(at, &mut buf[..count])
@@ -123,8 +123,8 @@ pub(crate) fn read_by<D: Disk, A: Allocator>(
     requires inside { at + length buf.old ≤ (D.medium disk.old).size }
     requires ahead { IsAhead window.old.bytes.items window.old.start window.old.held (D.medium disk.old) }
     ensures ahead { IsAhead window.new.bytes.items window.new.start window.new.held (D.medium disk.new) }
-    ensures read { (D.medium disk.old).honest
-        → OnOk result (buf.new ≡ piece at (length buf.old) (D.medium disk.old).bytes) }
+    ensures read { (image : List ℕ) → MayBe (D.medium disk.new) image
+        → OnOk result (buf.new ≡ piece at (length buf.old) image) }
     ensures reads { OnlyReads D.medium D.harsh disk.old disk.new result }
 {
     if buf.len() > window.bytes.len() / 2 {

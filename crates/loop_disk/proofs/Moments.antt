@@ -2,8 +2,8 @@
 use Rattle.std.proofs.Common.{inl, inr, ⊎_elim, ℕ, ◌≤◌, List, length, Option, None, Result, ◌∙◌, ap, subst, arith}
 use Rattle.loop_disk.specs.declared.fault.DiskFault.{DiskFault}
 use Rattle.loop_disk.specs.declared.fault.Failures.{Failures}
-use Rattle.loop_disk.specs.Medium.{Medium, SameOutside, TornAt, IsSettled, Meanwhile, Remembers, LeavesOnly, IsSound}
-use Rattle.loop_disk.specs.Calls.{Called, with_failed}
+use Rattle.loop_disk.specs.Medium.{Medium, MayBe, SameOutside, TornAt, IsSettled, Meanwhile, Remembers, LeavesOnly, IsSound}
+use Rattle.loop_disk.specs.Calls.{Called, Stays, with_failed}
 use Rattle.loop_disk.specs.Steps.{Stores}
 
 -- no time
@@ -72,3 +72,9 @@ pub stored : {T : Type 0} (at : ℕ) (bytes : List ℕ) (old new : Medium) (r : 
     → ((c : List ℕ) → SameOutside at (length bytes) old.bytes c → P c) → LeavesOnly old new P
 stored at bytes old new r P settled stores here =
     weaker old new _ P stores.moments (λ c torn. here c (torn_settled at (length bytes) old c settled torn))
+
+-- an honest disk's bytes agree with what its reads gave
+pub of_bytes : (old new : Medium) (P : List ℕ → Type 0) → IsSound new → Stays old new
+    → ((image : List ℕ) → MayBe new image → P image) → P old.bytes
+of_bytes old new P sound stays gives =
+    subst P stays.bytes (gives new.bytes (record { size = sound.length_is; agrees = sound.shown }))

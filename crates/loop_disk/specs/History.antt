@@ -2,7 +2,7 @@
 -- more after each write and each sync.
 use Rattle.std.specs.Prelude.{◌≡◌, ◌⊎◌, ℕ, ◌+◌, ◌≤◌, Bool, false, ◌&&◌, ◌||◌, nat_le, nat_lt, List, [], ◌∷◌, length, get_or}
 use Rattle.loop_disk.specs.declared.fault.Failures.{Failures}
-use Rattle.loop_disk.specs.Medium.{Medium, with_bytes_at}
+use Rattle.loop_disk.specs.Medium.{Medium, piece, with_bytes_at}
 
 -- a moment between two calls
 pub record Moment : Type 0 where
@@ -52,11 +52,21 @@ medium_of failures now earlier = record {
   honest = Unit {0};
   failures = failures;
   bytes = now.bytes;
+  agrees = λ image. image ≡ now.bytes;
   may_leave = IsLeft now;
   moment = length earlier;
   left_since = IsLeftSince (now ∷ earlier);
 }
 
--- what is said of a disk of which nothing is known but its size and failures
-abbrev pub unknown : ℕ → Failures → Medium
-unknown size failures = record (medium_of failures (at_rest []) []) { size = size; honest = ⊥ }
+-- the image has what reads gave: the place of each, and its bytes
+abbrev pub HasAll : List ℕ → List (ℕ × List ℕ) → Type 0
+HasAll image [] = Unit {0}
+HasAll image (read ∷ reads) = (read.1 ≡ piece read.0 (length read.1) image) × HasAll image reads
+
+-- what is said of a disk of which nothing is known but its size, its failures and what its reads gave
+abbrev pub unknown : ℕ → Failures → List (ℕ × List ℕ) → Medium
+unknown size failures given = record (medium_of failures (at_rest []) []) {
+  size = size;
+  honest = ⊥;
+  agrees = λ image. HasAll image given;
+}

@@ -11,6 +11,8 @@ pub record Medium : Type 1 where
   pub failures : Failures
   -- what a read gives
   pub bytes : List ℕ
+  -- the images that agree with what its reads gave
+  pub agrees : List ℕ → Type 0
   -- the images that a crash now may leave
   pub may_leave : List ℕ → Type 0
   -- the time, as a number that doesn't fall
@@ -58,11 +60,17 @@ pub record Meanwhile (old new : Medium) (P : List ℕ → Type 0) : Type 0 where
 abbrev pub Remembers : Medium → Medium → Type 0
 Remembers old new = (t : ℕ) (c : List ℕ) → t ≤ old.moment → old.left_since t c → new.left_since t c
 
+-- by what its reads gave, this may be the disk's image
+pub record MayBe (m : Medium) (image : List ℕ) : Type 0 where
+  pub size : length image ≡ m.size
+  pub agrees : m.agrees image
+
 -- what holds of every honest disk
 pub record IsSound (m : Medium) : Type 0 where
   pub length_is : length m.bytes ≡ m.size
   pub images_length : (c : List ℕ) → m.may_leave c → length c ≡ m.size
   pub present : m.may_leave m.bytes
+  pub shown : m.agrees m.bytes
   -- this moment is one of those since an earlier one
   pub counts_now : (t : ℕ) (c : List ℕ) → t ≤ m.moment → m.may_leave c → m.left_since t c
   -- since this moment there is no other

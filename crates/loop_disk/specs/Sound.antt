@@ -26,6 +26,7 @@ sound_of failures now earlier = record {
   length_is = refl;
   images_length = λ c left. left.size;
   present = record { size = refl; kept = λ i fixed. refl };
+  shown = refl;
   counts_now = λ t c le left. inl (le, left);
   only_now = λ c left. left_last now earlier c left;
 }
@@ -36,6 +37,7 @@ sound_recounted m failures sound = record {
   length_is = sound.length_is;
   images_length = sound.images_length;
   present = sound.present;
+  shown = sound.shown;
   counts_now = sound.counts_now;
   only_now = sound.only_now;
 }

@@ -1,9 +1,9 @@
 // A disk in memory that remembers its calls, so that a test can look at the disk after a crash at each moment.
-ghost use Rattle.std.specs.Prelude.{⊤, ◌≡◌, ◌≤◌, ◌<◌, ◌+◌, ◌*◌, ◌%◌, ◌^◌, ◌++◌, [], ◌∷◌, ℕ, length, map, take, get_or, IfOk, OnOk, OnErr, IfErr, replicate};
+ghost use Rattle.std.specs.Prelude.{⊤, ◌≡◌, ◌≤◌, ◌<◌, ◌+◌, ◌*◌, ◌%◌, ◌^◌, ◌++◌, [], ◌∷◌, ℕ, List, length, map, take, get_or, IfOk, OnOk, OnErr, IfErr, replicate};
 ghost use Rattle.std.specs.List.{All};
 ghost use Rattle.loop_disk.specs.declared.fault.DiskFault.TheVariants.{Read, Write, Sync};
 ghost use Rattle.loop_disk.specs.declared.crash.DeviceCall.TheVariants as call;
-ghost use Rattle.loop_disk.specs.Medium.{with_bytes_at, piece, IsSettled, LeavesEach, LeavesEachTorn};
+ghost use Rattle.loop_disk.specs.Medium.{MayBe, with_bytes_at, piece, IsSettled, LeavesEach, LeavesEachTorn};
 ghost use Rattle.loop_disk.specs.Calls.{Called, Stays, Writes, Syncs, failed_call, no_failures, with_failed};
 ghost use Rattle.loop_disk.specs.History.{Moment, at_rest};
 ghost use Rattle.loop_disk.specs.Sound.{sound_of};
@@ -144,6 +144,8 @@ impl<A: Allocator + Copy> Disk for CrashDisk<A> {
         requires { at + length buf.old ≤ (medium_after self.old).size }
         ensures read { (medium_after self.old).honest
             → OnOk result (buf.new ≡ piece at (length buf.old) (medium_after self.old).bytes) }
+        ensures gives { (image : List ℕ) → MayBe (medium_after self.new) image → MayBe (medium_after self.old) image
+            × OnOk result (buf.new ≡ piece at (length buf.old) image) }
         ensures disk { (medium_after self.old).honest → Stays (medium_after self.old) (medium_after self.new) }
         ensures done { OnOk result (self.new ≡ record self.old { calls = self.old.calls ++ call.Read ∷ [] }) }
         ensures failed { OnErr result (self.new
@@ -193,6 +195,7 @@ impl<A: Allocator + Copy> Disk for CrashDisk<A> {
 
     fn sync(&mut self) -> Result<(), DiskFault>
         ensures disk { (medium_after self.old).honest → Syncs (medium_after self.old) (medium_after self.new) result }
+        ensures gives { (image : List ℕ) → MayBe (medium_after self.new) image → MayBe (medium_after self.old) image }
         ensures done { OnOk result (self.new ≡ record self.old { calls = self.old.calls ++ call.Sync ∷ [] }) }
         ensures failed { OnErr result (self.new
             ≡ record self.old { failures = with_failed (failed_call result) self.old.failures }) }

@@ -1,7 +1,7 @@
 // A disk of fixed size: what its calls do, and what a crash may leave.
-ghost use Rattle.std.specs.Prelude.{◌≡◌, ◌+◌, ◌≤◌, length, OnOk, IfErr};
+ghost use Rattle.std.specs.Prelude.{◌≡◌, ◌+◌, ◌≤◌, ℕ, List, length, OnOk, IfErr};
 ghost use Rattle.loop_disk.specs.declared.fault.DiskFault.TheVariants.{Read, Write, Sync};
-ghost use Rattle.loop_disk.specs.Medium.{Medium, piece, IsSound, LeavesEach, LeavesEachTorn};
+ghost use Rattle.loop_disk.specs.Medium.{Medium, MayBe, piece, IsSound, LeavesEach, LeavesEachTorn};
 ghost use Rattle.loop_disk.specs.Calls.{Called, Stays, Writes, Syncs, failed_call};
 
 use crate::DiskFault;
@@ -13,10 +13,11 @@ use crate::DiskFault;
 /// a call.
 ///
 /// What `read`, `write_at` and `sync` say of bytes and images holds of an honest disk. `called` holds of every
-/// disk: it keeps its size, honesty is neither gained nor lost, and each failed call is counted.
+/// disk: it keeps its size, honesty is neither gained nor lost, and each failed call is counted. So does `gives`:
+/// until the next write, an image that agrees with what was read has those bytes there.
 pub trait Disk {
-    /// What it is: its size, whether it is honest, which calls have failed, what stands on it, and what a crash
-    /// may leave.
+    /// What it is: its size, whether it is honest, which calls have failed, what stands on it, which images agree with
+    /// what was read, and what a crash may leave.
     ghost medium: { Self → Medium };
 
     /// Whether it is as bad as the rules allow: a crash may leave each image that they name, and not only some.
@@ -31,6 +32,8 @@ pub trait Disk {
         requires { at + length buf.old ≤ (medium self.old).size }
         ensures read { (medium self.old).honest
             → OnOk result (buf.new ≡ piece at (length buf.old) (medium self.old).bytes) }
+        ensures gives { (image : List ℕ) → MayBe (medium self.new) image → MayBe (medium self.old) image
+            × OnOk result (buf.new ≡ piece at (length buf.old) image) }
         ensures disk { (medium self.old).honest → Stays (medium self.old) (medium self.new) }
         ensures each { harsh self.old → harsh self.new × LeavesEach (medium self.old) (medium self.new) }
         ensures fault { IfErr result (λ fault. fault ≡ Read) }
@@ -49,6 +52,7 @@ pub trait Disk {
     /// After it, a crash leaves what a read gives. After a failure nothing is settled.
     fn sync(&mut self) -> Result<(), DiskFault>
         ensures disk { (medium self.old).honest → Syncs (medium self.old) (medium self.new) result }
+        ensures gives { (image : List ℕ) → MayBe (medium self.new) image → MayBe (medium self.old) image }
         ensures each { harsh self.old → harsh self.new }
         ensures fault { IfErr result (λ fault. fault ≡ Sync) }
         ensures called { Called (medium self.old) (medium self.new) (failed_call result) };

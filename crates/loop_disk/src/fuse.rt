@@ -1,7 +1,7 @@
 // A disk that fails from some call on, over another disk.
-ghost use Rattle.std.specs.Prelude.{◌≡◌, ◌+◌, ◌-◌, ◌≤◌, ◌==◌, ◌↔◌, length, OnOk, IfErr, IsErr};
+ghost use Rattle.std.specs.Prelude.{◌≡◌, ◌+◌, ◌-◌, ◌≤◌, ◌==◌, ◌↔◌, ℕ, List, length, OnOk, IfErr, IsErr};
 ghost use Rattle.loop_disk.specs.declared.fault.DiskFault.TheVariants.{Read, Write, Sync};
-ghost use Rattle.loop_disk.specs.Medium.{piece, LeavesEach, LeavesEachTorn};
+ghost use Rattle.loop_disk.specs.Medium.{MayBe, piece, LeavesEach, LeavesEachTorn};
 ghost use Rattle.loop_disk.specs.Calls.{Called, Stays, Writes, Syncs, failed_call, no_failures, with_failed};
 ghost use Rattle.loop_disk.specs.Sound.{sound_recounted};
 ghost use Rattle.loop_disk.specs.Failing.{FailsOrPasses};
@@ -78,6 +78,9 @@ impl<D: Disk> Disk for FuseDisk<D> {
         requires { at + length buf.old ≤ (D.medium self.old.inner).size }
         ensures read { (D.medium self.old.inner).honest
             → OnOk result (buf.new ≡ piece at (length buf.old) (D.medium self.old.inner).bytes) }
+        ensures gives { (image : List ℕ) → MayBe (⟦<FuseDisk<D> as Disk>⟧.medium self.new) image
+            → MayBe (⟦<FuseDisk<D> as Disk>⟧.medium self.old) image
+            × OnOk result (buf.new ≡ piece at (length buf.old) image) }
         ensures disk { (D.medium self.old.inner).honest
             → Stays (⟦<FuseDisk<D> as Disk>⟧.medium self.old) (⟦<FuseDisk<D> as Disk>⟧.medium self.new) }
         ensures which { FailsOrPasses D.medium (self.old.left == 0) self.old.inner self.new.inner result }
@@ -117,6 +120,8 @@ impl<D: Disk> Disk for FuseDisk<D> {
     fn sync(&mut self) -> Result<(), DiskFault>
         ensures disk { (D.medium self.old.inner).honest
             → Syncs (⟦<FuseDisk<D> as Disk>⟧.medium self.old) (⟦<FuseDisk<D> as Disk>⟧.medium self.new) result }
+        ensures gives { (image : List ℕ) → MayBe (⟦<FuseDisk<D> as Disk>⟧.medium self.new) image
+            → MayBe (⟦<FuseDisk<D> as Disk>⟧.medium self.old) image }
         ensures which { FailsOrPasses D.medium (self.old.left == 0) self.old.inner self.new.inner result }
         ensures left { self.new.left ≡ self.old.left - 1 }
         ensures each { D.harsh self.old.inner → D.harsh self.new.inner }

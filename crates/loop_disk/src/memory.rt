@@ -1,7 +1,7 @@
 // A disk in memory. A crash may leave any bytes in each range that was written since the last sync.
-ghost use Rattle.std.specs.Prelude.{⊤, ◌≡◌, ◌≤◌, ◌+◌, ◌∷◌, length, IfOk, OnOk, IsOk, replicate, IfErr};
+ghost use Rattle.std.specs.Prelude.{⊤, ◌≡◌, ◌≤◌, ◌+◌, ◌∷◌, ℕ, List, length, IfOk, OnOk, IsOk, replicate, IfErr};
 ghost use Rattle.loop_disk.specs.declared.fault.DiskFault.TheVariants.{Read, Write, Sync};
-ghost use Rattle.loop_disk.specs.Medium.{with_bytes_at, piece, IsFresh, IsSame, LeavesEach, LeavesEachTorn};
+ghost use Rattle.loop_disk.specs.Medium.{MayBe, with_bytes_at, piece, IsFresh, IsSame, LeavesEach, LeavesEachTorn};
 ghost use Rattle.loop_disk.specs.Calls.{Called, Stays, Writes, Syncs, failed_call, no_failures};
 ghost use Rattle.loop_disk.specs.History.{medium_of};
 ghost use Rattle.loop_disk.specs.Behind.{moment_now};
@@ -68,6 +68,9 @@ impl<A: Allocator> Disk for MemDisk<A> {
         ensures always { IsOk result }
         ensures read { (⟦<MemDisk<A> as Disk>⟧.medium self.old).honest
             → OnOk result (buf.new ≡ piece at (length buf.old) (⟦<MemDisk<A> as Disk>⟧.medium self.old).bytes) }
+        ensures gives { (image : List ℕ) → MayBe (⟦<MemDisk<A> as Disk>⟧.medium self.new) image
+            → MayBe (⟦<MemDisk<A> as Disk>⟧.medium self.old) image
+            × OnOk result (buf.new ≡ piece at (length buf.old) image) }
         ensures disk { (⟦<MemDisk<A> as Disk>⟧.medium self.old).honest
             → Stays (⟦<MemDisk<A> as Disk>⟧.medium self.old) (⟦<MemDisk<A> as Disk>⟧.medium self.new) }
         ensures same { IsSame (⟦<MemDisk<A> as Disk>⟧.medium self.old) (⟦<MemDisk<A> as Disk>⟧.medium self.new) }
@@ -109,6 +112,8 @@ impl<A: Allocator> Disk for MemDisk<A> {
         ensures always { IsOk result }
         ensures disk { (⟦<MemDisk<A> as Disk>⟧.medium self.old).honest
             → Syncs (⟦<MemDisk<A> as Disk>⟧.medium self.old) (⟦<MemDisk<A> as Disk>⟧.medium self.new) result }
+        ensures gives { (image : List ℕ) → MayBe (⟦<MemDisk<A> as Disk>⟧.medium self.new) image
+            → MayBe (⟦<MemDisk<A> as Disk>⟧.medium self.old) image }
         ensures each { ⟦<MemDisk<A> as Disk>⟧.harsh self.old → ⟦<MemDisk<A> as Disk>⟧.harsh self.new }
         ensures fault { IfErr result (λ fault. fault ≡ Sync) }
         ensures called { Called (⟦<MemDisk<A> as Disk>⟧.medium self.old) (⟦<MemDisk<A> as Disk>⟧.medium self.new)

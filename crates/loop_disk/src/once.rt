@@ -1,7 +1,7 @@
 // A disk that fails one call, over another disk.
-ghost use Rattle.std.specs.Prelude.{◌≡◌, ◌+◌, ◌-◌, ◌≤◌, ℕ, length, take, true, false, OnOk, Err, IsErr, Some, None, IfErr};
+ghost use Rattle.std.specs.Prelude.{◌≡◌, ◌+◌, ◌-◌, ◌≤◌, ℕ, List, length, take, true, false, OnOk, Err, IsErr, Some, None, IfErr};
 ghost use Rattle.loop_disk.specs.declared.fault.DiskFault.TheVariants.{Read, Write, Sync};
-ghost use Rattle.loop_disk.specs.Medium.{piece, with_bytes_at, LeavesEach, LeavesEachTorn};
+ghost use Rattle.loop_disk.specs.Medium.{MayBe, piece, with_bytes_at, LeavesEach, LeavesEachTorn};
 ghost use Rattle.loop_disk.specs.Calls.{Called, Stays, Writes, Syncs, failed_call, no_failures, with_failed};
 ghost use Rattle.loop_disk.specs.Sound.{sound_recounted};
 ghost use Rattle.loop_disk.specs.Failing.{FailsOrPasses, IsTorn, Tears, is_due, left_after};
@@ -107,6 +107,9 @@ impl<D: Disk> Disk for OnceDisk<D> {
         requires { at + length buf.old ≤ (D.medium self.old.inner).size }
         ensures read { (D.medium self.old.inner).honest
             → OnOk result (buf.new ≡ piece at (length buf.old) (D.medium self.old.inner).bytes) }
+        ensures gives { (image : List ℕ) → MayBe (⟦<OnceDisk<D> as Disk>⟧.medium self.new) image
+            → MayBe (⟦<OnceDisk<D> as Disk>⟧.medium self.old) image
+            × OnOk result (buf.new ≡ piece at (length buf.old) image) }
         ensures disk { (D.medium self.old.inner).honest
             → Stays (⟦<OnceDisk<D> as Disk>⟧.medium self.old) (⟦<OnceDisk<D> as Disk>⟧.medium self.new) }
         ensures which { FailsOrPasses D.medium (is_due self.old.left) self.old.inner self.new.inner result }
@@ -162,6 +165,8 @@ impl<D: Disk> Disk for OnceDisk<D> {
     fn sync(&mut self) -> Result<(), DiskFault>
         ensures disk { (D.medium self.old.inner).honest
             → Syncs (⟦<OnceDisk<D> as Disk>⟧.medium self.old) (⟦<OnceDisk<D> as Disk>⟧.medium self.new) result }
+        ensures gives { (image : List ℕ) → MayBe (⟦<OnceDisk<D> as Disk>⟧.medium self.new) image
+            → MayBe (⟦<OnceDisk<D> as Disk>⟧.medium self.old) image }
         ensures which { FailsOrPasses D.medium (is_due self.old.left) self.old.inner self.new.inner result }
         ensures next { (self.new.left ≡ left_after self.old.left) × (self.new.torn ≡ self.old.torn) }
         ensures each { D.harsh self.old.inner → D.harsh self.new.inner }

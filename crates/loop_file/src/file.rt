@@ -1,14 +1,17 @@
-// A disk over a file. No contract says what the file holds: its disk is never called honest.
-ghost use Rattle.std.specs.Prelude.{◌≡◌, IfOk, IfErr};
-ghost use Rattle.loop_disk.specs.Calls.{failed_call, no_failures, with_failed};
+// A disk over a file. No contract says what the file holds: its disk is never called honest. What its reads gave is
+// known.
+ghost use Rattle.std.specs.Prelude.{◌≡◌, ◌+◌, ◌↔◌, ◌≤◌, ℕ, List, length, IfOk, IfErr, OnOk};
+ghost use Rattle.loop_disk.specs.declared.fault.DiskFault.TheVariants.{Read};
+ghost use Rattle.loop_disk.specs.Calls.{Called, Stays, failed_call, no_failures, with_failed};
 ghost use Rattle.loop_disk.specs.History.{unknown};
+ghost use Rattle.loop_disk.specs.Medium.{LeavesEach, MayBe, piece};
 ghost use Rattle.loop_file.specs.Outcomes.{failing_as};
 
 use crate::fault::FileFault;
 use crate::fresh::make_fresh;
 use crate::opened::open_file;
 use crate::place::{FilePlace, take};
-use loop_disk::{Disk, DiskFault, Failures};
+use loop_disk::{Disk, DiskFault, Failures, Gave, Given};
 use std::alloc::AllocGlobal;
 use std::fs::{File, OpenFile, OpenOptions};
 use std::io;
@@ -26,6 +29,8 @@ pub struct FileDisk<F = File> {
     file: F,
     size: u64,
     failures: Failures,
+    // What its reads gave since its last write. It takes no memory: proofs alone read it.
+    given: Given,
 }
 
 impl FileDisk {
@@ -86,6 +91,7 @@ impl<F: OpenFile + FileExt + Drop> FileDisk<F> {
             file,
             size,
             failures: Failures::none(),
+            given: Given::none(),
         }
     }
 
@@ -93,7 +99,7 @@ impl<F: OpenFile + FileExt + Drop> FileDisk<F> {
     fn answer(&mut self, outcome: io::Result<()>, fault: DiskFault) -> Result<(), DiskFault>
         ensures answer { result ≡ failing_as fault outcome }
         ensures counted { self.new.failures ≡ with_failed (failed_call result) self.old.failures }
-        ensures size { self.new.size ≡ self.old.size }
+        ensures same { (self.new.size ≡ self.old.size) × (self.new.given ≡ self.old.given) }
     {
         match outcome {
             Ok(()) => Ok(()),
@@ -103,7 +109,7 @@ impl<F: OpenFile + FileExt + Drop> FileDisk<F> {
 }
 
 impl<F: OpenFile + FileExt + Drop> Disk for FileDisk<F> {
-    ghost medium = { λ disk. unknown disk.size disk.failures };
+    ghost medium = { λ disk. unknown disk.size disk.failures disk.given.reads };
 
     ghost harsh = { λ disk. ⊥ };
 
@@ -113,12 +119,29 @@ impl<F: OpenFile + FileExt + Drop> Disk for FileDisk<F> {
         self.size
     }
 
-    fn read(&mut self, at: u64, buf: &mut [u8]) -> Result<(), DiskFault> {
-        let outcome = self.file.read_exact_at(buf, at);
-        self.answer(outcome, DiskFault::Read)
+    /// An image agrees afterwards just where it did before and has these bytes there.
+    fn read(&mut self, at: u64, buf: &mut [u8]) -> Result<(), DiskFault>
+        requires { at + length buf.old ≤ (⟦<FileDisk<F> as Disk>⟧.medium self.old).size }
+        ensures read { (⟦<FileDisk<F> as Disk>⟧.medium self.old).honest
+            → OnOk result (buf.new ≡ piece at (length buf.old) (⟦<FileDisk<F> as Disk>⟧.medium self.old).bytes) }
+        ensures gives { (image : List ℕ) → MayBe (⟦<FileDisk<F> as Disk>⟧.medium self.new) image
+            ↔ (MayBe (⟦<FileDisk<F> as Disk>⟧.medium self.old) image × OnOk result (buf.new ≡ piece at (length buf.old) image)) }
+        ensures disk { (⟦<FileDisk<F> as Disk>⟧.medium self.old).honest → Stays (⟦<FileDisk<F> as Disk>⟧.medium self.old) (⟦<FileDisk<F> as Disk>⟧.medium self.new) }
+        ensures each { ⊥ → ⊥ × LeavesEach (⟦<FileDisk<F> as Disk>⟧.medium self.old) (⟦<FileDisk<F> as Disk>⟧.medium self.new) }
+        ensures fault { IfErr result (λ fault. fault ≡ Read) }
+        ensures called { Called (⟦<FileDisk<F> as Disk>⟧.medium self.old) (⟦<FileDisk<F> as Disk>⟧.medium self.new) (failed_call result) }
+    {
+        match self.file.read_exact_at(buf, at) {
+            Ok(()) => {
+                self.given = self.given.after(&Gave { at, bytes: buf });
+                Ok(())
+            }
+            Err(_) => self.failures.note(Err(DiskFault::Read)),
+        }
     }
 
     fn write_at(&mut self, at: u64, bytes: &[u8]) -> Result<(), DiskFault> {
+        self.given = Given::none();
         let outcome = self.file.write_all_at(bytes, at);
         self.answer(outcome, DiskFault::Write)
     }

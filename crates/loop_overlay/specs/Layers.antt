@@ -1,7 +1,7 @@
 -- Writes that lie over an image, and the disk that shows them over another.
 use Rattle.std.specs.Prelude.{◌≡◌, ℕ, ◌≤◌, List, fold, length, take}
 use Rattle.loop_disk.specs.declared.fault.Failures.{Failures}
-use Rattle.loop_disk.specs.Medium.{Medium, with_bytes_at}
+use Rattle.loop_disk.specs.Medium.{MayBe, Medium, with_bytes_at}
 
 -- a write that is kept: the place that it begins at, and its bytes
 pub record KeptWrite : Type 0 where
@@ -20,6 +20,12 @@ laid writes image = fold laid_on image writes
 abbrev pub ShownSince : List KeptWrite → List ℕ → ℕ → List ℕ → Type 0
 ShownSince writes image t c = (k : ℕ) × (t ≤ k) × (k ≤ length writes) × (c ≡ laid (take k writes) image)
 
+-- by what the reads of the disk beneath gave, this may be what shows with the writes over it
+pub record MayShow (m : Medium) (writes : List KeptWrite) (image : List ℕ) : Type 0 where
+  pub base : List ℕ
+  pub may : MayBe m base
+  pub is : image ≡ laid writes base
+
 -- a disk, the writes over it, and which calls have failed of those that were made by way of the overlay
 pub record Layered (D : Type 0) : Type 0 where
   pub disk : D
@@ -31,6 +37,7 @@ abbrev pub overlaid : Medium → List KeptWrite → Failures → Medium
 overlaid m writes failures = record m {
   failures = failures;
   bytes = laid writes m.bytes;
+  agrees = MayShow m writes;
   may_leave = λ c. c ≡ laid writes m.bytes;
   moment = length writes;
   left_since = ShownSince writes m.bytes;

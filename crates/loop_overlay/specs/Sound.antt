@@ -26,6 +26,7 @@ sound_overlaid m writes failures sound =
       length_is = whole;
       images_length = λ c left. ap (λ (l : List ℕ). length l) left ∙ whole;
       present = refl;
+      shown = record { base = m.bytes; may = record { size = sound.length_is; agrees = sound.shown }; is = refl };
       counts_now = λ t c le left. (length writes, le, omega arith, left ∙ sym (all (length writes) (omega arith)));
       only_now = λ c left. left.3 ∙ all left.0 left.1;
     }

@@ -1,7 +1,7 @@
 // A disk over another that is never written to.
-ghost use Rattle.std.specs.Prelude.{◌≡◌, ◌+◌, ◌≤◌, [], IfErr, IsOk, OnErr, OnOk, length};
+ghost use Rattle.std.specs.Prelude.{◌≡◌, ◌+◌, ◌≤◌, ℕ, List, [], IfErr, IsOk, OnErr, OnOk, length};
 ghost use Rattle.loop_disk.specs.declared.fault.DiskFault.TheVariants.{Read, Write, Sync};
-ghost use Rattle.loop_disk.specs.Medium.{LeavesEach, LeavesEachTorn, piece};
+ghost use Rattle.loop_disk.specs.Medium.{LeavesEach, LeavesEachTorn, MayBe, piece};
 ghost use Rattle.loop_disk.specs.Calls.{Called, Stays, Syncs, Writes, failed_call, no_failures, with_failed};
 ghost use Rattle.loop_overlay.specs.Layers.{Layered, above};
 ghost use Rattle.loop_overlay.specs.Sound.{sound_overlaid};
@@ -85,6 +85,9 @@ impl<D: Disk, A: Allocator + Copy> Disk for OverlayDisk<D, A> {
         requires { at + length buf.old ≤ (D.medium self.old.disk).size }
         ensures read { (D.medium self.old.disk).honest
             → OnOk result (buf.new ≡ piece at (length buf.old) (above D.medium self.old).bytes) }
+        ensures gives { (image : List ℕ) → MayBe (above D.medium self.new) image
+            → MayBe (above D.medium self.old) image
+            × OnOk result (buf.new ≡ piece at (length buf.old) image) }
         ensures disk { (D.medium self.old.disk).honest → Stays (above D.medium self.old) (above D.medium self.new) }
         ensures each { ⊥ → ⊥ × LeavesEach (above D.medium self.old) (above D.medium self.new) }
         ensures fault { IfErr result (λ fault. fault ≡ Read) }
@@ -121,6 +124,8 @@ impl<D: Disk, A: Allocator + Copy> Disk for OverlayDisk<D, A> {
     fn sync(&mut self) -> Result<(), DiskFault>
         ensures disk { (D.medium self.old.disk).honest
             → Syncs (above D.medium self.old) (above D.medium self.new) result }
+        ensures gives { (image : List ℕ) → MayBe (above D.medium self.new) image
+            → MayBe (above D.medium self.old) image }
         ensures each { ⊥ → ⊥ }
         ensures fault { IfErr result (λ fault. fault ≡ Sync) }
         ensures called { Called (above D.medium self.old) (above D.medium self.new) (failed_call result) }
