@@ -2,7 +2,7 @@
 use Rattle.std.proofs.Common.{◌≡◌, ℕ, ◌+◌, ◌-◌, ◌*◌, ◌<◌, ◌≤◌, Bool, true, false, cond, IsTrue, IsErrAnd, Option, Some, None, Result, Ok, Err, List, [], ◌∷◌, ◌++◌, length, take, drop, get_or, map, refl, sym, ap, ◌∙◌, subst, arith}
 use Rattle.std.specs.List.{list_any, range_with_len}
 use Rattle.loop_disk.specs.Calls.{Called, Stays}
-use Rattle.loop_disk.specs.Medium.{Medium, piece}
+use Rattle.loop_disk.specs.Medium.{MayBe, Medium, piece}
 use Rattle.loop_disk.proofs.Moments.{called_on}
 use Rattle.loop_record.specs.declared.clip.Span.{Span}
 use Rattle.loop_record.specs.declared.damage.Damage.{Damage}
@@ -22,7 +22,7 @@ use Rattle.loop_record.proofs.Bounds.{limits}
 use Rattle.loop_record.proofs.Framing.{prefix_range-le}
 use Rattle.loop_record.proofs.Parts.{super-fault}
 use Rattle.loop_record.proofs.Fresh.{super_in-slice, header_at-slice}
-use Rattle.loop_record.proofs.FoundSegments.{found-high, opened-more, read_slots, reading-no_geometry, slots-bad, slots-hold, some-high}
+use Rattle.loop_record.proofs.FoundSegments.{found-high, opened-more, read_slots, reading-no_geometry, slots-bad, slots-hold}
 use Rattle.loop_record.proofs.HeldNumbers.{bad-lacks, clips-table}
 use Rattle.loop_record.proofs.Readings.{get_or-map_range}
 use Rattle.loop_record.specs.Recording.{head}
@@ -38,13 +38,16 @@ use Rattle.loop_ring.specs.Heads.{heads_of}
 -- ---- refusals
 
 -- what was found where this was refused
-pub finds-err : {T : Type 0} (r : Result T StoreFault) (e : StoreFault) (P : T → Type 0) (Q : LayoutFault → Type 0)
-    (old new : Medium) → (old.honest → Recovers (let s : Result T StoreFault = Err e in s) P Q)
+pub finds-err : {T : Type 0} (r : Result T StoreFault) (e : StoreFault) (P : List ℕ → T → Type 0)
+    (Q : List ℕ → LayoutFault → Type 0) (old new : Medium)
+    → ((image : List ℕ) → MayBe new image → Recovers (let s : Result T StoreFault = Err e in s) (P image) (Q image))
+    → ((image : List ℕ) → MayBe new image → MayBe old image)
     → (old.honest → Stays old new) → Called old new (failed_by e)
     → IsErrAnd r (λ made. made ≡ e) → Finds P Q old new r
-finds-err (Ok x) e P Q old new said stays called made = absurd made
-finds-err (Err x) e P Q old new said stays called made = record {
-  found = λ honest. subst (λ (y : StoreFault). Recovers (Err y) P Q) (sym made) (said honest);
+finds-err (Ok x) e P Q old new said gives stays called made = absurd made
+finds-err (Err x) e P Q old new said gives stays called made = record {
+  found = λ image may. subst (λ (y : StoreFault). Recovers (Err y) (P image) (Q image)) (sym made) (said image may);
+  gives = gives;
   stays = stays;
   called = subst (λ (y : StoreFault). Called old new (failed_by y)) (sym made) called;
 }
@@ -60,11 +63,13 @@ refusal-called : (fault : LayoutFault) (old new : Medium) → Called old new Non
 refusal-called LayoutFault.NotFormatted old new called = called
 refusal-called (LayoutFault.Damaged d) old new called = called
 
-pub finds-refusal : {T : Type 0} (r : Result T StoreFault) (fault : LayoutFault) (P : T → Type 0)
-    (Q : LayoutFault → Type 0) (old new : Medium) → (old.honest → Q fault) → (old.honest → Stays old new)
+pub finds-refusal : {T : Type 0} (r : Result T StoreFault) (fault : LayoutFault) (P : List ℕ → T → Type 0)
+    (Q : List ℕ → LayoutFault → Type 0) (old new : Medium) → ((image : List ℕ) → MayBe new image → Q image fault)
+    → ((image : List ℕ) → MayBe new image → MayBe old image) → (old.honest → Stays old new)
     → Called old new None → IsErrAnd r (λ made. made ≡ refusal fault) → Finds P Q old new r
-finds-refusal r fault P Q old new q stays called made = finds-err r (refusal fault) P Q old new
-    (λ honest. recovers-refusal fault P Q (q honest)) stays (refusal-called fault old new called) made
+finds-refusal r fault P Q old new q gives stays called made = finds-err r (refusal fault) P Q old new
+    (λ image may. recovers-refusal fault (P image) (Q image) (q image may)) gives stays
+    (refusal-called fault old new called) made
 
 -- what a callee refused
 recovers-as : {T U : Type 0} (e : StoreFault) (P : T → Type 0) (P' : U → Type 0) (Q Q' : LayoutFault → Type 0)
@@ -91,20 +96,33 @@ recovers-as StoreFault.OldLayout P P' Q Q' h said = absurd said
 recovers-as StoreFault.BadKeep P P' Q Q' h said = absurd said
 
 -- what was found where a callee refused, after reads
-pub finds-on : {T U : Type 0} (r : Result U StoreFault) (e : StoreFault) (P : T → Type 0) (P' : U → Type 0)
-    (Q Q' : LayoutFault → Type 0) (old mid new : Medium) → (old.honest → (f : LayoutFault) → Q f → Q' f)
-    → (old.honest → Stays old mid) → Called old mid None
+pub finds-on : {T U : Type 0} (r : Result U StoreFault) (e : StoreFault) (P : List ℕ → T → Type 0)
+    (P' : List ℕ → U → Type 0) (Q Q' : List ℕ → LayoutFault → Type 0) (old mid new : Medium)
+    → ((image : List ℕ) → MayBe mid image → (f : LayoutFault) → Q image f → Q' image f)
+    → ((image : List ℕ) → MayBe mid image → MayBe old image) → (old.honest → Stays old mid) → Called old mid None
     → IsErrAnd r (λ made. made ≡ e) → Finds P Q mid new (let s : Result T StoreFault = Err e in s) → Finds P' Q' old new r
-finds-on {T} {U} r e P P' Q Q' old mid new h stays called made inner =
-    finds-err r e P' Q' old new (λ honest. recovers-as {T = T} {U = U} e P P' Q Q' (h honest) (inner.found (called.honest.0 honest)))
-    (λ honest. stays_on old mid new (stays honest) (inner.stays (called.honest.0 honest))) (called_on old mid new (failed_by e) called inner.called) made
+finds-on {T} {U} r e P P' Q Q' old mid new h gives stays called made inner =
+    finds-err r e P' Q' old new
+    (λ image may. recovers-as {T = T} {U = U} e (P image) (P' image) (Q image) (Q' image) (h image (inner.gives image may))
+    (inner.found image may))
+    (λ image may. gives image (inner.gives image may))
+    (λ honest. stays_on old mid new (stays honest) (inner.stays (called.honest.0 honest)))
+    (called_on old mid new (failed_by e) called inner.called) made
 
--- what was found after reads, of the bytes from before them
-pub finds-after : {T : Type 0} (r : Result T StoreFault) (P : List ℕ → T → Type 0) (Q : List ℕ → LayoutFault → Type 0)
-    (old mid new : Medium) → (old.honest → Stays old mid) → Called old mid None
-    → Finds (P mid.bytes) (Q mid.bytes) mid new r → Finds (P old.bytes) (Q old.bytes) old new r
-finds-after r P Q old mid new stays called inner = record {
-  found = λ honest. subst (λ (image : List ℕ). Recovers r (P image) (Q image)) (stays honest).bytes (inner.found (called.honest.0 honest));
+-- what holds under a premise, where the premise does
+recovers-given : {T : Type 0} (r : Result T StoreFault) (S : Type 0) (P : T → Type 0) (Q : LayoutFault → Type 0) → S
+    → Recovers r (λ x. S → P x) (λ f. S → Q f) → Recovers r P Q
+recovers-given (Ok x) S P Q s said = said s
+recovers-given {T} (Err e) S P Q s said = recovers-as {T = T} {U = T} e (λ x. S → P x) P (λ f. S → Q f) Q (λ f q. q s) said
+
+-- what was found after reads that say this of an image
+pub finds-after : {T : Type 0} (r : Result T StoreFault) (S : List ℕ → Type 0) (P : List ℕ → T → Type 0)
+    (Q : List ℕ → LayoutFault → Type 0) (old mid new : Medium) → ((image : List ℕ) → MayBe mid image → S image)
+    → ((image : List ℕ) → MayBe mid image → MayBe old image) → (old.honest → Stays old mid) → Called old mid None
+    → Finds (λ image x. S image → P image x) (λ image f. S image → Q image f) mid new r → Finds P Q old new r
+finds-after r S P Q old mid new says gives stays called inner = record {
+  found = λ image may. recovers-given r (S image) (P image) (Q image) (says image (inner.gives image may)) (inner.found image may);
+  gives = λ image may. gives image (inner.gives image may);
   stays = λ honest. stays_on old mid new (stays honest) (inner.stays (called.honest.0 honest));
   called = called_on old mid new _ called inner.called;
 }
@@ -179,14 +197,14 @@ head-high g image j d e =
     (ap (λ (x : Damage). LayoutFault.Damaged x) k.0, k.1)
 
 -- one more header that was read
-pub heads-more : (g : Geometry) (image mid : List ℕ) (n : ℕ) (said : Option SegmentHead)
-    (heads new : List (Option SegmentHead)) → mid ≡ image → said ≡ header_at g mid (segment_at g n)
+pub heads-more : (g : Geometry) (image : List ℕ) (n : ℕ) (said : Option SegmentHead)
+    (heads new : List (Option SegmentHead)) → said ≡ header_at g image (segment_at g n)
     → heads ≡ map (λ j. header_at g image (segment_at g j)) (range_with_len 0 n) → new ≡ heads ++ said ∷ []
     → new ≡ map (λ j. header_at g image (segment_at g j)) (range_with_len 0 (n + 1))
-heads-more g image mid n said heads new same is so_far pushed =
+heads-more g image n said heads new is so_far pushed =
     let f = λ (j : ℕ). header_at g image (segment_at g j) in
     let at : 0 + n ≡ n = omega arith in
-    pushed ∙ (λ i. so_far i ++ (is ∙ ap (λ (c : List ℕ). header_at g c (segment_at g n)) same) i ∷ [])
+    pushed ∙ (λ i. so_far i ++ is i ∷ [])
     ∙ sym (ap (map f) (range_append 0 n 1) ∙ map-append f (range_with_len 0 n) (range_with_len (0 + n) 1)
     ∙ ap (λ (k : ℕ). map f (range_with_len 0 n) ++ f k ∷ []) at)
 
@@ -226,12 +244,6 @@ slot-right n number s h e = go (is_slot_of n number s) refl e
 
 -- ---- loops
 
--- a header that was refused, in an image that is as it was
-pub heads-wrong : (g : Geometry) (image mid : List ℕ) (j : ℕ) → j < g.segments → mid ≡ image
-    → IsSomeHigh g (segment_in g mid j)
-    → list_any (is_high g) (by_block (open_segments (parts_of g image).segments)) ≡ true
-heads-wrong g image mid j l same high = some-high g image j l (subst (λ (c : List ℕ). IsSomeHigh g (segment_in g c j)) same high)
-
 -- one more segment in its place
 pub order-more : (g : Geometry) (image : List ℕ) (heads : List (Option SegmentHead)) (done : ℕ)
     (head d : Option SegmentHead) (old new : List Found) → heads ≡ heads_of g image → done < g.segments
@@ -265,21 +277,20 @@ order-count g image o old new done placed few =
     go None = omega arith
     go (Some s) = omega (arith, length-in_place s (segments_of g image old))
 
--- a slot that was refused, in an image that is as it was
-pub slots-wrong : (g : Geometry) (image mid : List ℕ) (f : Found) (i number : ℕ) → mid ≡ image
-    → number ≡ f.block * g.slots + i → i < f.frames → is_slot_of (frame_bytes g) number
-    (slot_in (frame_bytes g) mid (slot_at g f.segment i)) ≡ false
+-- a slot that was refused
+pub slots-wrong : (g : Geometry) (image : List ℕ) (f : Found) (i number : ℕ) → number ≡ f.block * g.slots + i
+    → i < f.frames → is_slot_of (frame_bytes g) number (slot_in (frame_bytes g) image (slot_at g f.segment i)) ≡ false
     → is_bad_slot g (segment_of g image f) ≡ true
-slots-wrong g image mid f i number same counted l fails =
-    slots-bad g image f i l (sym (λ q. is_slot_of (frame_bytes g) (counted q) (slot_in (frame_bytes g) (same q) (slot_at g f.segment i))) ∙ fails)
+slots-wrong g image f i number counted l fails =
+    slots-bad g image f i l (sym (λ q. is_slot_of (frame_bytes g) (counted q) (slot_in (frame_bytes g) image (slot_at g f.segment i))) ∙ fails)
 
 -- and one that holds its frame
-pub slots-right : (g : Geometry) (image mid : List ℕ) (j i first number : ℕ) → mid ≡ image → number ≡ first + i
+pub slots-right : (g : Geometry) (image : List ℕ) (j i first number : ℕ) → number ≡ first + i
     → hold_from (frame_bytes g) first (read_slots g image j i) ≡ true → is_slot_of (frame_bytes g) number
-    (slot_in (frame_bytes g) mid (slot_at g j i)) ≡ true
+    (slot_in (frame_bytes g) image (slot_at g j i)) ≡ true
     → hold_from (frame_bytes g) first (read_slots g image j (i + 1)) ≡ true
-slots-right g image mid j i first number same counted held one =
-    slots-hold g image j i first held (sym (λ q. is_slot_of (frame_bytes g) (counted q) (slot_in (frame_bytes g) (same q) (slot_at g j i))) ∙ one)
+slots-right g image j i first number counted held one =
+    slots-hold g image j i first held (sym (λ q. is_slot_of (frame_bytes g) (counted q) (slot_in (frame_bytes g) image (slot_at g j i))) ∙ one)
 
 -- ---- the clip table
 

@@ -2,7 +2,7 @@
 use Rattle.std.specs.Prelude.{◌≡◌, ℕ, ◌≤◌, Bool, false, Option, Some, None, Result, Ok, Err, List, map}
 use Rattle.std.specs.List.{list_any, range_with_len}
 use Rattle.loop_disk.specs.Calls.{Called, Stays}
-use Rattle.loop_disk.specs.Medium.{Medium}
+use Rattle.loop_disk.specs.Medium.{MayBe, Medium}
 use Rattle.loop_record.specs.declared.clip.Span.{Span}
 use Rattle.loop_record.specs.declared.damage.LayoutFault.{LayoutFault}
 use Rattle.loop_record.specs.declared.geometry.Geometry.{Geometry}
@@ -30,10 +30,12 @@ Recovers (Err StoreFault.NotFormatted) P Q = Q LayoutFault.NotFormatted
 Recovers (Err (StoreFault.Damaged damage)) P Q = Q (LayoutFault.Damaged damage)
 Recovers (Err _) P Q = ⊥
 
--- What a call that only reads found: of an honest disk it answers so, and leaves it as it was.
-pub record Finds {T : Type 0} (IsSuch : T → Type 0) (IsRefused : LayoutFault → Type 0) (old new : Medium)
-    (result : Result T StoreFault) : Type 0 where
-  pub found : old.honest → Recovers result IsSuch IsRefused
+-- What a call that only reads found: it answers so of each image that agrees with what was read, and leaves an honest
+-- disk as it was.
+pub record Finds {T : Type 0} (IsSuch : List ℕ → T → Type 0) (IsRefused : List ℕ → LayoutFault → Type 0)
+    (old new : Medium) (result : Result T StoreFault) : Type 0 where
+  pub found : (image : List ℕ) → MayBe new image → Recovers result (IsSuch image) (IsRefused image)
+  pub gives : (image : List ℕ) → MayBe new image → MayBe old image
   pub stays : old.honest → Stays old new
   pub called : Called old new (failed_in result)
 

@@ -1,7 +1,7 @@
 -- What opening finds on a disk, and what it leaves of it.
 use Rattle.std.specs.Prelude.{◌≡◌, ◌⊎◌, ◌||◌, ◌==◌, ◌-◌, nat_lt, ℕ, Bool, true, false, IfErr, IfOk, Result, Ok, Err, List}
 use Rattle.loop_disk.specs.Calls.{Called, Stays}
-use Rattle.loop_disk.specs.Medium.{LeavesOnly, Medium}
+use Rattle.loop_disk.specs.Medium.{LeavesOnly, MayBe, Medium}
 use Rattle.loop_record.specs.declared.damage.LayoutFault.{LayoutFault}
 use Rattle.loop_record.specs.Layout.{version_in}
 use Rattle.loop_record.specs.Reading.{Contents, Holds, reading}
@@ -50,16 +50,18 @@ IsRefusedOpen keep image (StoreFault.Damaged damage) = reading image ≡ Err (La
 IsRefusedOpen keep image StoreFault.BadKeep = IsBadKeep keep image
 IsRefusedOpen keep image _ = ⊥
 
--- What a call does that opens a disk, and keeps so many of the newest blocks. The disk's image reads as before then,
--- and so does each image that a stop within the call leaves, unless a stop before the call could have left it. A
--- refusal but for a failed call of the disk leaves it as it was.
+-- What a call does that opens a disk, and keeps so many of the newest blocks. What it refuses is what each image reads
+-- as that agrees with what was read. An honest disk's image reads as before then, and so does each image that a stop
+-- within the call leaves, unless a stop before the call could have left it. A refusal but for a failed call of the disk
+-- leaves it as it was.
 pub record OpensKeeping {D : Type 0} (medium : D → Medium) (keep : ℕ) (disk : D)
     (result : Result (Seen D) (OpenRefused D)) : Type 0 where
   pub opened : (medium disk).honest → IfOk result (IsOpened medium (medium disk).bytes)
   pub tells : IfOk result TellsOne
   pub kept : IfOk result (λ store. (store.keep ≡ keep) × (is_bad_keep store.geometry.segments keep ≡ false))
   pub fine : IfOk result (λ store. store.must_reopen ≡ false)
-  pub refused : (medium disk).honest → IfErr result (λ refused. IsRefusedOpen keep (medium disk).bytes refused.fault)
+  pub refused : IfErr result (λ refused.
+      (image : List ℕ) → MayBe (medium refused.disk) image → IsRefusedOpen keep image refused.fault)
   pub alike : (medium disk).honest → ReadsAlike (medium disk).bytes (medium (disk_after result)).bytes
   pub stays : (medium disk).honest
       → IfErr result (λ refused. is_disk refused.fault ≡ false → Stays (medium disk) (medium refused.disk))

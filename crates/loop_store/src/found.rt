@@ -41,8 +41,8 @@ impl From<LayoutFault> for StoreFault {
 /// superblock.
 pub(crate) fn read_super<D: Disk>(disk: &mut D) -> Result<SuperHead, StoreFault>
     ensures fits { IfOk result (λ head. FitsDisk head.geometry (D.medium disk.old).size) }
-    ensures finds { let old = D.medium disk.old in Finds (λ head. super_in old.bytes ≡ Ok head)
-        (λ fault. reading old.bytes ≡ Err fault) old (D.medium disk.new) result }
+    ensures finds { Finds (λ image head. super_in image ≡ Ok head) (λ image fault. reading image ≡ Err fault)
+        (D.medium disk.old) (D.medium disk.new) result }
 {
     let size = disk.size();
     if size < SUPER_SIZE as u64 {
@@ -66,10 +66,10 @@ fn read_head<D: Disk>(
     requires fits { FitsDisk geometry.now (D.medium disk.old).size }
     requires segment { segment < geometry.now.segments }
     ensures within { IfOk result (IsHeadIn geometry.now) }
-    ensures finds { let g = geometry.now in let old = D.medium disk.old in
-        Finds (λ head. head ≡ header_at g old.bytes (segment_at g segment))
-        (λ fault. (fault ≡ LayoutFault.Damaged Damage.BlockTooHigh) × IsSomeHigh g (segment_in g old.bytes segment))
-        old (D.medium disk.new) result }
+    ensures finds { let g = geometry.now in
+        Finds (λ image head. head ≡ header_at g image (segment_at g segment)) (λ image fault.
+        (fault ≡ LayoutFault.Damaged Damage.BlockTooHigh) × IsSomeHigh g (segment_in g image segment))
+        (D.medium disk.old) (D.medium disk.new) result }
 {
     let mut header = [0; HEADER_SIZE];
     disk.read(geometry.segment_at(segment), &mut header)?;
@@ -87,11 +87,10 @@ pub(crate) fn read_heads<D: Disk, A: Allocator>(
     requires fits { FitsDisk geometry.now (D.medium disk.old).size }
     ensures count { IfOk result (λ heads. length heads.items ≡ geometry.now.segments) }
     ensures within { IfOk result (λ heads. All (IsHeadIn geometry.now) heads.items) }
-    ensures finds { let g = geometry.now in let old = D.medium disk.old in
-        Finds (λ heads. heads.items ≡ heads_of g old.bytes)
-        (λ fault. (fault ≡ LayoutFault.Damaged Damage.BlockTooHigh)
-        × (list_any (is_high g) (by_block (open_segments (parts_of g old.bytes).segments)) ≡ true))
-        old (D.medium disk.new) result }
+    ensures finds { let g = geometry.now in Finds (λ image heads. heads.items ≡ heads_of g image)
+        (λ image fault. (fault ≡ LayoutFault.Damaged Damage.BlockTooHigh)
+        × (list_any (is_high g) (by_block (open_segments (parts_of g image).segments)) ≡ true))
+        (D.medium disk.old) (D.medium disk.new) result }
 {
     let mut heads = Vec::with_capacity(alloc, geometry.segments as usize)?;
     for segment in 0..geometry.segments {
@@ -162,11 +161,12 @@ fn check_slot<D: Disk>(
     requires fits { FitsDisk geometry.now (D.medium disk.old).size }
     requires segment { segment < geometry.now.segments }
     requires slot { slot < geometry.now.slots }
-    ensures { let n = frame_bytes geometry.now in let old = D.medium disk.old in
-        let there = slot_in n old.bytes (slot_at geometry.now segment slot) in
-        let said = is_slot_of n number there in
-        Finds (λ time. (said ≡ true) × (time ≡ there.picture.timestamp)) (λ fault. (fault ≡ LayoutFault.Damaged Damage.SlotHead) × (said ≡ false)) old
-        (D.medium disk.new) result }
+    ensures { let n = frame_bytes geometry.now in
+        let there = λ (image : List ℕ). slot_in n image (slot_at geometry.now segment slot) in
+        let said = λ (image : List ℕ). is_slot_of n number (there image) in
+        Finds (λ image time. (said image ≡ true) × (time ≡ (there image).picture.timestamp))
+        (λ image fault. (fault ≡ LayoutFault.Damaged Damage.SlotHead) × (said image ≡ false))
+        (D.medium disk.old) (D.medium disk.new) result }
 {
     let mut head = [0; HEAD_SIZE];
     disk.read(geometry.slot_at(segment, slot), &mut head)?;
@@ -186,12 +186,11 @@ fn check_segment<D: Disk>(
     requires segment { found.segment < geometry.now.segments }
     requires few { found.frames ≤ geometry.now.slots }
     requires low { is_too_high geometry.now found.block ≡ false }
-    ensures finds { let g = geometry.now in let old = D.medium disk.old in
-        let bad = is_bad_slot g (segment_of g old.bytes found) in
-        Finds (λ _. (bad ≡ false) × (AreStamped g old.bytes times.new found.segment found.frames
-        × KeepsStamps g old.bytes times.old times.new))
-        (λ fault. (fault ≡ LayoutFault.Damaged Damage.SlotHead) × (bad ≡ true)) old
-        (D.medium disk.new) result }
+    ensures finds { let g = geometry.now in let bad = λ (image : List ℕ). is_bad_slot g (segment_of g image found) in
+        Finds (λ image _. (bad image ≡ false) × (AreStamped g image times.new found.segment found.frames
+        × KeepsStamps g image times.old times.new))
+        (λ image fault. (fault ≡ LayoutFault.Damaged Damage.SlotHead) × (bad image ≡ true))
+        (D.medium disk.old) (D.medium disk.new) result }
     ensures room { length times.new ≡ length times.old }
 {
     let first = found.block * u64::from(geometry.slots);
@@ -214,12 +213,12 @@ pub(crate) fn check_slots<D: Disk>(
     requires room { length times.old ≡ geometry.now.segments * geometry.now.slots }
     requires fits { FitsDisk geometry.now (D.medium disk.old).size }
     requires within { AreIn geometry.now open.now }
-    ensures finds { let g = geometry.now in let old = D.medium disk.old in
-        let bad = list_any (is_bad_slot g) (segments_of g old.bytes open.now) in
-        Finds (λ _. (bad ≡ false) × (AllStamped g old.bytes times.new open.now
-        × KeepsStamps g old.bytes times.old times.new))
-        (λ fault. (fault ≡ LayoutFault.Damaged Damage.SlotHead) × (bad ≡ true)) old
-        (D.medium disk.new) result }
+    ensures finds { let g = geometry.now in
+        let bad = λ (image : List ℕ). list_any (is_bad_slot g) (segments_of g image open.now) in
+        Finds (λ image _. (bad image ≡ false) × (AllStamped g image times.new open.now
+        × KeepsStamps g image times.old times.new))
+        (λ image fault. (fault ≡ LayoutFault.Damaged Damage.SlotHead) × (bad image ≡ true))
+        (D.medium disk.old) (D.medium disk.new) result }
     ensures room { length times.new ≡ length times.old }
 {
     let Some((first, others)) = open.split_first() else {
@@ -239,10 +238,11 @@ pub(crate) fn read_table<D: Disk>(
 ) -> Result<[Option<Span>; 64], StoreFault>
     requires fits { FitsDisk geometry.now (D.medium disk.old).size }
     requires within { AreIn geometry.now open.now }
-    requires version { (D.medium disk.old).honest → version_in (D.medium disk.old).bytes ≡ version }
-    ensures finds { let old = D.medium disk.old in let bad = some_bad_clip geometry.now old.bytes open.now in
-        Finds (λ clips. (clips ≡ clips_of old.bytes) × (bad ≡ false))
-        (λ fault. (fault ≡ LayoutFault.Damaged Damage.ClipRange) × (bad ≡ true)) old (D.medium disk.new) result }
+    ensures finds { let bad = λ (image : List ℕ). some_bad_clip geometry.now image open.now in
+        Finds (λ image clips. version_in image ≡ version → (clips ≡ clips_of image) × (bad image ≡ false))
+        (λ image fault. version_in image ≡ version
+        → (fault ≡ LayoutFault.Damaged Damage.ClipRange) × (bad image ≡ true))
+        (D.medium disk.old) (D.medium disk.new) result }
     ensures held { IfOk result (λ clips. (length clips ≡ 64)
         × (list_any (lacks_number geometry.now open.now) clips ≡ false)) }
     ensures tags { IfOk result (λ clips. (id : ℕ) → IsTagFit (slice_index_or clips id None)) }

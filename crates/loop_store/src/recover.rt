@@ -21,11 +21,10 @@ fn recover_parts<D: Disk, A: Allocator + Copy>(
     head: SuperHead,
 ) -> Result<Index<A>, StoreFault>
     requires fits { FitsDisk head.geometry (D.medium disk.old).size }
-    requires head { (D.medium disk.old).honest → super_in (D.medium disk.old).bytes ≡ Ok head }
     ensures known { IfOk result (λ index. IsFitting index (D.medium disk.old).size × SaysRecording index) }
-    ensures finds { let old = D.medium disk.old in
-        Finds (λ index. IsRecoveredIn index old.bytes) (λ fault. reading old.bytes ≡ Err fault) old
-        (D.medium disk.new) result }
+    ensures finds { Finds (λ image index. super_in image ≡ Ok head → IsRecoveredIn index image)
+        (λ image fault. super_in image ≡ Ok head → reading image ≡ Err fault)
+        (D.medium disk.old) (D.medium disk.new) result }
 {
     let geometry = head.geometry;
     let heads = read_heads(alloc, disk, &geometry)?;
@@ -58,9 +57,8 @@ pub(crate) fn recover<D: Disk, A: Allocator + Copy>(
     disk: &mut D,
 ) -> Result<Index<A>, StoreFault>
     ensures known { IfOk result (λ index. IsFitting index (D.medium disk.old).size × SaysRecording index) }
-    ensures finds { let old = D.medium disk.old in
-        Finds (λ index. IsRecoveredIn index old.bytes) (λ fault. reading old.bytes ≡ Err fault) old
-        (D.medium disk.new) result }
+    ensures finds { Finds (λ image index. IsRecoveredIn index image) (λ image fault. reading image ≡ Err fault)
+        (D.medium disk.old) (D.medium disk.new) result }
 {
     let head = read_super(disk)?;
     recover_parts(alloc, disk, head)

@@ -1,8 +1,8 @@
 //! Finds the recording on a disk again.
 
-ghost use Rattle.std.specs.Prelude.{◌≡◌, Err, IfErr, IfOk, false, not, true};
+ghost use Rattle.std.specs.Prelude.{◌≡◌, ℕ, List, Err, IfErr, IfOk, false, not, true};
 ghost use Rattle.loop_disk.specs.Calls.{Called, Stays};
-ghost use Rattle.loop_disk.specs.Medium.{IsSettled, LeavesOnly};
+ghost use Rattle.loop_disk.specs.Medium.{IsSettled, LeavesOnly, MayBe};
 ghost use Rattle.loop_record.specs.Reading.{reading};
 ghost use Rattle.loop_store.specs.Faults.{is_disk, failed_in};
 ghost use Rattle.loop_store.specs.Reopen.{IsRefusedOpen, ReadsAlike, OpensKeeping, WasOrReadsAlike, is_bad_keep};
@@ -22,9 +22,9 @@ use std::alloc::Allocator;
 /// Syncs, so that a stop leaves what a read gives, and finds what the disk's image reads as.
 fn reread<D: Disk, A: Allocator + Copy>(alloc: A, disk: &mut D) -> Result<Index<A>, StoreFault>
     ensures known { IfOk result (λ index. IsFitting index (D.medium disk.old).size × SaysRecording index) }
-    ensures finds { let old = D.medium disk.old in let new = D.medium disk.new in
-        Finds (λ index. IsRecoveredIn index old.bytes × IsSettled new) (λ fault. reading old.bytes ≡ Err fault) old
-        new result }
+    ensures settled { (D.medium disk.old).honest → IfOk result (λ index. IsSettled (D.medium disk.new)) }
+    ensures finds { Finds (λ image index. IsRecoveredIn index image) (λ image fault. reading image ≡ Err fault)
+        (D.medium disk.old) (D.medium disk.new) result }
 {
     disk.sync()?;
     recover(alloc, disk)
@@ -79,9 +79,10 @@ fn find<D: Disk, A: Allocator + Copy>(
     ensures known { IfOk result (λ index. IsFitting index (D.medium disk.old).size × SaysRecording index) }
     ensures kept { IfOk result (λ index. (index.table.keep ≡ keep)
         × (is_bad_keep index.ring.geometry.segments keep ≡ false)) }
-    ensures found { (D.medium disk.old).honest → IfOk result (λ index.
-        IsRecoveredIn index (D.medium disk.old).bytes × IsSettled (D.medium disk.new)) }
-    ensures refused { (D.medium disk.old).honest → IfErr result (IsRefusedOpen keep (D.medium disk.old).bytes) }
+    ensures settled { (D.medium disk.old).honest → IfOk result (λ index. IsSettled (D.medium disk.new)) }
+    ensures found { (image : List ℕ) → MayBe (D.medium disk.new) image
+        → IfOk result (λ index. IsRecoveredIn index image) }
+    ensures refused { (image : List ℕ) → MayBe (D.medium disk.new) image → IfErr result (IsRefusedOpen keep image) }
     ensures stays { (D.medium disk.old).honest → Stays (D.medium disk.old) (D.medium disk.new) }
     ensures called { Called (D.medium disk.old) (D.medium disk.new) (failed_in result) }
 {
@@ -101,7 +102,7 @@ fn reopen<D: Disk, A: Allocator + Copy>(
     ensures kept { IfOk result (λ found. (found.0.table.keep ≡ keep)
         × (is_bad_keep found.0.ring.geometry.segments keep ≡ false)) }
     ensures present { (D.medium disk.old).honest → IfOk result (λ found. IsPresent found.0 (D.medium disk.new)) }
-    ensures refused { (D.medium disk.old).honest → IfErr result (IsRefusedOpen keep (D.medium disk.old).bytes) }
+    ensures refused { (image : List ℕ) → MayBe (D.medium disk.new) image → IfErr result (IsRefusedOpen keep image) }
     ensures moments { (D.medium disk.old).honest
         → LeavesOnly (D.medium disk.old) (D.medium disk.new) (WasOrReadsAlike (D.medium disk.old)) }
     ensures alike { (D.medium disk.old).honest → ReadsAlike (D.medium disk.old).bytes (D.medium disk.new).bytes }

@@ -6,7 +6,7 @@ use Rattle.loop_store.proofs.RecoveredParts.{finds-on, slots-wrong, slots-right}
 use Rattle.loop_record.specs.Geometry.{frame_bytes}
 use Rattle.loop_record.specs.Reading.{hold_from}
 use Rattle.loop_record.proofs.FoundSegments.{read_slots}
-use Rattle.loop_store.specs.Times.{AreStamped, stamp_in}
+use Rattle.loop_store.specs.Times.{AreStamped}
 use Rattle.loop_store.proofs.Timing.{keeps-on, keeps-stamped, place-within, stamped-more}
 use Rattle.loop_store.proofs.found.check_segment.Given.{Over}
 use Rattle.loop_store.proofs.found.check_segment.Goals as goal
@@ -17,14 +17,12 @@ returns-in_err-time-clause-finds g c =
     let here = c.loop-slot.invariant in
     let first = ap (λ (k : ℕ). c.args.found.block * k) c.from.ensures in
     finds-on _ c.in_err-time.field-0.0 _ _ _ _ _ _ _
-    (λ honest fault q. (
+    (λ image may fault q. (
       q.0,
-      slots-wrong h (g.D.Disk.medium c.args.disk.now).bytes
-          (g.D.Disk.medium c.loop-slot.disk).bytes c.args.found c.loop-slot.slot
-          (c.args.found.block * c.from.result + c.from-in-loop-slot.result) (here.stays honest).bytes
+      slots-wrong h image c.args.found c.loop-slot.slot (c.args.found.block * c.from.result + c.from-in-loop-slot.result)
           (omega (arith, first, c.from-in-loop-slot.ensures)) (omega arith) q.1,
     ))
-    here.stays here.called c.from_residual.ensures.1 c.in_err-time.ensures
+    here.gives here.stays here.called c.from_residual.ensures.1 c.in_err-time.ensures
 
 low : (g : Over) (c : goal.In_ok-time g) → c.loop-slot.slot < c.args.geometry.now.slots
 low g c = omega (arith, c.requires.few)
@@ -35,13 +33,6 @@ inside g c =
     let h = c.args.geometry.now in
     omega (arith, place-within h.segments h.slots c.args.found.segment c.loop-slot.slot c.requires.segment (low g c), c.requires.room, c.loop-slot.invariant.room)
 
-is : (g : Over) (c : goal.In_ok-time g) → (g.D.Disk.medium c.args.disk.now).honest
-    → c.in_ok-time.time ≡ stamp_in c.args.geometry.now (g.D.Disk.medium c.args.disk.now).bytes c.args.found.segment c.loop-slot.slot
-is g c honest =
-    let here = c.loop-slot.invariant in
-    (c.in_ok-time.ensures.found (here.called.honest.0 honest)).1
-    ∙ ap (λ (image : List ℕ). stamp_in c.args.geometry.now image c.args.found.segment c.loop-slot.slot) (here.stays honest).bytes
-
 pub loop-slot-preserved : goal.loop-slot-preserved
 loop-slot-preserved g c =
     let h = c.args.geometry.now in
@@ -49,32 +40,34 @@ loop-slot-preserved g c =
     let first = ap (λ (k : ℕ). c.args.found.block * k) c.from.ensures in record {
       called = called_on _ _ _ None here.called c.in_ok-time.ensures.called;
       stays = λ honest. stays_on _ _ _ (here.stays honest) (c.in_ok-time.ensures.stays (here.called.honest.0 honest));
-      hold = λ honest. slots-right h (g.D.Disk.medium c.args.disk.now).bytes (g.D.Disk.medium c.loop-slot.disk).bytes
-          c.args.found.segment c.loop-slot.slot (c.args.found.block * h.slots)
+      gives = λ image may. here.gives image (c.in_ok-time.ensures.gives image may);
+      hold = λ image may. slots-right h image c.args.found.segment c.loop-slot.slot (c.args.found.block * h.slots)
           (c.args.found.block * c.from.result + c.from-in-loop-slot.result)
-          (here.stays honest).bytes (omega (arith, first, c.from-in-loop-slot.ensures)) (here.hold honest)
-          (c.in_ok-time.ensures.found (here.called.honest.0 honest)).0;
+          (omega (arith, first, c.from-in-loop-slot.ensures)) (here.hold image (c.in_ok-time.ensures.gives image may))
+          (c.in_ok-time.ensures.found image may).0;
       room = length-set c.loop-slot.times (c.args.found.segment * h.slots + c.loop-slot.slot) c.in_ok-time.time ∙ here.room;
-      stamped = λ honest. stamped-more h (g.D.Disk.medium c.args.disk.now).bytes c.args.found.segment c.loop-slot.slot _ c.in_ok-time.time
-          c.loop-slot.times _ (inside g c) (low g c) refl (is g c honest) refl (here.stamped honest);
-      keeps = λ honest. keeps-on h (g.D.Disk.medium c.args.disk.now).bytes c.args.times.now c.loop-slot.times _ (here.keeps honest)
-          (keeps-stamped h (g.D.Disk.medium c.args.disk.now).bytes c.args.found.segment c.loop-slot.slot _ c.in_ok-time.time
-          c.loop-slot.times _ (inside g c) (low g c) refl (is g c honest) refl);
+      stamped = λ image may. stamped-more h image c.args.found.segment c.loop-slot.slot _ c.in_ok-time.time
+          c.loop-slot.times _ (inside g c) (low g c) refl (c.in_ok-time.ensures.found image may).1 refl
+          (here.stamped image (c.in_ok-time.ensures.gives image may));
+      keeps = λ image may. keeps-on h image c.args.times.now c.loop-slot.times _
+          (here.keeps image (c.in_ok-time.ensures.gives image may))
+          (keeps-stamped h image c.args.found.segment c.loop-slot.slot _ c.in_ok-time.time
+          c.loop-slot.times _ (inside g c) (low g c) refl (c.in_ok-time.ensures.found image may).1 refl);
     }
 
 pub returns-clause-finds : goal.returns-clause-finds
 returns-clause-finds g c =
     let h = c.args.geometry.now in
     let f = c.args.found in
-    let image = (g.D.Disk.medium c.args.disk.now).bytes in
     let here = c.loop-slot.invariant in
     let end : c.loop-slot.slot ≡ f.frames = omega arith in
     record {
-      found = λ honest. (
+      found = λ image may. (
         ap (λ (k : ℕ). not (hold_from (frame_bytes h) (f.block * h.slots) (read_slots h image f.segment k))) (sym end)
-            ∙ ap not (here.hold honest),
-        (subst (AreStamped h image c.loop-slot.times f.segment) end (here.stamped honest), here.keeps honest),
+            ∙ ap not (here.hold image may),
+        (subst (AreStamped h image c.loop-slot.times f.segment) end (here.stamped image may), here.keeps image may),
       );
+      gives = here.gives;
       stays = here.stays;
       called = here.called;
     }

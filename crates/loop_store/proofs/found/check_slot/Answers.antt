@@ -9,24 +9,24 @@ use Rattle.loop_store.proofs.found.check_slot.Goals as goal
 pub returns-in_err-head : goal.returns-in_err-head
 returns-in_err-head g c =
     let h = c.args.geometry.now in
-    let image = (g.D.Disk.medium c.args.disk.now).bytes in
     finds-err _ (StoreFault.Damaged c.in_err-head.field-0.0) _ _ _ _
-    (λ honest. slot-wrong (frame_bytes h) c.args.number (slot_in (frame_bytes h) image (slot_at h c.args.segment c.args.slot)) c.in_err-head.field-0.0
+    (λ image may. slot-wrong (frame_bytes h) c.args.number (slot_in (frame_bytes h) image (slot_at h c.args.segment c.args.slot)) c.in_err-head.field-0.0
     (slot-read h c.args.segment c.args.slot c.args.number c.slot_at.result c.frame_bytes.result image c.read.new.buf _
-    c.slot_at.ensures c.frame_bytes.ensures (c.in_ok-read.ensures.read honest) c.in_err-head.ensures.head))
+    c.slot_at.ensures c.frame_bytes.ensures (c.in_ok-read.ensures.gives image may).1 c.in_err-head.ensures.head))
+    (λ image may. (c.in_ok-read.ensures.gives image may).0)
     c.in_ok-read.ensures.disk c.in_ok-read.ensures.called c.from_residual-in_err-head.ensures.1
 
 pub returns : goal.returns
 returns g c =
     let h = c.args.geometry.now in
-    let image = (g.D.Disk.medium c.args.disk.now).bytes in
     record {
-      found = λ honest.
+      found = λ image may.
           let there = slot_in (frame_bytes h) image (slot_at h c.args.segment c.args.slot) in
           let is = slot-read h c.args.segment c.args.slot c.args.number c.slot_at.result c.frame_bytes.result image
-          c.read.new.buf _ c.slot_at.ensures c.frame_bytes.ensures (c.in_ok-read.ensures.read honest)
+          c.read.new.buf _ c.slot_at.ensures c.frame_bytes.ensures (c.in_ok-read.ensures.gives image may).1
           c.in_ok-head.ensures.head in
           (slot-right (frame_bytes h) c.args.number there _ is, slot-time (frame_bytes h) c.args.number there _ is);
+      gives = λ image may. (c.in_ok-read.ensures.gives image may).0;
       stays = c.in_ok-read.ensures.disk;
       called = c.in_ok-read.ensures.called;
     }

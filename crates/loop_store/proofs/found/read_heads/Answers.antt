@@ -2,9 +2,10 @@ use Rattle.std.proofs.Common.{None, sym, subst, arith}
 use Rattle.std.specs.List.{All}
 use Rattle.std.proofs.lemmas.List.Elements.{All-push}
 use Rattle.loop_disk.proofs.Moments.{called_on}
+use Rattle.loop_record.proofs.FoundSegments.{some-high}
 use Rattle.loop_ring.proofs.SlotReads.{stays_on}
 use Rattle.loop_store.specs.Found.{IsHeadIn}
-use Rattle.loop_store.proofs.RecoveredParts.{finds-on, heads-more, heads-wrong}
+use Rattle.loop_store.proofs.RecoveredParts.{finds-on, heads-more}
 use Rattle.loop_store.proofs.found.read_heads.Goals as goal
 
 pub returns-in_err-head-clause-finds : goal.returns-in_err-head-clause-finds
@@ -12,11 +13,7 @@ returns-in_err-head-clause-finds g c =
     let h = c.args.geometry.now in
     let here = c.loop-segment.invariant in
     finds-on _ c.in_err-head.field-0.0 _ _ _ _ _ _ _
-    (λ honest fault q. (
-      q.0,
-      heads-wrong h (g.D.Disk.medium c.args.disk.now).bytes
-          (g.D.Disk.medium c.loop-segment.disk).bytes c.loop-segment.segment (omega arith) (here.stays honest).bytes q.1,
-    ))
+    (λ image may fault q. (q.0, some-high h image c.loop-segment.segment (omega arith) q.1)) here.gives
     here.stays here.called c.from_residual-in_err-head.ensures.1 c.in_err-head.ensures.finds
 
 pub loop-segment-preserved : goal.loop-segment-preserved
@@ -29,8 +26,8 @@ loop-segment-preserved g c =
           (All-push (IsHeadIn h) c.loop-segment.heads.items c.in_ok-head.head here.within c.in_ok-head.ensures.within);
       called = called_on _ _ _ None here.called c.in_ok-head.ensures.finds.called;
       stays = λ honest. stays_on _ _ _ (here.stays honest) (c.in_ok-head.ensures.finds.stays (here.called.honest.0 honest));
-      heads = λ honest. heads-more h (g.D.Disk.medium c.args.disk.now).bytes
-          (g.D.Disk.medium c.loop-segment.disk).bytes c.loop-segment.segment c.in_ok-head.head
-          c.loop-segment.heads.items c.push_reserved.new.self.items
-          (here.stays honest).bytes (c.in_ok-head.ensures.finds.found (here.called.honest.0 honest)) (here.heads honest) c.push_reserved.ensures.items;
+      gives = λ image may. here.gives image (c.in_ok-head.ensures.finds.gives image may);
+      heads = λ image may. heads-more h image c.loop-segment.segment c.in_ok-head.head c.loop-segment.heads.items
+          c.push_reserved.new.self.items (c.in_ok-head.ensures.finds.found image may)
+          (here.heads image (c.in_ok-head.ensures.finds.gives image may)) c.push_reserved.ensures.items;
     }

@@ -6,30 +6,29 @@ use Rattle.loop_store.proofs.found.read_super.Goals as goal
 
 pub returns-in_err-head-clause-finds : goal.returns-in_err-head-clause-finds
 returns-in_err-head-clause-finds g c =
-    let m = g.D.Disk.medium c.args.disk.now in
-    finds-refusal _ c.in_err-head.field-0.0 _ _ _ _ (λ honest.
-    let room : 512 ≤ length m.bytes = omega (arith, (g.met.D.Disk.sound c.args.disk.now honest).length_is) in
-    refused-read m.bytes c.read.new.buf c.in_err-head.field-0.0 room (c.in_ok-read.ensures.read honest)
-    c.in_err-head.ensures) c.in_ok-read.ensures.disk c.in_ok-read.ensures.called
+    finds-refusal _ c.in_err-head.field-0.0 _ _ _ _ (λ image may.
+    let gave = c.in_ok-read.ensures.gives image may in
+    let room : 512 ≤ length image = omega (arith, gave.0.size) in
+    refused-read image c.read.new.buf c.in_err-head.field-0.0 room gave.1 c.in_err-head.ensures)
+    (λ image may. (c.in_ok-read.ensures.gives image may).0) c.in_ok-read.ensures.disk c.in_ok-read.ensures.called
     c.from_residual-in_err-head.ensures.1
 
 pub disk_size-requires : goal.disk_size-requires
 disk_size-requires g c = geometry-good c.in_ok-head.head.geometry c.read.new.buf (super-parts c.in_ok-head.head c.read.new.buf (sym c.in_ok-head.ensures)).0
 
 pub returns-then-size-disk_size-clause-finds : goal.returns-then-size-disk_size-clause-finds
-returns-then-size-disk_size-clause-finds g c =
-    let m = g.D.Disk.medium c.args.disk.now in record {
-      found = λ honest.
-          let size = (g.met.D.Disk.sound c.args.disk.now honest).length_is in
-          let room : 512 ≤ length m.bytes = omega (arith, size) in
-          reading-other_size c.in_ok-head.head.geometry m.bytes
-          (sym (super-parts c.in_ok-head.head m.bytes
-          (sym (super-read m.bytes c.read.new.buf _ room (c.in_ok-read.ensures.read honest)
-          c.in_ok-head.ensures))).0)
-          (λ same. c.if-size-disk_size.true (c.size-size.ensures ∙ sym size ∙ same ∙ sym c.disk_size.ensures));
-      stays = c.in_ok-read.ensures.disk;
-      called = c.in_ok-read.ensures.called;
-    }
+returns-then-size-disk_size-clause-finds g c = record {
+  found = λ image may.
+      let gave = c.in_ok-read.ensures.gives image may in
+      let room : 512 ≤ length image = omega (arith, gave.0.size) in
+      reading-other_size c.in_ok-head.head.geometry image
+      (sym (super-parts c.in_ok-head.head image
+      (sym (super-read image c.read.new.buf _ room gave.1 c.in_ok-head.ensures))).0)
+      (λ same. c.if-size-disk_size.true (c.size-size.ensures ∙ sym gave.0.size ∙ same ∙ sym c.disk_size.ensures));
+  gives = λ image may. (c.in_ok-read.ensures.gives image may).0;
+  stays = c.in_ok-read.ensures.disk;
+  called = c.in_ok-read.ensures.called;
+}
 
 pub returns-clause-fits : goal.returns-clause-fits
 returns-clause-fits g c = (
@@ -40,11 +39,12 @@ returns-clause-fits g c = (
 )
 
 pub returns-clause-finds : goal.returns-clause-finds
-returns-clause-finds g c =
-    let m = g.D.Disk.medium c.args.disk.now in record {
-      found = λ honest.
-          let room : 512 ≤ length m.bytes = omega (arith, (g.met.D.Disk.sound c.args.disk.now honest).length_is) in
-          sym (super-read m.bytes c.read.new.buf _ room (c.in_ok-read.ensures.read honest) c.in_ok-head.ensures);
-      stays = c.in_ok-read.ensures.disk;
-      called = c.in_ok-read.ensures.called;
-    }
+returns-clause-finds g c = record {
+  found = λ image may.
+      let gave = c.in_ok-read.ensures.gives image may in
+      let room : 512 ≤ length image = omega (arith, gave.0.size) in
+      sym (super-read image c.read.new.buf _ room gave.1 c.in_ok-head.ensures);
+  gives = λ image may. (c.in_ok-read.ensures.gives image may).0;
+  stays = c.in_ok-read.ensures.disk;
+  called = c.in_ok-read.ensures.called;
+}
