@@ -93,7 +93,7 @@ pub says-recording : {A : Type 0} (index : Index A) (g : Geometry) (heads : Head
     → SaysRecording index
 says-recording index g heads clips fs xs next is c =
     subst (λ (x : List ℕ). IsRecovered index x) (λ i. drawn_image (sym is.geometry i) (sym is.heads_are i) (sym is.clips_are i))
-    (recovered index g image image image fs xs heads clips next is all refl right refl (sym clips_are, bad) (c.next_is image) (sym heads_are))
+    (recovered index g image fs xs heads clips next is all right (sym clips_are, bad) (c.next_is image) (sym heads_are))
   where
     image : List ℕ
     image = drawn_image g heads clips

@@ -38,41 +38,35 @@ pub refused-head : (g : Geometry) (image : List ℕ) (fault : LayoutFault) → g
     × (list_any (is_high g) (by_block (open_segments (parts_of g image).segments)) ≡ true) → reading image ≡ Err fault
 refused-head g image fault geometry size q = reading-high g image geometry size q.1 ∙ fault-of (sym q.0)
 
--- a slot's refusal, in an image that is as it was
-pub refused-slot : (g : Geometry) (image mid : List ℕ) (fs xs : List Found) (fault : LayoutFault)
-    → AreFull g image fs xs → mid ≡ image → (fault ≡ LayoutFault.Damaged Damage.SlotHead)
-    × (list_any (is_bad_slot g) (segments_of g mid xs) ≡ true) → reading image ≡ Err fault
-refused-slot g image mid fs xs fault a same q =
-    let bad = ap (λ (c : List ℕ). list_any (is_bad_slot g) (segments_of g c xs)) (sym same) ∙ q.1 in
+-- a slot's refusal
+pub refused-slot : (g : Geometry) (image : List ℕ) (fs xs : List Found) (fault : LayoutFault)
+    → AreFull g image fs xs → (fault ≡ LayoutFault.Damaged Damage.SlotHead)
+    × (list_any (is_bad_slot g) (segments_of g image xs) ≡ true) → reading image ≡ Err fault
+refused-slot g image fs xs fault a q =
     reading-bad_slot g image (segments_of g image xs) (found-read g image fs xs a.found)
-    (found-low g image fs xs a.found) a.single a.full bad ∙ fault-of (sym q.0)
+    (found-low g image fs xs a.found) a.single a.full q.1 ∙ fault-of (sym q.0)
 
 -- a clip's refusal
-pub refused-clip : (g : Geometry) (image mid last : List ℕ) (fs xs : List Found) (fault : LayoutFault)
-    → AreFull g image fs xs → mid ≡ image → list_any (is_bad_slot g) (segments_of g mid xs) ≡ false → last ≡ image
-    → (fault ≡ LayoutFault.Damaged Damage.ClipRange) × (some_bad_clip g last xs ≡ true) → reading image ≡ Err fault
-refused-clip g image mid last fs xs fault a same right same' q =
-    let sound = ap (λ (c : List ℕ). list_any (is_bad_slot g) (segments_of g c xs)) (sym same) ∙ right in
-    let bad = ap (λ (c : List ℕ). some_bad_clip g c xs) (sym same') ∙ q.1 in
-    read-bad_clip g image fs xs (all_frames g (segments_of g image xs)) Damage.ClipRange a sound refl refl bad ∙ fault-of (sym q.0)
+pub refused-clip : (g : Geometry) (image : List ℕ) (fs xs : List Found) (fault : LayoutFault)
+    → AreFull g image fs xs → list_any (is_bad_slot g) (segments_of g image xs) ≡ false
+    → (fault ≡ LayoutFault.Damaged Damage.ClipRange) × (some_bad_clip g image xs ≡ true) → reading image ≡ Err fault
+refused-clip g image fs xs fault a right q =
+    read-bad_clip g image fs xs (all_frames g (segments_of g image xs)) Damage.ClipRange a right refl refl q.1 ∙ fault-of (sym q.0)
 
 -- nothing is refused
-pub recovered : {A : Type 0} (index : Index A) (g : Geometry) (image mid last : List ℕ) (fs xs : List Found)
+pub recovered : {A : Type 0} (index : Index A) (g : Geometry) (image : List ℕ) (fs xs : List Found)
     (heads : List (Option SegmentHead)) (clips : List (Option Span)) (next : ℕ) → IsOf index g heads clips next
-    → AreFull g image fs xs → mid ≡ image
-    → list_any (is_bad_slot g) (segments_of g mid xs) ≡ false → last ≡ image → (clips ≡ clips_of last)
-    × (some_bad_clip g last xs ≡ false) → next ≡ next_after g (segments_of g image xs) → heads ≡ heads_of g image
+    → AreFull g image fs xs → list_any (is_bad_slot g) (segments_of g image xs) ≡ false → (clips ≡ clips_of image)
+    × (some_bad_clip g image xs ≡ false) → next ≡ next_after g (segments_of g image xs) → heads ≡ heads_of g image
     → IsRecovered index image
-recovered index g image mid last fs xs heads clips next is a same right same' q after are =
-    let sound = ap (λ (c : List ℕ). list_any (is_bad_slot g) (segments_of g c xs)) (sym same) ∙ right in
-    let good = ap (λ (c : List ℕ). some_bad_clip g c xs) (sym same') ∙ q.1 in
+recovered index g image fs xs heads clips next is a right q after are =
     let frames = all_frames g (segments_of g image xs) in
     let r : Recording = record { next = next; frames = frames; clips = clips } in
     record {
       recording = r;
       known = record {
         held = subst (λ (h : Geometry). Holds h r image) (sym is.geometry)
-            (read-all g image fs xs next frames clips a sound refl after (q.0 ∙ ap clips_of same') good);
+            (read-all g image fs xs next frames clips a right refl after q.0 q.1);
         next_is = is.next_is;
         heads_are = is.heads_are ∙ are ∙ ap (λ (h : Geometry). heads_of h image) (sym is.geometry);
         clips_are = is.clips_are;

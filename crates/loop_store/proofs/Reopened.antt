@@ -8,8 +8,8 @@ use Rattle.std.proofs.lemmas.List.{length-map, set-get_or}
 use Rattle.std.proofs.lemmas.List.Folds.{list_any_at}
 use Rattle.std.specs.List.{All, list_any, position, range_with_len}
 use Rattle.loop_disk.specs.Calls.{Stays}
-use Rattle.loop_disk.specs.Medium.{Medium, IsSettled, IsSound, LeavesOnly}
-use Rattle.loop_disk.proofs.Moments.{each_now, goes_on, joined, started, weaker}
+use Rattle.loop_disk.specs.Medium.{MayBe, Medium, IsSettled, IsSound, LeavesOnly}
+use Rattle.loop_disk.proofs.Moments.{each_now, goes_on, joined, of_bytes, started, weaker}
 use Rattle.loop_record.specs.declared.clip.Span.{Span}
 use Rattle.loop_record.specs.declared.damage.LayoutFault.{LayoutFault}
 use Rattle.loop_record.specs.declared.geometry.Geometry.{Geometry}
@@ -326,6 +326,31 @@ refused-as keep image StoreFault.HandFull P said = absurd said
 refused-as keep image StoreFault.HandEmpty P said = absurd said
 refused-as keep image StoreFault.OldLayout P said = absurd said
 refused-as keep image StoreFault.BadKeep P said = absurd said
+
+-- what an honest disk's opening refuses is what its bytes read as
+pub refused-honest : (old new : Medium) (keep : ℕ) (fault : StoreFault) → (old.honest → new.honest)
+    → (new.honest → IsSound new) → (old.honest → is_disk fault ≡ false → Stays old new)
+    → ((image : List ℕ) → MayBe new image → IsRefusedOpen keep image fault) → old.honest
+    → IsRefusedOpen keep old.bytes fault
+refused-honest old new keep StoreFault.NoMemory now sound stays said honest = tt
+refused-honest old new keep (StoreFault.Disk fault) now sound stays said honest = tt
+refused-honest old new keep StoreFault.NotFormatted now sound stays said honest = of_bytes old new (λ image. IsRefusedOpen keep image StoreFault.NotFormatted) (sound (now honest)) (stays honest refl) said
+refused-honest old new keep (StoreFault.Damaged damage) now sound stays said honest = of_bytes old new (λ image. IsRefusedOpen keep image (StoreFault.Damaged damage)) (sound (now honest)) (stays honest refl) said
+refused-honest old new keep StoreFault.MustReopen now sound stays said honest = of_bytes old new (λ image. IsRefusedOpen keep image StoreFault.MustReopen) (sound (now honest)) (stays honest refl) said
+refused-honest old new keep StoreFault.NotHeld now sound stays said honest = of_bytes old new (λ image. IsRefusedOpen keep image StoreFault.NotHeld) (sound (now honest)) (stays honest refl) said
+refused-honest old new keep StoreFault.BadGeometry now sound stays said honest = of_bytes old new (λ image. IsRefusedOpen keep image StoreFault.BadGeometry) (sound (now honest)) (stays honest refl) said
+refused-honest old new keep StoreFault.NumbersSpent now sound stays said honest = of_bytes old new (λ image. IsRefusedOpen keep image StoreFault.NumbersSpent) (sound (now honest)) (stays honest refl) said
+refused-honest old new keep StoreFault.AllLocked now sound stays said honest = of_bytes old new (λ image. IsRefusedOpen keep image StoreFault.AllLocked) (sound (now honest)) (stays honest refl) said
+refused-honest old new keep StoreFault.ClipEmpty now sound stays said honest = of_bytes old new (λ image. IsRefusedOpen keep image StoreFault.ClipEmpty) (sound (now honest)) (stays honest refl) said
+refused-honest old new keep (StoreFault.ClipNotHeld number) now sound stays said honest = of_bytes old new (λ image. IsRefusedOpen keep image (StoreFault.ClipNotHeld number)) (sound (now honest)) (stays honest refl) said
+refused-honest old new keep StoreFault.ClipTableFull now sound stays said honest = of_bytes old new (λ image. IsRefusedOpen keep image StoreFault.ClipTableFull) (sound (now honest)) (stays honest refl) said
+refused-honest old new keep StoreFault.NoSuchClip now sound stays said honest = of_bytes old new (λ image. IsRefusedOpen keep image StoreFault.NoSuchClip) (sound (now honest)) (stays honest refl) said
+refused-honest old new keep StoreFault.PendingFull now sound stays said honest = of_bytes old new (λ image. IsRefusedOpen keep image StoreFault.PendingFull) (sound (now honest)) (stays honest refl) said
+refused-honest old new keep StoreFault.WrongSize now sound stays said honest = of_bytes old new (λ image. IsRefusedOpen keep image StoreFault.WrongSize) (sound (now honest)) (stays honest refl) said
+refused-honest old new keep StoreFault.HandFull now sound stays said honest = of_bytes old new (λ image. IsRefusedOpen keep image StoreFault.HandFull) (sound (now honest)) (stays honest refl) said
+refused-honest old new keep StoreFault.HandEmpty now sound stays said honest = of_bytes old new (λ image. IsRefusedOpen keep image StoreFault.HandEmpty) (sound (now honest)) (stays honest refl) said
+refused-honest old new keep StoreFault.OldLayout now sound stays said honest = of_bytes old new (λ image. IsRefusedOpen keep image StoreFault.OldLayout) (sound (now honest)) (stays honest refl) said
+refused-honest old new keep StoreFault.BadKeep now sound stays said honest = of_bytes old new (λ image. IsRefusedOpen keep image StoreFault.BadKeep) (sound (now honest)) (stays honest refl) said
 
 -- the newest block may always be kept
 pub newest-kept : (image : List ℕ) → IsBadKeep 1 image → ⊥

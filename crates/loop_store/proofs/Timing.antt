@@ -210,12 +210,12 @@ timed-read g heads times image fs are each all = record {
 
 -- the index of what was read
 pub timed-index : {A : Type 0} (index : Index A) (g : Geometry) (heads : List (Option SegmentHead)) (clips : List (Option Span))
-    (next : ℕ) (times image mid : List ℕ) (fs xs : List Found) → IsOf index g heads clips next → index.times.items ≡ times
-    → heads ≡ heads_of g image → HasEach 0 heads fs → xs ≡ fs → mid ≡ image → AllStamped g mid times xs
+    (next : ℕ) (times image : List ℕ) (fs xs : List Found) → IsOf index g heads clips next → index.times.items ≡ times
+    → heads ≡ heads_of g image → HasEach 0 heads fs → xs ≡ fs → AllStamped g image times xs
     → IsTimed index.ring.geometry index.table.heads index.times.items image
-timed-index index g heads clips next times image mid fs xs is noted are each found same all =
+timed-index index g heads clips next times image fs xs is noted are each found all =
     let read = timed-read g heads times image fs are each
-    (subst (AllStamped g image times) found (subst (λ (c : List ℕ). AllStamped g c times xs) same all)) in
+    (subst (AllStamped g image times) found all) in
     subst (λ (h : Geometry). IsTimed h index.table.heads index.times.items image) (sym is.geometry)
     (subst (λ (hs : List (Option SegmentHead)). IsTimed g hs index.times.items image) (sym is.heads_are)
     (subst (λ (ts : List ℕ). IsTimed g heads ts image) (sym noted) read))

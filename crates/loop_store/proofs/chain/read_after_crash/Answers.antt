@@ -3,7 +3,7 @@ use Rattle.loop_record.specs.Geometry.{frame_bytes}
 use Rattle.loop_record.specs.Reading.{Holds}
 use Rattle.loop_store.proofs.Crashed.{opened-same, read-held}
 use Rattle.loop_store.proofs.Gone.{told-of}
-use Rattle.loop_store.proofs.Reopened.{refused-held}
+use Rattle.loop_store.proofs.Reopened.{refused-held, refused-honest}
 use Rattle.loop_store.proofs.chain.read_after_crash.Goals as goal
 
 pub returns-in-Err : goal.returns-in-Err
@@ -13,7 +13,9 @@ returns-in-Err g c = λ s stands fine honest crashed there.
     let same = stands.recording.settled kept honest image c.requires.left in
     refused-held c.args.store.now.geometry s.recording image c.in-Err.field-0.fault
     (subst (λ (i : List ℕ). Holds c.args.store.now.geometry s.recording i) (sym same) (stands.recording.held kept honest))
-    (c.in-Err.ensures.refused crashed)
+    (refused-honest (g.E.Disk.medium c.args.crashed) (g.E.Disk.medium c.in-Err.field-0.disk) 1 c.in-Err.field-0.fault
+    c.in-Err.ensures.called.honest.0 (λ now. g.met.E.Disk.sound c.in-Err.field-0.disk now) c.in-Err.ensures.stays
+    c.in-Err.ensures.refused crashed)
 
 pub returns-then-out-frame_bytes : goal.returns-then-out-frame_bytes
 returns-then-out-frame_bytes g c = λ s stands fine honest crashed there.

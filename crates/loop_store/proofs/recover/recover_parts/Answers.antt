@@ -1,7 +1,6 @@
 use Rattle.std.proofs.Common.{◌≡◌, None, Option, ℕ, ◌≤◌, List, [], length, sym, ap, ◌∙◌, subst, arith}
 use Rattle.std.proofs.lemmas.List.{with_items_is}
 use Rattle.loop_record.specs.Plain.{AreIn}
-use Rattle.loop_record.specs.Layout.{version_in}
 use Rattle.loop_record.specs.Recording.{last_number, ring_of}
 use Rattle.loop_record.proofs.Bounds.{limits}
 use Rattle.loop_record.proofs.Parts.{super-parts}
@@ -24,86 +23,72 @@ use Rattle.loop_store.proofs.recover.recover_parts.Goals as goal
 pub returns-in_err-heads-clause-finds : goal.returns-in_err-heads-clause-finds
 returns-in_err-heads-clause-finds g c =
     let m = g.D.Disk.medium c.args.disk.now in
-    finds-on _ c.in_err-heads.field-0.0 _ _ _ _ m m _ (λ honest fault q.
-    let h = c.args.head.geometry in
-    let image = (g.D.Disk.medium c.args.disk.now).bytes in
-    let size = (g.met.D.Disk.sound c.args.disk.now honest).length_is ∙ c.requires.fits.1 in
-    refused-head h image fault (super-parts c.args.head image (c.requires.head honest)).0 size q)
-    (λ honest. stays-still m) (called-none m) c.from_residual.ensures.1 c.in_err-heads.ensures.finds
+    finds-on _ c.in_err-heads.field-0.0 _ _ _ _ m m _ (λ image may fault q says.
+    refused-head c.args.head.geometry image fault (super-parts c.args.head image says).0 (may.size ∙ c.requires.fits.1) q)
+    (λ image may. may) (λ honest. stays-still m) (called-none m) c.from_residual.ensures.1 c.in_err-heads.ensures.finds
 
 pub returns-then-repeats-clause-finds : goal.returns-then-repeats-clause-finds
 returns-then-repeats-clause-finds g c = record {
-  found = λ honest.
+  found = λ image may says.
       let h = c.args.head.geometry in
-      let image = (g.D.Disk.medium c.args.disk.now).bytes in
-      let size = (g.met.D.Disk.sound c.args.disk.now honest).length_is ∙ c.requires.fits.1 in
       let fs = c.in_ok-segments.segments.items in
       let xs = c.as_slice-open.result.now in
-      let found = found-by h image fs xs _ (super-parts c.args.head image (c.requires.head honest)).0 size
-      c.in_ok-segments.ensures.order (c.as_slice.ensures.value ∙ c.in_ok-heads.ensures.finds.found honest)
+      let found = found-by h image fs xs _ (super-parts c.args.head image says).0
+      ((c.in_ok-heads.ensures.finds.gives image may).size ∙ c.requires.fits.1)
+      c.in_ok-segments.ensures.order (c.as_slice.ensures.value ∙ c.in_ok-heads.ensures.finds.found image may)
       c.in_ok-segments.ensures.within c.as_slice-open.ensures.value in
       read-repeats h image fs xs c.repeats.result found (c.repeats.ensures h image) c.if-repeats.true;
+  gives = c.in_ok-heads.ensures.finds.gives;
   stays = c.in_ok-heads.ensures.finds.stays;
   called = c.in_ok-heads.ensures.finds.called;
 }
 
 pub returns-then-lacks_frame-clause-finds : goal.returns-then-lacks_frame-clause-finds
 returns-then-lacks_frame-clause-finds g c = record {
-  found = λ honest.
+  found = λ image may says.
       let h = c.args.head.geometry in
-      let image = (g.D.Disk.medium c.args.disk.now).bytes in
-      let size = (g.met.D.Disk.sound c.args.disk.now honest).length_is ∙ c.requires.fits.1 in
       let fs = c.in_ok-segments.segments.items in
       let xs = c.as_slice-open.result.now in
-      let found = found-by h image fs xs _ (super-parts c.args.head image (c.requires.head honest)).0 size
-      c.in_ok-segments.ensures.order (c.as_slice.ensures.value ∙ c.in_ok-heads.ensures.finds.found honest)
+      let found = found-by h image fs xs _ (super-parts c.args.head image says).0
+      ((c.in_ok-heads.ensures.finds.gives image may).size ∙ c.requires.fits.1)
+      c.in_ok-segments.ensures.order (c.as_slice.ensures.value ∙ c.in_ok-heads.ensures.finds.found image may)
       c.in_ok-segments.ensures.within c.as_slice-open.ensures.value in
       read-lacks h image fs xs c.repeats.result c.lacks_frame.result found
       (c.repeats.ensures h image) c.if-repeats.false (c.lacks_frame.ensures image) c.if-lacks_frame.true;
+  gives = c.in_ok-heads.ensures.finds.gives;
   stays = c.in_ok-heads.ensures.finds.stays;
   called = c.in_ok-heads.ensures.finds.called;
 }
 
 pub returns-in_err-check_slots-clause-finds : goal.returns-in_err-check_slots-clause-finds
-returns-in_err-check_slots-clause-finds g c = finds-on _ c.in_err-check_slots.field-0.0 _ _ _ _ _ _ _ (λ honest fault q.
+returns-in_err-check_slots-clause-finds g c = finds-on _ c.in_err-check_slots.field-0.0 _ _ _ _ _ _ _ (λ image may fault q says.
     let h = c.args.head.geometry in
-    let image = (g.D.Disk.medium c.args.disk.now).bytes in
-    let size = (g.met.D.Disk.sound c.args.disk.now honest).length_is ∙ c.requires.fits.1 in
-    let first = c.in_ok-heads.ensures.finds.stays honest in
     let fs = c.in_ok-segments.segments.items in
     let xs = c.as_slice-open.result.now in
-    let found = found-by h image fs xs _ (super-parts c.args.head image (c.requires.head honest)).0 size
-    c.in_ok-segments.ensures.order (c.as_slice.ensures.value ∙ c.in_ok-heads.ensures.finds.found honest)
+    let found = found-by h image fs xs _ (super-parts c.args.head image says).0
+    ((c.in_ok-heads.ensures.finds.gives image may).size ∙ c.requires.fits.1)
+    c.in_ok-segments.ensures.order (c.as_slice.ensures.value ∙ c.in_ok-heads.ensures.finds.found image may)
     c.in_ok-segments.ensures.within c.as_slice-open.ensures.value in
     let all : AreFull h image fs xs = full h image fs xs c.repeats.result c.lacks_frame.result found
     (c.repeats.ensures h image) c.if-repeats.false (c.lacks_frame.ensures image) c.if-lacks_frame.false in
-    refused-slot h image _ fs xs fault all first.bytes q) c.in_ok-heads.ensures.finds.stays
+    refused-slot h image fs xs fault all q) c.in_ok-heads.ensures.finds.gives c.in_ok-heads.ensures.finds.stays
     c.in_ok-heads.ensures.finds.called c.from_residual-in_err-check_slots.ensures.1 c.in_err-check_slots.ensures.finds
 
-pub read_table-requires-clause-version : goal.read_table-requires-clause-version
-read_table-requires-clause-version g c = λ third.
-    let second = c.in_ok-check_slots.ensures.finds.called.honest.1 third in
-    let honest = c.in_ok-heads.ensures.finds.called.honest.1 second in
-    let image = (g.D.Disk.medium c.args.disk.now).bytes in
-    ap version_in ((c.in_ok-check_slots.ensures.finds.stays second).bytes
-    ∙ (c.in_ok-heads.ensures.finds.stays honest).bytes) ∙ (super-parts c.args.head image (c.requires.head honest)).1
-
 pub returns-in_err-clips-clause-finds : goal.returns-in_err-clips-clause-finds
-returns-in_err-clips-clause-finds g c = finds-on _ c.in_err-clips.field-0.0 _ _ _ _ _ _ _ (λ honest fault q.
+returns-in_err-clips-clause-finds g c = finds-on _ c.in_err-clips.field-0.0 _ _ _ _ _ _ _ (λ image last fault q says.
+    let may = c.in_ok-check_slots.ensures.finds.gives image last in
     let h = c.args.head.geometry in
-    let image = (g.D.Disk.medium c.args.disk.now).bytes in
-    let size = (g.met.D.Disk.sound c.args.disk.now honest).length_is ∙ c.requires.fits.1 in
-    let first = c.in_ok-heads.ensures.finds.stays honest in
     let fs = c.in_ok-segments.segments.items in
     let xs = c.as_slice-open.result.now in
-    let found = found-by h image fs xs _ (super-parts c.args.head image (c.requires.head honest)).0 size
-    c.in_ok-segments.ensures.order (c.as_slice.ensures.value ∙ c.in_ok-heads.ensures.finds.found honest)
+    let found = found-by h image fs xs _ (super-parts c.args.head image says).0
+    ((c.in_ok-heads.ensures.finds.gives image may).size ∙ c.requires.fits.1)
+    c.in_ok-segments.ensures.order (c.as_slice.ensures.value ∙ c.in_ok-heads.ensures.finds.found image may)
     c.in_ok-segments.ensures.within c.as_slice-open.ensures.value in
     let all : AreFull h image fs xs = full h image fs xs c.repeats.result c.lacks_frame.result found
     (c.repeats.ensures h image) c.if-repeats.false (c.lacks_frame.ensures image) c.if-lacks_frame.false in
-    let second = c.in_ok-heads.ensures.finds.called.honest.0 honest in
-    let checked = c.in_ok-check_slots.ensures.finds.stays second in
-    refused-clip h image _ _ fs xs fault all first.bytes (c.in_ok-check_slots.ensures.finds.found second).0 (checked.bytes ∙ first.bytes) q)
+    refused-clip h image fs xs fault all (c.in_ok-check_slots.ensures.finds.found image last).0
+    (q (super-parts c.args.head image says).1))
+    (λ image may. c.in_ok-heads.ensures.finds.gives image (c.in_ok-check_slots.ensures.finds.gives image may))
     (λ honest. stays_on _ _ _ (c.in_ok-heads.ensures.finds.stays honest)
     (c.in_ok-check_slots.ensures.finds.stays (c.in_ok-heads.ensures.finds.called.honest.0 honest)))
     (called_on _ _ _ None c.in_ok-heads.ensures.finds.called c.in_ok-check_slots.ensures.finds.called)
@@ -118,33 +103,34 @@ times-are g c =
 
 pub returns-clause-finds : goal.returns-clause-finds
 returns-clause-finds g c = record {
-  found = λ honest.
+  found = λ image end says.
+      let last = c.in_ok-clips.ensures.finds.gives image end in
+      let may = c.in_ok-check_slots.ensures.finds.gives image last in
       let h = c.args.head.geometry in
-      let image = (g.D.Disk.medium c.args.disk.now).bytes in
-      let size = (g.met.D.Disk.sound c.args.disk.now honest).length_is ∙ c.requires.fits.1 in
-      let first = c.in_ok-heads.ensures.finds.stays honest in
       let fs = c.in_ok-segments.segments.items in
       let xs = c.as_slice-open.result.now in
-      let found = found-by h image fs xs _ (super-parts c.args.head image (c.requires.head honest)).0 size
-      c.in_ok-segments.ensures.order (c.as_slice.ensures.value ∙ c.in_ok-heads.ensures.finds.found honest)
+      let found = found-by h image fs xs _ (super-parts c.args.head image says).0
+      ((c.in_ok-heads.ensures.finds.gives image may).size ∙ c.requires.fits.1)
+      c.in_ok-segments.ensures.order (c.as_slice.ensures.value ∙ c.in_ok-heads.ensures.finds.found image may)
       c.in_ok-segments.ensures.within c.as_slice-open.ensures.value in
       let all : AreFull h image fs xs = full h image fs xs c.repeats.result c.lacks_frame.result found
       (c.repeats.ensures h image) c.if-repeats.false (c.lacks_frame.ensures image) c.if-lacks_frame.false in
-      let second = c.in_ok-heads.ensures.finds.called.honest.0 honest in
-      let checked = c.in_ok-check_slots.ensures.finds.stays second in
-      let third = c.in_ok-check_slots.ensures.finds.called.honest.0 second in (
-        recovered c.in_ok-index_of.field-0 h image _ _ fs xs c.in_ok-heads.heads.items c.in_ok-clips.clips
-            c.next_after-next.result c.in_ok-index_of.ensures.of all first.bytes (c.in_ok-check_slots.ensures.finds.found second).0
-            (checked.bytes ∙ first.bytes) (c.in_ok-clips.ensures.finds.found third) (c.next_after-next.ensures image)
-            (c.in_ok-heads.ensures.finds.found honest),
+      let checked = c.in_ok-check_slots.ensures.finds.found image last in
+      let version = (super-parts c.args.head image says).1 in (
+        recovered c.in_ok-index_of.field-0 h image fs xs c.in_ok-heads.heads.items c.in_ok-clips.clips
+            c.next_after-next.result c.in_ok-index_of.ensures.of all checked.0
+            (c.in_ok-clips.ensures.finds.found image end version) (c.next_after-next.ensures image)
+            (c.in_ok-heads.ensures.finds.found image may),
         (
-          (super-parts c.args.head image (c.requires.head honest)).1 ∙ sym c.in_ok-index_of.ensures.version,
+          version ∙ sym c.in_ok-index_of.ensures.version,
           timed-index c.in_ok-index_of.field-0 h c.in_ok-heads.heads.items c.in_ok-clips.clips c.next_after-next.result c.check_slots.new.times image
-              _ fs xs c.in_ok-index_of.ensures.of (times-are g c) (c.in_ok-heads.ensures.finds.found honest)
+              fs xs c.in_ok-index_of.ensures.of (times-are g c) (c.in_ok-heads.ensures.finds.found image may)
               (subst (λ (hs : List (Option SegmentHead)). HasEach 0 hs fs) c.as_slice.ensures.value c.in_ok-segments.ensures.each)
-              c.as_slice-open.ensures.value first.bytes (c.in_ok-check_slots.ensures.finds.found second).1.0,
+              c.as_slice-open.ensures.value checked.1.0,
         ),
       );
+  gives = λ image end. c.in_ok-heads.ensures.finds.gives image
+      (c.in_ok-check_slots.ensures.finds.gives image (c.in_ok-clips.ensures.finds.gives image end));
   stays = λ honest.
       let second = c.in_ok-heads.ensures.finds.called.honest.0 honest in
       stays_on _ _ _ (stays_on _ _ _ (c.in_ok-heads.ensures.finds.stays honest)
@@ -181,7 +167,9 @@ returns-clause-known g c =
 
 pub returns-in_err-index_of-clause-finds : goal.returns-in_err-index_of-clause-finds
 returns-in_err-index_of-clause-finds g c =
-    finds-err _ StoreFault.NoMemory _ _ _ _ (λ honest. tt)
+    finds-err _ StoreFault.NoMemory _ _ _ _ (λ image end. tt)
+    (λ image end. c.in_ok-heads.ensures.finds.gives image
+    (c.in_ok-check_slots.ensures.finds.gives image (c.in_ok-clips.ensures.finds.gives image end)))
     (λ honest.
     let second = c.in_ok-heads.ensures.finds.called.honest.0 honest in
     stays_on _ _ _ (stays_on _ _ _ (c.in_ok-heads.ensures.finds.stays honest)

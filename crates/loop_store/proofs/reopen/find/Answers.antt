@@ -7,13 +7,12 @@ use Rattle.loop_store.proofs.Reopened.{bad-kept, keeping-fits, keeping-recovered
 use Rattle.loop_store.proofs.reopen.find.Goals as goal
 
 pub returns-in_err-keep_newest-clause-refused : goal.returns-in_err-keep_newest-clause-refused
-returns-in_err-keep_newest-clause-refused g c = λ honest.
+returns-in_err-keep_newest-clause-refused g c = λ image may.
     let index = c.in_ok-index.index in
-    let image = (g.D.Disk.medium c.args.disk.now).bytes in
     let bad = c.in_err-keep_newest.ensures.bad in
     let p = err_from_is_err_and c.from_residual-in_err-keep_newest.result c.from_residual-in_err-keep_newest.ensures.1 in
     rw (p.1, p.2) (subst (IsRefusedOpen c.args.keep image) (sym bad.0)
-    (bad-kept c.args.keep index image (c.in_ok-index.ensures.finds.found honest).0.0 bad.1))
+    (bad-kept c.args.keep index image (c.in_ok-index.ensures.finds.found image may).0 bad.1))
 
 pub returns-clause-known : goal.returns-clause-known
 returns-clause-known g c =
@@ -24,11 +23,8 @@ returns-clause-known g c =
     (keeping-fits c.args.keep index size known.0, keeping-recovered c.args.keep index _ known.1)
 
 pub returns-clause-found : goal.returns-clause-found
-returns-clause-found g c = λ honest.
+returns-clause-found g c = λ image may.
     let index = c.in_ok-index.index in
-    let image = (g.D.Disk.medium c.args.disk.now).bytes in
-    let found = c.in_ok-index.ensures.finds.found honest in (
-      subst (λ (i : Index g.row.A.Denot). IsRecoveredIn i image) (sym c.in_ok-keep_newest.ensures.kept.0)
-          (keeping-recovered c.args.keep index image found.0.0, (found.0.1.0, found.0.1.1)),
-      found.1,
-    )
+    let found = c.in_ok-index.ensures.finds.found image may in
+    subst (λ (i : Index g.row.A.Denot). IsRecoveredIn i image) (sym c.in_ok-keep_newest.ensures.kept.0)
+    (keeping-recovered c.args.keep index image found.0, (found.1.0, found.1.1))

@@ -1,6 +1,12 @@
 use Rattle.loop_store.proofs.Reopened.{alike-on, moments-on, stays-moments}
 use Rattle.loop_store.proofs.reopen.reopen.Goals as goal
 
+pub clear_newest-requires-clause-told : goal.clear_newest-requires-clause-told
+clear_newest-requires-clause-told g c = λ honest.
+    let sound = g.met.D.Disk.sound c.find.new.disk honest in
+    c.in_ok-index.ensures.found (g.D.Disk.medium c.find.new.disk).bytes
+    (record { size = sound.length_is; agrees = sound.shown })
+
 pub returns-in_err-index-clause-moments : goal.returns-in_err-index-clause-moments
 returns-in_err-index-clause-moments g c = λ honest.
     stays-moments _ _ (g.met.D.Disk.sound c.args.disk.now honest) (c.find.ensures.stays honest)
