@@ -2,7 +2,7 @@
 
 use crate::ran::{Ran, comes_to, run_script};
 use crate::told::{holds, same};
-use loop_budget::Budget;
+use test_alloc::Budget;
 use loop_desk::{Flushed, Outline};
 use loop_record::{Geometry, PixelFormat};
 use loop_script::Session;

@@ -3,7 +3,7 @@
 use crate::files::ring;
 use crate::ran::text;
 use crate::told::same;
-use loop_budget::Budget;
+use test_alloc::Budget;
 use loop_commands::{Beneath, NotExported, Target, export_along, export_apart, export_text, list};
 use loop_disk::MemDisk;
 use loop_store::{Store, StoreFault};

@@ -4,7 +4,7 @@ use crate::common::Call::*;
 use crate::common::Told::{Count, Done, Fault, Flushed, Frame, Index, Number, Refused};
 use crate::common::*;
 use crate::told::{holds, same};
-use loop_budget::Budget;
+use test_alloc::Budget;
 use loop_desk::{Desk, Lane, LaneEvent, lane_run};
 use loop_disk::Disk;
 use loop_plane::{MmapPlane, PlaneMemory};

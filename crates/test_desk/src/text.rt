@@ -4,7 +4,7 @@ use crate::common::Call::*;
 use crate::common::Told::{Count, Done, Fault, Flushed, Index, Number};
 use crate::common::*;
 use crate::told::holds;
-use lane_text::record_and_export;
+use loop_lane_text::record_and_export;
 use loop_desk::{Lane, LaneEvent};
 use loop_disk::{Disk, MemDisk};
 use loop_plane::{MmapPlane, PlaneMemory};

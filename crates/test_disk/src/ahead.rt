@@ -3,7 +3,7 @@
 use crate::calls::{read_at, write_at};
 use crate::told::{holds, same};
 use loop_ahead::AheadDisk;
-use loop_budget::Budget;
+use test_alloc::Budget;
 use loop_disk::{Disk, MemDisk};
 use std::alloc::Allocator;
 use std::process::Abort;

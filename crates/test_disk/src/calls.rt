@@ -1,7 +1,7 @@
 // Calls of a disk with their answers, as rows of tables. They see to its size first, so that no test has to. Out
 // of the disk is answered as a failed sync, which no read and no write answers.
 use crate::told::{holds, same};
-use loop_budget::Budget;
+use test_alloc::Budget;
 use loop_disk::{Disk, DiskFault};
 use std::process::Abort;
 

@@ -1,7 +1,7 @@
 // The disk that remembers its calls, where memory is refused.
 use crate::calls::{Call, does, plays_within};
 use crate::told::{holds, same};
-use loop_budget::Budget;
+use test_alloc::Budget;
 use loop_disk::{CrashDisk, DiskFault, Spoil};
 use std::alloc::{AllocError, Allocator};
 use std::process::Abort;

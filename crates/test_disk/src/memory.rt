@@ -6,7 +6,7 @@ ghost use Rattle.test_disk.specs.InTurn.{TornOfThree};
 
 use crate::calls::{Call, plays, write_at};
 use crate::told::{holds, same};
-use loop_budget::Budget;
+use test_alloc::Budget;
 use loop_disk::{Disk, DiskFault, FuseDisk, MemDisk, store, store_in_turn};
 use std::alloc::{AllocError, Allocator};
 use std::process::Abort;

@@ -3,7 +3,7 @@
 use crate::calls::{Call, does, plays};
 use crate::paths::{creates, removes};
 use crate::told::same;
-use loop_budget::Budget;
+use test_alloc::Budget;
 use loop_disk::{Disk, DiskFault, MemDisk};
 use loop_file::FileDisk;
 use loop_overlay::OverlayDisk;

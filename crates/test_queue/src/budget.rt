@@ -2,7 +2,7 @@
 
 use crate::told::{holds, same};
 use linked_list_allocator::LocalHeap;
-use loop_budget::{Budget, take_one};
+use test_alloc::{Budget, take_one};
 use std::alloc::AllocError;
 use std::process::Abort;
 use std::test::Fail;

@@ -2,7 +2,7 @@
 
 use crate::common::{facts, supplied_many};
 use crate::told::same;
-use loop_budget::Budget;
+use test_alloc::Budget;
 use loop_ioctl::{BufferType, Ioctl, IoctlReply, QueueEvent, QueueReply, are_whole, run_events};
 use loop_pages::PageLedger;
 use loop_plane::{FdTable, Memory, MmapPlane};

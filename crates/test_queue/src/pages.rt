@@ -6,7 +6,7 @@ ghost use Rattle.loop_pages.specs.Place.{IsIdle};
 
 use crate::claimed::{claimed, refused};
 use crate::told::{holds, same};
-use loop_budget::Budget;
+use test_alloc::Budget;
 use loop_pages::{PageFault, PageHold, PageLedger, PageSeat};
 use std::alloc::{Allocator, Global};
 use std::process::Abort;

@@ -2,7 +2,7 @@
 
 use crate::common::{facts, supplied_many};
 use crate::told::{holds, same};
-use loop_budget::Budget;
+use test_alloc::Budget;
 use loop_pages::PageLedger;
 use loop_plane::{Memory, MmapPlane, PlaneMemory};
 use loop_record::PixelFormat;

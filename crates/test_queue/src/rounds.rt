@@ -3,7 +3,7 @@
 use crate::common::Call::*;
 use crate::common::Said::{Buffer, Byte, Count, Done, Flags, Frame, Is, Refused};
 use crate::common::{Call, Said, Small, runs, supplied_many};
-use loop_budget::Budget;
+use test_alloc::Budget;
 use loop_pages::PageLedger;
 use loop_plane::MmapPlane;
 use loop_vb2::Reason;

@@ -1,7 +1,7 @@
 //! What a source answers by itself, and what becomes of it where memory is refused.
 
 use crate::told::{holds, same};
-use loop_budget::Budget;
+use test_alloc::Budget;
 use loop_capture::{Device, FrameSource, Next, Pattern, Y4mSource};
 use loop_y4m::Y4mReader;
 use std::test::Fail;

@@ -6,7 +6,7 @@ ghost use Rattle.loop_sessions.specs.Opened.{IsReady};
 use crate::calls::*;
 use crate::common::*;
 use crate::told::same;
-use loop_budget::Budget;
+use test_alloc::Budget;
 use loop_desk::{Flushed, Status};
 use loop_disk::MemDisk;
 use loop_plane::{MmapPlane, PlaneMemory};

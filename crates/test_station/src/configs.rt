@@ -2,7 +2,7 @@
 
 use crate::told::{holds, same};
 use loop_record::PixelFormat;
-use station_words::{
+use loop_station_words::{
     CameraConfig, CameraFault, Config, ConfigFault, Memory, Room, Shape, Source, read_config,
 };
 use std::alloc::Global;

@@ -4,7 +4,7 @@ use crate::told::{holds, same};
 use loop_record::{Geometry, PixelFormat};
 use loop_script::{Likeness, compare_frames, print_other_geometry, print_other_rate};
 use loop_store::{Clip, StoreFault};
-use station_words::{
+use loop_station_words::{
     CameraStatus, RingSize, print_absent, print_all_locked, print_bad_order, print_behind,
     print_caught_up, print_clip_path, print_done, print_given_up, print_head, print_help,
     print_kept, print_no_answers, print_no_camera, print_not_a_store, print_not_saved,

@@ -1,7 +1,7 @@
 //! Lines, and what they ask for.
 
 use crate::told::same;
-use station_words::{Name, Order, label_of, read_order};
+use loop_station_words::{Name, Order, label_of, read_order};
 use std::alloc::{AllocError, Global};
 use std::process::Abort;
 

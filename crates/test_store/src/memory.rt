@@ -6,7 +6,7 @@ ghost use Rattle.loop_store.specs.Runs.{IsOfSize};
 
 use crate::common::*;
 use crate::told::{holds as so, same};
-use loop_budget::Budget;
+use test_alloc::Budget;
 use loop_disk::{Disk, FuseDisk, MemDisk};
 use loop_record::{Geometry, Span, Times};
 use loop_store::{Command, Reply, Store, StoreFault, format, format_v1};

@@ -4,7 +4,7 @@ ghost use Rattle.std.specs.Prelude.{◌≡◌, ◌<◌, All, IfOk, length};
 
 use crate::common::SMALL;
 use crate::told::{holds, same};
-use loop_budget::Budget;
+use test_alloc::Budget;
 use loop_clips::{CLIPS, Clip, ClipTable};
 use loop_record::{SegmentHead, Span};
 use loop_ring::{SegmentIndex, clips_on};
