@@ -14,8 +14,8 @@ use loop_pipeline::{Camera, Ended, Unfilmed, film_camera, heap_start, new_queue,
 use loop_plane::HeapPlane;
 use loop_record::Geometry;
 use loop_script::LIMITS;
-use loop_store::{OpenRefused, Store, StoreFault};
 use loop_station_words::{RingSize, Room, print_not_a_store};
+use loop_store::{OpenRefused, Store, StoreFault};
 use std::alloc::{AllocGlobal, Global};
 use std::io::Write;
 use std::sync::atomic::Ordering;

@@ -7,11 +7,11 @@ use crate::state::CameraState;
 use loop_desk::Outline;
 use loop_record::Geometry;
 use loop_script::Listing;
-use loop_store::Clip;
 use loop_station_words::{
     CameraStatus, print_absent, print_camera, print_kept, print_refused, print_released,
     print_status,
 };
+use loop_store::Clip;
 use std::io;
 use std::io::Write;
 use std::sync::Wait;

@@ -3,7 +3,6 @@
 use crate::told::{holds, same};
 use loop_record::{Geometry, PixelFormat};
 use loop_script::{Likeness, compare_frames, print_other_geometry, print_other_rate};
-use loop_store::{Clip, StoreFault};
 use loop_station_words::{
     CameraStatus, RingSize, print_absent, print_all_locked, print_bad_order, print_behind,
     print_caught_up, print_clip_path, print_done, print_given_up, print_head, print_help,
@@ -12,6 +11,7 @@ use loop_station_words::{
     print_source_missing, print_source_on, print_status, print_stopped, print_store_absent,
     print_store_open, print_too_many_saves, ring_for, ring_within,
 };
+use loop_store::{Clip, StoreFault};
 use std::alloc::Global;
 use std::process::Abort;
 
