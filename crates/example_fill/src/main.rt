@@ -1,5 +1,5 @@
-//! `fill STORE SEGMENTS SLOTS VIDEO LAST OUT`: a fresh store in a file, and in it the frames of a YUV4MPEG2 file or
-//! pipe; then a clip of the last so many of them is locked, and exported to another file.
+//! `example_fill STORE SEGMENTS SLOTS VIDEO LAST OUT`: a fresh store in a file, and in it the frames of a YUV4MPEG2
+//! file or pipe; then a clip of the last so many of them is locked, and exported to another file.
 #![tactic(auto)]
 
 use anyhow::{Context, Result, anyhow};

@@ -11,8 +11,8 @@
 //! of answers, `events` tells what happens by itself, `outlet` prints lines, and `tap` brings them to a further file or
 //! pipe.
 //!
-//! What an order means, and the choice of a store's size, is loop_station_words', and proved there. That each frame of the
-//! source comes to the desk, in order and whole, or is counted, and that its footage is kept, is `film_camera`'s
+//! What an order means, and the choice of a store's size, is loop_station_words', and proved there. That each frame of
+//! the source comes to the desk, in order and whole, or is counted, and that its footage is kept, is `film_camera`'s
 //! (`CameraKeeps`); that a keep locks just the held frames of its time is `Back::keep`'s: both of loop_pipeline. Which
 //! thread comes when, and time, are said by no clause.
 #![tactic(auto)]
