@@ -1,4 +1,4 @@
-/* The system's calls of `bench append-file` and `lock-file`, and of `bench lane`, as a plain program, with the same places and sizes
+/* The system's calls of `bench_programs append-file` and `lock-file`, and of `bench_programs lane`, as a plain program, with the same places and sizes
    and in the same order; it checks nothing. And one bare write of the same bytes and one fdatasync for each group.
 
        file append PATH GROUP GROUPS

@@ -1,4 +1,4 @@
-/* The device calls of `bench` as a plain program, with the same places and sizes and in the same order. It checks nothing, and a
+/* The device calls of `bench_programs` as a plain program, with the same places and sizes and in the same order. It checks nothing, and a
    disk in memory keeps no record of its writes: a write is a copy, a sync does nothing.
 
        ring append W H S F GROUP GROUPS ROUNDS

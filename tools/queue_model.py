@@ -1,5 +1,5 @@
 #!/usr/bin/env python3
-"""The rules of a buffer queue and its ioctls a second time, in plain Python, and a comparison with the program lane_cases.
+"""The rules of a buffer queue and its ioctls a second time, in plain Python, and a comparison with the program test_lane_cases.
 
     queue_model.py PROGRAM short [KINDS]         every list of at most five events of SHORT, of the kinds of memory KINDS (m, u, d)
     queue_model.py PROGRAM all [KINDS]           every list of at most three events of ALL

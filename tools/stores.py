@@ -21,8 +21,8 @@ class Violation(Exception):
 
 
 def built(name):
-    """A program's path. One that the variable LOOP_CLI, LOOP_STATION, BENCH or FILL names is taken as it is; else it is built, and proved where
-    something changed."""
+    """A program's path. One that the variable LOOP_CLI, LOOP_STATION, BENCH_PROGRAMS or EXAMPLE_FILL names is taken as it is; else it is built, and proved
+    where something changed."""
     given = os.environ.get(name.upper())
     if given:
         return os.path.abspath(given)
@@ -155,7 +155,7 @@ def at_random():
 
 
 def footage(number, run):
-    """The byte of which `bench record` makes a frame."""
+    """The byte of which `bench_programs record` makes a frame."""
     return (number % 251 + run % 251 * 7) % 251
 
 

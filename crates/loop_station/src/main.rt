@@ -1,12 +1,12 @@
 //! The laboratory's program: it records from the cameras of a configuration, and does orders meanwhile.
 //! docs/station.md has both languages.
 //!
-//! It reads the file that its one word names, and hands the configuration, its input and its output to station_work.
-//! Its stored run is a camera whose source is away, and one that never came.
+//! It reads the file that its one word names, and hands the configuration, its input and its output to
+//! loop_station_work. Its stored run is a camera whose source is away, and one that never came.
 #![tactic(auto)]
 
-use station_words::read_config;
-use station_work::{NotBegun, Places, run_station};
+use loop_station_words::read_config;
+use loop_station_work::{NotBegun, Places, run_station};
 use std::alloc::AllocGlobal;
 use std::io::{IsTerminal, Read, Write};
 use std::process::ExitCode;

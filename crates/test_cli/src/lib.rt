@@ -1,4 +1,4 @@
-//! Tests of what the program does, beside its stored run (`crates/loop_cli/stdin`, `stdout`), which is the first look.
+//! Tests of what loop_cli does, beside its stored run (`crates/loop_cli/stdin`, `stdout`), which is the first look.
 //!
 //! - `told` has assertions that are cheap to prove; `ends`: inputs and outputs that fail, or that note what they are
 //!   asked for; `ran`: a run of a script or of words, and what came of it;
@@ -8,7 +8,8 @@
 //! - `memory`: scripts and sessions where memory is refused;
 //! - `parts`: lines, numbers, refusals and frames of the pattern, each alone;
 //! - `words`: words that can't be read; `files`: commands on stores in files; `recordings`: recordings into them; `large`:
-//!   recordings of large frames; `even`: the writes of an export; `targets`: exports whose output fails.
+//!   recordings of large frames; `even`: the writes of an export; `targets`: exports whose output fails;
+//! - `station`: lines and configurations of loop_station.
 #![tactic(auto)]
 
 #[cfg(test)]
@@ -29,6 +30,8 @@ mod ran;
 mod recordings;
 #[cfg(test)]
 mod scripts;
+#[cfg(test)]
+mod station;
 #[cfg(test)]
 mod targets;
 #[cfg(test)]

@@ -2,13 +2,13 @@
 
 use crate::ran::{Ran, comes_to, run_script};
 use crate::told::{holds, same};
-use loop_budget::Budget;
 use loop_desk::{Flushed, Outline};
 use loop_record::{Geometry, PixelFormat};
 use loop_script::Session;
 use loop_store::{ReadFrame, StoreFault};
 use std::alloc::{Allocator, Global};
 use std::process::Abort;
+use test_alloc::Budget;
 
 // A script that allocates in each of its lines.
 const SCRIPT: &[u8] = b"format 4 2 YM12 25:1 3 2\nstore 2\nreopen\nlist\n";

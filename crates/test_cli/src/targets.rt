@@ -3,7 +3,6 @@
 use crate::files::ring;
 use crate::ran::text;
 use crate::told::same;
-use loop_budget::Budget;
 use loop_commands::{Beneath, NotExported, Target, export_along, export_apart, export_text, list};
 use loop_disk::MemDisk;
 use loop_store::{Store, StoreFault};
@@ -13,6 +12,7 @@ use std::cell::Cell;
 use std::io;
 use std::io::{Error, ErrorKind, Write};
 use std::process::Abort;
+use test_alloc::Budget;
 
 // Which call of a target fails.
 #[derive(Clone, Copy, PartialEq, Eq, Debug)]

@@ -4,7 +4,6 @@ use crate::common::Call::*;
 use crate::common::Told::{Count, Done, Fault, Flushed, Frame, Index, Number, Refused};
 use crate::common::*;
 use crate::told::{holds, same};
-use loop_budget::Budget;
 use loop_desk::{Desk, Lane, LaneEvent, lane_run};
 use loop_disk::Disk;
 use loop_plane::{MmapPlane, PlaneMemory};
@@ -13,6 +12,7 @@ use loop_store::{Store, StoreFault};
 use loop_vb2::{PlaneSet, Reason};
 use std::alloc::Allocator;
 use std::process::Abort;
+use test_alloc::Budget;
 
 // A frame is at hand in the queue.
 const READY: [(Call, Told); 5] = [

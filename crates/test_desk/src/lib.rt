@@ -1,5 +1,5 @@
 //! Tests of the desk and of the lane that need an allocator which refuses, a device, or the text of what was recorded.
-//! Lists of events with what they answer, the desk's own calls, stops and failing disks stand in `lane_cases`.
+//! Lists of events with what they answer, the desk's own calls, stops and failing disks stand in `test_lane_cases`.
 //!
 //! - `common`: events and replies as they stand in tables, and lanes and desks over images;
 //! - `growths`: each growth is refused in turn;

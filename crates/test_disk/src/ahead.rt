@@ -3,11 +3,11 @@
 use crate::calls::{read_at, write_at};
 use crate::told::{holds, same};
 use loop_ahead::AheadDisk;
-use loop_budget::Budget;
 use loop_disk::{Disk, MemDisk};
 use std::alloc::Allocator;
 use std::process::Abort;
 use std::test::Fail;
+use test_alloc::Budget;
 
 const SIZE: u8 = 100;
 

@@ -1,9 +1,9 @@
 // Calls of a disk with their answers, as rows of tables. They see to its size first, so that no test has to. Out
 // of the disk is answered as a failed sync, which no read and no write answers.
 use crate::told::{holds, same};
-use loop_budget::Budget;
 use loop_disk::{Disk, DiskFault};
 use std::process::Abort;
+use test_alloc::Budget;
 
 /// A call of a disk with what it answers.
 #[derive(Drop)]

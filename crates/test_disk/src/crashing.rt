@@ -1,11 +1,11 @@
 // The disk that remembers its calls, where memory is refused.
 use crate::calls::{Call, does, plays_within};
 use crate::told::{holds, same};
-use loop_budget::Budget;
 use loop_disk::{CrashDisk, DiskFault, Spoil};
 use std::alloc::{AllocError, Allocator};
 use std::process::Abort;
 use std::test::Fail;
+use test_alloc::Budget;
 
 // Whether there is memory for the disk after a crash, if so many calls were made.
 fn crashes<A: Allocator + Copy>(disk: &CrashDisk<A>, calls: usize) -> bool {

@@ -6,11 +6,11 @@ ghost use Rattle.test_disk.specs.InTurn.{TornOfThree};
 
 use crate::calls::{Call, plays, write_at};
 use crate::told::{holds, same};
-use loop_budget::Budget;
 use loop_disk::{Disk, DiskFault, FuseDisk, MemDisk, store, store_in_turn};
 use std::alloc::{AllocError, Allocator};
 use std::process::Abort;
 use std::test::Fail;
+use test_alloc::Budget;
 
 // A caller as the layers above have them: it knows nothing of the disk but the trait.
 fn store_three<D: Disk>(disk: &mut D, at: u64, x: u8, y: u8, z: u8) -> Result<(), DiskFault>

@@ -3,7 +3,6 @@
 use crate::calls::{Call, does, plays};
 use crate::paths::{creates, removes};
 use crate::told::same;
-use loop_budget::Budget;
 use loop_disk::{Disk, DiskFault, MemDisk};
 use loop_file::FileDisk;
 use loop_overlay::OverlayDisk;
@@ -11,6 +10,7 @@ use std::alloc::{AllocGlobal, Allocator};
 use std::fs::OpenOptions;
 use std::process::Abort;
 use std::test::Fail;
+use test_alloc::Budget;
 
 const BENEATH: &[u8] = b"abcdefghijkl";
 

@@ -2,10 +2,10 @@
 
 use crate::told::{holds, same};
 use linked_list_allocator::LocalHeap;
-use loop_budget::{Budget, take_one};
 use std::alloc::AllocError;
 use std::process::Abort;
 use std::test::Fail;
+use test_alloc::{Budget, take_one};
 
 // Takes a block of the last ones, which are so many, and gives it back.
 fn takes(rt: &impl Abort, memory: &Budget, left: u64) -> Result<(), AllocError> {

@@ -1,5 +1,5 @@
 //! Tests of page ledgers, planes, the buffer queue, its ioctls and a device over real planes: what needs an allocator,
-//! boxes, threads, or pages that are counted. Calls with what they answer stand in `lane_cases`.
+//! boxes, threads, or pages that are counted. Calls with what they answer stand in `test_lane_cases`.
 //!
 //! - `budget`: what an allocator with a budget grants; `pages`: claims of pages by one thread, `threads`: by several;
 //!   `claimed`: planes over claimed pages; `planes`: planes of each kind;

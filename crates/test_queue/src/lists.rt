@@ -2,7 +2,6 @@
 
 use crate::common::{facts, supplied_many};
 use crate::told::same;
-use loop_budget::Budget;
 use loop_ioctl::{BufferType, Ioctl, IoctlReply, QueueEvent, QueueReply, are_whole, run_events};
 use loop_pages::PageLedger;
 use loop_plane::{FdTable, Memory, MmapPlane};
@@ -10,6 +9,7 @@ use loop_record::PixelFormat;
 use loop_vb2::{Errno, PlaneSet, Queue, Reason};
 use std::process::Abort;
 use std::test::Fail;
+use test_alloc::Budget;
 
 // A queue, its table, sets and events in memory that is granted block by block.
 type Plane<'a> = MmapPlane<&'a Budget>;

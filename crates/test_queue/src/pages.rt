@@ -6,12 +6,12 @@ ghost use Rattle.loop_pages.specs.Place.{IsIdle};
 
 use crate::claimed::{claimed, refused};
 use crate::told::{holds, same};
-use loop_budget::Budget;
 use loop_pages::{PageFault, PageHold, PageLedger, PageSeat};
 use std::alloc::{Allocator, Global};
 use std::process::Abort;
 use std::sync::Arc;
 use std::test::Fail;
+use test_alloc::Budget;
 
 // Three of four pages are claimed and released, twice.
 fn claims_three(

@@ -6,7 +6,6 @@ ghost use Rattle.loop_pages.specs.Place.{IsIdle};
 
 use crate::claimed::{claimed, refused};
 use crate::told::{holds, same};
-use loop_budget::Budget;
 use loop_pages::{PageFault, PageHold, PageLedger, PageSeat};
 use loop_plane::{
     DmabufPlane, DmabufTable, FdFault, FdTable, Memory, MmapPlane, PlaneMemory, UserPlane,
@@ -15,6 +14,7 @@ use std::alloc::Global;
 use std::process::Abort;
 use std::sync::Arc;
 use std::test::Fail;
+use test_alloc::Budget;
 
 /// A plane of any kind.
 type Plane = Box<dyn PlaneMemory + Send>;

@@ -2,7 +2,6 @@
 
 use crate::common::{facts, supplied_many};
 use crate::told::{holds, same};
-use loop_budget::Budget;
 use loop_pages::PageLedger;
 use loop_plane::{Memory, MmapPlane, PlaneMemory};
 use loop_record::PixelFormat;
@@ -10,6 +9,7 @@ use loop_vb2::{Errno, PlaneSet, Queue, Reason};
 use std::alloc::Allocator;
 use std::process::Abort;
 use std::test::Fail;
+use test_alloc::Budget;
 
 // A queue of frames of 4,096 bytes.
 fn big<P: PlaneMemory, A: Allocator + Copy>(alloc: A) -> Queue<P, A> {

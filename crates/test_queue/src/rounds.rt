@@ -3,13 +3,13 @@
 use crate::common::Call::*;
 use crate::common::Said::{Buffer, Byte, Count, Done, Flags, Frame, Is, Refused};
 use crate::common::{Call, Said, Small, runs, supplied_many};
-use loop_budget::Budget;
 use loop_pages::PageLedger;
 use loop_plane::MmapPlane;
 use loop_vb2::Reason;
 use std::alloc::Allocator;
 use std::process::Abort;
 use std::test::Fail;
+use test_alloc::Budget;
 
 // Three buffers, one of which is enough to start: frames come in the order of their ends, and those that wait
 // when streaming is turned off are lost.

@@ -1,10 +1,10 @@
 //! What a source answers by itself, and what becomes of it where memory is refused.
 
 use crate::told::{holds, same};
-use loop_budget::Budget;
 use loop_capture::{Device, FrameSource, Next, Pattern, Y4mSource};
 use loop_y4m::Y4mReader;
 use std::test::Fail;
+use test_alloc::Budget;
 
 /// Two frames of one byte.
 const SMALL: &[u8; 42] = b"YUV4MPEG2 W1 H1 F25:1 Cmono\nFRAME\n\x07FRAME\n\x08";

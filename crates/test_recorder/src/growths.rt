@@ -6,7 +6,6 @@ ghost use Rattle.loop_sessions.specs.Opened.{IsReady};
 use crate::calls::*;
 use crate::common::*;
 use crate::told::same;
-use loop_budget::Budget;
 use loop_desk::{Flushed, Status};
 use loop_disk::MemDisk;
 use loop_plane::{MmapPlane, PlaneMemory};
@@ -16,6 +15,7 @@ use loop_store::StoreFault;
 use std::alloc::Global;
 use std::process::Abort;
 use std::sync::Wait;
+use test_alloc::Budget;
 
 /// Cameras all of whose memory is granted by a budget.
 type Cameras<'a, P> = Vec<Camera<MemDisk, P, &'a Budget>, &'a Budget>;

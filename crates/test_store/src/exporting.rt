@@ -6,7 +6,6 @@ ghost use Rattle.std.specs.Prelude.{◌≡◌, All, IsTrue, length};
 use crate::fakes::{Gutter, reads, tell};
 use crate::reading::{PIXELS, TWO};
 use crate::told::{holds, same};
-use loop_budget::Budget;
 use loop_disk::{Disk, DiskFault, FuseDisk, MemDisk, OnceDisk};
 use loop_record::{Frame, Geometry, OPEN, PixelFormat};
 use loop_store::{Store, StoreFault, format};
@@ -15,6 +14,7 @@ use std::alloc::{Allocator, Global};
 use std::io;
 use std::io::{ErrorKind, Write};
 use std::process::Abort;
+use test_alloc::Budget;
 
 /// Three segments with two slots each, of frames of 12 bytes.
 const SMALL: Geometry = Geometry {

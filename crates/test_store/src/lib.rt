@@ -1,7 +1,7 @@
 //! Tests of the store, of its parts and of its exports that need Rust: the bytes of each part of a disk, written and
 //! read, which stray gates are closed, which block goes, memory that is refused, looks without a write, and the names of
 //! the refusals. The worked rows of the layout and of the rules, the stops and the calls that fail are cases of
-//! `store_cases`; what an image reads as stands in loop_record's proofs too, computed on worked images.
+//! `test_store_cases`; what an image reads as stands in loop_record's proofs too, computed on worked images.
 //!
 //! - `layout`: sizes, and what stands in each part of a disk; `ring`: calls of a ring, over a disk that claims nothing
 //!   of its bytes, so that a test may begin with any image; `upgrade`: upgrades of a clip table to version 2 of the

@@ -6,13 +6,13 @@ ghost use Rattle.loop_store.specs.Runs.{IsOfSize};
 
 use crate::common::*;
 use crate::told::{holds as so, same};
-use loop_budget::Budget;
 use loop_disk::{Disk, FuseDisk, MemDisk};
 use loop_record::{Geometry, Span, Times};
 use loop_store::{Command, Reply, Store, StoreFault, format, format_v1};
 use std::alloc::{Allocator, Global};
 use std::process::Abort;
 use std::test::Fail;
+use test_alloc::Budget;
 
 // Whether a frame that is to be stored has so many bytes.
 fn fits<A: Allocator>(command: &Command<A>, geometry: &Geometry) -> bool

@@ -4,13 +4,13 @@ ghost use Rattle.std.specs.Prelude.{◌≡◌, ◌<◌, All, IfOk, length};
 
 use crate::common::SMALL;
 use crate::told::{holds, same};
-use loop_budget::Budget;
 use loop_clips::{CLIPS, Clip, ClipTable};
 use loop_record::{SegmentHead, Span};
 use loop_ring::{SegmentIndex, clips_on};
 use std::alloc::{AllocError, Allocator, Global};
 use std::process::Abort;
 use std::test::Fail;
+use test_alloc::Budget;
 
 // An index of three segments, for blocks of two frames, that no clip meets.
 fn index<A: Allocator + Copy>(

@@ -1,0 +1,253 @@
+// What a table of the file says at a key.
+ghost use Rattle.std.specs.Prelude.{◌≡◌, ◌≤◌, IfOk, IfSome, option_map, codes};
+ghost use Rattle.toml.specs.Data.{get_member, integer};
+ghost use Rattle.toml.specs.View.{table_view, view};
+ghost use Rattle.loop_station_words.specs.Config.{HasBuffers};
+ghost use Rattle.loop_station_words.specs.Cuts.{cut};
+ghost use Rattle.loop_station_words.specs.Fields.{SaysShape, bytes_of, memory_of, minutes_of, number_of, part_seconds, path_of, positive, room_of, seconds_cut, shape_text, text_of, truth_of};
+
+use crate::config::{Memory, Room};
+use crate::cut::cut;
+use crate::fault::CameraFault;
+use crate::shape::{Shape, read_shape};
+use loop_script::number::number;
+use std::num::saturating_f64_to_u64;
+use toml::{Table, Value};
+
+/// The keys of a camera.
+const KEYS: [&str; 12] = [
+    "name", "source", "store", "minutes", "bytes", "keep", "tag", "pattern", "buffers", "memory",
+    "save_to", "release",
+];
+
+/// The fewest buffers of a camera.
+const MIN_BUFFERS: u32 = 4;
+
+/// How many buffers a camera has where they are left out.
+const BUFFERS: u64 = 8;
+
+/// The most buffers of a camera: as many as a queue may have.
+const MAX_BUFFERS: u64 = 32;
+
+/// The seconds of a minute.
+const MINUTE: f64 = 60.0;
+
+/// Above the most minutes that are no whole number.
+const MOST_MINUTES: f64 = 1e15;
+
+/// The pattern's shape where it is left out.
+const SHAPE: &str = "640x480 YM12 25:1";
+
+// Whether each key is a camera's.
+pub(crate) fn check_keys(table: &Table) -> Result<(), CameraFault> {
+    for key in table.keys() {
+        if !KEYS.contains(&key.as_str()) {
+            return Err(CameraFault::UnknownKey);
+        }
+    }
+    Ok(())
+}
+
+// What stands at a key.
+pub(crate) fn value_at<'a>(table: &'a Table, key: &str) -> Option<&'a Value>
+    ensures { option_map (λ v. view v.now) result ≡ get_member key.now (table_view table.now) }
+{
+    table.get(key)
+}
+
+// The text at a key; `None` where there is none, or it is empty.
+pub(crate) fn text_at<'a>(table: &'a Table, key: &str) -> Option<&'a str>
+    ensures { option_map (λ t. t.now) result ≡ text_of (get_member key.now (table_view table.now)) }
+{
+    match value_at(table, key) {
+        Some(Value::String(text)) if !text.is_empty() => Some(text.as_str()),
+        _ => None,
+    }
+}
+
+// The number at a key, or this one where there is none; `None` where it is no whole number from 0 to the most.
+pub(crate) fn number_at(table: &Table, key: &str, other: u64, most: u64) -> Option<u64>
+    requires { other ≤ most }
+    ensures number { result ≡ number_of other most (get_member key.now (table_view table.now)) }
+    ensures few { IfSome result (λ number. number ≤ most) }
+{
+    match value_at(table, key) {
+        None => Some(other),
+        Some(Value::Integer(number)) => match u64::try_from(*number) {
+            Ok(number) if number <= most => Some(number),
+            _ => None,
+        },
+        Some(_) => None,
+    }
+}
+
+// The number of 32 bits at a key, or this one where there is none; `None` where it is none.
+pub(crate) fn small_at(table: &Table, key: &str, other: u32) -> Option<u32>
+    ensures { result ≡ number_of other 4294967295 (get_member key.now (table_view table.now)) }
+{
+    let number = number_at(table, key, u64::from(other), u64::from(u32::MAX))?;
+    Some(number as u32)
+}
+
+// How many buffers a camera has; `None` where that is no whole number from 4 to 32.
+pub(crate) fn buffers_at(table: &Table) -> Option<u32>
+    ensures number { IfSome result (λ buffers.
+        number_of 8 32 (get_member (codes "buffers") (table_view table.now)) ≡ Some buffers) }
+    ensures few { IfSome result HasBuffers }
+{
+    let buffers = number_at(table, "buffers", BUFFERS, MAX_BUFFERS)? as u32;
+    if buffers < MIN_BUFFERS {
+        return None;
+    }
+    Some(buffers)
+}
+
+// The text of the pattern's shape; `None` where it is no text.
+fn shape_text<'a>(table: &'a Table) -> Option<&'a str>
+    ensures { option_map (λ t. t.now) result
+        ≡ shape_text (get_member (codes "pattern") (table_view table.now)) }
+{
+    match value_at(table, "pattern") {
+        None => Some(SHAPE),
+        Some(Value::String(text)) => Some(text.as_str()),
+        Some(_) => None,
+    }
+}
+
+// The pattern's shape, where that is the source.
+pub(crate) fn shape_at(table: &Table, source: &str) -> Result<Option<Shape>, CameraFault>
+    ensures { IfOk result (SaysShape source.now (get_member (codes "pattern") (table_view table.now))) }
+{
+    let text = match shape_text(table) {
+        Some(text) => text,
+        None => return Err(CameraFault::BadPattern),
+    };
+    if source == "pattern" {
+        return match read_shape(text) {
+            Some(shape) => Ok(Some(shape)),
+            None => Err(CameraFault::BadPattern),
+        };
+    }
+    match value_at(table, "pattern") {
+        Some(_) => Err(CameraFault::NoPattern),
+        None => Ok(None),
+    }
+}
+
+// How large the store is: by minutes or by bytes, and just one of them.
+pub(crate) fn room_at(table: &Table) -> Result<Room, CameraFault>
+    ensures { IfOk result (λ room. room_of (get_member (codes "minutes") (table_view table.now))
+        (get_member (codes "bytes") (table_view table.now)) ≡ Some room) }
+{
+    match (value_at(table, "minutes"), value_at(table, "bytes")) {
+        (None, None) => Err(CameraFault::NoRoom),
+        (Some(_), Some(_)) => Err(CameraFault::TwoRooms),
+        (Some(minutes), None) => match seconds_of(minutes) {
+            Some(seconds) => Ok(Room::Seconds(seconds)),
+            None => Err(CameraFault::BadMinutes),
+        },
+        (None, Some(bytes)) => match bytes_of(bytes) {
+            Some(bytes) => Ok(Room::Bytes(bytes)),
+            None => Err(CameraFault::BadBytes),
+        },
+    }
+}
+
+// The seconds of so many minutes, rounded up; `None` where that is no number above 0.
+fn seconds_of(minutes: &Value) -> Option<u64>
+    ensures { result ≡ minutes_of (view minutes.now) }
+{
+    match minutes {
+        Value::Integer(whole) => match positive(*whole) {
+            Some(whole) => Some(whole.saturating_mul(60)),
+            None => None,
+        },
+        Value::Float(part) => part_seconds(*part),
+        _ => None,
+    }
+}
+
+// The seconds of minutes that are no whole number, rounded up; `None` where they are not above 0, or too many.
+fn part_seconds(part: f64) -> Option<u64>
+    ensures { result ≡ part_seconds part }
+{
+    if part > 0.0 && part < MOST_MINUTES {
+        Some(saturating_f64_to_u64((part * MINUTE).ceil()))
+    } else {
+        None
+    }
+}
+
+// So many bytes; `None` where that is no whole number above 0.
+fn bytes_of(bytes: &Value) -> Option<u64>
+    ensures { result ≡ bytes_of (view bytes.now) }
+{
+    match bytes {
+        Value::Integer(bytes) => positive(*bytes),
+        _ => None,
+    }
+}
+
+// A number above 0.
+fn positive(number: i64) -> Option<u64>
+    ensures { result ≡ bytes_of (integer number) }
+{
+    match u64::try_from(number) {
+        Ok(number) if number > 0 => Some(number),
+        _ => None,
+    }
+}
+
+// What its source's frames may take: a number of bytes, or a text as `4 s`; `None` where it is neither, or 0.
+pub(crate) fn memory_at(table: &Table) -> Option<Option<Memory>>
+    ensures { result ≡ memory_of (get_member (codes "memory") (table_view table.now)) }
+{
+    match value_at(table, "memory") {
+        None => Some(None),
+        Some(Value::Integer(bytes)) => match positive(*bytes) {
+            Some(bytes) => Some(Some(Memory::Bytes(bytes))),
+            None => None,
+        },
+        Some(Value::String(text)) => match seconds_in(text.as_str()) {
+            Some(seconds) => Some(Some(Memory::Seconds(seconds))),
+            None => None,
+        },
+        Some(_) => None,
+    }
+}
+
+// The seconds that a text as `4 s` says; `None` where it says none, or 0.
+fn seconds_in(text: &str) -> Option<u64>
+    ensures { result ≡ seconds_cut (cut 32 text.now) }
+{
+    match cut(text, ' ') {
+        Some((seconds, "s")) => match number(seconds) {
+            Some(seconds) if seconds > 0 => Some(seconds),
+            _ => None,
+        },
+        _ => None,
+    }
+}
+
+// The path at a key, if there is one; `None` where it is no text, or an empty one.
+pub(crate) fn path_at<'a>(table: &'a Table, key: &str) -> Option<Option<&'a str>>
+    ensures { option_map (λ p. option_map (λ t. t.now) p) result
+        ≡ path_of (get_member key.now (table_view table.now)) }
+{
+    match value_at(table, key) {
+        None => Some(None),
+        Some(Value::String(path)) if !path.is_empty() => Some(Some(path.as_str())),
+        Some(_) => None,
+    }
+}
+
+// Whether it is said at a key, or this where nothing is; `None` where it is neither `true` nor `false`.
+pub(crate) fn truth_at(table: &Table, key: &str, other: bool) -> Option<bool>
+    ensures { result ≡ truth_of other (get_member key.now (table_view table.now)) }
+{
+    match value_at(table, key) {
+        None => Some(other),
+        Some(Value::Boolean(said)) => Some(*said),
+        Some(_) => None,
+    }
+}

@@ -1,0 +1,59 @@
+//! What lines mean, row by row, and how large a ring's store is. The functions do nothing: their contracts are the rows
+//! and laws.
+
+ghost use Rattle.std.specs.Prelude.{◌≡◌, [], codes, false, true};
+ghost use Rattle.loop_record.specs.Geometry.{disk_size, frame_bytes};
+ghost use Rattle.loop_station_words.specs.Orders.{order_said};
+ghost use Rattle.loop_station_words.specs.Rings.{file_size};
+ghost use Rattle.loop_station_words.specs.Shapes.{shape_geometry};
+ghost use Rattle.loop_station_words.specs.Times.{time_said};
+ghost use Rattle.loop_station_words.specs.declared.order.Order.{Order};
+
+use crate::ring::RingSize;
+use crate::shape::Shape;
+
+/// Each order has a line.
+#[tactic(auto, unfolding(crate::specs::Cuts::cut, crate::specs::Orders::timed_said, crate::specs::Orders::times_kept, crate::specs::Orders::from_said))]
+pub fn each_order_has_a_line()
+    ensures keep { order_said (codes "keep") ≡ Some (Order.Keep None None None) }
+    ensures seconds { order_said (codes "keep 60") ≡ Some (Order.Keep None (Some 60) None) }
+    ensures camera { order_said (codes "keep left 60 7")
+        ≡ Some (Order.Keep (Some (codes "left")) (Some 60) (Some 7)) }
+    ensures release { order_said (codes "release left 3") ≡ Some (Order.Release (codes "left") 3) }
+    ensures list { order_said (codes "list") ≡ Some Order.List }
+    ensures save { order_said (codes "save left 3 my clip.y4m")
+        ≡ Some (Order.Save (codes "left") 3 (codes "my clip.y4m") false) }
+    ensures replace { order_said (codes "save! left 3 a") ≡ Some (Order.Save (codes "left") 3 (codes "a") true) }
+    ensures help { order_said (codes "help") ≡ Some Order.Help }
+    ensures status { order_said (codes "status") ≡ Some Order.Status }
+    ensures stop { order_said (codes "stop") ≡ Some Order.Stop }
+{}
+
+/// These lines can't be read.
+#[tactic(auto, unfolding(crate::specs::Cuts::cut, crate::specs::Orders::timed_said, crate::specs::Orders::times_kept, crate::specs::Orders::from_said))]
+pub fn other_lines_have_no_order()
+    ensures empty { order_said [] ≡ None }
+    ensures word { order_said (codes "keeps") ≡ None }
+    ensures many { order_said (codes "keep left 60 7 8") ≡ None }
+    ensures tag { order_said (codes "keep 60 left") ≡ None }
+    ensures large { order_said (codes "keep 4294967296") ≡ None }
+    ensures no_name { order_said (codes "release 7 3") ≡ None }
+    ensures out { order_said (codes "save left 3 ") ≡ None }
+    ensures space { order_said (codes "list ") ≡ None }
+{}
+
+/// These texts are these times, in microseconds since 1970.
+#[tactic(auto, unfolding(crate::specs::Calendar::days_to_month, crate::specs::Calendar::days_to_year, crate::specs::Calendar::is_leap, crate::specs::Cuts::cut, crate::specs::Times::clock_said, crate::specs::Times::day_said, crate::specs::Times::decimals_said, crate::specs::Times::offset_said, crate::specs::Times::seconds_said, crate::specs::Times::sized, crate::specs::Times::zoned))]
+pub fn texts_are_times()
+    ensures first { time_said (codes "1970-01-01T00:00:00Z") ≡ Some 0 }
+    ensures leap { time_said (codes "2000-02-29T23:59:59.999999Z") ≡ Some 951868799999999 }
+    ensures east { time_said (codes "2026-11-22T16:38:00.5+01:00") ≡ Some 1795361880500000 }
+    ensures west { time_said (codes "1969-12-31T19:00:00-05:00") ≡ None }
+    ensures no_leap { time_said (codes "2100-02-29T00:00:00Z") ≡ None }
+{}
+
+/// The bytes by which a ring is chosen are those of the store's disk.
+pub fn file_size_is_disk_size(shape: &Shape, ring: RingSize)
+    ensures { file_size (frame_bytes (shape_geometry shape.now ring)) ring
+        ≡ disk_size (shape_geometry shape.now ring) }
+{}

@@ -1,0 +1,122 @@
+// How a store's segments and slots are chosen.
+ghost use Rattle.std.specs.Prelude.{◌≡◌, ◌≤◌, ◌<◌, ◌↔◌, ◌+◌, ◌*◌, ◌-◌, ◌^◌, ℕ, IfSome, IsNone, min};
+ghost use Rattle.loop_record.specs.Geometry.{divided_up};
+ghost use Rattle.loop_station_words.specs.Rings.{IsLargestWithin, IsLeastFor, IsPreferred, IsRing, file_size, held};
+
+/// From so many slots on, few of them cost nothing.
+const SLOTS: u64 = 64;
+
+/// The most segments of a store.
+const MAX_SEGMENTS: u64 = 64;
+
+/// The most slots of a segment.
+const MAX_SLOTS: u64 = 256;
+
+/// The bytes before the first segment.
+const HEAD: u64 = 2560;
+
+/// The bytes of a segment before its first slot.
+const SEGMENT_HEAD: u64 = 512;
+
+/// The bytes of a slot before its frame.
+const SLOT_HEAD: u64 = 32;
+
+/// How large a store's ring is.
+#[derive(Clone, Copy, Debug, PartialEq, Eq)]
+pub struct RingSize {
+    /// Segments, 2 to 64.
+    pub segments: u32,
+    /// Frames that a segment has room for, 1 to 256.
+    pub slots: u32,
+}
+
+/// The least ring that always holds so many of the newest frames, as nothing is locked: 64 slots a segment while 64
+/// segments are enough, else 64 segments; `None` where no ring holds so many, which are more than 16,129.
+pub fn ring_for(frames: u64) -> Option<RingSize>
+    ensures least { IfSome result (IsLeastFor frames) }
+    ensures none { IsNone result ↔ (16129 < frames) }
+{
+    let before = frames.saturating_sub(1);
+    let segments = before.div_ceil(SLOTS) + 1;
+    if segments <= MAX_SEGMENTS {
+        return Some(ring(segments.max(2), SLOTS));
+    }
+    let slots = before.div_ceil(MAX_SEGMENTS - 1);
+    if slots > MAX_SLOTS {
+        return None;
+    }
+    Some(ring(MAX_SEGMENTS, slots))
+}
+
+// The ring of these numbers.
+fn ring(segments: u64, slots: u64) -> RingSize
+    requires segments { segments ≤ 64 }
+    requires slots { slots ≤ 256 }
+    ensures { result ≡ record { segments = segments; slots = slots } }
+{
+    RingSize {
+        segments: segments as u32,
+        slots: slots as u32,
+    }
+}
+
+/// The largest ring whose store has at most so many bytes, for frames of `frame_bytes`: two segments while fewer than 64
+/// slots fit into each, then 64 slots a segment, and from 64 segments on more slots; `None` where not even two segments
+/// of one slot fit.
+pub fn ring_within(frame_bytes: u32, bytes: u64) -> Option<RingSize>
+    ensures largest { IfSome result (IsLargestWithin frame_bytes bytes) }
+    ensures none { IsNone result ↔ (bytes < file_size frame_bytes (record { segments = 2; slots = 1 })) }
+{
+    let slot = SLOT_HEAD + u64::from(frame_bytes);
+    let room = bytes.saturating_sub(HEAD);
+    let segments = fitting(room, SEGMENT_HEAD + SLOTS * slot, MAX_SEGMENTS);
+    if segments == MAX_SEGMENTS {
+        return Some(ring(segments, slots_within(room, segments, slot)));
+    }
+    if segments >= 2 {
+        return Some(ring(segments, SLOTS));
+    }
+    let slots = slots_within(room, 2, slot);
+    if slots == 0 {
+        return None;
+    }
+    Some(ring(2, slots))
+}
+
+// How many slots a segment may have, at most 256, of so many segments in so much room; 0 where not even one.
+fn slots_within(room: u64, segments: u64, slot: u64) -> u64
+    requires segments { (2 ≤ segments) × (segments ≤ 64) }
+    requires slot { (1 ≤ slot) × (slot < 2 ^ 33) }
+    ensures few { result ≤ 256 }
+    ensures fits { 1 ≤ result → segments * (512 + result * slot) ≤ room }
+    ensures most { (n : ℕ) → n ≤ 256 → segments * (512 + n * slot) ≤ room → n ≤ result }
+{
+    fitting(
+        (room / segments).saturating_sub(SEGMENT_HEAD),
+        slot,
+        MAX_SLOTS,
+    )
+}
+
+// How many of this size fit into so much room, up to so many.
+fn fitting(room: u64, size: u64, most: u64) -> u64
+    requires { 1 ≤ size }
+    ensures few { result ≤ most }
+    ensures fits { result * size ≤ room }
+    ensures most { (n : ℕ) → n ≤ most → n * size ≤ room → n ≤ result }
+{
+    let fit = room / size;
+    if fit < most { fit } else { most }
+}
+
+/// How many frames come in so many seconds, where `rate_num` come in `rate_den` of them: rounded up, and up to the
+/// greatest u64.
+pub fn frames_in(seconds: u64, rate_num: u32, rate_den: u32) -> u64
+    requires { 1 ≤ rate_den }
+    ensures { result ≡ min (divided_up (seconds * rate_num) rate_den) (2 ^ 64 - 1) }
+{
+    let all = u128::from(seconds) * u128::from(rate_num);
+    let den = u128::from(rate_den);
+    let frames = (all + (den - 1)) / den;
+    u64::try_from(frames).unwrap_or(u64::MAX)
+}

@@ -1,0 +1,204 @@
+//! A camera's thread: its store is opened or made, and the camera is filmed into it, again and again.
+
+use crate::absent::Absent;
+use crate::asked::asked_ring;
+use crate::feed::FeedSource;
+use crate::outlet::Outlet;
+use crate::places::Places;
+use crate::size::size_of;
+use crate::state::CameraState;
+use loop_capture::Device;
+use loop_desk::Desk;
+use loop_file::{FileDisk, FileFault};
+use loop_pipeline::{Camera, Ended, Unfilmed, film_camera, heap_start, new_queue, start_queue};
+use loop_plane::HeapPlane;
+use loop_record::Geometry;
+use loop_script::LIMITS;
+use loop_station_words::{RingSize, Room, print_not_a_store};
+use loop_store::{OpenRefused, Store, StoreFault};
+use std::alloc::{AllocGlobal, Global};
+use std::io::Write;
+use std::sync::atomic::Ordering;
+use std::sync::{Arc, Wait};
+use std::thread;
+use std::thread::Threads;
+use std::time::{Clock, Duration};
+
+/// How many milliseconds a store that can't be had is left alone.
+const OPEN_AGAIN: u64 = 1_000;
+
+/// How many milliseconds a header is waited for before it is looked whether the program ends.
+const LOOK_AGAIN: u64 = 100;
+
+/// A camera before a store in a file.
+type FileCamera = Camera<FeedSource, FileDisk, HeapPlane>;
+
+/// What came of filming it.
+type Filmed = Result<
+    Ended<FeedSource, FileDisk, HeapPlane>,
+    Unfilmed<FeedSource, FileDisk, HeapPlane>,
+>;
+
+/// Opens a camera's store, or makes it, and films into it, again and again until the camera is stopped. Where the store
+/// can't be had, memory or a thread is refused or the disk fails, that is tried again.
+pub(crate) fn run_camera<
+    R: AllocGlobal + Places + Threads + Wait + Clock + Sync,
+    W: Write + Drop + Send,
+>(rt: &R, state: &CameraState, outlet: &Outlet<W>) {
+    let mut told = false;
+    for _ in rt.forever() {
+        if state.is_stopped() {
+            break;
+        }
+        let why = match open_store(rt, state) {
+            Ok(store) => film_into(rt, state, store),
+            Err(why) => why,
+        };
+        told = tell_absence(rt, state, outlet, why, told);
+        rest(rt, state, why);
+    }
+    state.leave(rt, Absent::Stopped);
+}
+
+/// The store isn't there, and is left alone for a while.
+fn rest<R: Wait + Clock>(rt: &R, state: &CameraState, why: Absent) {
+    state.leave(rt, why);
+    if !state.is_stopped() {
+        state.counts.faults.fetch_add(1, Ordering::SeqCst);
+        thread::sleep(rt, Duration::from_millis(OPEN_AGAIN));
+    }
+}
+
+/// Prints once that what stands where a store is to be, or where it is made, isn't one. Whether it isn't one.
+fn tell_absence<R: AllocGlobal + Wait + Clock, W: Write + Drop>(
+    rt: &R,
+    state: &CameraState,
+    outlet: &Outlet<W>,
+    why: Absent,
+    told: bool,
+) -> bool {
+    let end = match why {
+        Absent::Store(StoreFault::NotFormatted) => "",
+        Absent::Unfinished => ".new",
+        _ => return false,
+    };
+    let mut line = Vec::new(rt.alloc());
+    let (name, path) = (state.config.name.as_str(), state.config.store.as_str());
+    if !told && print_not_a_store(&mut line, name, path, end).is_ok() {
+        outlet.put(rt, &line);
+    }
+    true
+}
+
+/// The store of a camera, made for its source where it isn't there.
+fn open_store<R: AllocGlobal + Places + Wait + Clock>(
+    rt: &R,
+    state: &CameraState,
+) -> Result<Store<FileDisk>, Absent> {
+    let path = state.config.store.as_str();
+    let disk = match rt.open_store(path) {
+        Ok(disk) => disk,
+        Err(FileFault::Missing) => return make_store(rt, state),
+        Err(fault) => return Err(Absent::of(path, fault)),
+    };
+    match Store::open(rt.alloc(), disk) {
+        Ok(store) => Ok(store),
+        Err(OpenRefused { fault, disk: _ }) => Err(Absent::Store(fault)),
+    }
+}
+
+/// Makes the store of a camera for what its source's header says, once that is there.
+fn make_store<R: AllocGlobal + Places + Wait + Clock>(
+    rt: &R,
+    state: &CameraState,
+) -> Result<Store<FileDisk>, Absent> {
+    state.leave(rt, Absent::NoStore);
+    let Some(header) = wait_header(rt, state) else {
+        return Err(Absent::Stopped);
+    };
+    let geometry = geometry_for(&header, &state.config.room)?;
+    rt.make_store(state.config.store.as_str(), geometry)
+}
+
+/// What the source's header says, once it is there; None where the camera is stopped before.
+fn wait_header<R: Wait + Clock>(rt: &R, state: &CameraState) -> Option<Geometry> {
+    for _ in rt.forever() {
+        if state.is_stopped() {
+            return None;
+        }
+        if let Some(header) = state.link.header(rt, Duration::from_millis(LOOK_AGAIN)) {
+            return Some(header);
+        }
+    }
+    unreachable!()
+}
+
+/// The geometry of a store for a header, with room for as much as is to be kept.
+fn geometry_for(header: &Geometry, room: &Room) -> Result<Geometry, Absent> {
+    let RingSize { segments, slots } = asked_ring(header, room)?;
+    let geometry = Geometry {
+        segments,
+        slots,
+        ..*header
+    };
+    match geometry.check() {
+        Ok(()) => Ok(geometry),
+        Err(_) => Err(Absent::NoGeometry),
+    }
+}
+
+/// Films into a store, until the camera is stopped or the store must be reopened; why it ended.
+fn film_into<R: AllocGlobal + Threads + Wait + Clock + Sync>(
+    rt: &R,
+    state: &CameraState,
+    store: Store<FileDisk>,
+) -> Absent {
+    state.link.set_store(rt, store.geometry());
+    let Some(camera) = camera_before(rt.alloc(), state, store) else {
+        return Absent::NoBuffers;
+    };
+    state.begin(rt);
+    let filmed = film(rt, state, camera);
+    state.lose_rest(rt);
+    why_ended(state, filmed)
+}
+
+/// Why a filming ended.
+fn why_ended(state: &CameraState, filmed: Filmed) -> Absent {
+    match filmed {
+        Ok(ended) => {
+            if state.is_stopped() && !ended.desk.status().must_reopen {
+                Absent::Stopped
+            } else {
+                Absent::Store(StoreFault::MustReopen)
+            }
+        }
+        Err(_refused) => Absent::NoBuffers,
+    }
+}
+
+/// A camera before a store: its queue streams, and nothing waits at its desk. None where memory was refused.
+fn camera_before(alloc: Global, state: &CameraState, store: Store<FileDisk>) -> Option<FileCamera> {
+    let geometry = store.geometry();
+    let (mut queue, mut table) = new_queue(alloc, &geometry);
+    let start = heap_start(alloc, &queue, state.config.buffers).ok()?;
+    start_queue(&mut queue, &mut table, start).ok()?;
+    let feed = Arc::try_clone(&state.feed).ok()?;
+    let device = Device::new(alloc, FeedSource { feed }, size_of(&geometry)?).ok()?;
+    match Desk::new(alloc, store, LIMITS) {
+        Ok(desk) => Some(Camera::new(device, queue, table, desk)),
+        Err(_) => None,
+    }
+}
+
+/// Films a camera until its state ends it.
+fn film<R: AllocGlobal + Threads + Wait + Clock + Sync>(
+    rt: &R,
+    state: &CameraState,
+    camera: FileCamera,
+) -> Filmed {
+    let (rt, state) = (&*rt, &*state);
+    thread::scope(thread::scope_env(), rt, move |scope| -> Filmed {
+        film_camera(rt, rt.alloc(), scope, &state.threads, state, camera)
+    })
+}

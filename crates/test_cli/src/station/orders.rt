@@ -1,0 +1,224 @@
+//! Lines, and what they ask for.
+
+use crate::told::same;
+use loop_station_words::{Name, Order, label_of, read_order};
+use std::alloc::{AllocError, Global};
+use std::process::Abort;
+
+// A line, and what it asks for, written out; nothing where it can't be read.
+const ROWS: [(&str, &str); 58] = [
+    ("keep", "keep all - -"),
+    ("keep 60", "keep all 60 -"),
+    ("keep 60 7", "keep all 60 7"),
+    ("keep left", "keep left - -"),
+    ("keep left 60", "keep left 60 -"),
+    (
+        "keep left 0 18446744073709551615",
+        "keep left 0 18446744073709551615",
+    ),
+    ("keep a-b_9 1", "keep a-b_9 1 -"),
+    ("keep 007", "keep all 7 -"),
+    (
+        "keep abcdefghijklmnopqrstuvwxyzabcdef 1",
+        "keep abcdefghijklmnopqrstuvwxyzabcdef 1 -",
+    ),
+    ("keep abcdefghijklmnopqrstuvwxyzabcdefg 1", ""),
+    ("keep left 4294967296", ""),
+    ("keep 60 18446744073709551616", ""),
+    ("keep  60", ""),
+    ("keep 60 ", ""),
+    ("keep le.ft", ""),
+    ("keep left 60 7 8", ""),
+    ("release left 3", "release left 3"),
+    ("release 3", ""),
+    ("release left", ""),
+    ("release left 3 4", ""),
+    ("list", "list"),
+    ("list left", ""),
+    ("status", "status"),
+    ("stop", "stop"),
+    ("stop now", ""),
+    ("save left 3 a clip.y4m", "save left 3 a clip.y4m"),
+    ("save left 3", ""),
+    ("save left 3 ", ""),
+    ("", ""),
+    ("Keep 60", ""),
+    ("help", "help"),
+    ("help me", ""),
+    ("save! left 3 a clip.y4m", "save! left 3 a clip.y4m"),
+    ("save! left 3", ""),
+    ("save!! left 3 a", ""),
+    (
+        "keep from 1970-01-01T00:00:00Z to 1970-01-01T00:00:01Z",
+        "between all 0 1000000 -",
+    ),
+    (
+        "keep left from 1970-01-01T00:00:00.5Z to 1970-01-01T00:00:00.000001Z",
+        "",
+    ),
+    (
+        "keep left from 1970-01-01T00:00:00.000001Z to 1970-01-01T00:00:00.5Z 7",
+        "between left 1 500000 7",
+    ),
+    (
+        "keep from from 1970-01-02T01:00:00+01:00 to 1970-01-01T23:00:00-01:00",
+        "between from 86400000000 86400000000 -",
+    ),
+    ("keep from 5", "keep from 5 -"),
+    ("keep from", "keep from - -"),
+    ("keep from 5 7", "keep from 5 7"),
+    (
+        "keep from 1970-01-01T00:00:00+01:00 to 1970-01-01T00:00:01Z",
+        "",
+    ),
+    (
+        "keep from 2026-11-22T15:38:00.123456Z to 9999-12-31T23:59:59Z",
+        "between all 1795361880123456 253402300799000000 -",
+    ),
+    (
+        "keep from 2000-02-29T00:00:00Z to 2024-02-29T00:00:00Z",
+        "between all 951782400000000 1709164800000000 -",
+    ),
+    ("keep from 2100-02-29T00:00:00Z to 2200-01-01T00:00:00Z", ""),
+    ("keep from 2023-02-29T00:00:00Z to 2200-01-01T00:00:00Z", ""),
+    ("keep from 1969-12-31T23:59:59Z to 2200-01-01T00:00:00Z", ""),
+    ("keep from 2026-13-01T00:00:00Z to 2200-01-01T00:00:00Z", ""),
+    ("keep from 2026-04-31T00:00:00Z to 2200-01-01T00:00:00Z", ""),
+    ("keep from 2026-11-22T24:00:00Z to 2200-01-01T00:00:00Z", ""),
+    ("keep from 2026-11-22T15:60:00Z to 2200-01-01T00:00:00Z", ""),
+    ("keep from 2026-11-22T15:38:60Z to 2200-01-01T00:00:00Z", ""),
+    (
+        "keep from 2026-11-22T15:38:00.1234567Z to 2200-01-01T00:00:00Z",
+        "",
+    ),
+    (
+        "keep from 2026-11-22T15:38:00.Z to 2200-01-01T00:00:00Z",
+        "",
+    ),
+    ("keep from 2026-11-22T15:38:00 to 2200-01-01T00:00:00Z", ""),
+    ("keep from 2026-11-22 15:38:00Z to 2200-01-01T00:00:00Z", ""),
+    (
+        "keep from 2026-11-22T15:38:00Z to 2200-01-01T00:00:00Z x",
+        "",
+    ),
+];
+
+// The order of a line, written out.
+fn written(alloc: Global, line: &str) -> Result<String, AllocError> {
+    match read_order(line) {
+        None => String::from_str(alloc, ""),
+        Some(
+            Order::Keep {
+                camera,
+                seconds,
+                tag,
+            },
+        ) => keep_written(alloc, camera, seconds, tag),
+        Some(
+            Order::KeepBetween {
+                camera,
+                since,
+                until,
+                tag,
+            },
+        ) => between_written(alloc, camera, (since, until), tag),
+        Some(Order::Release { camera, id }) => format!(in alloc; "release {} {id}", camera.text()),
+        Some(Order::List) => String::from_str(alloc, "list"),
+        Some(
+            Order::Save {
+                camera,
+                id,
+                out,
+                replace,
+            },
+        ) => {
+            let word = if replace { "save!" } else { "save" };
+            format!(in alloc; "{word} {} {id} {}", camera.text(), out.text())
+        }
+        Some(Order::Help) => String::from_str(alloc, "help"),
+        Some(Order::Status) => String::from_str(alloc, "status"),
+        Some(Order::Stop) => String::from_str(alloc, "stop"),
+    }
+}
+
+// A keep, written out.
+fn keep_written(
+    alloc: Global,
+    camera: Option<Name<'_>>,
+    seconds: Option<u32>,
+    tag: Option<u64>,
+) -> Result<String, AllocError> {
+    let name = match &camera {
+        Some(name) => name.text(),
+        None => "all",
+    };
+    match (seconds, tag) {
+        (None, None) => format!(in alloc; "keep {name} - -"),
+        (None, Some(tag)) => format!(in alloc; "keep {name} - {tag}"),
+        (Some(seconds), None) => format!(in alloc; "keep {name} {seconds} -"),
+        (Some(seconds), Some(tag)) => format!(in alloc; "keep {name} {seconds} {tag}"),
+    }
+}
+
+// A keep of what was held between two times, written out.
+fn between_written(
+    alloc: Global,
+    camera: Option<Name<'_>>,
+    times: (u64, u64),
+    tag: Option<u64>,
+) -> Result<String, AllocError> {
+    let name = match &camera {
+        Some(name) => name.text(),
+        None => "all",
+    };
+    let (since, until) = times;
+    match tag {
+        None => format!(in alloc; "between {name} {since} {until} -"),
+        Some(tag) => format!(in alloc; "between {name} {since} {until} {tag}"),
+    }
+}
+
+// A line, its label, and what is left of it; nothing where it has no label.
+const LABELS: [(&str, &str, &str); 8] = [
+    ("@a keep 5", "a", "keep 5"),
+    ("@60 @b stop", "60", "@b stop"),
+    ("@a-_9 ", "a-_9", ""),
+    ("@a", "", ""),
+    ("@ keep", "", ""),
+    ("a@b keep", "", ""),
+    ("@a.b keep", "", ""),
+    ("@abcdefghijklmnopqrstuvwxyzabcdefg keep", "", ""),
+];
+
+// A row is so.
+fn is_labelled(rt: &impl Abort, row: &(&str, &str, &str)) {
+    let (line, label, rest) = *row;
+    match label_of(line) {
+        Some((name, left)) => {
+            same!(*rt; name.text(), label, line);
+            same!(*rt; left.text(), rest, line);
+        }
+        None => same!(*rt; "", label, line),
+    }
+}
+
+#[test]
+fn labels_stand_before_orders(rt: HostRuntime) {
+    for row in &LABELS {
+        is_labelled(&rt, row);
+    }
+}
+
+#[test]
+fn lines_ask_for_what_they_say(rt: HostRuntime) {
+    for row in &ROWS {
+        is_asked(&rt, rt.alloc(), row);
+    }
+}
+
+// A row is so.
+fn is_asked(rt: &impl Abort, alloc: Global, row: &(&str, &str)) {
+    let (line, meaning) = *row;
+    let got = written(alloc, line).expect(rt, "memory for a line");
+    same!(*rt; got.as_str(), meaning, line);
+}
