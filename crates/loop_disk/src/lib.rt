@@ -4,10 +4,9 @@
 //! of every moment since. What a call does to bytes and images is promised of an honest disk alone; that size
 //! and honesty stay, and that a failed call is counted by its kind, of every disk. `steps` has the stores that
 //! everything above is made of: a write and then a sync, and two of these in turn. `memory` is a disk in
-//! memory, honest, whose crashes are as bad as the model allows: `past` keeps its calls as ghost data, as `given` what the
-//! reads of any disk gave. `crash`
-//! is a disk in memory that keeps them for tests, and gives back the image that a crash leaves at a call of
-//! choice. `fuse` and `once` fail calls on purpose, over another disk. `specs/` has the definitions, `proofs/` the
+//! memory, honest, whose crashes are as bad as the model allows: `past` keeps its calls as ghost data, as `given`
+//! keeps what the reads of a disk gave. `crash` is a disk in memory that keeps its calls for tests, and gives back
+//! the image that a crash leaves at a call of choice. `fuse` and `once` fail calls on purpose, over another disk. `specs/` has the definitions, `proofs/` the
 //! lemmas for callers: `Moments` joins runs of calls, `Images` has parts of images. A disk over a file is a crate of
 //! its own (loop_file).
 #![tactic(auto)]

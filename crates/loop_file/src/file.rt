@@ -125,11 +125,15 @@ impl<F: OpenFile + FileExt + Drop> Disk for FileDisk<F> {
         ensures read { (⟦<FileDisk<F> as Disk>⟧.medium self.old).honest
             → OnOk result (buf.new ≡ piece at (length buf.old) (⟦<FileDisk<F> as Disk>⟧.medium self.old).bytes) }
         ensures gives { (image : List ℕ) → MayBe (⟦<FileDisk<F> as Disk>⟧.medium self.new) image
-            ↔ (MayBe (⟦<FileDisk<F> as Disk>⟧.medium self.old) image × OnOk result (buf.new ≡ piece at (length buf.old) image)) }
-        ensures disk { (⟦<FileDisk<F> as Disk>⟧.medium self.old).honest → Stays (⟦<FileDisk<F> as Disk>⟧.medium self.old) (⟦<FileDisk<F> as Disk>⟧.medium self.new) }
-        ensures each { ⊥ → ⊥ × LeavesEach (⟦<FileDisk<F> as Disk>⟧.medium self.old) (⟦<FileDisk<F> as Disk>⟧.medium self.new) }
+            ↔ (MayBe (⟦<FileDisk<F> as Disk>⟧.medium self.old) image
+            × OnOk result (buf.new ≡ piece at (length buf.old) image)) }
+        ensures disk { (⟦<FileDisk<F> as Disk>⟧.medium self.old).honest
+            → Stays (⟦<FileDisk<F> as Disk>⟧.medium self.old) (⟦<FileDisk<F> as Disk>⟧.medium self.new) }
+        ensures each { ⊥ → ⊥
+            × LeavesEach (⟦<FileDisk<F> as Disk>⟧.medium self.old) (⟦<FileDisk<F> as Disk>⟧.medium self.new) }
         ensures fault { IfErr result (λ fault. fault ≡ Read) }
-        ensures called { Called (⟦<FileDisk<F> as Disk>⟧.medium self.old) (⟦<FileDisk<F> as Disk>⟧.medium self.new) (failed_call result) }
+        ensures called { Called (⟦<FileDisk<F> as Disk>⟧.medium self.old) (⟦<FileDisk<F> as Disk>⟧.medium self.new)
+            (failed_call result) }
     {
         match self.file.read_exact_at(buf, at) {
             Ok(()) => {

@@ -276,7 +276,8 @@ impl<D: Disk + Drop, A: Allocator> Store<D, A> {
         }
     }
 
-    /// Reads the head of the frame of a number, and none of its bytes: the model's read, for the bytes that the frame has.
+    /// Reads the head of the frame of a number, and none of its bytes: the model's read, for the bytes that the frame
+    /// has.
     ///
     /// `MustReopen` where a call that writes has failed; otherwise `NotHeld`; then `Disk`, or `Damaged` where
     /// the disk isn't honest. It takes no memory, and makes one call of the disk, of 32 bytes.

@@ -1,3 +1,4 @@
+use Rattle.loop_store.proofs.Reopened.{refused-honest}
 use Rattle.loop_lane_text.proofs.Stopped.{for-want, reopened}
 use Rattle.loop_lane_text.proofs.run_and_reopen.Goals as goal
 
@@ -9,4 +10,7 @@ returns-in-Ok-open g c = λ s stands fine is.
 pub returns-in-Err-open : goal.returns-in-Err-open
 returns-in-Err-open g c = λ s stands fine is.
     for-want g.P.PlaneMemory.plane g.D.Disk.medium g.E.Disk.medium c.args.lane.now c.lane_run.new.lane c.args.events.items c.in-Ok.replies.items s c.args.left
-    c.in-Ok.ensures.headline c.in-Err-open.field-0.fault stands fine is (c.in-Err-open.ensures.refused is.other_honest)
+    c.in-Ok.ensures.headline c.in-Err-open.field-0.fault stands fine is
+    (refused-honest (g.E.Disk.medium c.args.left) (g.E.Disk.medium c.in-Err-open.field-0.disk) 1 c.in-Err-open.field-0.fault
+    c.in-Err-open.ensures.called.honest.0 (λ now. g.met.E.Disk.sound c.in-Err-open.field-0.disk now)
+    c.in-Err-open.ensures.stays c.in-Err-open.ensures.refused is.other_honest)
