@@ -19,6 +19,7 @@
  *   LOOP_STALL  FROM:EVERY:HOLD:EACH   a disk that stalls: from FROM on, and every EVERY after it, each sync of a file NAME.loop that comes within
  *               HOLD ends only after that, and each other one takes EACH more; all in milliseconds, FROM of CLOCK_MONOTONIC
  *   LOOP_THREADS   COUNT   the thread of that number, from 0, can't be started (EAGAIN)
+ *   LOOP_CLIP   COUNT   the call of that number, from 0, that writes LOOP_FILE's clip table, or syncs it after such a write, fails (EIO)
  */
 #define _GNU_SOURCE
 #include <dlfcn.h>
@@ -127,6 +128,18 @@ static void reached(void) {
     if (kill_at && __atomic_fetch_add(&changes, 1, __ATOMIC_SEQ_CST) == atol(kill_at)) kill(getpid(), SIGKILL);
 }
 
+/* Whether this call, a write at a place or a sync (-1), is the one of the clip table that fails. */
+static int clip_fails(int fd, off_t at, size_t count) {
+    static long clip_calls = 0, is_open = 0;
+    const char *clip = getenv("LOOP_CLIP");
+    if (!clip || !is_open_as(fd, getenv("LOOP_FILE"))) return 0;
+    int is_clip = at < 0 ? is_open : at >= 512 && at + count <= 2560;
+    is_open = at >= 0 && is_clip;
+    if (!is_clip || clip_calls++ != atol(clip)) return 0;
+    errno = EIO;
+    return 1;
+}
+
 static int is_watched(int fd) {
     return fd == file_fd || is_text(fd) || is_open_as(fd, getenv("LOOP_FILE"));
 }
@@ -215,7 +228,7 @@ static void give_back(int fd) {
 }
 
 ssize_t pwrite(int fd, const void *bytes, size_t count, off_t at) {
-    if (fails()) return -1;
+    if (fails() || clip_fails(fd, at, count)) return -1;
     count = shortened(count);
     if (is_watched(fd)) reached();
     if (fd != file_fd) {
@@ -292,7 +305,7 @@ static int sync_beside(int fd, long number, char kind, int swallows, int refuses
 }
 
 static int sync_of(int fd, long number) {
-    if (fails()) return -1;
+    if (fails() || clip_fails(fd, -1, 0)) return -1;
     stall(fd);
     const char *text = getenv("LOOP_TEXT"), *file = getenv("LOOP_FILE");
     if (is_watched(fd) || is_folder_of(fd, text) || is_folder_of(fd, file)) reached();

@@ -54,10 +54,11 @@ def library(folder):
     return path
 
 
-def under(preload, path, log=None, mode=None, fail=None, threads=None, text=None, kill=None):
+def under(preload, path, log=None, mode=None, fail=None, threads=None, text=None, kill=None, clip=None):
     """The environment of a program with the library before it."""
     env = dict(os.environ, LD_PRELOAD=preload, LOOP_FILE=path)
-    given = (("LOOP_LOG", log), ("LOOP_MODE", mode), ("LOOP_FAIL", fail), ("LOOP_THREADS", threads), ("LOOP_TEXT", text), ("LOOP_KILL", kill))
+    given = (("LOOP_LOG", log), ("LOOP_MODE", mode), ("LOOP_FAIL", fail), ("LOOP_THREADS", threads), ("LOOP_TEXT", text), ("LOOP_KILL", kill),
+             ("LOOP_CLIP", clip))
     env.update({name: value for name, value in given if value})
     return env
 

@@ -197,3 +197,6 @@ module _ {P : Type 0} (m : P → Plane) where
         ap (λ o. option_map errno o) (code_checks index plane at count now s h ∙ r) ∙ ap (λ x. Some x) (sym is),
         h,
       )
+
+-- for a read of a plane
+pub ruleset reading = (has_plane_here, readable_here)

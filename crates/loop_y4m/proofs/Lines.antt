@@ -93,3 +93,6 @@ pub ended_known : (known : Option (List ℕ)) (front seen : List ℕ) (left new 
     → IfSome known (λ bytes. (rest : List ℕ) × (line (front ++ bytes) ≡ Ok (seen, rest)) × (new ≡ Some rest))
 ended_known None front seen left new begun consumed short = tt
 ended_known (Some bytes) front seen left new begun consumed short = ended (front ++ bytes) seen left new begun consumed short
+
+-- for the loop that reads a line
+pub ruleset reading = (begins_known, too_long, truncated, ended, one_more)

@@ -82,3 +82,6 @@ pub nested : (a b c d e f g h i j k : List ℕ) → a
     ++ (b ++ (c ++ (d ++ (e ++ (f ++ (g ++ (h ++ (i ++ (j ++ k))))))))) ≡ a ++ b ++ c ++ d ++ e ++ f ++ g ++ h ++ i
     ++ j ++ k
 nested a b c d e f g h i j k = simp append_assoc refl
+
+-- for the loop that writes all
+pub ruleset writing = (begins, stands, whole, beginning)

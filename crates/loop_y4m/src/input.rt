@@ -46,7 +46,7 @@ pub(crate) fn next_byte<R: Read>(reader: &mut R) -> Result<Option<u8>, Y4mFault>
 
 /// Reads a line on into `buf`, behind its first `from` bytes, byte by byte up to its 0x0A, and answers how many bytes
 /// stand before that.
-#[tactic(auto, using(crate::proofs::Lines::begins_known, crate::proofs::Lines::too_long, crate::proofs::Lines::truncated, crate::proofs::Lines::ended, crate::proofs::Lines::one_more))]
+#[tactic(auto, using(crate::proofs::Lines::reading))]
 pub(crate) fn next_line<R: Read>(
     reader: &mut R,
     buf: &mut [u8],
