@@ -1,7 +1,7 @@
 #!/usr/bin/env python3
 """Counts the definitions of specs/ that contracts rest on: of the store's public calls and the trait `Disk`, of the
-calls that write and open, of a desk's calls, of `lane_run`, and of a camera's `film_camera`; of the last four also those
-alone under what a power loss leaves, which are the clauses in LOSS, and of the records in FIELDS the fields that stand
+calls that write and open, of a desk's calls, of `lane_run`, of a camera's `film_camera`, and of that with all calls of the
+recorder's library; of those that write, a desk's, `lane_run` and `film_camera` also those alone under what a power loss leaves, which are the clauses in LOSS, and of the records in FIELDS the fields that stand
 there.
 
 Run it at the top of the repository: `python3 tools/definitions.py`. With names after it (`after Goes`) it says which
@@ -29,6 +29,8 @@ WRITES |= {STORE + "make.rt": ["format"], STORE + "reopen.rt": ["open"]}
 KEEPS = ["submit", "flush", "lock_clip", "unlock_clip", "upgrade", "read_frame", "read_head", "sought"]
 LANE = {DESK + "lane.rt": ["lane_run"]}
 CAMERA = {PIPELINE + "film.rt": ["film_camera"]}
+# The library of histories and threads: all its public calls.
+RECORDER = {path: None for crate in ("loop_recorder", "loop_sessions") for path in sorted(glob.glob(f"crates/{crate}/src/*.rt"))}
 QUESTIONS = {
     "the store's public calls and the trait Disk": (WHOLE, False),
     "append, lock, run, format, open": (WRITES, False),
@@ -39,6 +41,7 @@ QUESTIONS = {
     "lane_run, what a power loss leaves": (LANE, True),
     "a camera: film_camera": (CAMERA, False),
     "a camera: film_camera, what a power loss leaves": (CAMERA, True),
+    "a recorder's calls and a camera": (RECORDER | CAMERA, False),
 }
 # The clauses that say what a power loss leaves, and of the records that say more than that, the fields that do.
 LOSS = {"", "goes", "ran", "moments", "headline", "keeps", "footage"}
