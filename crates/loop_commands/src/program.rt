@@ -103,6 +103,7 @@ fn command<'a>(alloc: Global, name: &'a str) -> Result<Command<'a>, AllocError> 
 }
 
 fn no_memory<E: Write>(err: &mut E) -> u8 {
+    // Where standard error is closed, the status alone tells.
     let _ = print_refusal(err, StoreFault::NoMemory);
     FAILED
 }

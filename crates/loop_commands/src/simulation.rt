@@ -56,6 +56,7 @@ where
             status_of(ran, written, err)
         }
         _ => {
+            // Where standard error is closed, the status alone tells.
             let _ = print_refusal(err, StoreFault::NoMemory);
             1
         }
@@ -67,6 +68,7 @@ fn status_of<E: Write>(ran: Result<(), ScriptFault>, written: io::Result<()>, er
     match (ran, written) {
         (Ok(()), Ok(())) => 0,
         (Err(ScriptFault::BadLine(number)), Ok(())) => {
+            // So here.
             let _ = print_bad_line(number, err);
             1
         }

@@ -57,12 +57,14 @@ fn run_file<
     E: Write,
 >(rt: &R, path: &str, input: I, out: W, watched: bool, err: &mut E) -> u8 {
     let Ok(text) = fs::read_to_string(rt, path) else {
+        // Where standard error is closed, the status alone tells.
         let _ = writeln!(err, "cannot open {path}");
         return FAILED;
     };
     let config = match read_config(rt.alloc(), text.as_str()) {
         Ok(config) => config,
         Err(fault) => {
+            // So here.
             let _ = writeln!(err, "{path}: {fault}");
             return FAILED;
         }
@@ -75,7 +77,7 @@ fn run_file<
     }
 }
 
-// Says why there is no run, and answers the program's status.
+// Says why there is no run, and answers the program's status, which alone tells where standard error is closed.
 fn say<E: Write>(err: &mut E, why: &str, status: u8) -> u8 {
     let _ = writeln!(err, "{why}");
     status

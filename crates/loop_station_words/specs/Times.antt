@@ -11,7 +11,8 @@ sized count word = if length word == count then small_number word else None
 -- the number of a day that is written so, from the first day of 1970 on
 abbrev pub day_of : Option ℕ → Option ℕ → Option ℕ → Option ℕ
 day_of (Some year) (Some month) (Some day) =
-    if nat_le 1970 year && nat_le year 9999 && nat_le 1 month && nat_le month 12 && nat_le 1 day && nat_le day (month_length year (month - 1))
+    if nat_le 1970 year && nat_le year 9999 && nat_le 1 month && nat_le month 12 && nat_le 1 day
+    && nat_le day (month_length year (month - 1))
     then Some (days_to_year (year - 1970) + days_to_month year (month - 1) + (day - 1)) else None
 day_of _ _ _ = None
 

@@ -200,8 +200,8 @@ pub fn print_absent<W: Write, Y: Display>(out: &mut W, camera: &str, why: &Y) ->
     writeln!(out, "absent {camera} {why}")
 }
 
-/// `not a store NAME PATH: ..`: what stands where a camera's store is to be isn't one, and what to do. The path is given
-/// in two parts.
+/// `not a store NAME PATH: ..`: what stands where a camera's store is to be isn't one, and what to do. The path is
+/// given in two parts.
 pub fn print_not_a_store<W: Write>(
     out: &mut W,
     camera: &str,

@@ -1,7 +1,7 @@
 //! The words of a program that records from several cameras into stores, and takes orders meanwhile.
 //!
-//! - `order` says what a line asks for, `name` what a camera may be called, and `cut` cuts a text at a character; `laws`
-//!   has lines and their meanings, as rows of a table;
+//! - `order` says what a line asks for, `name` what a camera may be called, and `cut` cuts a text at a character;
+//!   `laws` has lines and their meanings, as rows of a table;
 //! - `time` reads times of day, and `calendar` tells which day and time of day a moment is;
 //! - `ring` chooses how many segments and slots a store has, for so many frames or within so many bytes;
 //! - `config` reads the file that says which cameras there are, `fields` what stands at a key there, `shape` what the
@@ -9,8 +9,8 @@
 //! - `answers` prints the lines that the program answers.
 //!
 //! What a line asks for, which moment a text means, which ring is chosen, what a file that is read says at each of its
-//! keys, and that its cameras have names and stores of their own is proved (`specs/`); why a file is refused, and what is
-//! printed, is tested.
+//! keys, and that its cameras have names and stores of their own is proved (`specs/`); why a file is refused, and what
+//! is printed, is tested.
 #![tactic(auto)]
 
 mod answers;

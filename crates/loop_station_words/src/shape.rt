@@ -39,8 +39,8 @@ impl Shape {
     }
 }
 
-/// The shape that a text names, `WxH FORMAT N:D`, as `640x480 YM12 25:1`; `None` where it can't be read, or no store may
-/// have such frames.
+/// The shape that a text names, `WxH FORMAT N:D`, as `640x480 YM12 25:1`; `None` where it can't be read, or no store
+/// may have such frames.
 pub fn read_shape(text: &str) -> Option<Shape>
     ensures shape { IfSome result IsShape }
     ensures said { result ≡ shape_said text.now }

@@ -118,6 +118,7 @@ fn play_pattern<R: AllocGlobal + Wait + Clock, W: Write + Drop>(
         let Some(mut bytes) = row_for(rt, state, size) else {
             break;
         };
+        // The pattern never ends.
         let _more = pattern.next(&mut bytes);
         state.feed.give(rt, &state.timeline, bytes);
     }

@@ -7,8 +7,8 @@
 //! - `waits`: what is printed before the next line is awaited, and inputs and outputs that fail;
 //! - `memory`: scripts and sessions where memory is refused;
 //! - `parts`: lines, numbers, refusals and frames of the pattern, each alone;
-//! - `words`: words that can't be read; `files`: commands on stores in files; `recordings`: recordings into them; `large`:
-//!   recordings of large frames; `even`: the writes of an export; `targets`: exports whose output fails;
+//! - `words`: words that can't be read; `files`: commands on stores in files; `recordings`: recordings into them;
+//!   `large`: recordings of large frames; `even`: the writes of an export; `targets`: exports whose output fails;
 //! - `station`: lines and configurations of loop_station.
 #![tactic(auto)]
 

@@ -234,7 +234,8 @@ const FIRST: Span = Span {
     tag: 0,
 };
 
-// So many growths, a moment, and the first run of its frames. A run needs the third growth; where there is none, two do.
+// So many growths, a moment, and the first run of its frames. A run needs the third growth; where there is none, two
+// do.
 const SOUGHT: [(u64, u64, Result<Option<Span>, StoreFault>); 5] = [
     (0, 0, Err(StoreFault::NoMemory)),
     (1, 0, Err(StoreFault::NoMemory)),

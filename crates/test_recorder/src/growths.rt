@@ -119,8 +119,8 @@ const NOTED: [Noted; 8] = [
 ];
 
 /// So many growths, all of which are needed; a call; and whether it is noted, as above, or refused for want of memory
-/// for an entry or a receipt. Each has room for four. What is submitted takes a growth for its frame; the first frame that is
-/// read lies in the memory of the stored one, and for the second there is none.
+/// for an entry or a receipt. Each has room for four. What is submitted takes a growth for its frame; the first frame
+/// that is read lies in the memory of the stored one, and for the second there is none.
 const ROWS: [(u64, usize, bool); 19] = [
     (0, 0, false),
     (1, 0, false),

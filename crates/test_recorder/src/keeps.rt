@@ -177,8 +177,8 @@ fn brings<R: Wait + Abort>(rt: &R, alloc: Global, recorder: &Rec, pass: &mut Pas
     }
 }
 
-// The receipts of a keep, after those of before: a look for each run, the look that finds no more, and then the locks of
-// these runs.
+// The receipts of a keep, after those of before: a look for each run, the look that finds no more, and then the locks
+// of these runs.
 fn are_noted(rt: &impl Abort, pass: &Pass, before: usize, case: &Case<'_>, at: usize) {
     let noted = pass.receipts().get(before..).unwrap_or(&[]);
     let mut looks = 0u64;

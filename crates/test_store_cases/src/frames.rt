@@ -246,8 +246,8 @@ fn all_stay(geometry: &Geometry, frames: &[u64], keep: u32, clips: &[Clip]) -> b
     })
 }
 
-/// Whether no frame more has a place where so many blocks are kept, by the rules: the newest block is full, each segment
-/// holds a block, and no block may go.
+/// Whether no frame more has a place where so many blocks are kept, by the rules: the newest block is full, each
+/// segment holds a block, and no block may go.
 pub(crate) fn is_all_locked(
     geometry: &Geometry,
     frames: &[u64],

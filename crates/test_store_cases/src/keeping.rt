@@ -158,8 +158,8 @@ fn stops_all(case: &Case, disk: &CrashDisk) -> Result<()> {
     Ok(())
 }
 
-/// `stops` of an opening that is refused: behind its first call, a sync, each leaves the image, whatever could have been
-/// left before it.
+/// `stops` of an opening that is refused: behind its first call, a sync, each leaves the image, whatever could have
+/// been left before it.
 pub(crate) fn stops(case: &Case, told: &mut Vec<u8>) -> Result<()> {
     let disk = recorded(case)?;
     stops_all(case, &disk)?;
