@@ -3,13 +3,12 @@ ghost use Rattle.std.specs.Prelude.{◌≡◌, ◌<◌};
 ghost use Rattle.loop_script.specs.Pattern.{timestamp_of};
 
 use crate::record::Source;
-use loop_capture::{Device, Tick};
+use loop_capture::Device;
 use loop_desk::Desk;
-use loop_disk::Disk;
 use loop_file::FileDisk;
 use loop_pages::PageFault;
 use loop_pipeline::{
-    Back, Camera, Ended, Guide, Link, Unfilmed, film_camera, mapped_start, new_queue, start_queue,
+    Camera, Ended, Guide, Link, Unfilmed, film_camera, mapped_start, new_queue, start_queue,
 };
 use loop_plane::MmapPlane;
 use loop_record::Geometry;
@@ -119,24 +118,9 @@ impl Guide for Post {
         Some(pattern_timestamp(n, rate_num.max(1), rate_den))
     }
 
-    fn ticked<R: Wait>(&self, _rt: &R, _tick: Tick) {}
-
-    fn brought(&self) {}
-
-    fn gave_up(&self) {}
-
-    fn stored(&self, _count: u32) {}
-
     fn flushes_again(&self, _fault: StoreFault) -> bool {
         false
     }
-
-    fn visit<R: Wait + Clock, D: Disk + Drop>(
-        &self,
-        _rt: &R,
-        _alloc: Global,
-        _back: &mut Back<D>,
-    ) {}
 }
 
 // The camera of this number, whose queue of four buffers of mapped memory, from pages of its own, streams.

@@ -36,7 +36,7 @@ use Rattle.loop_vb2.proofs.States.{state_at-map}
 use Rattle.loop_vb2.proofs.Steps.{queue_idle, prepare_dequeued, end_within, end_active, held_there}
 use Rattle.loop_desk.specs.Front.{taken_bytes, taken_frame, was_given_up}
 use Rattle.loop_desk.specs.Lane.{completed_frame, without_flags}
-use Rattle.loop_desk.specs.Waiting.{AreHeld, IsCounted, IsHeld, IsWhole, dequeued_frame, frames_of, shot}
+use Rattle.loop_desk.specs.Waiting.{AllHeld, IsCounted, IsHeld, BringsWhole, dequeued_frame, frames_dequeued, shot}
 use Rattle.loop_desk.proofs.Completed.{whole_taken}
 use Rattle.loop_desk.proofs.Queued.{get-within}
 
@@ -140,35 +140,35 @@ shots_beside s line r f x off = shots_same s.body.shape s.body.buffers (change_a
 -- ---- who waits for a frame holds planes
 
 held_changed : (f : Buffer Plane → Buffer Plane) (bs : List (Buffer Plane)) (x : ℕ)
-    → ((b : Buffer Plane) → slice_get bs x ≡ Some b → IsHeld b → IsHeld (f b)) → AreHeld bs → AreHeld (change_at f x bs)
+    → ((b : Buffer Plane) → slice_get bs x ≡ Some b → IsHeld b → IsHeld (f b)) → AllHeld bs → AllHeld (change_at f x bs)
 held_changed f [] x h held = tt
 held_changed f (b ∷ bs) zero h held = (h b refl held.0, held.1)
 held_changed f (b ∷ bs) (suc x) h held = (held.0, held_changed f bs x h held.1)
 
 held_map : (f : Buffer Plane → Buffer Plane) (bs : List (Buffer Plane))
-    → ((b : Buffer Plane) → IsHeld b → IsHeld (f b)) → AreHeld bs → AreHeld (map f bs)
+    → ((b : Buffer Plane) → IsHeld b → IsHeld (f b)) → AllHeld bs → AllHeld (map f bs)
 held_map f [] h held = tt
 held_map f (b ∷ bs) h held = (h b held.0, held_map f bs h held.1)
 
-held_got : (bs : List (Buffer Plane)) (x : ℕ) (b : Buffer Plane) → slice_get bs x ≡ Some b → AreHeld bs → IsHeld b
+held_got : (bs : List (Buffer Plane)) (x : ℕ) (b : Buffer Plane) → slice_get bs x ≡ Some b → AllHeld bs → IsHeld b
 held_got [] x b e held = absurd (cc)
 held_got (y ∷ ys) zero b e held = let g : y ≡ b = cc in subst (λ (z : Buffer Plane). IsHeld z) g held.0
 held_got (y ∷ ys) (suc x) b e held = held_got ys x b e held.1
 
-pub held_none : (bs : List (Buffer Plane)) → ((i : ℕ) → waits (state_at bs i) ≡ false) → AreHeld bs
+pub held_none : (bs : List (Buffer Plane)) → ((i : ℕ) → waits (state_at bs i) ≡ false) → AllHeld bs
 held_none [] h = tt
 held_none (b ∷ bs) h = ((λ w. absurd (not_both (waits b.state) w (h zero))), held_none bs (λ i. h (suc i)))
 
-held_settled : (b : Body Plane) → AreHeld b.buffers → AreHeld (settle_device b).buffers
+held_settled : (b : Body Plane) → AllHeld b.buffers → AllHeld (settle_device b).buffers
 held_settled b held = elim (device_runs b) as
-    (λ t. AreHeld (cond t (awake b) b).buffers) [
+    (λ t. AllHeld (cond t (awake b) b).buffers) [
       | true ↦ held_map wake_buffer b.buffers
           (λ x h w. h (sym (waits_woken x.state) ∙ w)) held
       | false ↦ held
     ]
 
 held_queued : (given : Option (PlaneSet Plane)) (bs : List (Buffer Plane)) (x : ℕ)
-    → alike (is_some given) (holds_at bs x) ≡ false → AreHeld bs → AreHeld (change_at (queued_with given) x bs)
+    → alike (is_some given) (holds_at bs x) ≡ false → AllHeld bs → AllHeld (change_at (queued_with given) x bs)
 held_queued None bs x e held = held_changed (queued_with None) bs x (λ b got was w. sym (held_there bs x b got) ∙ true_of (holds_at bs x) e) held
 held_queued (Some set) bs x e held = held_changed (queued_with (Some set)) bs x (λ b got was w. refl) held
 
@@ -211,7 +211,7 @@ kept_shape s (model.fail index stamp (Some x)) = refl
 kept_shape s model.fatal = refl
 kept_shape s (model.take_fresh fresh) = refl
 
-kept_fit : (s : QueueState) (e : Event) → model.MayHappen s e → IsWhole s e → AllFit s.body
+kept_fit : (s : QueueState) (e : Event) → model.MayHappen s e → BringsWhole s e → AllFit s.body
     → AllFit (model.after_event s e).body
 kept_fit s (model.reqbufs count kind sets (Ok g)) a w fit = fit_requested count kind sets s.body a.0
 kept_fit s (model.reqbufs count kind sets (Err x)) a w fit = fit
@@ -246,8 +246,8 @@ take_dequeued : (s : QueueState) (index : ℕ) (set : PlaneSet Plane)
 take_dequeued s index set a = let p : Passed (take_checks index s.body) = all_passed (take_checks index s.body) a.0 in
     true_of (is_dequeued (state_at s.body.buffers index)) p.1.1.0
 
-kept_held : (s : QueueState) (e : Event) → model.MayHappen s e → AreHeld s.body.buffers
-    → AreHeld (model.after_event s e).body.buffers
+kept_held : (s : QueueState) (e : Event) → model.MayHappen s e → AllHeld s.body.buffers
+    → AllHeld (model.after_event s e).body.buffers
 kept_held s (model.reqbufs count kind sets (Ok g)) a held =
     held_none (new_buffers (grants_or_none s.body.min_queued count) sets)
     (λ i. ap waits (new_state (grants_or_none s.body.min_queued count) sets i))
@@ -265,7 +265,7 @@ kept_held s (model.qbuf index kind given (Some x)) a held = held
 kept_held s (model.dqbuf (Ok d)) a held = held_changed (dequeued_from s.body.kind) s.body.buffers d.index (λ b got was w. absurd (not_both false w refl)) held
 kept_held s (model.dqbuf (Err x)) a held = held
 kept_held s (model.streamon None) a held =
-    elim s.body.streaming as (λ t. AreHeld
+    elim s.body.streaming as (λ t. AllHeld
     (cond t s.body (settle_device (record s.body { streaming = true }))).buffers) [
       | true ↦ held
       | false ↦ held_settled
@@ -298,7 +298,7 @@ kept_held s (model.take_fresh fresh) a held = held
 pub record IsHolding (sh : Shape) (s : QueueState) : Type 0 where
   pub shaped : s.body.shape ≡ sh
   pub fit : AllFit s.body
-  pub held : AreHeld s.body.buffers
+  pub held : AllHeld s.body.buffers
 
 -- ---- the frames through one event
 
@@ -352,7 +352,7 @@ module _ (format : PixelFormat) (width height : ℕ) where
       (whole ∙ ap frame_size c.shaped))
 
   frames_next : (s : QueueState) (e : Event) (line : List ℕ) → Runs s line → (n : Next s e line)
-      → IsHolding (shape_of format width height) s → stops e ≡ false → model.MayHappen s e → IsWhole s e
+      → IsHolding (shape_of format width height) s → stops e ≡ false → model.MayHappen s e → BringsWhole s e
       → shots s.body.shape s.body.buffers line ++ completed_frame e ≡ map without_flags (dequeued_frame s e) ++ shots s.body.shape (model.after_event s e).body.buffers n.rest
   frames_next s (model.reqbufs count kind sets (Ok g)) line r n c on a w =
       let new = new_buffers (grants_or_none s.body.min_queued count) sets in
@@ -451,7 +451,7 @@ all_fit s [] each fit = fit
 all_fit s (e ∷ es) each fit = all_fit (model.after_event s e) es each.1 (kept_fit s e each.0.0 each.0.1 fit)
 
 pub all_held : (s : QueueState) (events : List Event) → EachIn model.after_event model.MayHappen s events
-    → AreHeld s.body.buffers → AreHeld (after_all model.after_event s events).body.buffers
+    → AllHeld s.body.buffers → AllHeld (after_all model.after_event s events).body.buffers
 all_held s [] each held = held
 all_held s (e ∷ es) each held = all_held (model.after_event s e) es each.1 (kept_held s e each.0 held)
 
@@ -465,7 +465,7 @@ pub record Along (s : QueueState) (events : List Event) (line : List ℕ) : Type
   pub rest : List ℕ
   pub ends : line ++ flat_map ended_by events ≡ flat_map dequeued_by events ++ rest
   pub frames : shots s.body.shape s.body.buffers line ++ flat_map completed_frame events
-      ≡ map without_flags (frames_of s events) ++ shots (after_all model.after_event s events).body.shape
+      ≡ map without_flags (frames_dequeued s events) ++ shots (after_all model.after_event s events).body.shape
       (after_all model.after_event s events).body.buffers rest
 
 pub frames_along : (format : PixelFormat) (width height : ℕ) (s : QueueState) (events : List Event) (line : List ℕ)
@@ -494,10 +494,10 @@ frames_along format width height s (e ∷ es) line r c on each =
       ends = glued line (ended_by e) (dequeued_by e) n.rest (flat_map ended_by es) (flat_map dequeued_by es) more.rest n.joined more.ends;
       frames = glued (shots s.body.shape s.body.buffers line) (completed_frame e) here
           (shots t.body.shape t.body.buffers n.rest) (flat_map completed_frame es)
-          (map without_flags (frames_of t es)) (shots end.body.shape end.body.buffers more.rest)
+          (map without_flags (frames_dequeued t es)) (shots end.body.shape end.body.buffers more.rest)
           (one ∙ ap (λ (x : Shape). here ++ shots x t.body.buffers n.rest) (sym kept)) more.frames
           ∙ ap (λ l. l ++ shots end.body.shape end.body.buffers more.rest)
-          (sym (map-append without_flags (dequeued_frame s e) (frames_of t es)));
+          (sym (map-append without_flags (dequeued_frame s e) (frames_dequeued t es)));
     }
 
 -- ---- behind a stop

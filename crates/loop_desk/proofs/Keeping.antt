@@ -15,7 +15,7 @@ use Rattle.loop_vb2.specs.Owner.{waits}
 use Rattle.loop_vb2.specs.State.{Body, Lined, QueueState, StandsQueue}
 use Rattle.loop_vb2.proofs.Ordered.{Runs, dequeues_in_order, new_queues_are_still, runs_stopped}
 use Rattle.loop_desk.specs.Lane.{completed_frame, without_flags}
-use Rattle.loop_desk.specs.Waiting.{FramesAreKept, IsCounted, QueuesStaySound, frames_of, frames_waiting, shot}
+use Rattle.loop_desk.specs.Waiting.{FramesAreKept, IsCounted, QueuesStaySound, frames_dequeued, frames_waiting, shot}
 use Rattle.loop_desk.proofs.Taking.{each-first, each-second}
 use Rattle.loop_desk.proofs.Completing.{Along, IsHolding, all_fit, all_held, all_shaped, frames_along, held_none, shots, stopped_waits}
 
@@ -56,14 +56,14 @@ lines-of m code s stands still = record {
 from-line : {P : Type 0} (format : PixelFormat) (width height : ℕ) (new : Lined P) (s : QueueState)
     (events : List Event) (line : List ℕ) → Runs s line → IsHolding (shape_of format width height) s
     → list_any stops events ≡ false → EachIn after_event IsCounted s events → InTurn line events [] new.done
-    → shots s.body.shape s.body.buffers line ++ flat_map completed_frame events ≡ map without_flags (frames_of s events)
+    → shots s.body.shape s.body.buffers line ++ flat_map completed_frame events ≡ map without_flags (frames_dequeued s events)
     ++ map without_flags (frames_waiting new (after_all after_event s events))
 from-line format width height new s events line runs holding on each turn =
     let end : QueueState = after_all after_event s events in
     let a : Along s events line = frames_along format width height s events line runs holding on each in
     let last : a.rest ≡ new.done = append_cancel_left (flat_map dequeued_by events) a.rest new.done
     (sym a.ends ∙ (turn.1 ∙ ap (λ l. flat_map dequeued_by events ++ l) (turn.2 refl))) in
-    let taken = map without_flags (frames_of s events) in
+    let taken = map without_flags (frames_dequeued s events) in
     a.frames ∙ (ap (λ l. taken ++ shots end.body.shape end.body.buffers l) last ∙ ap (λ l. taken ++ l) (sym (waiting-shots new end)))
 
 pub frames-are-kept : {P : Type 0} (m : P → Plane) → FramesAreKept m
@@ -89,7 +89,7 @@ frames-are-kept m = record {
       } in
       from-line format width height new t part [] (runs_stopped n stop stopped) holding on later.1
       (order.from_stop before part [] stop (ap (λ l. before ++ stop ∷ l) (sym (append-nil part))) stopped on)
-      ∙ ap (λ (x : QueueState). map without_flags (frames_of t part) ++ map without_flags (frames_waiting new x))
+      ∙ ap (λ (x : QueueState). map without_flags (frames_dequeued t part) ++ map without_flags (frames_waiting new x))
       (sym (after-behind after_event s before (stop ∷ part)));
 }
 

@@ -1,8 +1,10 @@
-pub mod Kept
+pub mod Always
 pub mod Gone
 pub mod Called
 pub mod Whole
 pub mod Frames
+pub mod Sought
+pub mod Locking
 pub mod Lasting
 pub mod Modelling
 pub mod Turning

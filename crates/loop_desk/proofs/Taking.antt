@@ -46,7 +46,7 @@ use Rattle.loop_desk.specs.declared.hand.LaneFault.TheVariants.{Queue, Store}
 use Rattle.loop_desk.specs.declared.lane.Lane.{Lane}
 use Rattle.loop_desk.specs.Front.{dequeued, empty, forbids, Front, full, hand_with, HandState, index_in, kind_of, on_queue, requeue_event, requeued, spent, taken_frame, was_given_up}
 use Rattle.loop_desk.specs.Lane.{IsAtFront, IsLaneTurn, LaneRan, LaneTurn, StandsLane, TakesCompleted, TakesFrames, at_front, event_at, event_at_turn, front_behind, frame_of_turn, frames_taken, hand_frame, is_dequeue, lane_after, mixed, queue_events, turn_at, turn_of, without_flags}
-use Rattle.loop_desk.specs.Waiting.{IsCounted, IsWhole, dequeued_frame, frames_of, shot}
+use Rattle.loop_desk.specs.Waiting.{IsCounted, BringsWhole, dequeued_frame, frames_dequeued, shot}
 use Rattle.loop_desk.proofs.Completing.{Along, IsHolding, all_fit, all_shaped, frames_along, held_none, shots, stopped_waits}
 use Rattle.loop_desk.proofs.Queued.{lane-told}
 use Rattle.loop_desk.proofs.Turning.{taken_event}
@@ -64,14 +64,14 @@ each-second after P s [] ys each = each
 each-second after P s (x ∷ xs) ys each = each-second after P (after s x) xs ys each.1
 
 pub each-both : (s : QueueState) (es : List Event) → EachIn model.after_event model.MayHappen s es
-    → EachIn model.after_event IsWhole s es → EachIn model.after_event IsCounted s es
+    → EachIn model.after_event BringsWhole s es → EachIn model.after_event IsCounted s es
 each-both s [] first second = tt
 each-both s (e ∷ es) first second = ((first.0, second.0), each-both (model.after_event s e) es first.1 second.1)
 
 -- ---- an event that takes no frame
 
 abbrev Quiet : QueueState → List Event → Type 0
-Quiet s es = EachIn model.after_event IsWhole s es × (frames_of s es ≡ [])
+Quiet s es = EachIn model.after_event BringsWhole s es × (frames_dequeued s es ≡ [])
 
 quiet-unless : (s : QueueState) (why : Option Reason) (es : List Event) → Quiet s es → Quiet s (unless_refused why es)
 quiet-unless s None es quiet = quiet
@@ -147,27 +147,27 @@ module _ {P A : Type 0} (m : P → Plane) where
 
 -- ---- an event that completes a frame completes a whole one
 
-whole-unless : (s : QueueState) (why : Option Reason) (es : List Event) → EachIn model.after_event IsWhole s es
-    → EachIn model.after_event IsWhole s (unless_refused why es)
+whole-unless : (s : QueueState) (why : Option Reason) (es : List Event) → EachIn model.after_event BringsWhole s es
+    → EachIn model.after_event BringsWhole s (unless_refused why es)
 whole-unless s None es whole = whole
 whole-unless s (Some reason) es whole = tt
 
 module _ {P A : Type 0} (m : P → Plane) where
   whole-dqbuf : (type : BufferType) (result : Result (IoctlReply P A) (Refused P A)) (j : IoctlState)
-      → EachIn model.after_event IsWhole j.queue (option_to_list (call_event m (call.DqBuf type) result j))
+      → EachIn model.after_event BringsWhole j.queue (option_to_list (call_event m (call.DqBuf type) result j))
   whole-dqbuf type (Ok (reply_to.Dequeued d)) j = (tt, tt)
   whole-dqbuf type (Ok r) j = tt
   whole-dqbuf type (Err r) j = (tt, tt)
 
   whole-call : (c : Ioctl P A) (result : Result (IoctlReply P A) (Refused P A)) (j : IoctlState)
-      → EachIn model.after_event IsWhole j.queue (event_of m (queue_event.Ioctl c) (answer.Ioctl result) j)
+      → EachIn model.after_event BringsWhole j.queue (event_of m (queue_event.Ioctl c) (answer.Ioctl result) j)
   whole-call (call.DqBuf type) result j =
       whole-unless j.queue (refusal_before {P = P} {A = A} (call.DqBuf type) j)
       (option_to_list (call_event m (call.DqBuf type) result j)) (whole-dqbuf type result j)
   whole-call c result j = (quiet-call m c result j refl).0
 
   pub whole-event : (e : QueueEvent P A) (r : QueueReply P A) (j : IoctlState)
-      → is_whole j.queue.body.shape e ≡ true → EachIn model.after_event IsWhole j.queue (event_of m e r j)
+      → is_whole j.queue.body.shape e ≡ true → EachIn model.after_event BringsWhole j.queue (event_of m e r j)
   whole-event (queue_event.Ioctl c) (answer.Ioctl result) j whole = whole-call c result j
   whole-event (queue_event.Ioctl c) r j whole = tt
   whole-event e r j whole = (quiet-event m e r j refl whole).0
@@ -175,8 +175,8 @@ module _ {P A : Type 0} (m : P → Plane) where
 -- ---- one turn
 
 taken-tells : (f : Front) (index : ℕ) (o : Option (Buffer Plane)) → slice_get f.queue.queue.body.buffers index ≡ o
-    → EachIn model.after_event IsWhole f.queue.queue (taken_event (kind_of f.queue) index o)
-    × (hand_frame (hand_with f.queue.queue.body index o) ≡ frames_of f.queue.queue
+    → EachIn model.after_event BringsWhole f.queue.queue (taken_event (kind_of f.queue) index o)
+    × (hand_frame (hand_with f.queue.queue.body index o) ≡ frames_dequeued f.queue.queue
     (taken_event (kind_of f.queue) index o))
 taken-tells f index None got = (tt, refl)
 taken-tells f index (Some b) got =
@@ -192,8 +192,8 @@ taken-tells f index (Some b) got =
 module _ {P A : Type 0} (m : P → Plane) where
   -- each completion is whole, and what the hand gets is what the event takes
   abbrev pub Tells : Front → LaneTurn P A → Type 0
-  Tells f t = EachIn model.after_event IsWhole f.queue.queue (event_at_turn m f t)
-      × (frame_of_turn m f t ≡ frames_of f.queue.queue (event_at_turn m f t))
+  Tells f t = EachIn model.after_event BringsWhole f.queue.queue (event_at_turn m f t)
+      × (frame_of_turn m f t ≡ frames_dequeued f.queue.queue (event_at_turn m f t))
 
 module _ {P : Type 0} (A : Type 0) (m : P → Plane) where
   pub dequeue-tells : (f : Front) (result : Result ℕ LaneFault) → Tells {P = P} {A = A} m f (at_front (dequeued result))
@@ -246,7 +246,7 @@ module _ {P A : Type 0} (m : P → Plane) where
       (each-both x.queue.queue (event_at m x t) told.0 (lane-tells m x t.0 t.1 said).0, told.1)) f xs each
 
   frames-told : (f : Front) (xs : List (LaneEvent P A × LaneReply P A)) → EachIn (lane_after m) (IsLaneTurn m) f xs
-      → frames_taken m f xs ≡ frames_of f.queue.queue (queue_events m f xs)
+      → frames_taken m f xs ≡ frames_dequeued f.queue.queue (queue_events m f xs)
   frames-told f [] each = refl
   frames-told f (x ∷ xs) each =
       let next = lane_after m f x in
@@ -255,7 +255,7 @@ module _ {P A : Type 0} (m : P → Plane) where
       let rest = frames-told next xs each.1 in
       let moved = (lane-told m f (turn_at f x) each.0).1 in
       (λ i. here.1 i ++ rest i)
-      ∙ (ap (λ (t : QueueState). frames_of s (event_at m f x) ++ frames_of t (queue_events m next xs)) moved
+      ∙ (ap (λ (t : QueueState). frames_dequeued s (event_at m f x) ++ frames_dequeued t (queue_events m next xs)) moved
       ∙ sym (told-behind model.after_event dequeued_frame s (event_at m f x) (queue_events m next xs)))
 
   -- from a front whose queue has nothing done

@@ -20,13 +20,13 @@ use Rattle.loop_desk.specs.Lane.{completed_frame, without_flags}
 -- ---- events
 
 -- a completion brings one whole frame
-abbrev pub IsWhole : QueueState → Event → Type 0
-IsWhole s (model.complete index stamp bytes None) = length bytes ≡ frame_size s.body.shape
-IsWhole s e = Unit {0}
+abbrev pub BringsWhole : QueueState → Event → Type 0
+BringsWhole s (model.complete index stamp bytes None) = length bytes ≡ frame_size s.body.shape
+BringsWhole s e = Unit {0}
 
 -- an event may happen, and brings one whole frame if it is a completion
 abbrev pub IsCounted : QueueState → Event → Type 0
-IsCounted s e = MayHappen s e × IsWhole s e
+IsCounted s e = MayHappen s e × BringsWhole s e
 
 -- ---- the frames that leave the queue
 
@@ -41,8 +41,8 @@ dequeued_frame s (model.dqbuf (Ok d)) = shot s.body.shape (slice_get s.body.buff
 dequeued_frame s e = []
 
 -- the frames that events dequeue, in order
-abbrev pub frames_of : QueueState → List Event → List Picture
-frames_of s events = told_in after_event dequeued_frame s events
+abbrev pub frames_dequeued : QueueState → List Event → List Picture
+frames_dequeued s events = told_in after_event dequeued_frame s events
 
 -- the frames of the buffers that are done, in the order of their ends
 abbrev pub frames_waiting : {P : Type 0} → Lined P → QueueState → List Picture
@@ -55,14 +55,14 @@ abbrev pub IsHeld : Buffer Plane → Type 0
 IsHeld b = waits b.state ≡ true → is_some b.planes ≡ true
 
 -- each of these is so
-abbrev pub AreHeld : List (Buffer Plane) → Type 0
-AreHeld [] = Unit {0}
-AreHeld (b ∷ bs) = IsHeld b × AreHeld bs
+abbrev pub AllHeld : List (Buffer Plane) → Type 0
+AllHeld [] = Unit {0}
+AllHeld (b ∷ bs) = IsHeld b × AllHeld bs
 
 -- nothing is done unless the queue streams, and each buffer that waits for a frame holds planes
-pub record IsSound {P : Type 0} (code : Lined P) (s : QueueState) : Type 0 where
+pub record IsSoundQueue {P : Type 0} (code : Lined P) (s : QueueState) : Type 0 where
   pub still : IsStill code
-  pub held : AreHeld s.body.buffers
+  pub held : AllHeld s.body.buffers
 
 -- ---- what follows
 
@@ -71,13 +71,13 @@ pub record IsSound {P : Type 0} (code : Lined P) (s : QueueState) : Type 0 where
 abbrev pub KeepsFrames : List Picture → QueueState → List Event → List Picture → Type 0
 KeepsFrames waited s events wait =
     map without_flags waited ++ flat_map completed_frame events
-    ≡ map without_flags (frames_of s events) ++ map without_flags wait
+    ≡ map without_flags (frames_dequeued s events) ++ map without_flags wait
 
 -- So it is from any state of a queue whose frames are those of a format,
 pub record FramesAreKept {P : Type 0} (meaning : P → Plane) : Type 0 where
   -- if it is sound, for events of which none stops the stream,
   pub from_start : (old new : Lined P) (s : QueueState) (events : List Event) (format : PixelFormat) (width height : ℕ)
-      → StandsQueue meaning old s → IsSound old s → s.body.shape ≡ shape_of format width height
+      → StandsQueue meaning old s → IsSoundQueue old s → s.body.shape ≡ shape_of format width height
       → EachIn after_event IsCounted s events → StandsQueue meaning new (after_all after_event s events)
       → list_any stops events ≡ false
       → KeepsFrames (frames_waiting old s) s events (frames_waiting new (after_all after_event s events))
@@ -92,7 +92,8 @@ pub record FramesAreKept {P : Type 0} (meaning : P → Plane) : Type 0 where
 
 -- A queue without buffers is sound, and a sound one stays so, whatever happens.
 pub record QueuesStaySound {P : Type 0} (meaning : P → Plane) : Type 0 where
-  pub new : (code : Lined P) (s : QueueState) → StandsQueue meaning code s → s.body.buffers ≡ [] → IsSound code s
-  pub after : (old new : Lined P) (s : QueueState) (events : List Event) → StandsQueue meaning old s → IsSound old s
-      → EachIn after_event MayHappen s events → StandsQueue meaning new (after_all after_event s events)
-      → IsSound new (after_all after_event s events)
+  pub new : (code : Lined P) (s : QueueState) → StandsQueue meaning code s → s.body.buffers ≡ [] → IsSoundQueue code s
+  pub after : (old new : Lined P) (s : QueueState) (events : List Event) → StandsQueue meaning old s
+      → IsSoundQueue old s → EachIn after_event MayHappen s events
+      → StandsQueue meaning new (after_all after_event s events)
+      → IsSoundQueue new (after_all after_event s events)

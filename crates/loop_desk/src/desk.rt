@@ -1,11 +1,12 @@
 //! A desk: frames that wait, before a store.
 
-ghost use Rattle.std.specs.Prelude.{◌≡◌, ◌≢◌, ◌≤◌, ◌+◌, ◌∷◌, [], Err, List, Ok, ℕ, IfErr, IfOk, drop, false, length, true};
+ghost use Rattle.std.specs.Prelude.{◌≡◌, ◌≢◌, ◌≤◌, ◌+◌, ◌∷◌, [], Err, List, None, Ok, ℕ, IfErr, IfOk, drop, false, length, true};
 ghost use Rattle.circular_buffer.specs.Buffer.{buffer};
 ghost use Rattle.loop_record.specs.Geometry.{frame_bytes};
 ghost use Rattle.loop_record.specs.Plain.{pictures};
 ghost use Rattle.loop_record.specs.Recording.{last_number, picture, ring_of};
 ghost use Rattle.loop_desk.specs.Desk.{DeskState, clip_locked, clip_unlocked, flushed, frame_read, layout_upgraded, runs_told, submit_answer, submitted};
+ghost use Rattle.loop_desk.specs.Keeps.{HaveTime, KeepsTime};
 ghost use Rattle.loop_desk.specs.Seen.{DeskGoes, IsDesk, Opens, OutlineRefuses, SeenDesk, TellsDesk, TellsOutline, TellsStatus, answer_of, rules_of};
 ghost use Rattle.loop_store.specs.Calls.{read_with};
 ghost use Rattle.loop_store.specs.Reopen.{TellsOne};
@@ -13,7 +14,8 @@ ghost use Rattle.loop_store.specs.Runs.{read_of};
 ghost use Rattle.loop_store.specs.Seen.{Refused};
 
 use crate::group::append_first;
-use crate::{DeskLimits, Flushed, Outline, Status};
+use crate::keep::keep_at;
+use crate::{DeskLimits, Flushed, Kept, Outline, Status};
 use circular_buffer::HeapCircularBuffer;
 use loop_disk::Disk;
 use loop_record::{Frame, FrameHead, Geometry, Span, Times};
@@ -231,7 +233,8 @@ impl<D: Disk + Drop, A: Allocator> Desk<D, A> {
         self.store.unlock(id)
     }
 
-    /// Reads the head of a stored frame and none of its bytes, as `Store::read_head`. A frame that waits isn't held yet.
+    /// Reads the head of a stored frame and none of its bytes, as `Store::read_head`. A frame that waits isn't held
+    /// yet.
     pub fn read_head(&mut self, number: u64) -> Result<FrameHead, StoreFault>
         ensures goes { (bytes : List ℕ)
             × DeskGoes D.medium self.old self.new (frame_read number (read_with result bytes) ∷ []) }
@@ -311,6 +314,18 @@ impl<D: Disk + Drop, A: Allocator + Copy> Desk<D, A> {
         ensures refused { IfErr result (λ fault. OutlineRefuses self.now fault) }
     {
         self.store.sought(alloc, times)
+    }
+
+    /// Locks the held frames of a time with a tag: a clip for each run of their numbers, in order, until one is
+    /// refused. The clips before it stay locked. A frame that waits isn't held yet.
+    ///
+    /// `MustReopen` where a call that writes has failed; then `NoMemory`; both before anything is locked. A lock is
+    /// refused as by `lock_clip`.
+    pub fn keep_time(&mut self, alloc: A, times: Times, tag: u64) -> Kept<A>
+        ensures goes { KeepsTime D.medium times tag self.old self.new result }
+        ensures whole { result.fault ≡ None → HaveTime times self.old result.clips.items }
+    {
+        keep_at(alloc, self, times, tag)
     }
 
     /// What the desk holds: the version of the layout, how many of the newest blocks never go, the next number, the

@@ -2,6 +2,8 @@
 //!
 //! - `desk` has the desk and its calls, each of which is one call of the model in `specs/Desk`; `group`: the first
 //!   of the frames that wait, stored as one group; `limits`: how much a desk takes in, and what it tells;
+//! - `keep` has what `Desk::keep_time` does: the held frames of a time, locked, a clip for each run of their numbers
+//!   (`specs/Keeps`);
 //! - `hand` has what was taken from a queue; `front` the events of queue, table of fds and hand, each of which is one
 //!   turn of the model in `specs/Front`: what the hand asks of the queue is an event of the queue's own model. Its
 //!   `dequeue` and `requeue` are public: whoever has a queue and a hand without a lane calls them;
@@ -20,6 +22,7 @@ mod frame;
 pub mod front;
 mod group;
 mod hand;
+mod keep;
 mod lane;
 pub mod laws;
 mod limits;
@@ -27,6 +30,7 @@ mod limits;
 pub use desk::Desk;
 pub use event::{LaneEvent, LaneReply};
 pub use hand::{Hand, LaneFault};
+pub use keep::Kept;
 pub use lane::{Lane, lane_run};
 pub use limits::{DeskLimits, Flushed, Outline, Status};
 pub use loop_store::frame_memory;

@@ -2,7 +2,7 @@
 use Rattle.std.proofs.Common.{◌≡◌, ◌++◌, ◌+◌, ℕ, List, [], ◌∷◌, length, map, refl, sym, ap, ◌∙◌}
 use Rattle.std.proofs.lemmas.Grind.{flat_map-append}
 use Rattle.std.proofs.lemmas.List.{append-nil, length-append, length-map, map-append}
-use Rattle.std.specs.List.{filter, flat_map}
+use Rattle.std.specs.List.{flat_map}
 use Rattle.rtrb.specs.declared.AnyItems.{AnyItems}
 use Rattle.rtrb.specs.declared.consumer.Consumer.{Consumer}
 use Rattle.rtrb.specs.declared.producer.Producer.{Producer}
@@ -18,7 +18,7 @@ use Rattle.loop_desk.specs.Desk.{DeskCall}
 use Rattle.loop_desk.specs.Lane.{without_flags}
 use Rattle.loop_desk.specs.Waiting.{frames_waiting}
 use Rattle.loop_desk.proofs.Lasting.{keeps-footage}
-use Rattle.loop_pipeline.specs.Backs.{BackKeeps, Came, IsFed, SeenBack, calls_by, is_submit, lost_by, picture_of, unasked}
+use Rattle.loop_pipeline.specs.Backs.{BackKeeps, Came, IsFed, SeenBack, calls_by, lost_by, picture_of, unasked}
 use Rattle.loop_pipeline.specs.Cameras.{CameraKeeps}
 use Rattle.loop_pipeline.specs.Fronts.{FrontKeeps, SeenFront}
 

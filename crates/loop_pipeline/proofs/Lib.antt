@@ -6,4 +6,3 @@ mod Moving
 mod Starting
 mod Taking
 mod Ticking
-mod Whole

@@ -12,8 +12,8 @@ use Rattle.loop_plane.specs.Plane.{Plane}
 use Rattle.loop_plane.specs.declared.memory.Memory.{Memory}
 use Rattle.loop_plane.specs.declared.memory.Memory.TheVariants.{DmaBuf, Mmap, UserPtr}
 use Rattle.loop_record.specs.declared.frame.Frame.{Frame}
-use Rattle.loop_record.specs.Recording.{Picture, picture}
-use Rattle.loop_record.specs.Turns.{EachIn, after_all, told_in}
+use Rattle.loop_record.specs.Recording.{picture}
+use Rattle.loop_record.specs.Turns.{EachIn, after_all}
 use Rattle.loop_record.proofs.Turned.{after-behind, each-behind, told-behind}
 use Rattle.loop_vb2.specs.Events.{Event, MayHappen, after_event, stops}
 use Rattle.loop_vb2.specs.State.{Lined, QueueState, StandsQueue}
@@ -24,8 +24,8 @@ use Rattle.loop_desk.specs.declared.hand.Hand.{Hand}
 use Rattle.loop_desk.specs.declared.hand.Hand.TheVariants as hand
 use Rattle.loop_desk.specs.Front.{Front, StandsFront, empty, hand_state, kind_of, planes_held}
 use Rattle.loop_desk.specs.Lane.{completed_frame, hand_frame, without_flags}
-use Rattle.loop_desk.specs.Waiting.{FramesAreKept, IsCounted, IsSound, QueuesStaySound, dequeued_frame, frames_of, frames_waiting}
-use Rattle.loop_pipeline.specs.Fronts.{FrontKeeps, Given, GoesOn, HasMoved, IsOpen, SeenFront, shown, shown_by}
+use Rattle.loop_desk.specs.Waiting.{FramesAreKept, IsCounted, IsSoundQueue, QueuesStaySound, dequeued_frame, frames_dequeued, frames_waiting}
+use Rattle.loop_pipeline.specs.Fronts.{FrontKeeps, Given, GoesOn, HasMoved, IsOpen, SeenFront, shown, shown_given}
 
 module _ {S : Type 0} (gives : S → Next → List ℕ → S → Type 0) where
   -- ticks, and others after them
@@ -48,10 +48,10 @@ pub record Adds {S P A : Type 0} (gives : S → Next → List ℕ → S → Type
   pub formed : queue.body.shape ≡ old.body.shape
   pub free : hand_frame now.hand ≡ []
   pub ring : SameProducer to up
-  pub went : map picture (sent up) ≡ map picture (sent to) ++ frames_of s events
+  pub went : map picture (sent up) ≡ map picture (sent to) ++ frames_dequeued s events
   pub given : List Given
   pub source : GoesOn gives d given e
-  pub shows : map shown (flat_map completed_frame events) ≡ flat_map shown_by given
+  pub shows : map shown (flat_map completed_frame events) ≡ flat_map shown_given given
 
 each-may : (s : QueueState) (events : List Event) → EachIn after_event IsCounted s events
     → EachIn after_event MayHappen s events
@@ -125,7 +125,7 @@ module _ {S P A : Type 0} (gives : S → Next → List ℕ → S → Type 0) (m 
       record {
         state = has.now.queue;
         stands = has.stands.queue;
-        sound = subst (IsSound queue) (sym has.reached) sound;
+        sound = subst (IsSoundQueue queue) (sym has.reached) sound;
         inside = has.stands.out ∙ (ap (λ x. values_by_fd (kind_of has.now.queue) (option_to_list (planes_held x))) held
             ∙ none-by-fd (kind_of has.now.queue));
         shaped = (has.shaped.0, has.shaped.1, has.shaped.2, has.formed ∙ has.shaped.3);
@@ -160,14 +160,14 @@ module _ {S P A : Type 0} (gives : S → Next → List ℕ → S → Type 0) (m 
         stands = adds.stands;
         reached = adds.reached ∙ (ap (λ t. after_all after_event t new) here ∙ sym (after-behind after_event s old new));
         free = adds.free;
-        went = adds.went ∙ (ap (λ l. l ++ frames_of before.now.queue.queue new) before.went
-            ∙ (ap (λ t. frames_of s old ++ frames_of t new) here
+        went = adds.went ∙ (ap (λ l. l ++ frames_dequeued before.now.queue.queue new) before.went
+            ∙ (ap (λ t. frames_dequeued s old ++ frames_dequeued t new) here
             ∙ sym (told-behind after_event dequeued_frame s old new)));
         given = before.given ++ adds.given;
         source = goes-behind gives seen.device d e before.given adds.given before.source adds.source;
         shows = ap (map shown) (flat_map-append completed_frame old new)
             ∙ (map-append shown (flat_map completed_frame old) (flat_map completed_frame new)
             ∙ (ap (λ l. l ++ map shown (flat_map completed_frame new)) before.shows
-            ∙ (ap (λ l. flat_map shown_by before.given ++ l) adds.shows
-            ∙ sym (flat_map-append shown_by before.given adds.given))));
+            ∙ (ap (λ l. flat_map shown_given before.given ++ l) adds.shows
+            ∙ sym (flat_map-append shown_given before.given adds.given))));
       }

@@ -16,7 +16,7 @@ use Rattle.loop_ioctl.specs.declared.events.QueueEvent.TheVariants as event
 use Rattle.loop_ioctl.specs.declared.events.QueueReply.TheVariants as answer
 use Rattle.loop_ioctl.specs.Calls.{Applies, IoctlState, IsAnsweredFor, after_ioctl, refusal_before}
 use Rattle.loop_ioctl.specs.Modelled.{TurnsAreEvents, events_in}
-use Rattle.loop_desk.specs.Waiting.{IsSound, QueuesStaySound}
+use Rattle.loop_desk.specs.Waiting.{IsSoundQueue, QueuesStaySound}
 use Rattle.loop_pipeline.specs.Fronts.{IsOpen}
 
 -- ---- STREAMON
@@ -73,7 +73,7 @@ module _ {P A : Type 0} (m : P → Plane) where
       record {
         state = after_ioctl m c j result;
         stands = step.1;
-        sound = subst (IsSound q') (sym are.1) (sound.after q q' j.queue (events_in m j turns) is.stands.queue is.sound
+        sound = subst (IsSoundQueue q') (sym are.1) (sound.after q q' j.queue (events_in m j turns) is.stands.queue is.sound
             are.0 (subst (StandsQueue m q') are.1 step.1.queue));
         inside = same-out c result j ∙ is.inside;
         shaped = (is.shaped.0, is.shaped.1, is.shaped.2, formed ∙ is.shaped.3);

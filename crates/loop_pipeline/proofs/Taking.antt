@@ -1,5 +1,5 @@
 -- A frame taken into the ring, and a buffer queued again, as what each adds to what a front has done.
-use Rattle.std.proofs.Common.{◌≡◌, ◌++◌, ◌<◌, ℕ, Bool, true, false, cond, List, [], ◌∷◌, length, map, Option, Some, None, Result, Ok, Err, refl, sym, ap, ◌∙◌, subst, option_to_list}
+use Rattle.std.proofs.Common.{◌≡◌, ◌++◌, ℕ, Bool, true, false, cond, List, [], ◌∷◌, map, Option, Some, None, Result, Ok, Err, refl, sym, ap, ◌∙◌, option_to_list}
 use Rattle.std.specs.Prelude.{slice_get}
 use Rattle.std.proofs.lemmas.List.{append-nil, map-append}
 use Rattle.std.specs.List.{flat_map, list_any}
@@ -11,7 +11,7 @@ use Rattle.loop_plane.specs.Plane.{Plane}
 use Rattle.loop_plane.specs.declared.memory.Memory.{Memory}
 use Rattle.loop_record.specs.declared.frame.Frame.{Frame}
 use Rattle.loop_record.specs.Recording.{Picture, picture}
-use Rattle.loop_record.specs.Turns.{EachIn, after_all}
+use Rattle.loop_record.specs.Turns.{EachIn}
 use Rattle.loop_vb2.specs.declared.buffer.Buffer.{Buffer}
 use Rattle.loop_vb2.specs.declared.planes.PlaneSet.{PlaneSet}
 use Rattle.loop_vb2.specs.Buffers.{handed_over}
@@ -27,7 +27,7 @@ use Rattle.loop_desk.specs.declared.hand.LaneFault.{LaneFault}
 use Rattle.loop_desk.specs.declared.hand.LaneFault.TheVariants.{Queue, Store}
 use Rattle.loop_desk.specs.Front.{Front, HandState, IsDequeue, IsOneEvent, IsRequeue, StandsFront, TurnsBeside, buffer_answer, dequeue_event, dequeued, empty, front_after, full, hand_state, hand_with, kind_of, planes_held, requeue_event, requeued, spent, taken_frame, was_given_up}
 use Rattle.loop_desk.specs.Lane.{completed_frame, hand_frame}
-use Rattle.loop_desk.specs.Waiting.{IsCounted, frames_of, shot}
+use Rattle.loop_desk.specs.Waiting.{IsCounted, frames_dequeued, shot}
 use Rattle.loop_pipeline.specs.Fronts.{emptied, frame_of, shown}
 use Rattle.loop_pipeline.proofs.Moving.{Adds}
 
@@ -59,7 +59,7 @@ frame-if false index p planes others = refl
 -- its frame is then in the hand, if it has one
 event-frames : (s : QueueState) (kind : Memory) (index : ℕ) (b : Option (Buffer Plane))
     → slice_get s.body.buffers index ≡ b → IsOneEvent s (event-of kind index b)
-    → frames_of s (event-of kind index b) ≡ hand_frame (hand_with s.body index b)
+    → frames_dequeued s (event-of kind index b) ≡ hand_frame (hand_with s.body index b)
 event-frames s kind index None is said = absurd said
 event-frames s kind index (Some b) is said =
     ap (λ x. shot s.body.shape x ++ []) is

@@ -27,8 +27,8 @@ use Rattle.loop_capture.specs.Ticks.{SeenDevice, Ticks, Took, end_of, sequence_o
 use Rattle.loop_desk.specs.declared.hand.Hand.{Hand}
 use Rattle.loop_desk.specs.Front.{Front, StandsFront, planes_held}
 use Rattle.loop_desk.specs.Lane.{completed_frame, hand_frame}
-use Rattle.loop_desk.specs.Waiting.{IsCounted, frames_of}
-use Rattle.loop_pipeline.specs.Fronts.{GaveBy, Given, IsToldBy, shown, shown_by}
+use Rattle.loop_desk.specs.Waiting.{IsCounted, frames_dequeued}
+use Rattle.loop_pipeline.specs.Fronts.{GaveBy, Given, IsToldBy, shown, shown_given}
 use Rattle.loop_pipeline.proofs.Moving.{Adds}
 
 -- for such a tick the source was asked
@@ -90,7 +90,7 @@ end-flows Missed stamp bytes = refl
 end-flows Ended stamp bytes = refl
 end-flows WrongSize stamp bytes = refl
 
-end-frames : (tick : Tick) (stamp : Stamp) (bytes : List ℕ) (s : QueueState) → frames_of s (end_of tick stamp bytes) ≡ []
+end-frames : (tick : Tick) (stamp : Stamp) (bytes : List ℕ) (s : QueueState) → frames_dequeued s (end_of tick stamp bytes) ≡ []
 end-frames (Completed i) stamp bytes s = refl
 end-frames (Failed i) stamp bytes s = refl
 end-frames Idle stamp bytes s = refl
@@ -100,7 +100,7 @@ end-frames WrongSize stamp bytes s = refl
 
 end-shown : (tick : Tick) (sequence now : ℕ) (bytes : List ℕ)
     → map shown (flat_map completed_frame (end_of tick (record { sequence = sequence; timestamp = now }) bytes))
-    ≡ flat_map shown_by (record { now = now; tick = tick; bytes = bytes } ∷ [])
+    ≡ flat_map shown_given (record { now = now; tick = tick; bytes = bytes } ∷ [])
 end-shown (Completed i) sequence now bytes = refl
 end-shown (Failed i) sequence now bytes = refl
 end-shown Idle sequence now bytes = refl
@@ -123,7 +123,7 @@ module _ {S P A : Type 0} (gives : S → Next → List ℕ → S → Type 0) (m 
   given-at tick = record { now = now; tick = tick; bytes = e.frame }
 
   -- a tick that changes nothing
-  nothing-adds : (tick : Tick) (f : Front) → GaveBy gives tick e.frame d e → flat_map shown_by (given-at tick ∷ []) ≡ []
+  nothing-adds : (tick : Tick) (f : Front) → GaveBy gives tick e.frame d e → flat_map shown_given (given-at tick ∷ []) ≡ []
       → after ≡ before → hand_frame f.hand ≡ [] → StandsFront m before table h f
       → Adds gives m table f.queue.queue d e before after h to to
   nothing-adds tick f gave none same free stands = record {

@@ -1,5 +1,5 @@
 -- What one camera keeps of its frames, from its device to its disk.
-use Rattle.std.specs.Prelude.{◌≡◌, ℕ, ◌+◌, List, ◌++◌, length, map}
+use Rattle.std.specs.Prelude.{◌≡◌, ℕ, List, ◌++◌, length, map}
 use Rattle.std.specs.List.{filter, flat_map}
 use Rattle.loop_disk.specs.Medium.{Medium}
 use Rattle.loop_plane.specs.Plane.{Plane}
@@ -15,7 +15,7 @@ use Rattle.loop_desk.specs.Lane.{without_flags}
 use Rattle.loop_desk.specs.Waiting.{frames_waiting}
 use Rattle.loop_desk.specs.Seen.{DeskGoes, SeenDesk}
 use Rattle.loop_pipeline.specs.Backs.{Came, calls_by, is_submit, lost_by, picture_of}
-use Rattle.loop_pipeline.specs.Fronts.{Given, GoesOn, shown, shown_by}
+use Rattle.loop_pipeline.specs.Fronts.{Given, GoesOn, shown, shown_given}
 
 -- a camera: its device, its queue and its desk
 pub record SeenCamera (S D P : Type 0) : Type 0 where
@@ -32,7 +32,7 @@ pub record CameraKeeps {S D P : Type 0} (medium : D → Medium) (gives : S → N
   pub given : List Given
   pub source : GoesOn gives old.device given new.device
   pub completed : List Picture
-  pub shows : map shown completed ≡ flat_map shown_by given
+  pub shows : map shown completed ≡ flat_map shown_given given
   -- the frames' way
   pub first : QueueState
   pub last : QueueState

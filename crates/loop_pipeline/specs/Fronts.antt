@@ -1,5 +1,6 @@
 -- What one thread keeps that has a camera's device, its queue and the end of a ring.
 use Rattle.std.specs.Prelude.{◌≡◌, ◌≢◌, ℕ, false, List, [], ◌∷◌, ◌++◌, map}
+use Rattle.std.specs.Global.{Global}
 use Rattle.std.specs.List.{flat_map, list_any}
 use Rattle.rtrb.specs.declared.AnyItems.{AnyItems}
 use Rattle.rtrb.specs.declared.producer.Producer.{Producer}
@@ -23,9 +24,10 @@ use Rattle.loop_desk.specs.declared.hand.Hand.{Hand}
 use Rattle.loop_desk.specs.declared.hand.Hand.TheVariants as hand
 use Rattle.loop_desk.specs.Front.{Front, HandState, StandsFront, empty, full, spent}
 use Rattle.loop_desk.specs.Lane.{completed_frame, hand_frame, without_flags}
+use Rattle.loop_pipeline.specs.declared.film.Left.{Left}
 use Rattle.loop_pipeline.specs.declared.front.Begun.{Begun}
 use Rattle.loop_pipeline.specs.declared.front.FrontParts.{FrontParts}
-use Rattle.loop_desk.specs.Waiting.{IsCounted, IsSound, frames_of, frames_waiting}
+use Rattle.loop_desk.specs.Waiting.{IsCounted, IsSoundQueue, frames_dequeued, frames_waiting}
 
 -- ---- ticks of a device
 
@@ -66,8 +68,8 @@ abbrev pub shown_at : Tick → ℕ × List ℕ → List (ℕ × List ℕ)
 shown_at (Completed i) x = x ∷ []
 shown_at tick x = []
 
-abbrev pub shown_by : Given → List (ℕ × List ℕ)
-shown_by g = shown_at g.tick (g.now, g.bytes)
+abbrev pub shown_given : Given → List (ℕ × List ℕ)
+shown_given g = shown_at g.tick (g.now, g.bytes)
 
 -- ---- what a front keeps
 
@@ -87,7 +89,7 @@ IsShaped queue =
 pub record IsOpen {P : Type 0} (meaning : P → Plane) (queue : Lined P) (table : Fds P) : Type 0 where
   pub state : IoctlState
   pub stands : StandsIoctl meaning queue table state
-  pub sound : IsSound queue state.queue
+  pub sound : IsSoundQueue queue state.queue
   pub inside : state.out ≡ []
   pub shaped : IsShaped queue
 
@@ -104,7 +106,7 @@ pub record FrontKeeps {S P A : Type 0} (gives : S → Next → List ℕ → S �
   pub given : List Given
   pub source : GoesOn gives seen.device given device
   pub completed : List Picture
-  pub shows : map shown completed ≡ flat_map shown_by given
+  pub shows : map shown completed ≡ flat_map shown_given given
   pub whole : map without_flags (frames_waiting seen.queue first) ++ completed
       ≡ map without_flags (map picture (sent to)) ++ map without_flags (frames_waiting queue last)
 
@@ -116,6 +118,19 @@ pub record Leaves {S P A : Type 0} (gives : S → Next → List ℕ → S → Ty
     (seen : SeenFront S P A) (parts : FrontParts S P A) : Type 0 where
   pub keeps : FrontKeeps gives meaning seen parts.device parts.queue parts.to
   pub again : parts.hand ≡ hand.Empty → IsOpen meaning parts.queue parts.table
+
+-- ---- its way to another thread and back (private contracts alone)
+
+-- what came back is what a front leaves, with the end of the ring that is inside of what carried it
+abbrev pub LeavesCarried : {S P W : Type 0} → (W → Producer (Frame Global) Global AnyItems)
+    → (S → Next → List ℕ → S → Type 0) → (P → Plane) → SeenFront S P Global → Left S P W → Type 0
+LeavesCarried inside gives meaning seen left = Leaves gives meaning seen (record {
+  device = left.device;
+  queue = left.queue;
+  table = left.table;
+  hand = left.hand;
+  to = inside left.to;
+})
 
 -- ---- its events (private contracts alone)
 
@@ -138,7 +153,7 @@ pub record HasMoved {S P A : Type 0} (gives : S → Next → List ℕ → S → 
     (to : Producer (Frame A) A AnyItems) : Type 0 where
   pub first : QueueState
   pub stood : StandsQueue meaning seen.queue first
-  pub sound : IsSound seen.queue first
+  pub sound : IsSoundQueue seen.queue first
   pub shaped : IsShaped seen.queue
   pub formed : queue.body.shape ≡ seen.queue.body.shape
   pub ring : SameProducer seen.to to
@@ -149,7 +164,7 @@ pub record HasMoved {S P A : Type 0} (gives : S → Next → List ℕ → S → 
   pub stands : StandsFront meaning queue table hand now
   pub reached : now.queue.queue ≡ after_all after_event first events
   pub free : hand_frame now.hand ≡ []
-  pub went : map picture (sent to) ≡ frames_of first events
+  pub went : map picture (sent to) ≡ frames_dequeued first events
   pub given : List Given
   pub source : GoesOn gives seen.device given device
-  pub shows : map shown (flat_map completed_frame events) ≡ flat_map shown_by given
+  pub shows : map shown (flat_map completed_frame events) ≡ flat_map shown_given given

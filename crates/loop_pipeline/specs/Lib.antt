@@ -1,4 +1,3 @@
 pub mod Backs
 pub mod Cameras
 pub mod Fronts
-pub mod Keeps

@@ -3,14 +3,12 @@
 ghost use Rattle.std.specs.Prelude.{◌≡◌, ◌∷◌, IfErr, IfOk, None, []};
 ghost use Rattle.rtrb.specs.Ring.{received};
 ghost use Rattle.loop_desk.specs.Desk.{clip_unlocked, flushed, frame_read};
+ghost use Rattle.loop_desk.specs.Keeps.{HaveTime, KeepsTime};
 ghost use Rattle.loop_desk.specs.Seen.{DeskGoes, OutlineRefuses, TellsOutline, TellsStatus};
 ghost use Rattle.loop_pipeline.specs.Backs.{BackKeeps};
-ghost use Rattle.loop_pipeline.specs.Keeps.{HaveTime, KeepsTime};
 ghost use Rattle.loop_store.specs.Runs.{read_of};
 
-use crate::Kept;
-use crate::keep::keep_at;
-use loop_desk::{Desk, Flushed, Outline, Status};
+use loop_desk::{Desk, Flushed, Kept, Outline, Status};
 use loop_disk::Disk;
 use loop_record::{Frame, Times};
 use loop_store::{ReadFrame, StoreFault};
@@ -165,17 +163,13 @@ impl<D: Disk + Drop, A: Allocator + Copy> Back<D, A> {
         self.desk.read_frame(alloc, number)
     }
 
-    /// Locks the held frames of a time with a tag: a clip for each run of their numbers, in order, until one is
-    /// refused. The clips before it stay locked. A frame that waits isn't held yet.
-    ///
-    /// `MustReopen` where a call that writes has failed; then `NoMemory`; both before anything is locked. A lock is
-    /// refused as by `Desk::lock_clip`.
+    /// Locks the held frames of a time with a tag, as `Desk::keep_time`.
     pub fn keep(&mut self, alloc: A, times: Times, tag: u64) -> Kept<A>
         ensures goes { KeepsTime D.medium times tag self.old.desk self.new.desk result }
         ensures whole { result.fault ≡ None → HaveTime times self.old.desk result.clips.items }
         ensures same { self.new ≡ record self.old { desk = self.new.desk } }
     {
-        keep_at(alloc, &mut self.desk, times, tag)
+        self.desk.keep_time(alloc, times, tag)
     }
 
     /// Unlocks the clip of an id, as `Desk::unlock_clip`.

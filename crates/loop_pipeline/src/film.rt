@@ -4,7 +4,7 @@ ghost use Rattle.std.specs.Prelude.{◌≡◌, ◌+◌, [], IfOk};
 ghost use Rattle.loop_desk.specs.declared.hand.Hand.TheVariants.{Empty};
 ghost use Rattle.loop_pipeline.specs.Cameras.{CameraKeeps};
 ghost use Rattle.rtrb.specs.Ring.{sent};
-ghost use Rattle.loop_pipeline.specs.Fronts.{IsOpen, Leaves, made_of};
+ghost use Rattle.loop_pipeline.specs.Fronts.{IsOpen, Leaves, LeavesCarried, made_of};
 
 use crate::bell::Bell;
 use crate::{Back, Begun, Brought, Camera, Ended, Front, FrontParts, Guide, Took, end};
@@ -307,16 +307,9 @@ struct Left<S: FrameSource + Drop, P: PlaneMemory, W: Carrier> {
 
 // What comes back is what a front leaves that was made of these.
 impl<S: FrameSource + Drop, P: PlaneMemory, W: Carrier> Promise<Left<S, P, W>> for Begun<S, P> {
-    ghost use Rattle.loop_pipeline.specs.Fronts.{Leaves, made_of};
+    ghost use Rattle.loop_pipeline.specs.Fronts.{LeavesCarried, made_of};
 
-    ghost kept_by = { λ begun left. Leaves S.next_gives P.plane (made_of begun)
-        (record {
-          device = left.device;
-          queue = left.queue;
-          table = left.table;
-          hand = left.hand;
-          to = W.inside left.to;
-        }) };
+    ghost kept_by = { λ begun left. LeavesCarried W.inside S.next_gives P.plane (made_of begun) left };
 }
 
 // A front's whole life in one thread, from what was carried there to what is carried back.
@@ -332,14 +325,8 @@ fn film_carried<R: Wait + Clock, S: FrameSource + Drop, P: PlaneMemory, G: Guide
 ) -> Left<S, P, W>
     requires ready { IsOpen P.plane queue table }
     requires ring { sent (W.inside to) ≡ [] }
-    ensures { Leaves S.next_gives P.plane (record { queue = queue; device = device; to = W.inside to })
-        (record {
-          device = result.device;
-          queue = result.queue;
-          table = result.table;
-          hand = result.hand;
-          to = W.inside result.to;
-        }) }
+    ensures { LeavesCarried W.inside S.next_gives P.plane
+        (record { queue = queue; device = device; to = W.inside to }) result }
 {
     let FrontParts {
         device,
@@ -391,27 +378,11 @@ fn run_in<
     requires begun { made_of begun ≡ record { queue = queue; device = device; to = W.inside to } }
     requires ready { IsOpen P.plane queue table }
     requires ring { sent (W.inside to) ≡ [] }
-    ensures front { Leaves S.next_gives P.plane (made_of begun)
-        (record {
-          device = result.front.device;
-          queue = result.front.queue;
-          table = result.front.table;
-          hand = result.front.hand;
-          to = W.inside result.front.to;
-        }) }
+    ensures front { LeavesCarried W.inside S.next_gives P.plane (made_of begun) result.front }
     ensures back { result.back ≡ record back { desk = result.back.desk } }
 {
-    let work = move || -> Left<S, P, W>
-        requires { IsOpen P.plane queue table × (sent (W.inside to) ≡ []) }
-        ensures { Leaves S.next_gives P.plane (record { queue = queue; device = device; to = W.inside to })
-            (record {
-              device = result.device;
-              queue = result.queue;
-              table = result.table;
-              hand = result.hand;
-              to = W.inside result.to;
-            }) }
-    { film_carried(rt, alloc, link, guide, device, queue, table, to) };
+    let work =
+        move || -> Left<S, P, W> { film_carried(rt, alloc, link, guide, device, queue, table, to) };
     match scope.spawn_with(begun, work) {
         Ok(handle) => {
             let back = film_back(rt, alloc, link, guide, back);

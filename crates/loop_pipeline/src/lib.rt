@@ -3,7 +3,6 @@
 //! - `front`: a device, its queue with the buffers, and the end of a ring to which the frames go that come out of the
 //!   queue; `back`: the other end of the ring, and a desk before a store; `ending`: both halves in one hand; `camera`:
 //!   what is filmed;
-//! - `keep`: the held frames of a time, locked at a back's desk, a clip for each run of their numbers (`specs/Keeps`);
 //! - `film`: `film_camera`, which runs both, and what each does; `guide`: what guides them; `bell`: where one sleeps
 //!   until the other has something for it;
 //! - `start`: a queue that a front may begin with, and how it is started; `buffers`: the memory of its buffers.
@@ -24,7 +23,6 @@ mod ending;
 mod film;
 mod front;
 mod guide;
-mod keep;
 mod start;
 
 pub use back::{Back, BackParts, Brought};
@@ -34,5 +32,4 @@ pub use ending::{Ended, end};
 pub use film::{Link, Unfilmed, film_back, film_camera, film_front};
 pub use front::{Begun, Front, FrontParts, Took};
 pub use guide::Guide;
-pub use keep::Kept;
 pub use start::{new_queue, start_queue};

@@ -32,7 +32,7 @@ use Rattle.loop_desk.specs.declared.limits.Flushed.{Flushed}
 use Rattle.loop_desk.specs.Desk.{IsFlush, append_of, flushed, frame_read, group_of, layout_upgraded, submitted}
 use Rattle.loop_desk.specs.Seen.{DeskGoes, SeenDesk, rules_of}
 use Rattle.loop_desk.proofs.Gone.{state-of, state-told, store-goes, told-one, told-then}
-use Rattle.loop_desk.proofs.Kept.{below}
+use Rattle.loop_desk.proofs.Always.{below}
 use Rattle.loop_script.specs.Sessions.{IsSession, RefusesFrame, Shown}
 
 -- ---- a disk of which no call fails

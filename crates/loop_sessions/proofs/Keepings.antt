@@ -3,7 +3,7 @@ use Rattle.std.proofs.Common.{◌≡◌, ℕ, suc, ◌+◌, ◌<◌, ◌≤◌, 
 use Rattle.std.specs.Prelude.{OnOk}
 use Rattle.std.specs.Option.{option_to_list}
 use Rattle.std.specs.Result.{result_err}
-use Rattle.std.proofs.lemmas.List.{append-nil, map-append, take-append-drop, take_all, take_more}
+use Rattle.std.proofs.lemmas.List.{append-nil, map-append}
 use Rattle.std.proofs.Math.ListN.{drop_of_length-le}
 use Rattle.std.proofs.Math.Seq.{drop-cons}
 use Rattle.loop_clips.specs.declared.clip.Clip.{Clip}
@@ -13,7 +13,9 @@ use Rattle.loop_record.specs.declared.times.Times.{Times}
 use Rattle.loop_store.specs.Reopen.{TellsOne}
 use Rattle.loop_desk.specs.Bare.{bare_call}
 use Rattle.loop_desk.specs.Desk.{runs_told}
+use Rattle.loop_desk.specs.Keeps.{clip_span, with_tag}
 use Rattle.loop_desk.specs.Seen.{DeskGoes, SeenDesk}
+use Rattle.loop_desk.proofs.Locking.{clip_made, locked-all, locked-more, locked-until}
 use Rattle.loop_sessions.specs.declared.entry.Entry.{Entry}
 use Rattle.loop_sessions.specs.declared.entry.Noted.{Noted}
 use Rattle.loop_sessions.specs.declared.entry.Noted.TheVariants as noted
@@ -22,7 +24,7 @@ use Rattle.loop_sessions.specs.declared.fault.SessionFault.{SessionFault}
 use Rattle.loop_sessions.specs.declared.fault.SessionFault.TheVariants.{NoMemory}
 use Rattle.loop_sessions.specs.declared.keep.Kept.{Kept}
 use Rattle.loop_sessions.specs.Histories.{noted_call}
-use Rattle.loop_sessions.specs.Keeps.{Enters, KeepsHeld, Locks, Notes, clip_span, lock_noted, refused_lock, runs_noted, with_tag}
+use Rattle.loop_sessions.specs.Keeps.{Enters, KeepsHeld, Locks, Notes, lock_noted, refused_lock, runs_noted}
 use Rattle.loop_sessions.specs.Receipts.{lock_note}
 use Rattle.loop_sessions.proofs.Noting.{enters-joined, notes-joined, notes-none}
 
@@ -87,7 +89,7 @@ seeks medium camera times runs desk before after given back goes enters = record
 -- ---- one run after the other
 
 -- so many runs are locked, all without a refusal
-pub record LocksFirst {D A : Type 0} (medium : D → Medium) (camera tag count : ℕ) (runs : List Span) (clips : List Clip)
+pub record NotesFirst {D A : Type 0} (medium : D → Medium) (camera tag count : ℕ) (runs : List Span) (clips : List Clip)
     (old new : SeenDesk D) (before after : List Entry) (given back : Pass A) : Type 0 where
   pub notes : Notes medium camera (map lock_noted clips) old new before after given back
   pub locked : map clip_span clips ≡ map (with_tag tag) (take count runs)
@@ -96,7 +98,7 @@ module _ {D A : Type 0} (medium : D → Medium) (camera tag : ℕ) where
   -- none
   pub lock-none : (runs : List Span) (desk : SeenDesk D) (history : List Entry) (pass : Pass A) → TellsOne desk.store
       → ((medium desk.store.disk).honest → IsSound (medium desk.store.disk))
-      → LocksFirst medium camera tag 0 runs [] desk desk history history pass pass
+      → NotesFirst medium camera tag 0 runs [] desk desk history history pass pass
   lock-none runs desk history pass one sound = record {
     notes = notes-none medium camera desk history history pass pass one sound refl refl refl;
     locked = refl;
@@ -105,36 +107,32 @@ module _ {D A : Type 0} (medium : D → Medium) (camera tag : ℕ) where
   -- one more
   pub lock-more : (count id : ℕ) (runs : List Span) (r : Span) (clips : List Clip) (old mid new : SeenDesk D)
       (before between after : List Entry) (given through back : Pass A) → count < length runs
-      → LocksFirst medium camera tag count runs clips old mid before between given through
+      → NotesFirst medium camera tag count runs clips old mid before between given through
       → Notes medium camera
       (option_to_list (lock_note (record { from = (get_or runs count r).from; to = (get_or runs count r).to; tag = tag }) (Ok id)))
       mid new between after through back
-      → LocksFirst medium camera tag (count + 1) runs
-      (clips ++ record { id = id; from = (get_or runs count r).from; to = (get_or runs count r).to; tag = tag } ∷ [])
-      old new before after given back
+      → NotesFirst medium camera tag (count + 1) runs (clips ++ clip_made runs count r tag id ∷ []) old new before after
+      given back
   lock-more count id runs r clips old mid new before between after given through back below first n =
-      let clip : Clip = record { id = id; from = (get_or runs count r).from; to = (get_or runs count r).to; tag = tag } in
+      let clip : Clip = clip_made runs count r tag id in
       record {
         notes = subst (λ (l : List Noted). Notes medium camera l old new before after given back)
             (sym (map-append lock_noted clips (clip ∷ [])))
             (notes-joined medium camera (map lock_noted clips) (lock_noted clip ∷ []) old mid new before between after given
             through back first.notes n);
-        locked = map-append clip_span clips (clip ∷ []) ∙ ap (λ l. l ++ clip_span clip ∷ []) first.locked
-            ∙ sym (map-append (with_tag tag) (take count runs) (get_or runs count r ∷ []))
-            ∙ ap (map (with_tag tag)) (sym (take_more runs count r below));
+        locked = locked-more tag runs clips count id r below first.locked;
       }
 
   -- all of them
   pub lock-all : (runs : List Span) (count : ℕ) (clips : List Clip) (old new : SeenDesk D) (before after : List Entry)
       (given back : Pass A) → count ≡ length runs
-      → LocksFirst medium camera tag count runs clips old new before after given back
+      → NotesFirst medium camera tag count runs clips old new before after given back
       → Locks medium camera tag runs clips old new before after given back (Ok tt)
   lock-all runs count clips old new before after given back all first = record {
     left = [];
     notes = subst (λ (l : List Noted). Notes medium camera l old new before after given back)
         (sym (append-nil (map lock_noted clips))) first.notes;
-    locked = ap (map (with_tag tag)) (sym (take_all count runs (omega (arith, all)))) ∙ sym first.locked
-        ∙ sym (append-nil (map clip_span clips));
+    locked = locked-all tag runs clips count all first.locked;
     whole = refl;
   }
 
@@ -142,7 +140,7 @@ module _ {D A : Type 0} (medium : D → Medium) (camera tag : ℕ) where
   pub lock-refused : (count : ℕ) (fault : SessionFault) (runs : List Span) (r : Span) (clips : List Clip)
       (old mid new : SeenDesk D) (before between after : List Entry) (given through back : Pass A)
       → count < length runs
-      → LocksFirst medium camera tag count runs clips old mid before between given through
+      → NotesFirst medium camera tag count runs clips old mid before between given through
       → Notes medium camera
       (option_to_list (lock_note (record { from = (get_or runs count r).from; to = (get_or runs count r).to; tag = tag }) (Err fault)))
       mid new between after through back
@@ -153,16 +151,9 @@ module _ {D A : Type 0} (medium : D → Medium) (camera tag : ℕ) where
         left = span ∷ map (with_tag tag) (drop (count + 1) runs);
         notes = notes-joined medium camera (map lock_noted clips) (option_to_list (lock_note span (Err fault))) old mid new
             before between after given through back first.notes n;
-        locked = ap (map (with_tag tag)) (sym (take-append-drop count runs) ∙ ap (λ l. take count runs ++ l) (rest below))
-            ∙ map-append (with_tag tag) (take count runs) (get_or runs count r ∷ drop (count + 1) runs)
-            ∙ ap (λ l. l ++ span ∷ map (with_tag tag) (drop (count + 1) runs)) (sym first.locked);
+        locked = locked-until tag runs clips count r below first.locked;
         whole = tt;
       }
-    where
-      rest : count < length runs → drop count runs ≡ get_or runs count r ∷ drop (count + 1) runs
-      rest below =
-          let at : suc count ≡ count + 1 = omega arith in
-          drop-cons runs count r below ∙ ap (λ n. get_or runs count r ∷ drop n runs) at
 
 -- ---- both
 

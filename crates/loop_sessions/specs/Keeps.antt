@@ -6,9 +6,10 @@ use Rattle.loop_clips.specs.declared.clip.Clip.{Clip}
 use Rattle.loop_disk.specs.Medium.{Medium}
 use Rattle.loop_record.specs.declared.clip.Span.{Span}
 use Rattle.loop_record.specs.declared.times.Times.{Times}
-use Rattle.loop_record.specs.Times.{numbers_in_time, numbers_of_spans}
+use Rattle.loop_record.specs.Times.{numbers_in_time}
 use Rattle.loop_desk.specs.Bare.{bare_call}
 use Rattle.loop_desk.specs.Desk.{AreTold, DeskCall, DeskState, Rules}
+use Rattle.loop_desk.specs.Keeps.{clip_span, numbers_of_clips, with_tag}
 use Rattle.loop_desk.specs.Seen.{DeskGoes, SeenDesk}
 use Rattle.loop_sessions.specs.declared.entry.Entry.{Entry}
 use Rattle.loop_sessions.specs.declared.entry.Noted.{Noted}
@@ -20,20 +21,6 @@ use Rattle.loop_sessions.specs.declared.keep.Kept.{Kept}
 use Rattle.loop_sessions.specs.Histories.{noted_call}
 use Rattle.loop_sessions.specs.Receipts.{entry, lock_note, pass_number, receipt, receipts_of}
 use Rattle.loop_sessions.specs.Sessions.{SeenSession}
-
--- ---- what is kept
-
--- what a clip locks
-abbrev pub clip_span : Clip → Span
-clip_span c = record { from = c.from; to = c.to; tag = c.tag }
-
--- the numbers of clips, one clip behind the other
-abbrev pub numbers_of_clips : List Clip → List ℕ
-numbers_of_clips clips = numbers_of_spans (map clip_span clips)
-
--- a run with the tag of a clip
-abbrev pub with_tag : ℕ → Span → Span
-with_tag tag run = record run { tag = tag }
 
 -- ---- what is noted
 
@@ -77,28 +64,28 @@ pub record RecordsAll {A : Type 0} (camera : ℕ) (notes : List Noted) (old new 
 -- ---- a keep
 
 -- it was refused before the desk was asked, or the desk told nothing: nothing is noted and nothing is locked
-pub record KeepsNone {A : Type 0} (notes : List Noted) (kept : Kept A) : Type 0 where
+pub record NotesNone {A : Type 0} (notes : List Noted) (kept : Kept A) : Type 0 where
   pub none : notes ≡ []
   pub clips : kept.clips.items ≡ []
   pub refused : IsSome kept.fault
 
 -- The runs of the time were told. They were locked with the tag, from the first on, until one was refused, and each is
 -- told as a clip. Nothing else was called.
-pub record KeepsRuns {A : Type 0} (times : Times) (tag : ℕ) (notes : List Noted) (kept : Kept A) : Type 0 where
+pub record NotesRuns {A : Type 0} (times : Times) (tag : ℕ) (notes : List Noted) (kept : Kept A) : Type 0 where
   pub runs : List Span
   pub left : List Span
   pub locked : map (with_tag tag) runs ≡ map clip_span kept.clips.items ++ left
   pub notes_are : notes ≡ runs_noted times 0 runs ++ (map lock_noted kept.clips.items ++ refused_lock left kept.fault)
   pub whole : kept.fault ≡ None → left ≡ []
 
-abbrev pub Keeps : {A : Type 0} → Times → ℕ → List Noted → Kept A → Type 0
-Keeps times tag notes kept = KeepsNone notes kept ⊎ KeepsRuns times tag notes kept
+abbrev pub NotesKeep : {A : Type 0} → Times → ℕ → List Noted → Kept A → Type 0
+NotesKeep times tag notes kept = NotesNone notes kept ⊎ NotesRuns times tag notes kept
 
 -- a keep under a desk's lock
 pub record KeepsNow {A : Type 0} (camera : ℕ) (times : Times) (tag : ℕ) (old new : SeenSession) (before after : Pass A)
     (kept : Kept A) : Type 0 where
   pub notes : List Noted
-  pub keeps : Keeps times tag notes kept
+  pub keeps : NotesKeep times tag notes kept
   pub records : RecordsAll camera notes old new before after
 
 -- a keep as its caller sees it
@@ -106,14 +93,14 @@ pub record KeepsSome {A : Type 0} (camera : ℕ) (times : Times) (tag : ℕ) (be
     : Type 0 where
   pub notes : List Noted
   pub place : ℕ
-  pub keeps : Keeps times tag notes kept
+  pub keeps : NotesKeep times tag notes kept
   pub received : ReceivesAll camera place notes before after
 
 -- Where a keep tells no refusal, and a desk told what it notes from some state on, the clips have just the held frames
 -- of the time. A desk of any disk tells so (`DeskGoes`), and the histories of an end are answered so (`IsLegal`).
 abbrev pub KeepsAreWhole : {A : Type 0} → Kept A → Type 0
 KeepsAreWhole kept =
-    (k : Rules) (s : DeskState) (times : Times) (tag : ℕ) (notes : List Noted) → Keeps times tag notes kept
+    (k : Rules) (s : DeskState) (times : Times) (tag : ℕ) (notes : List Noted) → NotesKeep times tag notes kept
     → kept.fault ≡ None → AreTold k s (map noted_call notes)
     → numbers_of_clips kept.clips.items ≡ numbers_in_time times s.store.recording
 
@@ -142,4 +129,4 @@ pub record KeepsHeld {D A : Type 0} (medium : D → Medium) (camera : ℕ) (time
     (old new : SeenDesk D) (before after : List Entry) (given back : Pass A) (kept : Kept A) : Type 0 where
   pub notes : List Noted
   pub noted : Notes medium camera notes old new before after given back
-  pub keeps : Keeps times tag notes kept
+  pub keeps : NotesKeep times tag notes kept

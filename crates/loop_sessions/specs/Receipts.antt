@@ -106,7 +106,8 @@ pub record OutlinesNow {D A B : Type 0} (medium : D → Medium) (camera : ℕ) (
   pub records : Records camera (status_note told) old new before after
   pub tells : IfOk result (λ o. (s : Status) × ((told ≡ Ok s) × TellsNow medium new.history o))
 
--- So its caller sees it: the receipt has the status, and the outline is of the desk of a history that ends in its entry.
+-- So its caller sees it: the receipt has the status, and the outline is of the desk of a history that ends in its
+-- entry.
 pub record Outlines {D A B : Type 0} (medium : D → Medium) (camera : ℕ) (before after : Pass B)
     (result : Result (Outline A) SessionFault) : Type 0 where
   pub told : Result Status SessionFault

@@ -1,4 +1,5 @@
-//! The held frames of a time, locked under a desk's lock: each run of their numbers becomes a clip.
+//! The held frames of a time, locked under a desk's lock: each run of their numbers becomes a clip. It is no call of
+//! `Desk::keep_time`, since each lock is an entry of the history, and isn't asked for where there is no room for one.
 
 ghost use Rattle.std.specs.Prelude.{◌≡◌, ◌+◌, ◌<◌, ◌≤◌, IfErr, IfOk, Some, [], length, vec_len};
 ghost use Rattle.std.specs.Option.{option_to_list};

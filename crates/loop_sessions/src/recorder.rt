@@ -102,7 +102,8 @@ impl<D: Disk + Drop, P: PlaneMemory, A: Allocator + Copy> Model for Recorder<D, 
 
     ghost invariant = { λ r. (vec_len r.sessions ≡ vec_len r.outlines) × ((vec_len r.ports ≡ vec_len r.outlines)
         × ((r.ended.items ≡ []) × ((vec_len r.sessions ≤ vec_capacity r.ended) × ((vec_len r.sessions < 2 ^ 32)
-        × (AreNumbered (vec_len r.outlines) r.ports.items × (r.given_up.items ≡ replicate (vec_len r.outlines) 0)))))) };
+        × (AreNumbered (vec_len r.outlines) r.ports.items
+        × (r.given_up.items ≡ replicate (vec_len r.outlines) 0)))))) };
 }
 
 impl<D: Disk + Drop, P: PlaneMemory, A: Allocator + Copy> Recorder<D, P, A> {
@@ -279,8 +280,8 @@ impl<D: Disk + Drop, P: PlaneMemory, A: Allocator + Copy> Recorder<D, P, A> {
         self.sessions[camera as usize].lock(rt).pending()
     }
 
-    /// As `Session::outline`, at a camera's desk. The receipt says how the desk stands, and `end` ties it to the history:
-    /// so the outline's next number, the count of its frames and how many wait are that desk's at that place.
+    /// As `Session::outline`, at a camera's desk. The receipt says how the desk stands, and `end` ties it to the
+    /// history: so the outline's next number, the count of its frames and how many wait are that desk's at that place.
     pub fn outline<R: Wait>(
         &self,
         rt: &R,

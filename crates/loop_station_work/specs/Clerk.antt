@@ -3,11 +3,11 @@ use Rattle.std.specs.Prelude.{◌≡◌, ℕ, Option, None, Result, List, [], �
 use Rattle.loop_disk.specs.Medium.{Medium}
 use Rattle.loop_record.specs.declared.times.Times.{Times}
 use Rattle.loop_store.specs.declared.fault.StoreFault.{StoreFault}
+use Rattle.loop_desk.specs.declared.keep.Kept.{Kept}
 use Rattle.loop_desk.specs.declared.limits.Flushed.{Flushed}
 use Rattle.loop_desk.specs.Desk.{flushed}
+use Rattle.loop_desk.specs.Keeps.{KeepsTime}
 use Rattle.loop_desk.specs.Seen.{DeskGoes, SeenDesk}
-use Rattle.loop_pipeline.specs.declared.keep.Kept.{Kept}
-use Rattle.loop_pipeline.specs.Keeps.{KeepsTime}
 
 -- a desk went on by flushes alone, which were answered so
 abbrev pub Flushes : {D : Type 0} → (D → Medium) → SeenDesk D → List (Result Flushed StoreFault) → SeenDesk D → Type 0

@@ -1,11 +1,11 @@
 //! Recordings of frames of two million bytes, through buffers of the application's memory.
 
 use crate::told::{holds, same};
-use loop_capture::{Device, Pattern, Tick};
+use loop_capture::{Device, Pattern};
 use loop_desk::Desk;
-use loop_disk::{Disk, MemDisk};
+use loop_disk::MemDisk;
 use loop_pipeline::{
-    Back, Camera, Ended, Guide, Link, Unfilmed, film_camera, heap_start, new_queue, start_queue,
+    Camera, Ended, Guide, Link, Unfilmed, film_camera, heap_start, new_queue, start_queue,
 };
 use loop_plane::HeapPlane;
 use loop_record::{Geometry, PixelFormat};
@@ -39,24 +39,9 @@ impl Guide for Four {
         if n < 4 { Some(n * 40_000) } else { None }
     }
 
-    fn ticked<R: Wait>(&self, _rt: &R, _tick: Tick) {}
-
-    fn brought(&self) {}
-
-    fn gave_up(&self) {}
-
-    fn stored(&self, _count: u32) {}
-
     fn flushes_again(&self, _fault: StoreFault) -> bool {
         false
     }
-
-    fn visit<R: Wait + Clock, D: Disk + Drop>(
-        &self,
-        _rt: &R,
-        _alloc: Global,
-        _back: &mut Back<D>,
-    ) {}
 }
 
 // A device of the pattern's frames.

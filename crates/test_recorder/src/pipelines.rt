@@ -1,5 +1,5 @@
-//! Cameras that are filmed: by turns and by threads, into a disk that takes all and into one that fails, and what is kept,
-//! read and unlocked meanwhile.
+//! Cameras that are filmed: by turns and by threads, into a disk that takes all and into one that fails, and what is
+//! kept, read and unlocked meanwhile.
 
 ghost use Rattle.std.specs.Prelude.{◌≡◌};
 ghost use Rattle.loop_desk.specs.declared.hand.Hand.TheVariants.{Empty};
@@ -60,8 +60,6 @@ impl Guide for Guided {
         }
         Some(n.saturating_add(self.first).saturating_mul(1_000))
     }
-
-    fn ticked<R: Wait>(&self, _rt: &R, _tick: Tick) {}
 
     fn brought(&self) {
         self.brought.fetch_add(1, Ordering::SeqCst);

@@ -1,7 +1,7 @@
 use Rattle.std.proofs.Common.{arith}
 use Rattle.loop_store.specs.Calls.{locked}
 use Rattle.loop_store.proofs.NextNumber.{next-one}
-use Rattle.loop_desk.proofs.Kept.{kept-same}
+use Rattle.loop_desk.proofs.Always.{kept-same}
 use Rattle.loop_desk.proofs.desk.Desk.lock_clip.Goals as goal
 
 pub invariant_of-self : goal.invariant_of-self

@@ -4,7 +4,7 @@ use Rattle.loop_store.specs.Calls.{upgraded}
 use Rattle.loop_store.specs.Seen.{Seen}
 use Rattle.loop_store.proofs.NextNumber.{next-one}
 use Rattle.loop_desk.specs.Seen.{SeenDesk}
-use Rattle.loop_desk.proofs.Kept.{kept-same}
+use Rattle.loop_desk.proofs.Always.{kept-same}
 use Rattle.loop_desk.proofs.desk.Desk.upgrade.Goals as goal
 
 pub invariant_of-self : goal.invariant_of-self

@@ -1,19 +1,17 @@
 use Rattle.std.proofs.Common.{ap, subst}
+use Rattle.loop_desk.specs.Keeps.{HaveTime}
 use Rattle.loop_desk.specs.Seen.{SeenDesk}
 use Rattle.loop_pipeline.specs.Backs.{SeenBack}
-use Rattle.loop_pipeline.specs.Keeps.{HaveTime}
 use Rattle.loop_pipeline.proofs.Bringing.{called}
 use Rattle.loop_pipeline.proofs.Keeping.{none-submitted}
-use Rattle.loop_pipeline.proofs.Whole.{keeps-whole}
 use Rattle.loop_pipeline.proofs.back.Back.keep.Goals as goal
 
 pub invariant_of-self : goal.invariant_of-self
 invariant_of-self g c =
-    let k = c.keep_at.ensures in
+    let k = c.keep_time.ensures.goes in
     called g.D.Disk.medium _ _ _ _ _ c.self.inside.from _ c.self.invariant k.calls (none-submitted _ _ _ _ _ k.keeps) k.goes
 
 pub returns-clause-whole : goal.returns-clause-whole
 returns-clause-whole g c none =
-    subst (λ (d : SeenDesk g.row.D.Denot). HaveTime c.args.times d c.keep_at.result.clips.items)
-    (ap (λ (b : SeenBack g.row.D.Denot g.row.A.Denot). b.desk) c.self.view_is)
-    (keeps-whole g.D.Disk.medium _ _ _ _ _ c.keep_at.ensures none)
+    subst (λ (d : SeenDesk g.row.D.Denot). HaveTime c.args.times d c.keep_time.result.clips.items)
+    (ap (λ (b : SeenBack g.row.D.Denot g.row.A.Denot). b.desk) c.self.view_is) (c.keep_time.ensures.whole none)

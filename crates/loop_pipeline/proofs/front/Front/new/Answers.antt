@@ -1,4 +1,3 @@
-use Rattle.std.proofs.Common.{sym}
 use Rattle.loop_pipeline.proofs.Moving.{begun}
 use Rattle.loop_pipeline.proofs.front.Front.new.Goals as goal
 

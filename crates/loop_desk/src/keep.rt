@@ -5,9 +5,9 @@ ghost use Rattle.std.specs.Result.{result_err};
 ghost use Rattle.std.specs.Vec.{vec_capacity};
 ghost use Rattle.loop_desk.specs.Desk.{DeskCall};
 ghost use Rattle.loop_desk.specs.Seen.{DeskGoes};
-ghost use Rattle.loop_pipeline.specs.Keeps.{AreLocks, KeepsTime};
+ghost use Rattle.loop_desk.specs.Keeps.{AreLocks, KeepsTime};
 
-use loop_desk::Desk;
+use crate::Desk;
 use loop_disk::Disk;
 use loop_record::{Span, Times};
 use loop_store::{Clip, StoreFault};

@@ -1,21 +1,14 @@
--- A keep is whole: what a desk tells as the runs of a time, one by one, are all of them.
-use Rattle.std.proofs.Common.{◌≡◌, ℕ, zero, suc, ◌+◌, ◌-◌, ◌≤◌, inl, inr, Option, Some, None, List, [], ◌∷◌, ◌++◌, map, drop, refl, sym, ap, ◌∙◌, subst, arith}
+-- What a desk tells as the runs of a time, one by one, are all of them.
+use Rattle.std.proofs.Common.{◌≡◌, ℕ, zero, suc, ◌+◌, ◌-◌, ◌≤◌, Option, Some, None, List, [], ◌∷◌, ◌++◌, drop, refl, sym, ap, ◌∙◌, subst, arith}
 use Rattle.std.specs.Prelude.{slice_get}
 use Rattle.std.specs.List.{range_with_len}
-use Rattle.std.proofs.lemmas.List.{append-nil}
 use Rattle.std.proofs.lemmas.Option.{get_or_from_slice_get, none-some, same_Some, slice_get_within}
 use Rattle.std.proofs.Math.ListN.{drop_of_length-le}
 use Rattle.std.proofs.Math.Seq.{drop-cons}
-use Rattle.loop_disk.specs.Medium.{Medium}
 use Rattle.loop_record.specs.declared.clip.Span.{Span}
 use Rattle.loop_record.specs.declared.times.Times.{Times}
 use Rattle.loop_record.specs.Times.{AreRuns, RunsFrom, numbers_in_time, numbers_of_span, numbers_of_spans}
-use Rattle.loop_store.specs.declared.fault.StoreFault.{StoreFault}
-use Rattle.loop_desk.specs.Desk.{AreTold, DeskCall, DeskState, IsDeskTold, IsRunAt, Rules, desk_after, run_told, runs_told}
-use Rattle.loop_desk.specs.Seen.{SeenDesk, rules_of}
-use Rattle.loop_desk.proofs.Frames.{each-parts}
-use Rattle.loop_pipeline.specs.declared.keep.Kept.{Kept}
-use Rattle.loop_pipeline.specs.Keeps.{HaveTime, Keeps, KeepsTime, LocksEnd, clip_span, with_tag}
+use Rattle.loop_desk.specs.Desk.{AreTold, DeskState, IsRunAt, Rules, desk_after, run_told, runs_told}
 
 -- ---- numbers have one list of runs
 
@@ -125,40 +118,8 @@ some-runs : (k : Rules) (times : Times) (runs : List Span) (s : DeskState) → A
 some-runs k times [] s told = (told.0.0, told.0.1.0)
 some-runs k times (r ∷ rs) s told = (told.0.0, told.0.1.0)
 
-told-all : (k : Rules) (times : Times) (runs : List Span) (s : DeskState) → AreTold k s (runs_told times 0 runs)
+pub told-all : (k : Rules) (times : Times) (runs : List Span) (s : DeskState) → AreTold k s (runs_told times 0 runs)
     → numbers_of_spans runs ≡ numbers_in_time times s.store.recording
 told-all k times runs s told =
     let some = some-runs k times runs s told in
     ap numbers_of_spans (sym (told-rest k times some.0 runs 0 s some.1 told)) ∙ some.1.numbers_are
-
--- ---- the clips
-
--- a tag doesn't change the numbers
-tagged-numbers : (tag : ℕ) (runs : List Span) → numbers_of_spans (map (with_tag tag) runs) ≡ numbers_of_spans runs
-tagged-numbers tag [] = refl
-tagged-numbers tag (r ∷ rs) = ap (λ (l : List ℕ). numbers_of_span r ++ l) (tagged-numbers tag rs)
-
--- where no fault is told, no run is left
-none-refused : (left : List Span) (fault : Option StoreFault) (calls : List DeskCall) → LocksEnd left fault calls
-    → fault ≡ None → left ≡ []
-none-refused [] fault calls ends none = refl
-none-refused (r ∷ left) None calls ends none = absurd ends
-none-refused (r ∷ left) (Some fault) calls ends none = absurd (none-some fault (sym none))
-
-module _ {D A : Type 0} (medium : D → Medium) (times : Times) (tag : ℕ) (old new : SeenDesk D) (kept : Kept A) where
-  clips-whole : (calls : List DeskCall) (s : DeskState) → Keeps times tag old calls kept → kept.fault ≡ None
-      → AreTold (rules_of old) s calls
-      → numbers_of_spans (map clip_span kept.clips.items) ≡ numbers_in_time times s.store.recording
-  clips-whole calls s (inl n) none told = absurd (none-some n.fault (sym none ∙ n.told))
-  clips-whole calls s (inr (inl n)) none told = absurd (none-some _ (sym none ∙ n.told))
-  clips-whole calls s (inr (inr h)) none told =
-      let k = rules_of old in
-      let all = none-refused h.are.left kept.fault h.are.refusal h.are.ended none in
-      let parts = subst (λ (l : List DeskCall). AreTold k s l) h.calls_are told in
-      ap numbers_of_spans (sym (append-nil (map clip_span kept.clips.items))
-      ∙ ap (λ (l : List Span). map clip_span kept.clips.items ++ l) (sym all) ∙ sym h.are.locked)
-      ∙ tagged-numbers tag h.runs
-      ∙ told-all k times h.runs s (each-parts (desk_after k) (IsDeskTold k) s (runs_told times 0 h.runs) h.locks parts).0
-
-  pub keeps-whole : KeepsTime medium times tag old new kept → kept.fault ≡ None → HaveTime times old kept.clips.items
-  keeps-whole h none s tells = clips-whole h.calls s h.keeps none (h.goes.plays s tells).0

@@ -9,11 +9,15 @@ use Rattle.loop_store.specs.declared.fault.StoreFault.{StoreFault}
 use Rattle.loop_store.specs.declared.fault.StoreFault.TheVariants.{NoMemory}
 use Rattle.loop_desk.specs.Desk.{DeskCall, DeskState, clip_locked, runs_told}
 use Rattle.loop_desk.specs.Seen.{DeskGoes, OutlineRefuses, SeenDesk, TellsDesk}
-use Rattle.loop_pipeline.specs.declared.keep.Kept.{Kept}
+use Rattle.loop_desk.specs.declared.keep.Kept.{Kept}
 
 -- what a clip locks
 abbrev pub clip_span : Clip → Span
 clip_span c = record { from = c.from; to = c.to; tag = c.tag }
+
+-- the numbers of clips, one clip behind the other
+abbrev pub numbers_of_clips : List Clip → List ℕ
+numbers_of_clips clips = numbers_of_spans (map clip_span clips)
 
 -- a run with the tag of a clip
 abbrev pub with_tag : ℕ → Span → Span
@@ -81,4 +85,4 @@ pub record KeepsTime {D A : Type 0} (medium : D → Medium) (times : Times) (tag
 abbrev pub HaveTime : {D : Type 0} → Times → SeenDesk D → List Clip → Type 0
 HaveTime times desk clips =
     (s : DeskState) → TellsDesk desk s
-    → numbers_of_spans (map clip_span clips) ≡ numbers_in_time times s.store.recording
+    → numbers_of_clips clips ≡ numbers_in_time times s.store.recording
