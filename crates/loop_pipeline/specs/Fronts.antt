@@ -43,8 +43,7 @@ IsToldBy (Completed i) answer = answer ≡ More
 IsToldBy (Failed i) answer = answer ≡ Bad
 IsToldBy Missed answer = answer ≢ End
 IsToldBy Ended answer = answer ≡ End
-IsToldBy Idle answer = ⊥
-IsToldBy WrongSize answer = ⊥
+IsToldBy _ answer = ⊥
 
 module _ {S : Type 0} (gives : S → Next → List ℕ → S → Type 0) where
   -- one tick: Idle and WrongSize change nothing, and for any other the source was asked, and gave these bytes

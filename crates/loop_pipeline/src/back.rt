@@ -1,16 +1,17 @@
 //! The end of a ring and a desk, in one hand.
 
-ghost use Rattle.std.specs.Prelude.{◌≡◌, ◌∷◌, IfErr, IfOk, None, []};
+ghost use Rattle.std.specs.Prelude.{◌≡◌, ◌∷◌, ℕ, List, IfErr, IfOk, None, []};
 ghost use Rattle.rtrb.specs.Ring.{received};
 ghost use Rattle.loop_desk.specs.Desk.{clip_unlocked, flushed, frame_read};
 ghost use Rattle.loop_desk.specs.Keeps.{HaveTime, KeepsTime};
 ghost use Rattle.loop_desk.specs.Seen.{DeskGoes, OutlineRefuses, TellsOutline, TellsStatus};
 ghost use Rattle.loop_pipeline.specs.Backs.{BackKeeps};
+ghost use Rattle.loop_store.specs.Calls.{read_with};
 ghost use Rattle.loop_store.specs.Runs.{read_of};
 
 use loop_desk::{Desk, Flushed, Kept, Outline, Status};
 use loop_disk::Disk;
-use loop_record::{Frame, Times};
+use loop_record::{Frame, FrameHead, Times};
 use loop_store::{ReadFrame, StoreFault};
 use rtrb::Consumer;
 use std::alloc::{Allocator, Global};
@@ -161,6 +162,15 @@ impl<D: Disk + Drop, A: Allocator + Copy> Back<D, A> {
         ensures same { self.new ≡ record self.old { desk = self.new.desk } }
     {
         self.desk.read_frame(alloc, number)
+    }
+
+    /// Reads the head of a stored frame and none of its bytes, as `Desk::read_head`.
+    pub fn read_head(&mut self, number: u64) -> Result<FrameHead, StoreFault>
+        ensures goes { (bytes : List ℕ)
+            × DeskGoes D.medium self.old.desk self.new.desk (frame_read number (read_with result bytes) ∷ []) }
+        ensures same { self.new ≡ record self.old { desk = self.new.desk } }
+    {
+        self.desk.read_head(number)
     }
 
     /// Locks the held frames of a time with a tag, as `Desk::keep_time`.

@@ -381,8 +381,9 @@ fn run_in<
     ensures front { LeavesCarried W.inside S.next_gives P.plane (made_of begun) result.front }
     ensures back { result.back ≡ record back { desk = result.back.desk } }
 {
-    let work =
-        move || -> Left<S, P, W> { film_carried(rt, alloc, link, guide, device, queue, table, to) };
+    let work = move || -> Left<S, P, W> {
+        film_carried(rt, alloc, link, guide, device, queue, table, to)
+    };
     match scope.spawn_with(begun, work) {
         Ok(handle) => {
             let back = film_back(rt, alloc, link, guide, back);

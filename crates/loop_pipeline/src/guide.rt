@@ -35,6 +35,5 @@ pub trait Guide {
     /// What others ask of the desk. It is called between flushes, by the desk's own thread.
     fn visit<R: Wait + Clock, D: Disk + Drop>(&self, rt: &R, alloc: Global, back: &mut Back<D>)
         ensures { back.new ≡ record back.old { desk = back.new.desk } }
-    {
-    }
+    {}
 }

@@ -35,9 +35,8 @@ lock_noted c = noted.Lock (clip_span c) (Ok c.id)
 
 -- the lock of the first of these was refused, if the desk refused it
 abbrev pub refused_lock : List Span → Option SessionFault → List Noted
-refused_lock [] fault = []
-refused_lock (span ∷ left) None = []
 refused_lock (span ∷ left) (Some fault) = option_to_list (lock_note span (Err fault))
+refused_lock _ _ = []
 
 -- the receipts of notes, at places one behind the other
 abbrev pub receipts_from : ℕ → ℕ → List Noted → List Receipt

@@ -17,14 +17,13 @@ use Rattle.loop_sessions.specs.declared.entry.Pass.{Pass}
 use Rattle.loop_sessions.specs.declared.entry.Receipt.{Receipt}
 use Rattle.loop_sessions.specs.declared.entry.Stamp.{Stamp}
 use Rattle.loop_sessions.specs.declared.fault.SessionFault.{SessionFault}
-use Rattle.loop_sessions.specs.declared.fault.SessionFault.TheVariants.{SessionFull, NoMemory, Desk}
+use Rattle.loop_sessions.specs.declared.fault.SessionFault.TheVariants.{Desk}
 use Rattle.loop_sessions.specs.Sessions.{SeenSession, TellsNow}
 
 -- the desk's own refusal, if the desk was asked
 abbrev pub desk_fault : SessionFault → Option StoreFault
-desk_fault SessionFull = None
-desk_fault NoMemory = None
 desk_fault (Desk fault) = Some fault
+desk_fault _ = None
 
 -- the desk's answer, if it was asked
 abbrev pub heard : {T : Type 0} → Result T SessionFault → Option (Result T StoreFault)

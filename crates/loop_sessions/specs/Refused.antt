@@ -24,7 +24,6 @@ pub record BreaksTie {D P A : Type 0} (medium : D → Medium) (recorder : SeenRe
 -- with too few passes, all comes back; else a tie is broken
 abbrev pub RefusesEnd : {D P A : Type 0} → (D → Medium) → SeenRecorder A → List (Pass A) → EndRefused D P A → Type 0
 RefusesEnd medium recorder passes (PassesMissing given made again back) =
-    (given < made) × ((given ≡ length passes)
-    × ((made ≡ recorder.passes) × ((again ≡ recorder) × (back.items ≡ passes))))
+    (given < made) × (given ≡ length passes) × (made ≡ recorder.passes) × (again ≡ recorder) × (back.items ≡ passes)
 RefusesEnd medium recorder passes (TieBroken camera ended) = BreaksTie medium recorder passes camera ended
 RefusesEnd medium recorder passes (NoMemory again back) = ⊥
