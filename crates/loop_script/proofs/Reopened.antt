@@ -1,5 +1,8 @@
 -- Why a disk that holds a recording is refused, and what it is opened as.
 use Rattle.std.proofs.Common.{◌≡◌, ℕ, false, Result, Ok, Err, List, refl, sym, ap, ◌∙◌}
+use Rattle.loop_disk.specs.declared.memory.MemDisk.{MemDisk}
+use Rattle.loop_disk.specs.Calls.{Stays}
+use Rattle.loop_disk.specs.Medium.{MayBe}
 use Rattle.loop_record.specs.declared.damage.LayoutFault.{LayoutFault}
 use Rattle.loop_record.specs.declared.geometry.Geometry.{Geometry}
 use Rattle.loop_record.specs.Reading.{Contents, Holds}
@@ -9,6 +12,8 @@ use Rattle.loop_store.specs.declared.fault.StoreFault.{StoreFault}
 use Rattle.loop_store.specs.declared.fault.StoreFault.TheVariants.{BadKeep, Damaged, Disk, NoMemory, NotFormatted}
 use Rattle.loop_store.specs.Faults.{is_disk}
 use Rattle.loop_store.specs.Reopen.{IsRefusedOpen, is_bad_keep}
+use Rattle.loop_store.proofs.Reopened.{refused-honest}
+use Rattle.loop_script.proofs.Called.{memory, memory-sound}
 
 -- the geometry of what is read, or another where nothing is
 abbrev geometry_read : Geometry → Result Contents LayoutFault → Geometry
@@ -31,3 +36,11 @@ refused_for_memory g keep r image _ holds can refused fine = absurd refused
 -- an image reads as a recording of one geometry
 pub same_geometry : (g h : Geometry) (r s : Recording) (image : List ℕ) → Holds g r image → Holds h s image → g ≡ h
 same_geometry g h r s image first second = ap (geometry_read g) (sym first ∙ second)
+
+-- what a disk in memory was refused for is what its bytes read as
+pub refused_in_memory : {A : Type 0} (old new : MemDisk A) (keep : ℕ) (fault : StoreFault)
+    → ((memory old).honest → is_disk fault ≡ false → Stays (memory old) (memory new))
+    → ((image : List ℕ) → MayBe (memory new) image → IsRefusedOpen keep image fault)
+    → IsRefusedOpen keep (memory old).bytes fault
+refused_in_memory old new keep fault stays said =
+    refused-honest (memory old) (memory new) keep fault (λ honest. honest) (λ honest. memory-sound new) stays said tt
