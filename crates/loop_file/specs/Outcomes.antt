@@ -1,7 +1,14 @@
--- A file's answers as a disk's.
-use Rattle.std.specs.Prelude.{Result, Ok, Err}
+-- A file's answers as a disk's, and a disk to begin with.
+use Rattle.std.specs.Prelude.{◌≡◌, ℕ, Result, Ok, Err, List}
+use Rattle.loop_disk.specs.Calls.{no_failures}
+use Rattle.loop_disk.specs.Medium.{Medium}
 
 -- the file's Ok is the disk's, and whatever else the file answers is this fault
 abbrev pub failing_as : {T E F : Type 0} → F → Result T E → Result T F
 failing_as fault (Ok x) = Ok x
 failing_as fault (Err error) = Err fault
+
+-- no call has failed yet, and nothing was read
+pub record IsUnused (m : Medium) : Type 0 where
+  pub counted : m.failures ≡ no_failures
+  pub unread : (image : List ℕ) → m.agrees image

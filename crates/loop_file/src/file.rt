@@ -2,10 +2,10 @@
 // known.
 ghost use Rattle.std.specs.Prelude.{◌≡◌, ◌+◌, ◌↔◌, ◌≤◌, ℕ, List, length, IfOk, IfErr, OnOk};
 ghost use Rattle.loop_disk.specs.declared.fault.DiskFault.TheVariants.{Read};
-ghost use Rattle.loop_disk.specs.Calls.{Called, Stays, failed_call, no_failures, with_failed};
+ghost use Rattle.loop_disk.specs.Calls.{Called, Stays, failed_call, with_failed};
 ghost use Rattle.loop_disk.specs.History.{unknown};
 ghost use Rattle.loop_disk.specs.Medium.{LeavesEach, MayBe, piece};
-ghost use Rattle.loop_file.specs.Outcomes.{failing_as};
+ghost use Rattle.loop_file.specs.Outcomes.{IsUnused, failing_as};
 
 use crate::fault::FileFault;
 use crate::fresh::make_fresh;
@@ -41,7 +41,7 @@ impl FileDisk {
         size: u64,
     ) -> Result<Self, FileFault>
         ensures size { IfOk result (λ disk. (⟦<FileDisk<File> as Disk>⟧.medium disk).size ≡ size) }
-        ensures counted { IfOk result (λ disk. (⟦<FileDisk<File> as Disk>⟧.medium disk).failures ≡ no_failures) }
+        ensures unused { IfOk result (λ disk. IsUnused (⟦<FileDisk<File> as Disk>⟧.medium disk)) }
     {
         let mut place = FilePlace::of(rt, path)?;
         place.create(rt, size)
@@ -49,7 +49,7 @@ impl FileDisk {
 
     /// Opens a file that is there, for reading and writing. Its length is the disk's size.
     pub fn open<R: Files<File = File>, P: AsPath>(rt: &R, path: P) -> Result<Self, FileFault>
-        ensures { IfOk result (λ disk. (⟦<FileDisk<File> as Disk>⟧.medium disk).failures ≡ no_failures) }
+        ensures { IfOk result (λ disk. IsUnused (⟦<FileDisk<File> as Disk>⟧.medium disk)) }
     {
         let file = open_file(rt, OpenOptions::new().read(true).write(true), path)?;
         take(&file)?;
@@ -65,7 +65,7 @@ impl FileDisk {
 impl<F: OpenFile + FileExt + Drop> FileDisk<F> {
     /// A disk over an open file, which nobody else may use. It takes no lock.
     pub fn over(file: F) -> io::Result<Self>
-        ensures { IfOk result (λ disk. (⟦<FileDisk<F> as Disk>⟧.medium disk).failures ≡ no_failures) }
+        ensures { IfOk result (λ disk. IsUnused (⟦<FileDisk<F> as Disk>⟧.medium disk)) }
     {
         let size = file.metadata()?.len();
         Ok(FileDisk::of_size(file, size))
@@ -76,8 +76,7 @@ impl<F: OpenFile + FileExt + Drop> FileDisk<F> {
     /// has no room to grow to it keeps its bytes; one that can't be written over begins with a zero.
     pub fn fresh_over<G: OpenFile>(file: F, folder: &G, size: u64) -> Result<Self, FileFault>
         ensures size { IfOk result (λ disk. (⟦<FileDisk<F> as Disk>⟧.medium disk).size ≡ size) }
-        ensures counted { IfOk result
-            (λ disk. (⟦<FileDisk<F> as Disk>⟧.medium disk).failures ≡ no_failures) }
+        ensures unused { IfOk result (λ disk. IsUnused (⟦<FileDisk<F> as Disk>⟧.medium disk)) }
     {
         make_fresh(&file, folder, size)?;
         Ok(FileDisk::of_size(file, size))
@@ -85,7 +84,7 @@ impl<F: OpenFile + FileExt + Drop> FileDisk<F> {
 
     // A disk of that size, of which no call has failed.
     pub(crate) fn of_size(file: F, size: u64) -> Self
-        ensures { (result.size ≡ size) × (result.failures ≡ no_failures) }
+        ensures { (result.size ≡ size) × IsUnused (⟦<FileDisk<F> as Disk>⟧.medium result) }
     {
         FileDisk {
             file,

@@ -1,6 +1,6 @@
 // Where a file stands, and how it is made anew there.
 ghost use Rattle.std.specs.Prelude.{◌≡◌, IfOk};
-ghost use Rattle.loop_disk.specs.Calls.{no_failures};
+ghost use Rattle.loop_file.specs.Outcomes.{IsUnused};
 
 use crate::fault::FileFault;
 use crate::file::FileDisk;
@@ -64,7 +64,7 @@ impl FilePlace {
         size: u64,
     ) -> Result<FileDisk, FileFault>
         ensures size { IfOk result (λ disk. (⟦<FileDisk<File> as Disk>⟧.medium disk).size ≡ size) }
-        ensures counted { IfOk result (λ disk. (⟦<FileDisk<File> as Disk>⟧.medium disk).failures ≡ no_failures) }
+        ensures unused { IfOk result (λ disk. IsUnused (⟦<FileDisk<File> as Disk>⟧.medium disk)) }
     {
         let (file, is_new) = open_or_make(rt, self.path.as_path())?;
         self.is_new = is_new;
@@ -107,7 +107,7 @@ impl FilePlace {
 
     /// Opens the file of this place, for reading and writing, as `FileDisk::open` does.
     pub fn open<R: Files<File = File>>(&self, rt: &R) -> Result<FileDisk, FileFault>
-        ensures { IfOk result (λ disk. (⟦<FileDisk<File> as Disk>⟧.medium disk).failures ≡ no_failures) }
+        ensures { IfOk result (λ disk. IsUnused (⟦<FileDisk<File> as Disk>⟧.medium disk)) }
     {
         FileDisk::open(rt, self.path.as_path())
     }
