@@ -36,23 +36,27 @@ module _ {S P : Type 0} (gives : S → Next → List ℕ → S → Type 0) (m : 
   took_so now Missed d e q q' s t = t
   took_so now Ended d e q q' s t = t
 
-  pub took : (now sequence : ℕ) (fresh : Bool) (answer : Next) (tick : Tick) (d e : SeenDevice S)
-      (q between q' : Lined P) → length d.frame ≡ frame_size q.body.shape → q.body.started ≡ true
-      → Happens m q between (take_fresh fresh) → sequence ≡ cond fresh 0 d.next → gives d.source answer e.frame e.source
+  pub took : (now sequence : ℕ) (fresh : Bool) (answer : Next) (tick : Tick) (bytes : List ℕ) (d e : SeenDevice S)
+      (q between q' : Lined P) → d.size ≡ frame_size q.body.shape → q.body.started ≡ true
+      → Happens m q between (take_fresh fresh) → sequence ≡ cond fresh 0 d.next
+      → (answer ≡ More → length bytes ≡ d.size) → gives d.source answer bytes e.source → e.size ≡ d.size
       → e.next ≡ sequence_after answer sequence → Ends m answer (record { sequence = sequence; timestamp = now })
-      e.frame tick between q' → Ticks gives m now tick d e q q'
-  took now sequence fresh answer tick d e q between q' fits started step is given next ends = λ s h.
+      bytes tick between q' → Ticks gives m now tick d e q q'
+  took now sequence fresh answer tick bytes d e q between q' fits started step is whole given size next ends = λ s h.
       let x = step s h in
       let y = ends.1 (seen_state s) x.1 in
       let same : sequence ≡ sequence_of d.next s = is ∙ ap (λ b. cond b 0 d.next) x.0 in
-      let of : ℕ → List Event = λ (k : ℕ). end_of tick (record { sequence = k; timestamp = now }) e.frame in
+      let of : ℕ → List Event = λ (k : ℕ). end_of tick (record { sequence = k; timestamp = now }) bytes in
       took_so now tick d e q q' s (record {
         fits = fits ∙ ap (λ b. frame_size b.shape) h.shown.body;
         started = sym (ap (λ b. b.started) h.shown.body) ∙ started;
         answer = answer;
+        bytes = bytes;
+        whole = whole;
         given = given;
         tick_is = ends.0 (seen_state s) x.1;
         next = next ∙ ap (sequence_after answer) same;
+        size = size;
         happen = (refl, subst (λ (k : ℕ). EachIn after_event MayHappen (seen_state s) (of k)) same y.0);
         queue = subst (λ (k : ℕ). StandsQueue m q' (after_all after_event (seen_state s) (of k))) same y.1;
       })

@@ -1,5 +1,5 @@
 -- A tick as events of the queue's model, and what it makes of the device.
-use Rattle.std.specs.Prelude.{◌≡◌, ◌≢◌, ℕ, ◌+◌, ◌%◌, ◌^◌, true, false, cond, List, [], ◌∷◌, replicate, length, Option, Some, None}
+use Rattle.std.specs.Prelude.{◌≡◌, ◌≢◌, ℕ, ◌+◌, ◌%◌, ◌^◌, true, false, cond, List, [], ◌∷◌, length, Option, Some, None}
 use Rattle.loop_plane.specs.Plane.{Plane}
 use Rattle.loop_record.specs.Turns.{EachIn, Plays, after_all}
 use Rattle.loop_capture.specs.declared.device.Tick.{Tick}
@@ -12,15 +12,15 @@ use Rattle.loop_vb2.specs.Events.{Event, after_event, MayHappen, queue_machine, 
 use Rattle.loop_vb2.specs.Planes.{frame_size}
 use Rattle.loop_vb2.specs.State.{Lined, QueueState, StandsQueue}
 
--- a device: its source, the bytes in its buffer, and the sequence of its next frame
+-- a device: its source, how many bytes a frame has, and the sequence of its next frame
 pub record SeenDevice (S : Type 0) : Type 0 where
   pub source : S
-  pub frame : List ℕ
+  pub size : ℕ
   pub next : ℕ
 
 -- a new device
 abbrev pub IsNew : {S : Type 0} → S → ℕ → SeenDevice S → Type 0
-IsNew source size d = d ≡ record { source = source; frame = replicate size 0; next = 0 }
+IsNew source size d = d ≡ record { source = source; size = size; next = 0 }
 
 -- the sequence of a frame that is taken now: 0 after a start
 abbrev pub sequence_of : ℕ → QueueState → ℕ
@@ -61,26 +61,30 @@ abbrev pub tick_events : ℕ → ℕ → Tick → List ℕ → QueueState → Li
 tick_events now next tick bytes s =
     take_fresh s.body.fresh ∷ end_of tick (record { sequence = sequence_of next s; timestamp = now }) bytes
 
--- a tick for which the source was asked: the device had a frame's length and had started, and the queue's events happen
+-- a tick for which the source was asked: the device had a frame's length and had started, the source gave these bytes,
+-- which are whole if it has more, and the queue's events happen
 pub record Took {S P : Type 0} (gives : S → Next → List ℕ → S → Type 0) (meaning : P → Plane) (now : ℕ) (tick : Tick)
     (d e : SeenDevice S) (before after : Lined P) (s : QueueState) : Type 0 where
-  pub fits : length d.frame ≡ frame_size s.body.shape
+  pub fits : d.size ≡ frame_size s.body.shape
   pub started : s.body.started ≡ true
   pub answer : Next
-  pub given : gives d.source answer e.frame e.source
+  pub bytes : List ℕ
+  pub whole : answer ≡ More → length bytes ≡ d.size
+  pub given : gives d.source answer bytes e.source
   pub tick_is : tick ≡ tick_of answer (longest_active s)
   pub next : e.next ≡ sequence_after answer (sequence_of d.next s)
-  pub happen : EachIn after_event MayHappen s (tick_events now d.next tick e.frame s)
-  pub queue : StandsQueue meaning after (after_all after_event s (tick_events now d.next tick e.frame s))
+  pub size : e.size ≡ d.size
+  pub happen : EachIn after_event MayHappen s (tick_events now d.next tick bytes s)
+  pub queue : StandsQueue meaning after (after_all after_event s (tick_events now d.next tick bytes s))
 
 -- a tick: WrongSize and Idle change nothing
 abbrev pub Ticked : {S P : Type 0} → (S → Next → List ℕ → S → Type 0) → (P → Plane) → ℕ → Tick → SeenDevice S
     → SeenDevice S
     → Lined P → Lined P → QueueState → Type 0
 Ticked gives meaning now WrongSize d e before after s =
-    (length d.frame ≢ frame_size s.body.shape) × (e ≡ d) × (after ≡ before)
+    (d.size ≢ frame_size s.body.shape) × (e ≡ d) × (after ≡ before)
 Ticked gives meaning now Idle d e before after s =
-    (length d.frame ≡ frame_size s.body.shape) × (s.body.started ≡ false) × (e ≡ d) × (after ≡ before)
+    (d.size ≡ frame_size s.body.shape) × (s.body.started ≡ false) × (e ≡ d) × (after ≡ before)
 Ticked gives meaning now tick d e before after s = Took gives meaning now tick d e before after s
 
 -- so in each state that the queue stands for

@@ -1,5 +1,6 @@
 // The device: a source's frames for a queue's buffers.
 ghost use Rattle.std.specs.Prelude.{◌≡◌, IfErr, IfOk, length};
+ghost use Rattle.loop_capture.specs.declared.source.Next.TheVariants.{More};
 ghost use Rattle.loop_capture.specs.Ticks.{Ends, IsLongest, IsNew, SeenDevice, Ticks, sequence_after};
 ghost use Rattle.loop_vb2.specs.Planes.{frame_size};
 
@@ -33,7 +34,7 @@ pub struct NoMemory<S> {
     pub source: S,
 }
 
-/// A capture device: a source, a buffer for a frame, and the sequence of the next frame.
+/// A capture device: a source, a buffer for the frames that it doesn't lend, and the sequence of the next frame.
 #[derive(Drop)]
 pub struct Device<S = Box<dyn FrameSource + Send>, A: Allocator + Copy = Global> {
     source: S,
@@ -44,7 +45,7 @@ pub struct Device<S = Box<dyn FrameSource + Send>, A: Allocator + Copy = Global>
 impl<S, A: Allocator + Copy> Model for Device<S, A> {
     ghost Value = { SeenDevice S };
 
-    ghost view = { λ d. record { source = d.source; frame = d.frame.items; next = d.next } };
+    ghost view = { λ d. record { source = d.source; size = length d.frame.items; next = d.next } };
 }
 
 impl<S: FrameSource, A: Allocator + Copy> Device<S, A> {
@@ -75,7 +76,6 @@ impl<S: FrameSource, A: Allocator + Copy> Device<S, A> {
     ) -> Tick
         ensures tick { Ticks S.next_gives P.plane now result self.old self.new queue.old queue.new }
         ensures shape { queue.new.body.shape ≡ queue.old.body.shape }
-        ensures size { length self.new.frame ≡ length self.old.frame }
     {
         if queue.frame_bytes() != self.frame.len() as u64 {
             return Tick::WrongSize;
@@ -84,14 +84,22 @@ impl<S: FrameSource, A: Allocator + Copy> Device<S, A> {
             return Tick::Idle;
         }
         let sequence = if queue.take_fresh() { 0 } else { self.next };
-        let answer = ask(&mut self.source, &mut self.frame);
-        self.next = sequence_after(answer, sequence);
+        let active = queue.next_active();
         let stamp = Stamp {
             sequence,
             timestamp: now,
         };
-        let active = queue.next_active();
-        end_frame(queue, active, answer, stamp, &self.frame)
+        match self.source.make_ready(self.frame.len()) {
+            Some(answer) => {
+                self.next = sequence_after(answer, sequence);
+                end_frame(queue, active, answer, stamp, self.source.lent())
+            }
+            None => {
+                let answer = ask(&mut self.source, &mut self.frame);
+                self.next = sequence_after(answer, sequence);
+                end_frame(queue, active, answer, stamp, &self.frame)
+            }
+        }
     }
 }
 
@@ -121,7 +129,7 @@ fn end_frame<P: PlaneMemory, A: Allocator + Copy>(
     stamp: Stamp,
     bytes: &[u8],
 ) -> Tick
-    requires whole { length bytes.now ≡ frame_size queue.old.body.shape }
+    requires whole { answer ≡ More → length bytes.now ≡ frame_size queue.old.body.shape }
     requires active { IsLongest P.plane active queue.old }
     ensures ends { Ends P.plane answer stamp bytes.now result queue.old queue.new }
     ensures shape { queue.new.body.shape ≡ queue.old.body.shape }

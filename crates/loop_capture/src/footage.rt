@@ -1,5 +1,5 @@
 // The frames of a YUV4MPEG2 input.
-ghost use Rattle.std.specs.Prelude.{◌≡◌, false};
+ghost use Rattle.std.specs.Prelude.{◌≡◌, [], false};
 ghost use Rattle.loop_capture.specs.Sources.{Footage, GivesFootage};
 
 use crate::source::{FrameSource, Next};
@@ -36,6 +36,8 @@ impl<R: Read + Drop> Y4mSource<R> {
 impl<R: Read + Drop> FrameSource for Y4mSource<R> {
     ghost next_gives = { GivesFootage };
 
+    ghost lends = { λ s. [] };
+
     fn next(&mut self, out: &mut [u8]) -> Next {
         if self.over {
             return Next::End;
@@ -55,5 +57,9 @@ impl<R: Read + Drop> FrameSource for Y4mSource<R> {
                 Next::Bad
             }
         }
+    }
+
+    fn lent(&self) -> &[u8] {
+        &[]
     }
 }

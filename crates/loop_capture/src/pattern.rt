@@ -1,5 +1,5 @@
 // Frames that tell by their bytes which they are.
-ghost use Rattle.std.specs.Prelude.{◌≡◌, ℕ};
+ghost use Rattle.std.specs.Prelude.{◌≡◌, [], ℕ};
 ghost use Rattle.loop_capture.specs.Sources.{GivesPattern};
 
 use crate::source::{FrameSource, Next};
@@ -31,9 +31,15 @@ impl Pattern {
 impl FrameSource for Pattern {
     ghost next_gives = { GivesPattern };
 
+    ghost lends = { λ p. [] };
+
     fn next(&mut self, out: &mut [u8]) -> Next {
         fill_pattern(out, u64::from(self.first));
         self.first = self.first.wrapping_add(1);
         Next::More
+    }
+
+    fn lent(&self) -> &[u8] {
+        &[]
     }
 }

@@ -1,5 +1,6 @@
 // What gives frames.
-ghost use Rattle.std.specs.Prelude.{List, ℕ, ⊤};
+ghost use Rattle.std.specs.Prelude.{◌≡◌, List, ℕ, ⊤, [], IfSome, None, Some, length};
+ghost use Rattle.loop_capture.specs.declared.source.Next.TheVariants.{More};
 
 /// What a source answers to the call for a frame.
 #[derive(Clone, Copy, PartialEq, Eq, Debug)]
@@ -12,23 +13,46 @@ pub enum Next {
     Bad,
 }
 
-/// What gives frames, one a call.
+/// What gives frames, one a call: it puts them into memory that it is given, or lends its own.
 pub trait FrameSource: Drop {
     ghost use Rattle.loop_capture.specs.declared.source.Next.{Next};
 
     /// Holds of a source before a call, its answer, the bytes that `out` has after it, and the source after it.
     ghost next_gives: { Self → Next → List ℕ → Self → Type 0 };
 
+    /// The bytes of the frame that it lends.
+    ghost lends: { Self → List ℕ };
+
     /// Puts the next frame's bytes into `out`. Unless it answers More, `out` may have any bytes after it.
     fn next(&mut self, out: &mut [u8]) -> Next
         ensures gives { next_gives self.old result out.new self.new };
+
+    /// Makes the next frame, of so many bytes, one that is lent, and answers as `next` would. None: it lends no frame,
+    /// and nothing changed.
+    fn make_ready(&mut self, _size: usize) -> Option<Next>
+        ensures gives { IfSome result (λ answer. next_gives self.old answer (lends self.new) self.new) }
+        ensures size { result ≡ Some More → length (lends self.new) ≡ _size }
+        ensures none { result ≡ None → self.new ≡ self.old }
+    {
+        None
+    }
+
+    /// The frame that was made ready last.
+    fn lent(&self) -> &[u8]
+        ensures { result.now ≡ lends self.now };
 }
 
-/// Code that is generic in a source serves boxes too. Of what comes out of a box nothing is said.
+/// Code that is generic in a source serves boxes too. Of what comes out of a box nothing is said, and it lends nothing.
 impl FrameSource for Box<dyn FrameSource + Send> {
     ghost next_gives = { λ b r out c. ⊤ };
 
+    ghost lends = { λ b. [] };
+
     fn next(&mut self, out: &mut [u8]) -> Next {
         (**self).next(out)
+    }
+
+    fn lent(&self) -> &[u8] {
+        &[]
     }
 }

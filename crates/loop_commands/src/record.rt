@@ -1,5 +1,5 @@
 // Recordings into stores in files.
-ghost use Rattle.std.specs.Prelude.{◌≡◌, ⊤, IfOk, length, vec_len};
+ghost use Rattle.std.specs.Prelude.{[], ◌≡◌, ⊤, IfOk, length, vec_len};
 
 use crate::cameras::{Unrecorded, record_stores};
 use loop_capture::{FrameSource, Next, Pattern, Y4mSource};
@@ -64,11 +64,17 @@ pub(crate) enum Source {
 impl FrameSource for Source {
     ghost next_gives = { λ source answer bytes after. ⊤ };
 
+    ghost lends = { λ source. [] };
+
     fn next(&mut self, out: &mut [u8]) -> Next {
         match self {
             Source::Pattern(pattern) => pattern.next(out),
             Source::Footage(footage, _) => footage.next(out),
         }
+    }
+
+    fn lent(&self) -> &[u8] {
+        &[]
     }
 }
 

@@ -73,9 +73,10 @@ tick-linked WrongSize stamp bytes s out n linked = linked
 -- ---- what the end of a buffer is, or none
 
 end-counted : (tick : Tick) (stamp : Stamp) (bytes : List ℕ) (s : QueueState)
-    → EachIn after_event MayHappen s (end_of tick stamp bytes) → length bytes ≡ frame_size s.body.shape
+    → EachIn after_event MayHappen s (end_of tick stamp bytes)
+    → ((i : ℕ) → tick ≡ Completed i → length bytes ≡ frame_size s.body.shape)
     → EachIn after_event IsCounted s (end_of tick stamp bytes)
-end-counted (Completed i) stamp bytes s may whole = ((may.0, whole), tt)
+end-counted (Completed i) stamp bytes s may whole = ((may.0, whole i refl), tt)
 end-counted (Failed i) stamp bytes s may whole = ((may.0, tt), tt)
 end-counted Idle stamp bytes s may whole = tt
 end-counted Missed stamp bytes s may whole = tt
@@ -119,11 +120,11 @@ end-kind WrongSize stamp bytes s = refl
 
 module _ {S P A : Type 0} (gives : S → Next → List ℕ → S → Type 0) (m : P → Plane) (table : Fds P) (now : ℕ)
     (d e : SeenDevice S) (before after : Lined P) (h : Hand P A) (to : Producer (Frame A) A AnyItems) where
-  abbrev given-at : Tick → Given
-  given-at tick = record { now = now; tick = tick; bytes = e.frame }
+  abbrev given-at : Tick → List ℕ → Given
+  given-at tick bytes = record { now = now; tick = tick; bytes = bytes }
 
   -- a tick that changes nothing
-  nothing-adds : (tick : Tick) (f : Front) → GaveBy gives tick e.frame d e → flat_map shown_given (given-at tick ∷ []) ≡ []
+  nothing-adds : (tick : Tick) (f : Front) → GaveBy gives tick [] d e → flat_map shown_given (given-at tick [] ∷ []) ≡ []
       → after ≡ before → hand_frame f.hand ≡ [] → StandsFront m before table h f
       → Adds gives m table f.queue.queue d e before after h to to
   nothing-adds tick f gave none same free stands = record {
@@ -137,16 +138,16 @@ module _ {S P A : Type 0} (gives : S → Next → List ℕ → S → Type 0) (m 
     free = free;
     ring = ((refl, refl, refl, refl), refl);
     went = sym (append-nil (map picture (sent to)));
-    given = given-at tick ∷ [];
+    given = given-at tick [] ∷ [];
     source = (e, gave, refl);
     shows = sym none;
   }
 
   -- the front after a tick for which the source was asked: the queue's events have happened, the rest is as it was
-  abbrev after-tick : Tick → Front → Front
-  after-tick tick f = record f {
+  abbrev after-tick : Tick → List ℕ → Front → Front
+  after-tick tick bytes f = record f {
     queue = record f.queue {
-      queue = after_all after_event f.queue.queue (tick_events now d.next tick e.frame f.queue.queue);
+      queue = after_all after_event f.queue.queue (tick_events now d.next tick bytes f.queue.queue);
     };
   }
 
@@ -154,53 +155,65 @@ module _ {S P A : Type 0} (gives : S → Next → List ℕ → S → Type 0) (m 
   stamp-at f = record { sequence = sequence_of d.next f.queue.queue; timestamp = now }
 
   ticked-stands : (tick : Tick) (f : Front) → StandsFront m before table h f
-      → Took gives m now tick d e before after f.queue.queue → StandsFront m after table h (after-tick tick f)
+      → (took : Took gives m now tick d e before after f.queue.queue)
+      → StandsFront m after table h (after-tick tick took.bytes f)
   ticked-stands tick f stands took = record {
     queue = moves m before after table f.queue _ stands.queue took.queue
-        (tick-linked tick (stamp-at f) e.frame f.queue.queue f.queue.out f.queue.names stands.queue.linked);
+        (tick-linked tick (stamp-at f) took.bytes f.queue.queue f.queue.out f.queue.names stands.queue.linked);
     hand = stands.hand;
     out = stands.out ∙ ap (λ k. values_by_fd k (option_to_list (planes_held f.hand)))
-        (sym (end-kind tick (stamp-at f) e.frame (seen_state f.queue.queue)));
+        (sym (end-kind tick (stamp-at f) took.bytes (seen_state f.queue.queue)));
   }
 
   -- a tick for which the source was asked
-  took-adds : (tick : Tick) (f : Front) → after.body.shape ≡ before.body.shape → GaveBy gives tick e.frame d e
-      → length e.frame ≡ length d.frame → hand_frame f.hand ≡ [] → StandsFront m before table h f
-      → Took gives m now tick d e before after f.queue.queue → Adds gives m table f.queue.queue d e before after h to to
-  took-adds tick f formed gave size free stands took =
+  took-adds : (tick : Tick) (f : Front) → after.body.shape ≡ before.body.shape → Asks tick
+      → hand_frame f.hand ≡ [] → StandsFront m before table h f
+      → (took : Took gives m now tick d e before after f.queue.queue) → GaveBy gives tick took.bytes d e
+      → Adds gives m table f.queue.queue d e before after h to to
+  took-adds tick f formed asks free stands took gave =
       let s = f.queue.queue in
+      let bytes = took.bytes in
+      let told = told-by tick took.answer (longest_active s) took.tick_is asks in
       let stamp = stamp-at f in record {
-        events = tick_events now d.next tick e.frame s;
-        legal = ((took.happen.0, tt), end-counted tick stamp e.frame (seen_state s) took.happen.1 (size ∙ took.fits));
-        flows = end-flows tick stamp e.frame;
-        now = after-tick tick f;
+        events = tick_events now d.next tick bytes s;
+        legal = (
+          (took.happen.0, tt),
+          end-counted tick stamp bytes (seen_state s) took.happen.1
+              (λ i is. took.whole (subst (λ (t : Tick). IsToldBy t took.answer) is told) ∙ took.fits),
+        );
+        flows = end-flows tick stamp bytes;
+        now = after-tick tick bytes f;
         stands = ticked-stands tick f stands took;
         reached = refl;
         formed = formed;
         free = free;
         ring = ((refl, refl, refl, refl), refl);
-        went = sym (append-nil (map picture (sent to))) ∙ ap (λ l. map picture (sent to) ++ l) (sym (end-frames tick stamp e.frame (seen_state s)));
-        given = given-at tick ∷ [];
+        went = sym (append-nil (map picture (sent to))) ∙ ap (λ l. map picture (sent to) ++ l) (sym (end-frames tick stamp bytes (seen_state s)));
+        given = given-at tick bytes ∷ [];
         source = (e, gave, refl);
-        shows = end-shown tick stamp.sequence now e.frame;
+        shows = end-shown tick stamp.sequence now bytes;
       }
 
-  gave-of : (tick : Tick) (s : QueueState) → Asks tick → Took gives m now tick d e before after s
-      → (answer : Next) × IsToldBy tick answer × gives d.source answer e.frame e.source × (e.frame ≡ e.frame)
-  gave-of tick s asks took = (took.answer, told-by tick took.answer (longest_active s) took.tick_is asks, took.given, refl)
+  gave-of : (tick : Tick) (s : QueueState) → Asks tick → (took : Took gives m now tick d e before after s)
+      → (answer : Next) × IsToldBy tick answer × gives d.source answer took.bytes e.source × (e.size ≡ d.size)
+  gave-of tick s asks took = (took.answer, told-by tick took.answer (longest_active s) took.tick_is asks, took.given, took.size)
 
-  pub tick-adds : (tick : Tick) (f : Front) → after.body.shape ≡ before.body.shape → length e.frame ≡ length d.frame → hand_frame f.hand ≡ []
+  pub tick-adds : (tick : Tick) (f : Front) → after.body.shape ≡ before.body.shape → hand_frame f.hand ≡ []
       → StandsFront m before table h f → Ticks gives m now tick d e before after
       → Adds gives m table f.queue.queue d e before after h to to
-  tick-adds WrongSize f formed size free stands ticks =
+  tick-adds WrongSize f formed free stands ticks =
       let t = ticks f.queue.queue stands.queue.queue in nothing-adds WrongSize f t.1 refl t.2 free stands
-  tick-adds Idle f formed size free stands ticks =
+  tick-adds Idle f formed free stands ticks =
       let t = ticks f.queue.queue stands.queue.queue in nothing-adds Idle f t.2 refl t.3 free stands
-  tick-adds (Completed i) f formed size free stands ticks =
-      let t = ticks f.queue.queue stands.queue.queue in took-adds (Completed i) f formed (gave-of (Completed i) f.queue.queue tt t) size free stands t
-  tick-adds (Failed i) f formed size free stands ticks =
-      let t = ticks f.queue.queue stands.queue.queue in took-adds (Failed i) f formed (gave-of (Failed i) f.queue.queue tt t) size free stands t
-  tick-adds Missed f formed size free stands ticks =
-      let t = ticks f.queue.queue stands.queue.queue in took-adds Missed f formed (gave-of Missed f.queue.queue tt t) size free stands t
-  tick-adds Ended f formed size free stands ticks =
-      let t = ticks f.queue.queue stands.queue.queue in took-adds Ended f formed (gave-of Ended f.queue.queue tt t) size free stands t
+  tick-adds (Completed i) f formed free stands ticks =
+      let t = ticks f.queue.queue stands.queue.queue in
+      took-adds (Completed i) f formed tt free stands t (gave-of (Completed i) f.queue.queue tt t)
+  tick-adds (Failed i) f formed free stands ticks =
+      let t = ticks f.queue.queue stands.queue.queue in
+      took-adds (Failed i) f formed tt free stands t (gave-of (Failed i) f.queue.queue tt t)
+  tick-adds Missed f formed free stands ticks =
+      let t = ticks f.queue.queue stands.queue.queue in
+      took-adds Missed f formed tt free stands t (gave-of Missed f.queue.queue tt t)
+  tick-adds Ended f formed free stands ticks =
+      let t = ticks f.queue.queue stands.queue.queue in
+      took-adds Ended f formed tt free stands t (gave-of Ended f.queue.queue tt t)

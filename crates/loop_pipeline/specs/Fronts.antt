@@ -31,7 +31,7 @@ use Rattle.loop_desk.specs.Waiting.{IsCounted, IsSoundQueue, frames_dequeued, fr
 
 -- ---- ticks of a device
 
--- a tick: when it was, what it did, and what is in the device's buffer after it
+-- a tick: when it was, what it did, and the bytes that the source gave
 pub record Given : Type 0 where
   pub now : ℕ
   pub tick : Tick
@@ -51,7 +51,7 @@ module _ {S : Type 0} (gives : S → Next → List ℕ → S → Type 0) where
   GaveBy Idle bytes d e = e ≡ d
   GaveBy WrongSize bytes d e = e ≡ d
   GaveBy tick bytes d e =
-      (answer : Next) × IsToldBy tick answer × gives d.source answer bytes e.source × (e.frame ≡ bytes)
+      (answer : Next) × IsToldBy tick answer × gives d.source answer bytes e.source × (e.size ≡ d.size)
 
   -- ticks, one after the other
   abbrev pub GoesOn : SeenDevice S → List Given → SeenDevice S → Type 0

@@ -1,11 +1,13 @@
 //! Where a source's frames wait for a camera's device.
 
-ghost use Rattle.std.specs.Prelude.{⊤};
+ghost use Rattle.std.specs.Prelude.{◌≡◌, ⊤, IfSome, None, Some, length};
+ghost use Rattle.loop_capture.specs.declared.source.Next.TheVariants.{More};
 
 use crate::clock::Timeline;
 use circular_buffer::HeapCircularBuffer;
 use loop_capture::{FrameSource, Next};
 use std::alloc::{AllocError, Global};
+use std::mem;
 use std::sync::{Arc, Condvar, Mutex, Wait};
 use std::time::{Clock, Duration};
 
@@ -35,7 +37,7 @@ struct Waiting {
 struct Ready {
     /// The frame of the next tick.
     frame: Option<Fed>,
-    /// The memory of the frame of the last one.
+    /// The memory of the frame before the one that is lent.
     row: Option<Vec<u8>>,
 }
 
@@ -153,29 +155,56 @@ impl Feed {
     }
 }
 
-/// A camera's device takes its frames here. It is asked for one only where one is ready.
+/// A camera's device borrows its frames here. It asks for one only where one is ready.
 #[derive(Drop)]
 pub struct FeedSource {
-    /// Where the frames wait.
-    pub feed: Arc<Feed>,
+    feed: Arc<Feed>,
+    /// The frame that is lent.
+    frame: Vec<u8>,
+}
+
+impl FeedSource {
+    /// One that lends what comes ready there.
+    pub fn new(alloc: Global, feed: Arc<Feed>) -> FeedSource {
+        FeedSource {
+            feed,
+            frame: Vec::new(alloc),
+        }
+    }
 }
 
 impl FrameSource for FeedSource {
     ghost next_gives = { λ source answer bytes after. ⊤ };
 
-    // Nobody else holds the lock, so that it needn't wait for it.
+    ghost lends = { λ source. source.frame.items };
+
     fn next(&mut self, out: &mut [u8]) -> Next {
+        match self.make_ready(out.len()) {
+            Some(Next::More) => {
+                out.copy_from_slice(&self.frame);
+                Next::More
+            }
+            _ => Next::Bad,
+        }
+    }
+
+    // Nobody else holds the lock, so that it needn't wait for it.
+    fn make_ready(&mut self, size: usize) -> Option<Next> {
         let Some(mut ready) = self.feed.ready.try_lock() else {
-            return Next::Bad;
+            return Some(Next::Bad);
         };
         let Some(frame) = ready.frame.take() else {
-            return Next::Bad;
+            return Some(Next::Bad);
         };
-        let fits = frame.bytes.len() == out.len();
-        if fits {
-            out.copy_from_slice(&frame.bytes);
+        let fits = frame.bytes.len() == size;
+        let row = mem::replace(&mut self.frame, frame.bytes);
+        if !row.is_empty() {
+            ready.row = Some(row);
         }
-        ready.row = Some(frame.bytes);
-        if fits { Next::More } else { Next::Bad }
+        Some(if fits { Next::More } else { Next::Bad })
+    }
+
+    fn lent(&self) -> &[u8] {
+        &self.frame
     }
 }

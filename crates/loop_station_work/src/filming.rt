@@ -184,7 +184,7 @@ fn camera_before(alloc: Global, state: &CameraState, store: Store<FileDisk>) -> 
     let start = heap_start(alloc, &queue, state.config.buffers).ok()?;
     start_queue(&mut queue, &mut table, start).ok()?;
     let feed = Arc::try_clone(&state.feed).ok()?;
-    let device = Device::new(alloc, FeedSource { feed }, size_of(&geometry)?).ok()?;
+    let device = Device::new(alloc, FeedSource::new(alloc, feed), size_of(&geometry)?).ok()?;
     match Desk::new(alloc, store, LIMITS) {
         Ok(desk) => Some(Camera::new(device, queue, table, desk)),
         Err(_) => None,

@@ -1,6 +1,6 @@
 //! What a device's ticks become: its frames go through queue, lane and store to a text.
 
-ghost use Rattle.std.specs.Prelude.{⊤};
+ghost use Rattle.std.specs.Prelude.{[], ⊤};
 
 use crate::common::Call::*;
 use crate::common::Told::{Count, Done, Fault, Flushed, Index, Number};
@@ -29,6 +29,8 @@ struct Faulty {
 impl FrameSource for Faulty {
     ghost next_gives = { λ s r out t. ⊤ };
 
+    ghost lends = { λ s. [] };
+
     fn next(&mut self, out: &mut [u8]) -> Next {
         let frame = self.frame;
         self.frame = frame.saturating_add(1);
@@ -37,6 +39,10 @@ impl FrameSource for Faulty {
             return Next::Bad;
         }
         answer
+    }
+
+    fn lent(&self) -> &[u8] {
+        &[]
     }
 }
 

@@ -1,5 +1,5 @@
 //! The device of a case, whose frames are those of the pattern.
-ghost use Rattle.std.specs.Prelude.{⊤};
+ghost use Rattle.std.specs.Prelude.{[], ⊤};
 
 use crate::line::Call;
 use crate::plane::AnyPlane;
@@ -20,6 +20,8 @@ pub(crate) struct Camera {
 impl FrameSource for Camera {
     ghost next_gives = { λ s r out t. ⊤ };
 
+    ghost lends = { λ s. [] };
+
     fn next(&mut self, out: &mut [u8]) -> Next {
         let frame = self.frame;
         self.frame = if frame < 4 {
@@ -29,6 +31,10 @@ impl FrameSource for Camera {
         };
         let answer = self.pattern.next(out);
         if frame < 4 { answer } else { Next::Bad }
+    }
+
+    fn lent(&self) -> &[u8] {
+        &[]
     }
 }
 

@@ -1,6 +1,6 @@
 //! A source that answers by a list, and the frame that is dequeued.
 
-ghost use Rattle.std.specs.Prelude.{⊤};
+ghost use Rattle.std.specs.Prelude.{[], ⊤};
 
 use bitflags::Flags;
 use loop_capture::{FrameSource, Next};
@@ -18,6 +18,8 @@ pub(crate) struct Listed {
 impl FrameSource for Listed {
     ghost next_gives = { λ s r out t. ⊤ };
 
+    ghost lends = { λ s. [] };
+
     fn next(&mut self, out: &mut [u8]) -> Next {
         let call = self.calls;
         self.calls = self.calls.saturating_add(1);
@@ -26,6 +28,46 @@ impl FrameSource for Listed {
             .get(call as usize)
             .copied()
             .unwrap_or(Next::End)
+    }
+
+    fn lent(&self) -> &[u8] {
+        &[]
+    }
+}
+
+/// Lends frames of one byte, those of its row, and then ends; a zero is a frame that can't be had. Whoever asks it by
+/// `next` gets none.
+#[derive(Drop)]
+pub(crate) struct Lender {
+    pub row: [u8; 3],
+    pub calls: usize,
+    pub frame: [u8; 1],
+}
+
+impl FrameSource for Lender {
+    ghost next_gives = { λ s r out t. ⊤ };
+
+    ghost lends = { λ s. s.frame };
+
+    fn next(&mut self, _out: &mut [u8]) -> Next {
+        Next::Bad
+    }
+
+    fn make_ready(&mut self, size: usize) -> Option<Next> {
+        let Some(byte) = self.row.get(self.calls).copied() else {
+            return Some(Next::End);
+        };
+        self.calls = self.calls.saturating_add(1);
+        self.frame = [byte];
+        Some(if byte > 0 && size == 1 {
+            Next::More
+        } else {
+            Next::Bad
+        })
+    }
+
+    fn lent(&self) -> &[u8] {
+        &self.frame
     }
 }
 

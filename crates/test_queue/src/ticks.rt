@@ -6,7 +6,7 @@ ghost use Rattle.loop_pages.specs.Place.{IsIdle};
 
 use self::Step::{Starts, Stops, Takes, Ticks};
 use crate::common::one;
-use crate::listed::{Frame, Listed, round};
+use crate::listed::{Frame, Lender, Listed, round};
 use crate::told::{holds, same};
 use loop_capture::{Device, FrameSource, Next, Pattern, Tick, Y4mSource};
 use loop_pages::{PageLedger, PageSeat};
@@ -231,6 +231,33 @@ fn a_cut_frame_gives_an_error_buffer_and_then_the_end(rt: HostRuntime) -> Result
         Takes(Some((0, 1, 80, 0x2040, 0xFF))),
         Ticks(120, Tick::Ended),
         Ticks(160, Tick::Ended),
+    ];
+    plays(&rt, &mut device, &mut queue, &steps);
+    Ok(())
+}
+
+#[test]
+fn a_frame_that_is_lent_goes_into_the_buffer(rt: HostRuntime) -> Result<(), Fail> {
+    let alloc = rt.alloc();
+    let mut queue = one_pixel(&rt, alloc)?;
+    let source = Lender {
+        row: [7, 0, 9],
+        calls: 0,
+        frame: [0],
+    };
+    let Ok(mut device) = Device::new(alloc, source, 1) else {
+        return Err("memory for a frame".into());
+    };
+    let steps = [
+        Starts,
+        Ticks(10, Tick::Completed(0)),
+        Takes(Some((0, 0, 10, 0x2000, 7))),
+        Ticks(20, Tick::Failed(0)),
+        Takes(Some((0, 1, 20, 0x2040, 0xFF))),
+        Ticks(30, Tick::Completed(0)),
+        Ticks(40, Tick::Ended),
+        Takes(Some((0, 2, 30, 0x2000, 9))),
+        Ticks(50, Tick::Ended),
     ];
     plays(&rt, &mut device, &mut queue, &steps);
     Ok(())
