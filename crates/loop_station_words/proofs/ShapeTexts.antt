@@ -6,7 +6,7 @@ use Rattle.loop_record.specs.Geometry.{format_named, is_good}
 use Rattle.loop_record.specs.declared.geometry.Geometry.{Geometry}
 use Rattle.loop_record.specs.declared.geometry.PixelFormat.{PixelFormat}
 use Rattle.loop_script.specs.Script.{geometry_of, rate_said, small_number}
-use Rattle.loop_station_words.specs.Shapes.{shape_in, shape_of}
+use Rattle.loop_station_words.specs.Shapes.{shape_in, shape_from}
 use Rattle.loop_station_words.specs.declared.shape.Shape.{Shape}
 
 -- the shape of a geometry's frames
@@ -25,7 +25,7 @@ shape_by None = None
 shape_by (Some g) = cond (is_good g) (Some (frames_of g)) None
 
 shape-parts : (w h : Option ℕ) (f : Option PixelFormat) (r : Option (ℕ × ℕ))
-    → shape_of w h f r ≡ shape_by (geometry_of w h f r (Some 2) (Some 1))
+    → shape_from w h f r ≡ shape_by (geometry_of w h f r (Some 2) (Some 1))
 shape-parts (Some w) (Some h) (Some f) (Some r) = refl
 shape-parts None h f r = refl
 shape-parts (Some w) None f r = refl

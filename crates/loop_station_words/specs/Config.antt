@@ -6,7 +6,7 @@ use Rattle.loop_station_words.specs.declared.config.CameraConfig.{CameraConfig}
 use Rattle.loop_station_words.specs.declared.config.Config.{Config}
 use Rattle.loop_station_words.specs.declared.config.Source.{Source}
 use Rattle.loop_station_words.specs.declared.config.Source.TheVariants.{Path, Pattern}
-use Rattle.loop_station_words.specs.Fields.{memory_of, number_of, path_of, pattern_of, room_of, text_of, truth_of}
+use Rattle.loop_station_words.specs.Fields.{memory_of, number_or, path_of, pattern_of, room_of, text_of, truth_of}
 use Rattle.loop_station_words.specs.Names.{is_name}
 
 -- so many buffers a camera may have
@@ -43,9 +43,9 @@ pub record SaysCamera (keys : Members) (camera : CameraConfig) : Type 0 where
   pub source : SaysSource keys camera.source
   pub store : text_of (get_member (codes "store") keys) ≡ Some (string_bytes camera.store)
   pub room : room_of (get_member (codes "minutes") keys) (get_member (codes "bytes") keys) ≡ Some camera.room
-  pub seconds : number_of 60 (2 ^ 32 - 1) (get_member (codes "keep") keys) ≡ Some camera.seconds
-  pub tag : number_of 0 (2 ^ 64 - 1) (get_member (codes "tag") keys) ≡ Some camera.tag
-  pub buffers : number_of 8 32 (get_member (codes "buffers") keys) ≡ Some camera.buffers
+  pub seconds : number_or 60 (2 ^ 32 - 1) (get_member (codes "keep") keys) ≡ Some camera.seconds
+  pub tag : number_or 0 (2 ^ 64 - 1) (get_member (codes "tag") keys) ≡ Some camera.tag
+  pub buffers : number_or 8 32 (get_member (codes "buffers") keys) ≡ Some camera.buffers
   pub memory : memory_of (get_member (codes "memory") keys) ≡ Some camera.memory
   pub save_to : path_of (get_member (codes "save_to") keys) ≡ Some (option_map string_bytes camera.save_to)
   pub release : truth_of false (get_member (codes "release") keys) ≡ Some camera.release

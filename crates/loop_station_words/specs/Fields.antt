@@ -32,10 +32,10 @@ truth_of other (Some (boolean said)) = Some said
 truth_of other _ = None
 
 -- a whole number from 0 to the most, or the other number where nothing stands there
-abbrev pub number_of : ℕ → ℕ → Option Data → Option ℕ
-number_of other most None = Some other
-number_of other most (Some (integer (pos n))) = if nat_le n most then Some n else None
-number_of other most _ = None
+abbrev pub number_or : ℕ → ℕ → Option Data → Option ℕ
+number_or other most None = Some other
+number_or other most (Some (integer (pos n))) = if nat_le n most then Some n else None
+number_or other most _ = None
 
 -- a number above 0
 abbrev pub positive : ℕ → Option ℕ

@@ -142,9 +142,9 @@ unfoldable pub from_said : Option (List ℕ) → List ℕ → Option Order
 from_said camera text = from_cut camera (cut 32 text)
 
 -- the first of both, if there is one
-abbrev pub or_else : Option Order → Option Order → Option Order
-or_else (Some order) other = Some order
-or_else None other = other
+abbrev pub first_said : Option Order → Option Order → Option Order
+first_said (Some order) other = Some order
+first_said None other = other
 
 -- a camera, and `from T to T` behind it
 abbrev pub camera_from : Option (List ℕ) → List ℕ → Option Order
@@ -157,7 +157,7 @@ camera_cut (Some more) = camera_from (named more.0) more.1
 
 -- what stands behind `keep `: `from T to T`, with a camera before it or without
 unfoldable pub times_kept : List ℕ → Option Order
-times_kept text = or_else (from_said None text) (camera_cut (cut 32 text))
+times_kept text = first_said (from_said None text) (camera_cut (cut 32 text))
 
 abbrev pub keep_cut : Option (List ℕ × List ℕ) → Option Order
 keep_cut None = None
@@ -169,7 +169,7 @@ timed_said line = keep_cut (cut 32 line)
 
 -- what a line asks for, if it can be read
 abbrev pub order_said : List ℕ → Option Order
-order_said line = or_else (timed_said line) (plain_said line)
+order_said line = first_said (timed_said line) (plain_said line)
 
 -- ---- labels
 

@@ -31,20 +31,20 @@ allowed shape =
     if is_good (shape_geometry shape (record { segments = 2; slots = 1 })) then Some shape else None
 
 -- the shape of these parts, where there is each of them
-abbrev pub shape_of : Option ℕ → Option ℕ → Option PixelFormat → Option (ℕ × ℕ) → Option Shape
-shape_of (Some width) (Some height) (Some format) (Some rate) = allowed (record {
+abbrev pub shape_from : Option ℕ → Option ℕ → Option PixelFormat → Option (ℕ × ℕ) → Option Shape
+shape_from (Some width) (Some height) (Some format) (Some rate) = allowed (record {
   width = width;
   height = height;
   format = format;
   rate_num = rate.0;
   rate_den = rate.1;
 })
-shape_of _ _ _ _ = None
+shape_from _ _ _ _ = None
 
 -- the shape that four words name: width, height, pixel format, rate
 unfoldable pub shape_in : List ℕ → List ℕ → List ℕ → List ℕ → Option Shape
 shape_in width height format rate =
-    shape_of (small_number width) (small_number height) (format_named format) (rate_said rate)
+    shape_from (small_number width) (small_number height) (format_named format) (rate_said rate)
 
 -- `WxH`, and `FORMAT N:D`
 abbrev pub both_cut : Option (List ℕ × List ℕ) → Option (List ℕ × List ℕ) → Option Shape

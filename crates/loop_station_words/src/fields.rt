@@ -4,7 +4,7 @@ ghost use Rattle.toml.specs.Data.{get_member, integer};
 ghost use Rattle.toml.specs.View.{table_view, view};
 ghost use Rattle.loop_station_words.specs.Config.{HasBuffers};
 ghost use Rattle.loop_station_words.specs.Cuts.{cut};
-ghost use Rattle.loop_station_words.specs.Fields.{SaysShape, bytes_of, memory_of, minutes_of, number_of, part_seconds, path_of, positive, room_of, seconds_cut, shape_text, text_of, truth_of};
+ghost use Rattle.loop_station_words.specs.Fields.{SaysShape, bytes_of, memory_of, minutes_of, number_or, part_seconds, path_of, positive, room_of, seconds_cut, shape_text, text_of, truth_of};
 
 use crate::config::{Memory, Room};
 use crate::cut::cut;
@@ -68,7 +68,7 @@ pub(crate) fn text_at<'a>(table: &'a Table, key: &str) -> Option<&'a str>
 // The number at a key, or this one where there is none; `None` where it is no whole number from 0 to the most.
 pub(crate) fn number_at(table: &Table, key: &str, other: u64, most: u64) -> Option<u64>
     requires { other ≤ most }
-    ensures number { result ≡ number_of other most (get_member key.now (table_view table.now)) }
+    ensures number { result ≡ number_or other most (get_member key.now (table_view table.now)) }
     ensures few { IfSome result (λ number. number ≤ most) }
 {
     match value_at(table, key) {
@@ -83,7 +83,7 @@ pub(crate) fn number_at(table: &Table, key: &str, other: u64, most: u64) -> Opti
 
 // The number of 32 bits at a key, or this one where there is none; `None` where it is none.
 pub(crate) fn small_at(table: &Table, key: &str, other: u32) -> Option<u32>
-    ensures { result ≡ number_of other 4294967295 (get_member key.now (table_view table.now)) }
+    ensures { result ≡ number_or other 4294967295 (get_member key.now (table_view table.now)) }
 {
     let number = number_at(table, key, u64::from(other), u64::from(u32::MAX))?;
     Some(number as u32)
@@ -92,7 +92,7 @@ pub(crate) fn small_at(table: &Table, key: &str, other: u32) -> Option<u32>
 // How many buffers a camera has; `None` where that is no whole number from 4 to 32.
 pub(crate) fn buffers_at(table: &Table) -> Option<u32>
     ensures number { IfSome result (λ buffers.
-        number_of 8 32 (get_member (codes "buffers") (table_view table.now)) ≡ Some buffers) }
+        number_or 8 32 (get_member (codes "buffers") (table_view table.now)) ≡ Some buffers) }
     ensures few { IfSome result HasBuffers }
 {
     let buffers = number_at(table, "buffers", BUFFERS, MAX_BUFFERS)? as u32;

@@ -61,8 +61,8 @@ fn ring(segments: u64, slots: u64) -> RingSize
 }
 
 /// The largest ring whose store has at most so many bytes, for frames of `frame_bytes`: two segments while fewer than
-/// 64 slots fit into each, then 64 slots a segment, and from 64 segments on more slots; `None` where not even two segments
-/// of one slot fit.
+/// 64 slots fit into each, then 64 slots a segment, and from 64 segments on more slots; `None` where not even two
+/// segments of one slot fit.
 pub fn ring_within(frame_bytes: u32, bytes: u64) -> Option<RingSize>
     ensures largest { IfSome result (IsLargestWithin frame_bytes bytes) }
     ensures none { IsNone result ↔ (bytes < file_size frame_bytes (record { segments = 2; slots = 1 })) }

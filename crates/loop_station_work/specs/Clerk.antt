@@ -16,7 +16,8 @@ Flushes {D} medium old (answer ∷ answers) new =
     (between : SeenDesk D) × DeskGoes medium old between (flushed answer ∷ []) × Flushes medium between answers new
 
 -- and unless a refusal is told, nothing waits there any more
-pub record Stores {D : Type 0} (medium : D → Medium) (old new : SeenDesk D) (refused : Option StoreFault) : Type 0 where
+pub record StoresAll {D : Type 0} (medium : D → Medium) (old new : SeenDesk D) (refused : Option StoreFault)
+    : Type 0 where
   pub answers : List (Result Flushed StoreFault)
   pub flushes : Flushes medium old answers new
   pub all : refused ≡ None → new.pending ≡ []
@@ -25,5 +26,5 @@ pub record Stores {D : Type 0} (medium : D → Medium) (old new : SeenDesk D) (r
 pub record StoresAndKeeps {D A : Type 0} (medium : D → Medium) (times : Times) (tag : ℕ) (old new : SeenDesk D)
     (kept : Kept A) (refused : Option StoreFault) : Type 0 where
   pub between : SeenDesk D
-  pub stores : Stores medium old between refused
+  pub stores : StoresAll medium old between refused
   pub keeps : KeepsTime medium times tag between new kept
