@@ -1,5 +1,6 @@
 -- What a call leaves in the history and in the caller's pass.
 use Rattle.std.specs.Prelude.{◌≡◌, ℕ, Option, Some, None, Result, Ok, Err, IfOk, List, [], ◌∷◌, ◌++◌, length}
+use Rattle.std.specs.Result.{result_ok}
 use Rattle.std.specs.Option.{option_map}
 use Rattle.loop_disk.specs.Medium.{Medium}
 use Rattle.loop_record.specs.declared.clip.Span.{Span}
@@ -35,11 +36,6 @@ abbrev pub heard_back : {T X : Type 0} → Result T (SessionFault × X) → Opti
 heard_back (Ok x) = Some (Ok x)
 heard_back (Err refused) = option_map Err (desk_fault refused.0)
 
--- an answer that the desk never refuses
-abbrev pub answer_told : {T : Type 0} → Result T SessionFault → Option T
-answer_told (Ok x) = Some x
-answer_told (Err fault) = None
-
 abbrev pub stamp_of : {A : Type 0} → Frame A → Stamp
 stamp_of f = record { sequence = f.sequence; flags = f.flags; timestamp = f.timestamp }
 
@@ -65,7 +61,7 @@ abbrev pub read_note : {A : Type 0} → ℕ → Result (ReadFrame A) SessionFaul
 read_note number result = option_map (λ answer. noted.Read number (head_of answer)) (heard result)
 
 abbrev pub status_note : Result Status SessionFault → Option Noted
-status_note result = option_map noted.Status (answer_told result)
+status_note result = option_map noted.Status (result_ok result)
 
 abbrev pub entry : ℕ → Noted → Entry
 entry pass call = record { pass = pass; call = call }

@@ -33,7 +33,10 @@ returns-in-None-clause-ended g c =
 pub returns-then-len-self-clause-refused : goal.returns-then-len-self-clause-refused
 returns-then-len-self-clause-refused g c = (
   omega (arith, c.if-len-self.true, c.len.ensures, c.len-given.ensures),
-  (omega (arith, c.len-given.ensures, c.args.passes.ok.0), (ap (λ (o : SeenRecorder g.row.A.Denot). o.passes) c.self.view_is, (refl, refl))),
+  omega (arith, c.len-given.ensures, c.args.passes.ok.0),
+  ap (λ (o : SeenRecorder g.row.A.Denot). o.passes) c.self.view_is,
+  refl,
+  refl,
 )
 
 -- no pass is missing
