@@ -19,7 +19,8 @@
  *   LOOP_STALL  FROM:EVERY:HOLD:EACH   a disk that stalls: from FROM on, and every EVERY after it, each sync of a file NAME.loop that comes within
  *               HOLD ends only after that, and each other one takes EACH more; all in milliseconds, FROM of CLOCK_MONOTONIC
  *   LOOP_THREADS   COUNT   the thread of that number, from 0, can't be started (EAGAIN)
- *   LOOP_CLIP   COUNT   the call of that number, from 0, that writes LOOP_FILE's clip table, or syncs it after such a write, fails (EIO)
+ *   LOOP_CLIP   COUNT, or COUNT:on   the call of that number, from 0, that writes LOOP_FILE's clip table, or syncs it after such a write, fails (EIO), or
+ *               all from there on
  */
 #define _GNU_SOURCE
 #include <dlfcn.h>
@@ -135,7 +136,9 @@ static int clip_fails(int fd, off_t at, size_t count) {
     if (!clip || !is_open_as(fd, getenv("LOOP_FILE"))) return 0;
     int is_clip = at < 0 ? is_open : at >= 512 && at + count <= 2560;
     is_open = at >= 0 && is_clip;
-    if (!is_clip || clip_calls++ != atol(clip)) return 0;
+    if (!is_clip) return 0;
+    long call = clip_calls++;
+    if (call < atol(clip) || (call > atol(clip) && !strchr(clip, ':'))) return 0;
     errno = EIO;
     return 1;
 }

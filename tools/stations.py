@@ -23,7 +23,7 @@ class Station:
     itself. Orders go to its standard input, or to the named pipe `orders`."""
 
     def __init__(self, program, folder, env=None, orders=None, before=None, **outputs):
-        self.lines, self.events, self.more, self.orders = [], [], threading.Condition(), orders
+        self.lines, self.events, self.more, self.orders, self.read_all = [], [], threading.Condition(), orders, False
 
         def begin():
             # It ends with the check, however that ends.
@@ -45,7 +45,12 @@ class Station:
                 (self.events if text.startswith(EVENTS) else self.lines).append(text)
                 self.more.notify_all()
         with self.more:
+            self.read_all = True
             self.more.notify_all()
+
+    def ended(self):
+        """Whether the program has ended, and all that it printed is there."""
+        return self.read_all if self.run.stdout else self.run.poll() is not None
 
     def send(self, text):
         """Writes orders, all in one write."""
@@ -70,7 +75,7 @@ class Station:
     def wait(self, until, seconds=20):
         """Waits until the lines are as they have to be, and answers what `until` says of them."""
         with self.more:
-            if not self.more.wait_for(lambda: until(self.lines) or self.run.poll() is not None, seconds) or not until(self.lines):
+            if not self.more.wait_for(lambda: until(self.lines) or self.ended(), seconds) or not until(self.lines):
                 raise Silent(f"{self.lines[-8:]} after {seconds} s" + (f", ended with {self.run.poll()}" if self.run.poll() is not None else ""))
             return until(self.lines)
 
